@@ -1,0 +1,25 @@
+pub mod Lists
+pub mod Order
+pub mod Listing
+pub mod Locality
+pub mod Retry
+pub mod Judgement
+mod Fixture
+mod PublicationExamples
+mod PolicyExamples
+mod RunExamples
+mod GateExamples
+mod StrictExamples
+mod ListingExamples
+pub mod SessionLemmas
+pub mod GateLemmas
+pub mod Once
+pub mod Callers
+pub mod Quiet
+pub mod Headline
+pub mod Sorting
+pub mod Listings
+pub mod Matrix
+pub mod Exists
+pub mod LastRow
+pub mod StepLemmas

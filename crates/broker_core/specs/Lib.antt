@@ -1,0 +1,14 @@
+pub mod Name
+pub mod Limit
+pub mod Text
+pub mod State
+pub mod Listing
+pub mod Kind
+pub mod Faults
+pub mod Gate
+pub mod Policy
+pub mod Words
+pub mod Request
+pub mod Change
+pub mod Machine
+pub mod Laws

@@ -1,0 +1,178 @@
+//! Commands: one variant a route, and one for what couldn't be read.
+use crate::name::{Body, Name, Text, Token};
+use std::fmt;
+use std::marker::Model;
+
+/// The contract that a path names: whose it is, with whom.
+#[derive(Debug, Drop)]
+pub struct PactPath {
+    pub provider: Name,
+    pub consumer: Name,
+    pub version: Name,
+}
+
+/// A version of a pacticipant, known by both names.
+#[derive(Debug, Drop)]
+pub struct Version {
+    pub pacticipant: Name,
+    pub name: Name,
+}
+
+/// What an environment asks of a deployment: that the gate judges it, and that the gate trusts checked results alone.
+#[derive(Clone, Copy, Debug, PartialEq, Eq)]
+pub struct Marks {
+    /// The gate judges deployments and releases.
+    pub gated: bool,
+    /// The gate takes checked results alone. A strict environment is a gated one.
+    pub strict: bool,
+}
+
+/// What a result says of a contract and a version of its provider.
+#[derive(Debug, Drop)]
+pub struct Report {
+    pub provider_version: Name,
+    pub run: Option<Name>,
+}
+
+/// Where the form of a command is at fault.
+#[derive(Debug, Drop)]
+pub enum Fault {
+    /// A name in the path.
+    Name,
+    /// The body isn't JSON, or not an object.
+    Json,
+    /// This field of the body: it isn't there, has a wrong kind, or isn't a name.
+    Field(Text),
+    /// This key of the query: it isn't there exactly once, or its value isn't a name.
+    Query(Text),
+    /// The body's token has a wrong form.
+    Token,
+    /// The names in the pact file aren't those of the path.
+    Names,
+    /// The pact file: the number of its fault, and the place.
+    Pact(Text),
+    /// The replies: the number of their fault, and the place.
+    Replies(Text),
+    /// A reply belongs to no interaction of the contract's pact.
+    UnknownReply,
+}
+
+impl fmt::Display for Fault {
+    ghost use Rattle.std.specs.Prelude.{Some};
+    ghost use Rattle.broker_core.specs.Words.{fault_text};
+
+    ghost output = { λ fault. Some (fault_text fault) };
+
+    fn fmt<W: fmt::Write>(&self, f: &mut fmt::Formatter<W>) -> fmt::Result {
+        match self {
+            Fault::Name => f.write_str("name"),
+            Fault::Json => f.write_str("json"),
+            Fault::Field(field) => write!(f, "field {}", field.as_str()),
+            Fault::Query(key) => write!(f, "query {}", key.as_str()),
+            Fault::Token => f.write_str("token"),
+            Fault::Names => f.write_str("names"),
+            Fault::Pact(place) => write!(f, "pact {}", place.as_str()),
+            Fault::Replies(place) => write!(f, "replies {}", place.as_str()),
+            Fault::UnknownReply => f.write_str("check 1"),
+        }
+    }
+}
+
+/// One command of a caller: a variant for each route, and one for what couldn't be read.
+#[derive(Drop)]
+pub enum Command {
+    /// Names a team and its token.
+    PutTeam {
+        team: Name,
+        token: Token,
+    },
+    /// Names a pacticipant and the team that owns it.
+    PutPacticipant {
+        pacticipant: Name,
+        team: Name,
+    },
+    /// Names an environment with its marks.
+    PutEnvironment {
+        environment: Name,
+        marks: Marks,
+    },
+    /// Lets a team deploy into an environment.
+    PutGrant {
+        team: Name,
+        environment: Name,
+    },
+    /// Takes that back.
+    DeleteGrant {
+        team: Name,
+        environment: Name,
+    },
+    /// Names a version, and puts it on a branch where one is given.
+    PutVersion {
+        version: Version,
+        branch: Option<Name>,
+    },
+    /// Publishes a pact file as the contract of a consumer version with a provider.
+    PutPact {
+        path: PactPath,
+        file: Body,
+    },
+    /// Shows a contract.
+    GetPact {
+        path: PactPath,
+    },
+    /// Shows the contract of the newest consumer version on a branch that has one with the provider.
+    GetBranchPact {
+        provider: Name,
+        consumer: Name,
+        branch: Name,
+    },
+    /// Tells the outcome of a verification, as its sender claims it.
+    PostResult {
+        path: PactPath,
+        report: Report,
+        success: bool,
+    },
+    /// Tells recorded replies, which the broker checks: the whole body.
+    PostReplies {
+        path: PactPath,
+        report: Report,
+        replies: Body,
+    },
+    /// Deploys a version into an instance of an environment.
+    Deploy {
+        environment: Name,
+        version: Version,
+        instance: Option<Name>,
+    },
+    /// Takes a deployed version out of an instance.
+    Undeploy {
+        environment: Name,
+        version: Version,
+        instance: Option<Name>,
+    },
+    /// Releases a version into an environment.
+    Release {
+        environment: Name,
+        version: Version,
+    },
+    /// Ends the support of a released version.
+    EndSupport {
+        environment: Name,
+        version: Version,
+    },
+    /// Lists what stands in an environment.
+    GetEnvironment {
+        environment: Name,
+    },
+    /// Asks the gate without deploying.
+    CanIDeploy {
+        version: Version,
+        environment: Name,
+    },
+    /// Shows the contracts of a version with their latest results.
+    GetMatrix {
+        version: Version,
+    },
+    /// A request of a known route whose path, query or body is at fault: it is told after the token was looked at.
+    Malformed(Fault),
+}

@@ -1,0 +1,12 @@
+//! The broker's language: names, tokens, commands, answers, the policy and the gate's judgement.
+#![tactic(auto)]
+
+pub mod answer;
+pub mod command;
+pub mod gate;
+pub mod limit;
+pub mod name;
+pub mod need;
+pub mod policy;
+#[cfg(test)]
+mod tests;

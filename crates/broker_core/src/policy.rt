@@ -1,0 +1,130 @@
+//! Who may do what (this project's own policy).
+ghost use Rattle.std.specs.Prelude.{◌≡◌, if◌then◌else◌};
+ghost use Rattle.broker_core.specs.Policy.{allows};
+
+use crate::name::Name;
+use std::fmt;
+
+/// Who sent a command, known by the digest of its token.
+#[derive(Debug, Drop)]
+pub enum Caller {
+    /// The office, which names teams, pacticipants and environments, and gives grants.
+    Office,
+    /// A team, which owns pacticipants.
+    Team(Name),
+}
+
+/// The rules of the policy. Each command is judged by one of them, which the answer names where it denies.
+#[derive(Clone, Copy, Debug, PartialEq, Eq)]
+pub enum Rule {
+    /// The token is the office's or a team's.
+    A1,
+    /// The office alone names teams, pacticipants with their owners, and environments, and gives and takes grants.
+    A2,
+    /// A version is named by the pacticipant's owner, and a pact published by the consumer's.
+    A3,
+    /// Results and replies come from the provider's owner.
+    A4,
+    /// A pact is read by the owner of either side, or by the office.
+    A5,
+    /// can-i-deploy and the matrix are asked by the pacticipant's owner, or by the office.
+    A6,
+    /// Deployments, undeployments, releases and ends of support come from the pacticipant's owner, with a grant for the environment; not from the office.
+    A7,
+    /// An environment is listed to each known caller.
+    A8,
+}
+
+impl Rule {
+    ghost use Rattle.broker_core.specs.Words.{rule_text};
+
+    /// The rule's name in answers, from `A1` to `A8`.
+    pub const fn as_str(self) -> &'static str
+        ensures { result.now ≡ rule_text self }
+    {
+        match self {
+            Rule::A1 => "A1",
+            Rule::A2 => "A2",
+            Rule::A3 => "A3",
+            Rule::A4 => "A4",
+            Rule::A5 => "A5",
+            Rule::A6 => "A6",
+            Rule::A7 => "A7",
+            Rule::A8 => "A8",
+        }
+    }
+}
+
+impl fmt::Display for Rule {
+    ghost use Rattle.std.specs.Prelude.{Some};
+    ghost use Rattle.broker_core.specs.Words.{rule_text};
+
+    ghost output = { λ rule. Some (rule_text rule) };
+
+    fn fmt<W: fmt::Write>(&self, f: &mut fmt::Formatter<W>) -> fmt::Result {
+        f.write_str(self.as_str())
+    }
+}
+
+/// What a command asks of the policy.
+#[derive(Debug, Drop)]
+pub struct Ask {
+    /// The rule by which the command is judged.
+    pub rule: Rule,
+    /// The teams that own the pacticipants which count here; empty where none counts.
+    pub owners: Vec<Name>,
+    /// Whether the caller's team has a grant for the command's environment.
+    pub granted: bool,
+}
+
+impl Caller {
+    ghost use Rattle.broker_core.specs.Policy.{is_office, is_owner};
+
+    fn is_office(&self) -> bool
+        ensures { result ≡ is_office self.now }
+    {
+        matches!(self, Caller::Office)
+    }
+
+    /// Whether the caller is a team that stands among the owners.
+    fn is_owner(&self, owners: &[Name]) -> bool
+        ensures { result ≡ is_owner self.now owners.now }
+    {
+        match self {
+            Caller::Office => false,
+            Caller::Team(team) => {
+                for owner in owners {
+                    if *team == *owner {
+                        return true;
+                    }
+                }
+                false
+            }
+        }
+    }
+
+    fn has_right(&self, ask: &Ask) -> bool
+        ensures { result ≡ allows ask.now.rule self.now ask.now.owners.items ask.now.granted }
+    {
+        match ask.rule {
+            Rule::A1 | Rule::A8 => true,
+            Rule::A2 => self.is_office(),
+            Rule::A3 | Rule::A4 => self.is_owner(&ask.owners),
+            Rule::A5 | Rule::A6 => self.is_office() || self.is_owner(&ask.owners),
+            Rule::A7 => self.is_owner(&ask.owners) && ask.granted,
+        }
+    }
+}
+
+/// Whether the policy lets the caller do what is asked: nothing, or the rule that denies, which is the one asked for.
+///
+/// `A1` and `A8` let every caller that is known. Takes no memory.
+pub fn allowed(caller: &Caller, ask: &Ask) -> Result<(), Rule>
+    ensures { result ≡ (if allows ask.now.rule caller.now ask.now.owners.items ask.now.granted then Ok tt else Err ask.now.rule) }
+{
+    if caller.has_right(ask) {
+        Ok(())
+    } else {
+        Err(ask.rule)
+    }
+}

@@ -1,0 +1,63 @@
+//! Serving standard input over tables in memory.
+ghost use Rattle.std.specs.Prelude.{◌≡◌, ◌≢◌, ◌↔◌, IfOk, OnOk, IsErrOf, Err};
+ghost use Rattle.sqlite.specs.Held.{state};
+ghost use Rattle.sqlite.specs.Steps.{over_memory};
+ghost use Rattle.broker_core.specs.Name.{IsToken};
+ghost use Rattle.broker_core.specs.State.{opening};
+ghost use Rattle.broker_service.specs.Parts.{the_parts};
+ghost use Rattle.broker_http.specs.Serving.{Holding};
+ghost use Rattle.broker_http.specs.Serving.Mode.{Runs};
+ghost use Rattle.broker_program.specs.Replays.{Replays};
+
+use crate::fault::RunFault;
+use broker_core::name::{Token, TokenFault};
+use broker_http::serve;
+use broker_service::Broker;
+use sqlite::{Connection, MemStore};
+use std::alloc::Global;
+use std::io::{Read, Write};
+
+/// The token of an office, by its text.
+fn token_of(alloc: Global, text: &str) -> Result<Token, RunFault>
+    ensures ok { IfOk result (λ token. (token ≡ text.now) × IsToken text.now) }
+    ensures bad { IsErrOf result RunFault.Token ↔ (¬ (IsToken text.now)) }
+{
+    match Token::new(alloc, text) {
+        Ok(token) => Ok(token),
+        Err(TokenFault::BadToken) => Err(RunFault::Token),
+        Err(TokenFault::Memory) => Err(RunFault::Memory),
+    }
+}
+
+/// A new broker over tables in memory.
+fn new_broker(alloc: Global, office: &Token) -> Result<Broker<MemStore>, RunFault>
+    ensures holds { IfOk result (Holding (state over_memory) (Runs (opening (the_parts.digest_of office.now)))) }
+    ensures fails { result ≢ Err RunFault.Token }
+{
+    match Connection::open_in_memory(alloc) {
+        Ok(connection) => match Broker::create(alloc, connection, office) {
+            Ok(broker) => Ok(broker),
+            Err(refused) => Err(RunFault::Open(refused.fault)),
+        },
+        Err(_) => Err(RunFault::Memory),
+    }
+}
+
+/// Answers the requests that it reads, over the tables of a new broker whose office has the token.
+pub(crate) fn replay<R: Read, W: Write>(
+    alloc: Global,
+    office_token: &str,
+    input: &mut R,
+    output: &mut W,
+) -> Result<(), RunFault>
+    ensures token { result ≡ Err RunFault.Token ↔ (¬ (IsToken office_token.now)) }
+    ensures known { OnOk result (IsToken office_token.now) }
+    ensures ok { OnOk result (Replays office_token.now (R.remaining input.old) (R.remaining input.new) (W.contents output.old) (W.contents output.new)) }
+{
+    let office = token_of(alloc, office_token)?;
+    let mut broker = new_broker(alloc, &office)?;
+    match serve(alloc, &mut broker, input, output) {
+        Ok(_) => Ok(()),
+        Err(fault) => Err(RunFault::Serve(fault)),
+    }
+}

@@ -1,0 +1,6 @@
+pub mod PerformLemmas
+pub mod CallerLemmas
+pub mod Transaction
+pub mod Unpublished
+pub mod FollowLemmas
+pub mod Blank

@@ -1,0 +1,147 @@
+//! The broker.
+ghost use Rattle.std.specs.Prelude.{◌≡◌, ◌≢◌, ◌↔◌, ◌≤◌, ℕ, List, Some, None, false, IsTrue, IfOk, IfErr, IsErrAnd, option_map};
+ghost use Rattle.sqlite_trees.specs.View.{doubt};
+ghost use Rattle.sqlite.specs.State.{HasCleanDisk};
+ghost use Rattle.sqlite.specs.Held.{state};
+ghost use Rattle.table_access.specs.Calls.{LeavesCommit};
+ghost use Rattle.table_access.specs.Keeps.{Keeps};
+ghost use Rattle.broker_core.specs.Laws.{IsDone};
+ghost use Rattle.broker_core.specs.State.{State as BrokerState, opening};
+ghost use Rattle.broker_core.specs.declared.answer.Answer.TheVariants as told;
+ghost use Rattle.broker_tables.specs.Holds.{Holds};
+ghost use Rattle.broker_tables.specs.Schema.{no_schema};
+ghost use Rattle.broker_tables.specs.Making.{IsBlank, IsMarked};
+ghost use Rattle.broker_service.specs.Parts.{the_parts};
+ghost use Rattle.broker_service.specs.Opening.{Refuses, Spared, Judged};
+ghost use Rattle.broker_service.specs.Handed.{left_by, verdict};
+ghost use Rattle.broker_service.specs.Served.{IsServed, HasNoContract};
+ghost use Rattle.broker_service.specs.Ends.{Applies, IsAsBefore, LeavesNothing};
+
+use crate::opening::{self, OpenFault};
+use crate::work::transact;
+use answer_texts::Answer;
+use broker_core::answer::Answer as Told;
+use broker_core::command::Command;
+use broker_core::name::Token;
+use sqlite::{Alter, Connection};
+use std::alloc::Global;
+use std::marker::Model;
+use table_access::Fault;
+
+/// A broker over its database. A contract sees its connection, and whether it is stopped.
+#[derive(Drop)]
+pub struct Broker<S: Alter> {
+    conn: Connection<S>,
+    stopped: bool,
+}
+
+impl<S: Alter> Model for Broker<S> {
+    ghost use Rattle.broker_service.specs.Serving.{Serving, serving_code};
+
+    ghost Value = { Serving S };
+
+    ghost coded = { serving_code S.code };
+
+    ghost view = { λ b. record { connection = b.conn; is_stopped = b.stopped } };
+}
+
+/// Why there is no broker, with the connection handed back.
+#[derive(Drop)]
+pub struct Refused<S: Alter> {
+    pub fault: OpenFault,
+    pub connection: Connection<S>,
+}
+
+impl<S: Alter> Broker<S> {
+    /// Makes the tables of a new broker, whose office has this token, on a database without tables.
+    ///
+    /// `NotEmpty`: there is a table, an index or a view; nothing is read or changed. `Memory`: the database is as it was.
+    /// `Store`: the database refused a call, the commit or a rollback; the last commit is the old one, and after a refused commit a crash may leave the new broker's tables.
+    pub fn create(
+        alloc: Global,
+        conn: Connection<S>,
+        office: &Token,
+    ) -> Result<Broker<S>, Refused<S>>
+        ensures made { IfOk result (λ b. HasCleanDisk (state S.Store b.connection) → Keeps IsBlank (state S.Store conn) → Keeps (λ db. Holds db (opening (the_parts.digest_of office.now))) (state S.Store b.connection)) }
+        ensures refuses { IfErr result (λ r. HasCleanDisk (state S.Store r.connection) → Keeps IsBlank (state S.Store conn) → (state S.Store conn).now.schema ≡ no_schema → Refuses IsBlank (λ db. Holds db (opening (the_parts.digest_of office.now))) (state S.Store r.connection) r.fault) }
+        ensures not_empty { IsErrAnd result (λ r. r.fault ≡ OpenFault.NotEmpty) ↔ (¬ ((state S.Store conn).now.schema ≡ no_schema)) }
+        ensures same { IfErr result (λ r. r.fault ≡ OpenFault.NotEmpty → r.connection ≡ conn) }
+        ensures spares { IfErr result (λ r. HasCleanDisk (state S.Store r.connection) → Spared (state S.Store conn) (state S.Store r.connection) r.fault) }
+        ensures runs { IfOk result (λ b. b.is_stopped ≡ false) }
+        ensures clean { doubt (state S.Store conn).is_clean ≤ doubt (state S.Store (left_by result)).is_clean }
+    {
+        let mut conn = conn;
+        match opening::create(alloc, &mut conn, office) {
+            Ok(()) => Ok(Broker {
+                conn,
+                stopped: false,
+            }),
+            Err(fault) => Err(Refused {
+                fault,
+                connection: conn,
+            }),
+        }
+    }
+
+    /// Opens the database that a broker left. Nothing is changed.
+    ///
+    /// `NotABroker`: there is no table `meta` with one row. `Format`: its format is this other one. `Memory` and `Store` as of `create`.
+    pub fn open(conn: Connection<S>) -> Result<Broker<S>, Refused<S>>
+        ensures bare { HasCleanDisk (state S.Store (left_by result)) → Keeps IsBlank (state S.Store conn) → Judged None (verdict result) }
+        ensures marked { HasCleanDisk (state S.Store (left_by result)) → (n : ℕ) (office : List ℕ) → Keeps (IsMarked n office) (state S.Store conn) → Judged (Some n) (verdict result) }
+        ensures kept { IfOk result (λ b. HasCleanDisk (state S.Store b.connection) → IsAsBefore (state S.Store conn) (state S.Store b.connection)) }
+        ensures holds { IfOk result (λ b. HasCleanDisk (state S.Store b.connection) → (s : BrokerState) → Keeps (λ db. Holds db s) (state S.Store conn) → Keeps (λ db. Holds db s) (state S.Store b.connection)) }
+        ensures spares { IfErr result (λ r. HasCleanDisk (state S.Store r.connection) → Spared (state S.Store conn) (state S.Store r.connection) r.fault) }
+        ensures left { HasCleanDisk (state S.Store (left_by result)) → LeavesNothing (state S.Store conn) (state S.Store (left_by result)) }
+        ensures runs { IfOk result (λ b. b.is_stopped ≡ false) }
+        ensures clean { doubt (state S.Store conn).is_clean ≤ doubt (state S.Store (left_by result)).is_clean }
+    {
+        let mut conn = conn;
+        match opening::open(&mut conn) {
+            Ok(()) => Ok(Broker {
+                conn,
+                stopped: false,
+            }),
+            Err(fault) => Err(Refused {
+                fault,
+                connection: conn,
+            }),
+        }
+    }
+
+    /// Gives the connection back, as it is. Takes no memory.
+    pub fn close(self) -> Connection<S>
+        ensures { result ≡ self.connection }
+    {
+        let Broker { conn, stopped: _ } = self;
+        conn
+    }
+
+    /// Runs one command of the caller with this token, in one transaction.
+    ///
+    /// The answer is the machine's, and the database then holds the machine's next state; or it is `Memory`, `Store` or `Stopped`, and there was no step.
+    /// `Memory`: a growth was refused, or the database has no memory; nothing has changed.
+    /// `Store`: the database refused the commit or a rollback, or another call for another cause than memory, or a row broke the rules of the tables.
+    /// From then on each answer is `Stopped`, and nothing changes. After a refused commit a crash may leave the next state.
+    pub fn apply(&mut self, alloc: Global, token: Option<&str>, command: &Command) -> Answer
+        requires { IsServed command.now }
+        ensures stopped { IsTrue self.old.is_stopped → (result ≡ told.Stopped) × (self.new ≡ self.old) }
+        ensures applies { HasCleanDisk (state S.Store self.new.connection) → self.old.is_stopped ≡ false → (s : BrokerState) → HasNoContract s → Keeps (λ db. Holds db s) (state S.Store self.old.connection)
+            → Applies s (option_map (λ text. text.now) token.entry) command.now (state S.Store self.new.connection) result }
+        ensures spares { HasCleanDisk (state S.Store self.new.connection) → self.old.is_stopped ≡ false → result ≢ told.Store → ¬ (IsDone result) → IsAsBefore (state S.Store self.old.connection) (state S.Store self.new.connection) }
+        ensures fails { HasCleanDisk (state S.Store self.new.connection) → result ≡ told.Store → LeavesCommit (state S.Store self.old.connection) (state S.Store self.new.connection) }
+        ensures stops { self.old.is_stopped ≡ false → (IsTrue self.new.is_stopped ↔ (result ≡ told.Store)) }
+        ensures clean { doubt (state S.Store self.old.connection).is_clean ≤ doubt (state S.Store self.new.connection).is_clean }
+    {
+        if self.stopped {
+            return Answer::failed(Told::Stopped);
+        }
+        let answer = match transact(alloc, &mut self.conn, token, command) {
+            Ok(answer) => answer,
+            Err(Fault::Memory) => Answer::failed(Told::Memory),
+            Err(Fault::Store) => Answer::failed(Told::Store),
+        };
+        self.stopped = matches!(answer.told(), Told::Store);
+        answer
+    }
+}

@@ -1,0 +1,225 @@
+//! Deployment of a version.
+ghost use Rattle.std.specs.Prelude.{◌≡◌, ℕ, List, Option, Some, None, true, IfSome, IfNone, IfOk, IfErr, IsTrue, is_some, option_map};
+ghost use Rattle.sqlite.specs.Held.{state};
+ghost use Rattle.broker_core.specs.State.{State as BrokerState};
+ghost use Rattle.broker_core.specs.Text.{put_at, same_place};
+ghost use Rattle.broker_core.specs.Change.{told, done, instance_of, is_text};
+ghost use Rattle.broker_core.specs.Request.{has_grant, is_known};
+ghost use Rattle.broker_core.specs.Machine.{Follows};
+ghost use Rattle.broker_core.specs.declared.command.Command.TheVariants.{Deploy};
+ghost use Rattle.broker_core.specs.declared.command.Version.{Version as VersionModel};
+ghost use Rattle.broker_core.specs.declared.policy.Caller.{Caller as Who};
+ghost use Rattle.broker_core.specs.declared.policy.Rule.TheVariants.{A7};
+ghost use Rattle.broker_tables.specs.Holds.{Reads};
+ghost use Rattle.broker_tables.specs.Numbers.{number_of};
+ghost use Rattle.broker_service.specs.Parts.{the_parts};
+ghost use Rattle.broker_service.specs.Performs.{Performs};
+ghost use Rattle.broker_service.specs.Served.{HasNoContract};
+ghost use Rattle.broker_service.specs.Found.{FoundOwner, FoundStanding, FoundDeployment};
+
+use crate::rules::{look_grant, look_owner};
+use broker_core::answer::{Answer, Detail, Missing};
+use broker_core::command::Version;
+use broker_core::name::Name;
+use broker_core::policy::{Caller, Rule};
+use deploy_tables::{is_deployed, record_deployed};
+use registry_tables::{gated, version_of};
+use sqlite::{Alter, Connection};
+use std::alloc::Global;
+use table_access::Fault;
+
+/// What a deployment asks of the tables.
+#[derive(Clone, Copy)]
+struct Found {
+    environment: bool,
+    pacticipant: bool,
+    may: bool,
+    number: Option<u32>,
+    stands: bool,
+}
+
+/// The text of an instance; an absent one is the empty text.
+fn instance_text(instance: &Option<Name>) -> &str
+    ensures { result.now ≡ instance_of instance.now }
+{
+    match instance {
+        Some(instance) => instance.as_str(),
+        None => "",
+    }
+}
+
+/// Whether the environment is there.
+fn look_environment<S: Alter>(conn: &mut Connection<S>, environment: &Name) -> Result<bool, Fault>
+    ensures { Reads (state S.Store conn.old) (state S.Store conn.new) result (λ has s. is_some (s.environments environment.now) ≡ has) }
+{
+    match gated(conn, environment.as_str()) {
+        Ok(gated) => Ok(gated.is_some()),
+        Err(fault) => Err(fault),
+    }
+}
+
+/// Whether the pacticipant is there, and whether its owner with a grant calls.
+fn look_rights<S: Alter>(
+    alloc: Global,
+    conn: &mut Connection<S>,
+    caller: &Caller,
+    environment: &Name,
+    pacticipant: &Name,
+) -> Result<(bool, bool), Fault>
+    ensures { Reads (state S.Store conn.old) (state S.Store conn.new) result (λ found s. FoundOwner s caller.now A7 pacticipant.now (has_grant s caller.now (Some environment.now)) found.0 found.1) }
+{
+    match look_grant(conn, caller, environment) {
+        Ok(granted) => look_owner(alloc, conn, caller, Rule::A7, pacticipant, granted),
+        Err(fault) => Err(fault),
+    }
+}
+
+/// The version's number, and whether it is deployed there.
+fn look_standing<S: Alter>(
+    conn: &mut Connection<S>,
+    environment: &Name,
+    version: &Version,
+    instance: &str,
+) -> Result<(Option<u32>, bool), Fault>
+    ensures { Reads (state S.Store conn.old) (state S.Store conn.new) result (λ found s. FoundStanding s environment.now version.now instance.now found.0 found.1) }
+{
+    match version_of(conn, version.pacticipant.as_str(), version.name.as_str()) {
+        Ok(Some(number)) => match is_deployed(
+            conn,
+            environment.as_str(),
+            version.pacticipant.as_str(),
+            instance,
+            number,
+        ) {
+            Ok(stands) => Ok((Some(number), stands)),
+            Err(fault) => Err(fault),
+        },
+        Ok(None) => Ok((None, false)),
+        Err(fault) => Err(fault),
+    }
+}
+
+/// Whether the environment is there, and what of the pacticipant.
+fn look_sides<S: Alter>(
+    alloc: Global,
+    conn: &mut Connection<S>,
+    caller: &Caller,
+    environment: &Name,
+    pacticipant: &Name,
+) -> Result<(bool, bool, bool), Fault>
+    ensures { Reads (state S.Store conn.old) (state S.Store conn.new) result (λ found s. (is_some (s.environments environment.now) ≡ found.0) × FoundOwner s caller.now A7 pacticipant.now (has_grant s caller.now (Some environment.now)) found.1 found.2) }
+{
+    match look_environment(conn, environment) {
+        Ok(has) => match look_rights(alloc, conn, caller, environment, pacticipant) {
+            Ok((pacticipant, may)) => Ok((has, pacticipant, may)),
+            Err(fault) => Err(fault),
+        },
+        Err(fault) => Err(fault),
+    }
+}
+
+fn look<S: Alter>(
+    alloc: Global,
+    conn: &mut Connection<S>,
+    caller: &Caller,
+    environment: &Name,
+    version: &Version,
+    instance: &str,
+) -> Result<Found, Fault>
+    ensures { Reads (state S.Store conn.old) (state S.Store conn.new) result (λ found s. FoundDeployment s caller.now environment.now version.now instance.now found.environment found.pacticipant found.may found.number found.stands) }
+{
+    match look_sides(alloc, conn, caller, environment, &version.pacticipant) {
+        Ok((environment_is, pacticipant, may)) => match look_standing(
+            conn,
+            environment,
+            version,
+            instance,
+        ) {
+            Ok((number, stands)) => Ok(Found {
+                environment: environment_is,
+                pacticipant,
+                may,
+                number,
+                stands,
+            }),
+            Err(fault) => Err(fault),
+        },
+        Err(fault) => Err(fault),
+    }
+}
+
+/// The number of the version that is recorded, or the answer where nothing changes.
+fn decide(found: Found) -> Result<u32, Answer>
+    ensures told { IfErr result (λ answer. (s : BrokerState) (caller : Who) (e : List ℕ) (v : VersionModel) (instance : Option (List ℕ)) → HasNoContract s → FoundDeployment s caller e v (instance_of instance) found.environment found.pacticipant found.may found.number found.stands → Follows the_parts s caller (Deploy e v instance) (told s answer)) }
+    ensures free { IfOk result (λ number. (s : BrokerState) (caller : Who) (e : List ℕ) (v : VersionModel) (instance : Option (List ℕ)) → HasNoContract s → FoundDeployment s caller e v (instance_of instance) found.environment found.pacticipant found.may found.number found.stands
+        → Follows the_parts s caller (Deploy e v instance) (done (record s { deployed = put_at same_place s.deployed (e, v.pacticipant, instance_of instance) (Some v.name) }))) }
+    ensures counted { IfOk result (λ number. found.number ≡ Some number) }
+    ensures there { IfOk result (λ _. IsTrue found.environment × IsTrue found.pacticipant) }
+{
+    if !found.environment {
+        return Err(Answer::Unknown(Missing::Environment));
+    }
+    if !found.pacticipant {
+        return Err(Answer::Unknown(Missing::Pacticipant));
+    }
+    let Some(number) = found.number else {
+        return Err(Answer::Unknown(Missing::Version));
+    };
+    if !found.may {
+        return Err(Answer::Denied(Rule::A7));
+    }
+    if found.stands {
+        return Err(Answer::Already(Detail::Plain));
+    }
+    Ok(number)
+}
+
+/// Deploys a version as this instance, or tells why not.
+fn deploy_as<S: Alter>(
+    alloc: Global,
+    conn: &mut Connection<S>,
+    caller: &Caller,
+    environment: &Name,
+    version: &Version,
+    instance: &str,
+) -> Result<Answer, Fault>
+    ensures { Performs (state S.Store conn.old) (state S.Store conn.new) (λ s out. HasNoContract s → (name : Option (List ℕ)) → instance_of name ≡ instance.now → Follows the_parts s caller.now (Deploy environment.now version.now name) out) result }
+{
+    match look(alloc, conn, caller, environment, version, instance) {
+        Ok(found) => match decide(found) {
+            Err(answer) => Ok(answer),
+            Ok(number) => match record_deployed(
+                conn,
+                environment.as_str(),
+                version.pacticipant.as_str(),
+                instance,
+                number,
+            ) {
+                Ok(()) => Ok(Answer::Done(Detail::Plain)),
+                Err(fault) => Err(fault),
+            },
+        },
+        Err(fault) => Err(fault),
+    }
+}
+
+/// Deploys a version, or tells why not.
+pub(crate) fn deploy<S: Alter>(
+    alloc: Global,
+    conn: &mut Connection<S>,
+    caller: &Caller,
+    environment: &Name,
+    version: &Version,
+    instance: &Option<Name>,
+) -> Result<Answer, Fault>
+    ensures { Performs (state S.Store conn.old) (state S.Store conn.new) (λ s out. HasNoContract s → Follows the_parts s caller.now (Deploy environment.now version.now instance.now) out) result }
+{
+    deploy_as(
+        alloc,
+        conn,
+        caller,
+        environment,
+        version,
+        instance_text(instance),
+    )
+}

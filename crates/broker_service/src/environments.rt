@@ -1,0 +1,122 @@
+//! PUT and GET of an environment.
+ghost use Rattle.std.specs.Prelude.{◌≡◌, ℕ, List, Option, Some, None, IfOk, IfSome, IfNone, is_some, option_map};
+ghost use Rattle.sqlite.specs.Held.{state};
+ghost use Rattle.broker_core.specs.declared.command.Marks.{Marks as MarksModel};
+ghost use Rattle.broker_core.specs.declared.policy.Caller.{Caller as Who};
+ghost use Rattle.broker_core.specs.State.{State as BrokerState};
+ghost use Rattle.broker_core.specs.Text.{put_at, same_text};
+ghost use Rattle.broker_core.specs.Change.{told, done};
+ghost use Rattle.broker_core.specs.Machine.{Follows, fault_of_marks};
+ghost use Rattle.broker_core.specs.declared.command.Command.TheVariants.{PutEnvironment};
+ghost use Rattle.broker_tables.specs.Holds.{Reads};
+ghost use Rattle.broker_service.specs.Parts.{the_parts};
+ghost use Rattle.broker_service.specs.Performs.{Performs};
+
+use crate::rules::is_office;
+use broker_core::answer::{Answer, Clash, Detail};
+use broker_core::command::{Fault as FormFault, Marks};
+use broker_core::name::{Name, Text};
+use broker_core::policy::{Caller, Rule};
+use registry_tables::{add_environment, gated, strict_of};
+use sqlite::{Alter, Connection};
+use std::alloc::Global;
+use table_access::Fault;
+
+/// The marks of an environment, none where it isn't there.
+pub(crate) fn marks_of<S: Alter>(
+    conn: &mut Connection<S>,
+    environment: &Name,
+) -> Result<Option<Marks>, Fault>
+    ensures { Reads (state S.Store conn.old) (state S.Store conn.new) result (λ marks s. marks ≡ s.environments environment.now) }
+{
+    match gated(conn, environment.as_str()) {
+        Ok(gated) => match strict_of(conn, environment.as_str()) {
+            Ok(strict) => Ok(both_marks(gated, strict)),
+            Err(fault) => Err(fault),
+        },
+        Err(fault) => Err(fault),
+    }
+}
+
+/// Both marks of one environment.
+fn both_marks(gated: Option<bool>, strict: Option<bool>) -> Option<Marks>
+    ensures { (marks : Option MarksModel) → gated ≡ option_map (λ m. m.gated) marks → strict ≡ option_map (λ m. m.strict) marks → result ≡ marks }
+{
+    match (gated, strict) {
+        (Some(gated), Some(strict)) => Some(Marks { gated, strict }),
+        _ => None,
+    }
+}
+
+/// What is told of marks that no environment may have.
+fn form_of(alloc: Global, marks: Marks) -> Result<Option<Answer>, Fault>
+    ensures { IfOk result (λ o. IfSome o (λ answer. (s : BrokerState) (e : List ℕ) (caller : Who) → Follows the_parts s caller (PutEnvironment e marks) (told s answer)) × IfNone o (fault_of_marks marks ≡ None)) }
+{
+    if marks.strict && !marks.gated {
+        match String::from_str(alloc, "strict") {
+            Ok(field) => Ok(Some(Answer::BadForm(FormFault::Field(Text::new(field))))),
+            Err(_) => Err(Fault::Memory),
+        }
+    } else {
+        Ok(None)
+    }
+}
+
+/// The answer where nothing changes; none where the environment is added.
+fn decide(alloc: Global, caller: &Caller, old: Option<Marks>, marks: Marks) -> Option<Answer>
+    ensures told { IfSome result (λ answer. (s : BrokerState) (e : List ℕ) → fault_of_marks marks ≡ None → s.environments e ≡ old → Follows the_parts s caller.now (PutEnvironment e marks) (told s answer)) }
+    ensures free { IfNone result ((s : BrokerState) (e : List ℕ) → fault_of_marks marks ≡ None → s.environments e ≡ old
+        → (s.environments e ≡ None) × Follows the_parts s caller.now (PutEnvironment e marks) (done (record s { environments = put_at same_text s.environments e (Some marks) }))) }
+{
+    if !is_office(alloc, caller) {
+        return Some(Answer::Denied(Rule::A2));
+    }
+    match old {
+        Some(old) => if old.gated == marks.gated && old.strict == marks.strict {
+            Some(Answer::Already(Detail::Plain))
+        } else {
+            Some(Answer::Taken(Clash::Name))
+        },
+        None => None,
+    }
+}
+
+/// Adds an environment, or tells why not, where its marks are well formed.
+fn put_marks<S: Alter>(
+    alloc: Global,
+    conn: &mut Connection<S>,
+    caller: &Caller,
+    environment: &Name,
+    marks: Marks,
+) -> Result<Answer, Fault>
+    requires { fault_of_marks marks ≡ None }
+    ensures { Performs (state S.Store conn.old) (state S.Store conn.new) (λ s out. Follows the_parts s caller.now (PutEnvironment environment.now marks) out) result }
+{
+    match marks_of(conn, environment) {
+        Ok(old) => match decide(alloc, caller, old, marks) {
+            Some(answer) => Ok(answer),
+            None => match add_environment(conn, environment.as_str(), marks.gated, marks.strict) {
+                Ok(()) => Ok(Answer::Done(Detail::Plain)),
+                Err(fault) => Err(fault),
+            },
+        },
+        Err(fault) => Err(fault),
+    }
+}
+
+/// Adds an environment, or tells why not.
+pub(crate) fn put_environment<S: Alter>(
+    alloc: Global,
+    conn: &mut Connection<S>,
+    caller: &Caller,
+    environment: &Name,
+    marks: Marks,
+) -> Result<Answer, Fault>
+    ensures { Performs (state S.Store conn.old) (state S.Store conn.new) (λ s out. Follows the_parts s caller.now (PutEnvironment environment.now marks) out) result }
+{
+    match form_of(alloc, marks) {
+        Ok(Some(answer)) => Ok(answer),
+        Ok(None) => put_marks(alloc, conn, caller, environment, marks),
+        Err(fault) => Err(fault),
+    }
+}

@@ -1,0 +1,77 @@
+//! The listing of an environment.
+ghost use Rattle.std.specs.Prelude.{◌≡◌, ℕ, List, Some, IsTrue};
+ghost use Rattle.sqlite.specs.Held.{state};
+ghost use Rattle.broker_core.specs.Change.{told};
+ghost use Rattle.broker_core.specs.declared.policy.Caller.{Caller as Who};
+ghost use Rattle.broker_core.specs.Listing.{Lists};
+ghost use Rattle.broker_core.specs.Machine.{Follows, deployed_cmp, version_cmp};
+ghost use Rattle.broker_core.specs.declared.command.Command.TheVariants.{GetEnvironment};
+ghost use Rattle.broker_tables.specs.Holds.{Reads};
+ghost use Rattle.broker_service.specs.Parts.{the_parts};
+ghost use Rattle.broker_service.specs.Performs.{Performs};
+
+use crate::environments::marks_of;
+use broker_core::answer::{Answer, DeployedItem, DeployedItems, Missing, Shown, Versions};
+use broker_core::command::{Marks, Version};
+use broker_core::name::Name;
+use broker_core::policy::Caller;
+use deploy_tables::{deployed, released};
+use sqlite::{Alter, Connection};
+use std::alloc::Global;
+use table_access::Fault;
+
+/// What is deployed and what is released in an environment.
+fn look<S: Alter>(
+    alloc: Global,
+    conn: &mut Connection<S>,
+    environment: &Name,
+) -> Result<(Vec<DeployedItem>, Vec<Version>), Fault>
+    ensures { Reads (state S.Store conn.old) (state S.Store conn.new) result (λ found s. Lists deployed_cmp (λ x. s.deployed (environment.now, x.pacticipant, x.instance) ≡ Some x.version) found.0.items × Lists version_cmp (λ v. IsTrue (s.released (environment.now, v))) found.1.items) }
+{
+    match deployed(alloc, conn, environment.as_str()) {
+        Ok(items) => match released(alloc, conn, environment.as_str()) {
+            Ok(versions) => Ok((items, versions)),
+            Err(fault) => Err(fault),
+        },
+        Err(fault) => Err(fault),
+    }
+}
+
+/// Shows an environment with these marks.
+fn list<S: Alter>(
+    alloc: Global,
+    conn: &mut Connection<S>,
+    environment: &Name,
+    marks: Marks,
+) -> Result<Answer, Fault>
+    ensures { Reads (state S.Store conn.old) (state S.Store conn.new) result (λ answer s. (caller : Who) → s.environments environment.now ≡ Some marks → Follows the_parts s caller (GetEnvironment environment.now) (told s answer)) }
+{
+    match look(alloc, conn, environment) {
+        Ok((deployed, released)) => match environment.clone() {
+            Ok(environment) => Ok(Answer::Shown(Shown::Environment {
+                environment,
+                marks,
+                deployed: DeployedItems::new(deployed),
+                released: Versions::new(released),
+            })),
+            Err(_) => Err(Fault::Memory),
+        },
+        Err(fault) => Err(fault),
+    }
+}
+
+/// Shows an environment, if it is there.
+pub(crate) fn get_environment<S: Alter>(
+    alloc: Global,
+    conn: &mut Connection<S>,
+    caller: &Caller,
+    environment: &Name,
+) -> Result<Answer, Fault>
+    ensures { Performs (state S.Store conn.old) (state S.Store conn.new) (λ s out. Follows the_parts s caller.now (GetEnvironment environment.now) out) result }
+{
+    match marks_of(conn, environment) {
+        Ok(Some(marks)) => list(alloc, conn, environment, marks),
+        Ok(None) => Ok(Answer::Unknown(Missing::Environment)),
+        Err(fault) => Err(fault),
+    }
+}

@@ -1,0 +1,173 @@
+//! Making a broker's tables, and opening a database that a broker left.
+ghost use Rattle.std.specs.Prelude.{◌≡◌, ◌↔◌, ◌≤◌, ◌++◌, ◌∷◌, [], ℕ, List, Err, IfErr, OnOk, OnErr, IsTrue, Some, None, IfOk};
+ghost use Rattle.sqlite_trees.specs.View.{doubt};
+ghost use Rattle.sqlite.specs.State.{HasCleanDisk};
+ghost use Rattle.sqlite.specs.Held.{state};
+ghost use Rattle.table_access.specs.Calls.{Call};
+ghost use Rattle.table_access.specs.Keeps.{Keeps};
+ghost use Rattle.broker_core.specs.State.{opening};
+ghost use Rattle.broker_tables.specs.Schema.{no_schema, registry_part, contents, contract_part, all_tables};
+ghost use Rattle.broker_tables.specs.Holds.{Holds, format};
+ghost use Rattle.broker_tables.specs.Making.{IsBlank, HasTables, IsMarked};
+ghost use Rattle.broker_service.specs.Parts.{the_parts};
+ghost use Rattle.broker_service.specs.Ends.{IsAsBefore, LeavesNothing};
+ghost use Rattle.broker_service.specs.Opening as spec;
+ghost use Rattle.broker_service.specs.Opening.{Turns, Leaves, Refuses, Spared, Judged, judgement};
+
+use crate::callers::digest_of;
+use broker_core::name::Token;
+use registry_tables::{format_of, is_blank, make_strict_environments};
+use sqlite::{Alter, Connection};
+use std::alloc::Global;
+use table_access::{Fault, commit, enter, leave};
+use thiserror::Error;
+
+/// Why a database isn't made or opened as a broker's.
+#[derive(Clone, Copy, Debug, PartialEq, Eq, Error)]
+pub enum OpenFault {
+    /// A table is there already, the broker's or another.
+    #[error("the database has tables")]
+    NotEmpty,
+    /// There is no table `meta` with one row.
+    #[error("not a broker's database")]
+    NotABroker,
+    /// The tables are of this other format.
+    #[error("a broker's database of format {0}")]
+    Format(u32),
+    /// A growth was refused, or the database has no memory.
+    #[error("out of memory")]
+    Memory,
+    /// The database refused a call, a commit or a rollback for another cause.
+    #[error("the database failed")]
+    Store,
+}
+
+fn open_fault(fault: Fault) -> OpenFault
+    ensures { result ≡ spec.open_fault fault }
+{
+    match fault {
+        Fault::Memory => OpenFault::Memory,
+        Fault::Store => OpenFault::Store,
+    }
+}
+
+/// Makes the tables of the registry, of contents and of contracts.
+fn make_first<S: Alter>(conn: &mut Connection<S>, digest: &str) -> Result<(), Fault>
+    ensures { Call (state S.Store conn.old) (state S.Store conn.new) result (λ _. IsBlank (state S.Store conn.old).now → HasTables (registry_part ++ contents ∷ contract_part) format digest.now (state S.Store conn.new).now) }
+{
+    match registry_tables::make_tables(conn, 2, digest) {
+        Ok(()) => match content_store::make_tables(conn) {
+            Ok(()) => contract_tables::make_tables(conn),
+            Err(fault) => Err(fault),
+        },
+        Err(fault) => Err(fault),
+    }
+}
+
+/// Makes the tables of what stands where, of evidence and of strict environments.
+fn make_rest<S: Alter>(conn: &mut Connection<S>) -> Result<(), Fault>
+    ensures { Call (state S.Store conn.old) (state S.Store conn.new) result (λ _. (office : List ℕ) → HasTables (registry_part ++ contents ∷ contract_part) format office (state S.Store conn.old).now → HasTables all_tables format office (state S.Store conn.new).now) }
+{
+    match deploy_tables::make_tables(conn) {
+        Ok(()) => match contract_tables::make_checked_results(conn) {
+            Ok(()) => make_strict_environments(conn),
+            Err(fault) => Err(fault),
+        },
+        Err(fault) => Err(fault),
+    }
+}
+
+/// Makes all tables.
+fn make_all<S: Alter>(conn: &mut Connection<S>, digest: &str) -> Result<(), Fault>
+    ensures { Call (state S.Store conn.old) (state S.Store conn.new) result (λ _. IsBlank (state S.Store conn.old).now → Holds (state S.Store conn.new).now (opening digest.now)) }
+{
+    match make_first(conn, digest) {
+        Ok(()) => make_rest(conn),
+        Err(fault) => Err(fault),
+    }
+}
+
+/// Makes all tables in one transaction.
+fn make<S: Alter>(conn: &mut Connection<S>, digest: &str) -> Result<(), Fault>
+    ensures turns { HasCleanDisk (state S.Store conn.new) → Keeps IsBlank (state S.Store conn.old) → Turns IsBlank (λ db. Holds db (opening digest.now)) (state S.Store conn.new) result }
+    ensures leaves { HasCleanDisk (state S.Store conn.new) → Leaves (state S.Store conn.old) (state S.Store conn.new) result }
+    ensures clean { doubt (state S.Store conn.old).is_clean ≤ doubt (state S.Store conn.new).is_clean }
+{
+    match enter(conn) {
+        Ok(()) => match make_all(conn, digest) {
+            Ok(()) => if commit(conn) {
+                Ok(())
+            } else {
+                Err(Fault::Store)
+            },
+            Err(fault) => if leave(conn) {
+                Err(fault)
+            } else {
+                Err(Fault::Store)
+            },
+        },
+        Err(fault) => Err(fault),
+    }
+}
+
+/// Makes all tables for an office with this token, on a database without tables.
+pub(crate) fn create<S: Alter>(
+    alloc: Global,
+    conn: &mut Connection<S>,
+    office: &Token,
+) -> Result<(), OpenFault>
+    ensures made { HasCleanDisk (state S.Store conn.new) → Keeps IsBlank (state S.Store conn.old) → OnOk result (Keeps (λ db. Holds db (opening (the_parts.digest_of office.now))) (state S.Store conn.new)) }
+    ensures refuses { HasCleanDisk (state S.Store conn.new) → Keeps IsBlank (state S.Store conn.old) → (state S.Store conn.old).now.schema ≡ no_schema → IfErr result (Refuses IsBlank (λ db. Holds db (opening (the_parts.digest_of office.now))) (state S.Store conn.new)) }
+    ensures not_empty { (result ≡ Err OpenFault.NotEmpty) ↔ (¬ ((state S.Store conn.old).now.schema ≡ no_schema)) }
+    ensures same { result ≡ Err OpenFault.NotEmpty → conn.new ≡ conn.old }
+    ensures spares { HasCleanDisk (state S.Store conn.new) → IfErr result (Spared (state S.Store conn.old) (state S.Store conn.new)) }
+    ensures clean { doubt (state S.Store conn.old).is_clean ≤ doubt (state S.Store conn.new).is_clean }
+{
+    if !is_blank(conn) {
+        return Err(OpenFault::NotEmpty);
+    }
+    match digest_of(alloc, office.as_str()) {
+        Ok(digest) => match make(conn, digest.as_str()) {
+            Ok(()) => Ok(()),
+            Err(fault) => Err(open_fault(fault)),
+        },
+        Err(fault) => Err(open_fault(fault)),
+    }
+}
+
+/// What is told by the format that was found.
+fn judge(found: Option<u32>) -> Result<(), OpenFault>
+    ensures { result ≡ judgement found }
+{
+    match found {
+        None => Err(OpenFault::NotABroker),
+        Some(2) => Ok(()),
+        Some(number) => Err(OpenFault::Format(number)),
+    }
+}
+
+/// Looks for a broker's tables of this format, and changes nothing.
+pub(crate) fn open<S: Alter>(conn: &mut Connection<S>) -> Result<(), OpenFault>
+    ensures bare { HasCleanDisk (state S.Store conn.new) → Keeps IsBlank (state S.Store conn.old) → Judged None result }
+    ensures marked { HasCleanDisk (state S.Store conn.new) → (n : ℕ) (office : List ℕ) → Keeps (IsMarked n office) (state S.Store conn.old) → Judged (Some n) result }
+    ensures kept { HasCleanDisk (state S.Store conn.new) → OnOk result (IsAsBefore (state S.Store conn.old) (state S.Store conn.new)) }
+    ensures spares { HasCleanDisk (state S.Store conn.new) → IfErr result (Spared (state S.Store conn.old) (state S.Store conn.new)) }
+    ensures left { HasCleanDisk (state S.Store conn.new) → LeavesNothing (state S.Store conn.old) (state S.Store conn.new) }
+    ensures clean { doubt (state S.Store conn.old).is_clean ≤ doubt (state S.Store conn.new).is_clean }
+{
+    match enter(conn) {
+        Ok(()) => match format_of(conn) {
+            Ok(found) => if leave(conn) {
+                judge(found)
+            } else {
+                Err(OpenFault::Store)
+            },
+            Err(fault) => if leave(conn) {
+                Err(open_fault(fault))
+            } else {
+                Err(OpenFault::Store)
+            },
+        },
+        Err(fault) => Err(open_fault(fault)),
+    }
+}

@@ -1,0 +1,93 @@
+//! PUT of a pacticipant.
+
+ghost use Rattle.std.specs.Prelude.{◌≡◌, ℕ, List, Some, None, IfSome, IfNone, IsTrue, is_some, option_map, string_bytes};
+ghost use Rattle.sqlite.specs.Held.{state};
+ghost use Rattle.broker_core.specs.State.{State as BrokerState};
+ghost use Rattle.broker_core.specs.Text.{put_at, same_text};
+ghost use Rattle.broker_core.specs.Change.{told, done};
+ghost use Rattle.broker_core.specs.Machine.{Follows};
+ghost use Rattle.broker_tables.specs.Holds.{Reads};
+ghost use Rattle.broker_service.specs.Parts.{the_parts};
+ghost use Rattle.broker_service.specs.Performs.{Performs};
+ghost use Rattle.broker_service.specs.Found.{FoundPacticipant};
+ghost use Rattle.broker_core.specs.declared.command.Command.TheVariants.{PutPacticipant};
+
+use broker_core::answer::{Answer, Clash, Detail, Missing};
+use broker_core::name::Name;
+use broker_core::policy::{Ask, Caller, Rule, allowed};
+use registry_tables::{add_pacticipant, has_team, owner_of};
+use sqlite::{Alter, Connection};
+use std::alloc::Global;
+use table_access::Fault;
+
+/// Whether the team is there, and the pacticipant's owner.
+fn look<S: Alter>(
+    conn: &mut Connection<S>,
+    pacticipant: &Name,
+    team: &Name,
+) -> Result<(bool, Option<String>), Fault>
+    ensures { Reads (state S.Store conn.old) (state S.Store conn.new) result (λ found s. FoundPacticipant s pacticipant.now team.now found.0 (option_map string_bytes found.1)) }
+{
+    match has_team(conn, team.as_str()) {
+        Ok(has) => match owner_of(conn, pacticipant.as_str()) {
+            Ok(owner) => Ok((has, owner)),
+            Err(fault) => Err(fault),
+        },
+        Err(fault) => Err(fault),
+    }
+}
+
+/// The answer where nothing changes; none where the pacticipant is added.
+fn decide(
+    alloc: Global,
+    caller: &Caller,
+    has_team: bool,
+    owner: &Option<String>,
+    team: &Name,
+) -> Option<Answer>
+    ensures told { IfSome result (λ answer. (s : BrokerState) (p : List ℕ) → FoundPacticipant s p team.now has_team (option_map string_bytes owner.now) → Follows the_parts s caller.now (PutPacticipant p team.now) (told s answer)) }
+    ensures free { IfNone result ((s : BrokerState) (p : List ℕ) → FoundPacticipant s p team.now has_team (option_map string_bytes owner.now)
+        → (s.pacticipants p ≡ None) × IsTrue (is_some (s.teams team.now)) × Follows the_parts s caller.now (PutPacticipant p team.now) (done (record s { pacticipants = put_at same_text s.pacticipants p (Some team.now) }))) }
+{
+    if !has_team {
+        return Some(Answer::Unknown(Missing::Team));
+    }
+    let ask = Ask {
+        rule: Rule::A2,
+        owners: Vec::new(alloc),
+        granted: false,
+    };
+    if let Err(rule) = allowed(caller, &ask) {
+        return Some(Answer::Denied(rule));
+    }
+    match owner {
+        Some(owner) => if owner.as_str() == team.as_str() {
+            Some(Answer::Already(Detail::Plain))
+        } else {
+            Some(Answer::Taken(Clash::Name))
+        },
+        None => None,
+    }
+}
+
+/// Adds a pacticipant, or tells why not.
+pub(crate) fn put_pacticipant<S: Alter>(
+    alloc: Global,
+    conn: &mut Connection<S>,
+    caller: &Caller,
+    pacticipant: &Name,
+    team: &Name,
+) -> Result<Answer, Fault>
+    ensures { Performs (state S.Store conn.old) (state S.Store conn.new) (λ s out. Follows the_parts s caller.now (PutPacticipant pacticipant.now team.now) out) result }
+{
+    match look(conn, pacticipant, team) {
+        Ok((has, owner)) => match decide(alloc, caller, has, &owner, team) {
+            Some(answer) => Ok(answer),
+            None => match add_pacticipant(conn, pacticipant.as_str(), team.as_str()) {
+                Ok(()) => Ok(Answer::Done(Detail::Plain)),
+                Err(fault) => Err(fault),
+            },
+        },
+        Err(fault) => Err(fault),
+    }
+}

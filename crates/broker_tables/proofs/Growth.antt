@@ -1,0 +1,165 @@
+-- What a new version leaves of the state that the database holds.
+use Rattle.std.proofs.Common.{◌≡◌, ℕ, ℤ, pos, ◌+◌, List, [], ◌∷◌, ◌++◌, map, length, false, cond, ◌||◌, refl, sym, ap, subst, subst₂, ◌∙◌, Some, None, Option, codes, inl, inr, Ordering, Less, Equal, Greater}
+use Rattle.std.specs.Prelude.{option_map, option_and_then}
+use Rattle.std.specs.Option.{option_map_or}
+use Rattle.std.specs.List.{enumerate_from}
+use Rattle.std.specs.Ordering.{is_eq, int_cmp, eq_by_cmp, ordering_then}
+use Rattle.sqlite.specs.Order.{Row}
+use Rattle.sqlite.specs.Effect.{Database}
+use Rattle.sqlite_rules.specs.Lists.{Has}
+use Rattle.table_access.specs.Columns.{text, text_cmp, whole_at, by_both}
+use Rattle.table_access.proofs.SoundLemmas.{whole_in, has_place}
+use Rattle.broker_core.specs.declared.command.Version.{Version}
+use Rattle.broker_core.specs.Text.{Text, version}
+use Rattle.broker_core.specs.State.{State as Broker, Verification}
+use Rattle.broker_core.specs.Request.{is_known}
+use Rattle.broker_tables.specs.Rows.{rows_of, value_at, stands_at}
+use Rattle.broker_tables.specs.Numbers.{numbered, number_of}
+use Rattle.broker_tables.specs.Holds.{Holds, AreVersions, AreBranches, AreContracts, AreResults, AreLatest, AreDeployed, AreReleased, ResultRow, result_in, result_of}
+use Rattle.broker_tables.proofs.Frames.{Frame, still}
+use Rattle.broker_tables.proofs.NumberLemmas.{grown, still_numbered as stays_numbered}
+use Rattle.broker_tables.proofs.References.{not_next}
+use Rattle.broker_tables.proofs.Placed.{branches, branches_there, contracts, contracts_there, latest, latest_there, released, released_there}
+
+-- ---- no row has the key
+
+module _ {K V : Type 0} (R : K → K → Ordering) (key : Row → K) (value : Row → V) (k : K) where
+  pub none_stands : (rows : List Row) → ((r : Row) → Has rows r → eq_by_cmp R k (key r) ≡ false) → stands_at R key rows k ≡ false
+  none_stands [] apart = refl
+  none_stands (r ∷ rows) apart = ap (λ b. b || stands_at R key rows k) (apart r (inl refl)) ∙ none_stands rows (λ x has. apart x (inr has))
+
+  pub none_found : (rows : List Row) → ((r : Row) → Has rows r → eq_by_cmp R k (key r) ≡ false) → value_at R key value rows k ≡ None
+  none_found [] apart = refl
+  none_found (r ∷ rows) apart = ap (λ b. cond b (Some (value r)) (value_at R key value rows k)) (apart r (inl refl)) ∙ none_found rows (λ x has. apart x (inr has))
+
+first_apart : (x y : Ordering) → is_eq x ≡ false → is_eq (ordering_then x y) ≡ false
+first_apart Less y e = refl
+first_apart Equal y e = absurd cc
+first_apart Greater y e = refl
+
+second_apart : (x y : Ordering) → is_eq y ≡ false → is_eq (ordering_then x y) ≡ false
+second_apart Less y e = refl
+second_apart Equal y e = e
+second_apart Greater y e = refl
+
+-- ---- results name versions that are there
+
+abbrev head_of : {A B : Type 0} → B → List (A × B) → B
+head_of other [] = other
+head_of other (p ∷ ps) = p.1
+
+abbrev rest_of : {A : Type 0} → List A → List A
+rest_of [] = []
+rest_of (p ∷ ps) = ps
+
+module _ (versions : List Version) (v : Version) (checked : List Row) where
+  same_result : (r : Row) (q : Verification) → result_in checked r ≡ result_of versions q → result_of versions q ≡ result_of (versions ++ v ∷ []) q
+  same_result r q is = go (number_of versions q.version) refl
+    where
+      go : (o : Option ℕ) → number_of versions q.version ≡ o → result_of versions q ≡ result_of (versions ++ v ∷ []) q
+      go None e = absurd (let there : Some (whole_at 4 r) ≡ option_map pos (number_of versions q.version) = ap (λ (x : ResultRow). x.version) is in let none : Some (whole_at 4 r) ≡ None = there ∙ ap (option_map pos) e in cc)
+      go (Some k) e = ap (λ (o : Option ℤ). record (result_of versions q) { version = o }) (ap (option_map pos) e ∙ ap (option_map pos) (sym (stays_numbered versions v q.version k e)))
+
+  same_results : (n : ℕ) (rows : List Row) (rs : List Verification) → map {B = ℤ × ResultRow} (λ r. (whole_at 0 r, result_in checked r)) rows ≡ map (λ e. (pos e.0, e.1)) (enumerate_from n (map (result_of versions) rs))
+      → map (result_of versions) rs ≡ map (result_of (versions ++ v ∷ [])) rs
+  same_results n rows [] is = refl
+  same_results n [] (q ∷ rs) is = absurd (let e = is in cc)
+  same_results n (r ∷ rows) (q ∷ rs) is =
+      let one : result_of versions q ≡ result_of (versions ++ v ∷ []) q = same_result r q (ap (head_of (result_of versions q)) is) in
+      let more : map (result_of versions) rs ≡ map (result_of (versions ++ v ∷ [])) rs = same_results (n + 1) rows rs (ap rest_of is) in
+      λ i. one i ∷ more i
+
+-- ---- each table that names versions
+
+module _ (db : Database) (s : Broker) (held : Holds db s) (v : Version) (free : is_known s v ≡ false) where
+  abbrev next : ℕ
+  next = length s.versions + 1
+
+  branch_numbers : (r : Row) → Has (db.trees 8) r → is_eq (int_cmp (pos next) (whole_at 1 r)) ≡ false
+  branch_numbers r has =
+      let listed = has_place _ 4 branches (branches_there db held.broker) in
+      not_next db held.broker s.versions held.versions branches listed 1 (inl refl) r has (whole_in db held.broker.kept.sound branches listed r has 0 _ refl refl refl refl refl)
+
+  contract_numbers : (r : Row) → Has (db.trees 15) r → is_eq (int_cmp (pos next) (whole_at 1 r)) ≡ false
+  contract_numbers r has =
+      let listed = has_place _ 8 contracts (contracts_there db held.broker) in
+      not_next db held.broker s.versions held.versions contracts listed 1 (inl refl) r has (whole_in db held.broker.kept.sound contracts listed r has 0 _ refl refl refl refl refl)
+
+  latest_numbers : (r : Row) → Has (db.trees 19) r → is_eq (int_cmp (pos next) (whole_at 2 r)) ≡ false
+  latest_numbers r has =
+      let listed = has_place _ 10 latest (latest_there db held.broker) in
+      not_next db held.broker s.versions held.versions latest listed 2 (inr (inl refl)) r has (whole_in db held.broker.kept.sound latest listed r has 1 _ refl refl refl refl refl)
+
+  released_numbers : (r : Row) → Has (db.trees 23) r → is_eq (int_cmp (pos next) (whole_at 2 r)) ≡ false
+  released_numbers r has =
+      let listed = has_place _ 12 released (released_there db held.broker) in
+      not_next db held.broker s.versions held.versions released listed 2 (inr (inl refl)) r has (whole_in db held.broker.kept.sound released listed r has 1 _ refl refl refl refl refl)
+
+  abbrev more : List Version
+  more = s.versions ++ v ∷ []
+
+  branches_grow : AreBranches more s.branches (rows_of db (codes "branches"))
+  branches_grow w b =
+      grown (λ o. option_map_or (λ n. stands_at (by_both int_cmp text_cmp) (λ r. (whole_at 1 r, text 2 r)) (db.trees 8) (pos n, b)) o false) s.versions v w free
+      (none_stands (by_both int_cmp text_cmp) (λ r. (whole_at 1 r, text 2 r)) (text 2) (pos next, b) (db.trees 8) (λ r has. first_apart _ _ (branch_numbers r has)))
+      ∙ held.branches w b
+
+  contracts_grow : AreContracts more s.contracts (rows_of db (codes "contracts"))
+  contracts_grow w p =
+      grown (λ o. option_and_then (λ n. value_at (by_both int_cmp text_cmp) (λ r. (whole_at 1 r, text 2 r)) (whole_at 3) (db.trees 15) (pos n, p)) o) s.versions v w free
+      (none_found (by_both int_cmp text_cmp) (λ r. (whole_at 1 r, text 2 r)) (whole_at 3) (pos next, p) (db.trees 15) (λ r has. first_apart _ _ (contract_numbers r has)))
+      ∙ held.contracts w p
+
+  results_grow : AreResults more s.results (rows_of db (codes "results")) (rows_of db (codes "checked_results"))
+  results_grow = held.results ∙ ap numbered (same_results s.versions v (rows_of db (codes "checked_results")) 1 (rows_of db (codes "results")) s.results held.results)
+
+  latest_grow : AreLatest (record s { versions = more }) (rows_of db (codes "latest"))
+  latest_grow content w =
+      grown (λ o. option_and_then (λ n. value_at (by_both int_cmp int_cmp) (λ r. (whole_at 1 r, whole_at 2 r)) (whole_at 3) (db.trees 19) (pos content, pos n)) o) s.versions v w free
+      (none_found (by_both int_cmp int_cmp) (λ r. (whole_at 1 r, whole_at 2 r)) (whole_at 3) (pos content, pos next) (db.trees 19) (λ r has. second_apart _ _ (latest_numbers r has)))
+      ∙ held.latest content w
+
+  deployed_grow : AreDeployed more s.deployed (rows_of db (codes "deployed"))
+  deployed_grow e p instance = go (s.deployed (e, p, instance)) (held.deployed e p instance)
+    where
+      found : Option ℤ
+      found = value_at (by_both text_cmp (by_both text_cmp text_cmp)) (λ r. (text 1 r, (text 2 r, text 3 r))) (whole_at 4) (db.trees 21) (e, (p, instance))
+
+      inner : (o : Option ℤ) (name : Text) (k : Option ℕ) → number_of s.versions (version p name) ≡ k → option_map Some o ≡ Some (option_map pos k) → option_map Some o ≡ Some (option_map pos (number_of more (version p name)))
+      inner None name k e is = absurd cc
+      inner (Some x) name None e is = absurd cc
+      inner (Some x) name (Some k) e is = is ∙ ap (λ t. Some (option_map pos t)) (sym (stays_numbered s.versions v (version p name) k e))
+
+      go : (d : Option Text) → option_map Some found ≡ option_map (λ name. option_map pos (number_of s.versions (version p name))) d → option_map Some found ≡ option_map (λ name. option_map pos (number_of more (version p name))) d
+      go None is = is
+      go (Some name) is = inner found name (number_of s.versions (version p name)) refl is
+
+  released_grow : AreReleased more s.released (rows_of db (codes "released"))
+  released_grow e w =
+      grown (λ o. option_map_or (λ n. stands_at (by_both text_cmp int_cmp) (λ r. (text 1 r, whole_at 2 r)) (db.trees 23) (e, pos n)) o false) s.versions v w free
+      (none_stands (by_both text_cmp int_cmp) (λ r. (text 1 r, whole_at 2 r)) (text 1) (e, pos next) (db.trees 23) (λ r has. second_apart _ _ (released_numbers r has)))
+      ∙ held.released e w
+
+-- a version that wasn't there gets the next number, and nothing else changes
+pub versions_grow : (old new : Database) (s : Broker) (v : Version) → Holds old s → is_known s v ≡ false → Frame (codes "versions" ∷ []) old new → AreVersions (s.versions ++ v ∷ []) (rows_of new (codes "versions"))
+    → Holds new (record s { versions = s.versions ++ v ∷ [] })
+versions_grow old new s v held free frame is =
+    let k = still (codes "versions" ∷ []) new s old held frame in
+    let all = frame.others in
+    let more = s.versions ++ v ∷ [] in
+    record {
+      broker = k.broker;
+      meta = k.meta refl;
+      teams = k.teams refl;
+      pacticipants = k.pacticipants refl;
+      environments = k.environments refl refl;
+      grants = k.grants refl;
+      contents = k.contents refl;
+      versions = is;
+      branches = subst (AreBranches more s.branches) (sym (all.1.1.1.1.0 refl)) (branches_grow old s held v free);
+      contracts = subst (AreContracts more s.contracts) (sym (all.1.1.1.1.1.1.1.1.0 refl)) (contracts_grow old s held v free);
+      results = subst₂ (AreResults more s.results) (sym (all.1.1.1.1.1.1.1.1.1.0 refl)) (sym (all.1.1.1.1.1.1.1.1.1.1.1.1.1.0 refl)) (results_grow old s held v free);
+      latest = subst (AreLatest (record s { versions = more })) (sym (all.1.1.1.1.1.1.1.1.1.1.0 refl)) (latest_grow old s held v free);
+      deployed = subst (AreDeployed more s.deployed) (sym (all.1.1.1.1.1.1.1.1.1.1.1.0 refl)) (deployed_grow old s held v free);
+      released = subst (AreReleased more s.released) (sym (all.1.1.1.1.1.1.1.1.1.1.1.1.0 refl)) (released_grow old s held v free);
+    }

@@ -1,0 +1,10 @@
+pub mod Definitions
+pub mod Frames
+pub mod Placed
+pub mod Orders
+pub mod Standing
+pub mod Ties
+pub mod NumberLemmas
+pub mod References
+pub mod Growth
+pub mod Opening

@@ -1,0 +1,80 @@
+-- What the tables that were made hold.
+use Rattle.std.proofs.Common.{◌≡◌, ℕ, List, [], ◌∷◌, ◌++◌, fold, false, refl, sym, ap, subst, subst₂, ◌∙◌, codes}
+use Rattle.std.specs.List.{AllByRecursion}
+use Rattle.sqlite.specs.Table.{Table}
+use Rattle.sqlite.specs.Schema.{Schema}
+use Rattle.sqlite.specs.Tree.{Trees}
+use Rattle.sqlite.specs.Change.{created, next_tree, KeepsRows}
+use Rattle.sqlite.specs.Effect.{Database}
+use Rattle.sqlite_rules.specs.Lists.{Has}
+use Rattle.table_access.specs.Statements.{Makes, new_trees}
+use Rattle.table_access.specs.Sound.{IsKept, IsNumbered}
+use Rattle.table_access.proofs.Creation.{made_schema, made_keeps, made_empty, made_kept}
+use Rattle.table_access.proofs.SoundLemmas.{at_has}
+use Rattle.broker_core.specs.Text.{Text, same_text}
+use Rattle.broker_core.specs.State.{State as Broker, opening}
+use Rattle.broker_tables.specs.Schema as schema
+use Rattle.broker_tables.specs.Schema.{schema_of, all_tables}
+use Rattle.broker_tables.specs.Making.{IsBlank, HasTables, IsMarked}
+use Rattle.broker_tables.specs.Holds.{Holds, IsMeta, format, AreTeams, ArePacticipants, AreVersions, AreBranches, AreEnvironments, AreGrants, AreContents, AreContracts, AreResults, AreLatest, AreDeployed, AreReleased}
+use Rattle.broker_tables.proofs.Placed.{meta}
+
+pub blank_kept : (db : Database) → IsBlank db → IsKept db
+blank_kept db blank = record { sound = blank.sound; numbered = subst (λ (s : Schema). AllByRecursion (λ t. IsNumbered (db.trees t.tree)) s.tables) (sym blank.schema) tt }
+
+fold_append : (s : Schema) (xs ys : List Table) → fold created s (xs ++ ys) ≡ fold created (fold created s xs) ys
+fold_append s [] ys = refl
+fold_append s (x ∷ xs) ys = fold_append (created s x) xs ys
+
+all_append : {X : Type 0} (P : X → Type 0) (xs ys : List X) → AllByRecursion P xs → AllByRecursion P ys → AllByRecursion P (xs ++ ys)
+all_append P [] ys one two = two
+all_append P (x ∷ xs) ys one two = (one.0, all_append P xs ys one.1 two)
+
+abbrev IsEmpty : Trees → Table → Type 0
+IsEmpty trees t = same_text t.name (codes "meta") ≡ false → trees t.tree ≡ []
+
+-- tables that were empty, and new ones
+all_empty : (trees : Trees) (s : Schema) (part : List Table) → AllByRecursion (IsEmpty trees) s.tables → AllByRecursion (λ n. trees n ≡ []) (new_trees s part) → AllByRecursion (IsEmpty trees) (fold created s part).tables
+all_empty trees s [] one two = one
+all_empty trees s (t ∷ part) one two = all_empty trees (created s t) part (all_append (IsEmpty trees) s.tables (record t { tree = next_tree s } ∷ []) one ((λ _. two.0), tt)) two.1
+
+still_empty : (old new : Trees) (ts : List Table) → KeepsRows ts old new → AllByRecursion (IsEmpty old) ts → AllByRecursion (IsEmpty new) ts
+still_empty old new [] same all = tt
+still_empty old new (t ∷ ts) same all = ((λ other. same.0 ∙ all.0 other), still_empty old new ts same.1 all.1)
+
+-- more tables are made, after these
+pub has_more : (before part : List Table) (n : ℕ) (office : Text) (old new : Database) → Has (schema_of before).tables meta → HasTables before n office old → Makes part old new → HasTables (before ++ part) n office new
+has_more before part n office old new among has makes =
+    let keeps : KeepsRows (schema_of before).tables old.trees new.trees = subst (λ (s : Schema). KeepsRows s.tables old.trees new.trees) has.schema (made_keeps part old new makes) in
+    let rows : new.trees 0 ≡ old.trees 0 = at_has (λ t. new.trees t.tree ≡ old.trees t.tree) (schema_of before).tables meta keeps among in
+    let is : fold created (schema_of before) part ≡ schema_of (before ++ part) = sym (fold_append schema.no_schema before part) in
+    record {
+      schema = made_schema part old new makes ∙ ap (λ s. fold created s part) has.schema ∙ is;
+      kept = made_kept part old new makes has.kept;
+      meta = subst (IsMeta n office) (sym rows) has.meta;
+      empty = subst (λ (s : Schema). AllByRecursion (IsEmpty new.trees) s.tables) is (all_empty new.trees (schema_of before) part (still_empty old.trees new.trees (schema_of before).tables keeps has.empty)
+          (subst (λ s. AllByRecursion (λ m. new.trees m ≡ []) (new_trees s part)) has.schema (made_empty part old new makes)));
+    }
+
+-- once all tables are made, the database holds the state of a new broker
+pub opens : (office : Text) (db : Database) → HasTables all_tables format office db → Holds db (opening office)
+opens office db has = let e = has.empty in record {
+  broker = record { schema = has.schema; kept = has.kept };
+  meta = has.meta;
+  teams = subst (AreTeams (opening office).teams) (sym (e.1.0 refl)) (λ t. refl);
+  pacticipants = subst (ArePacticipants (opening office).pacticipants) (sym (e.1.1.0 refl)) (λ p. refl);
+  versions = subst (AreVersions []) (sym (e.1.1.1.0 refl)) refl;
+  branches = subst (AreBranches [] (opening office).branches) (sym (e.1.1.1.1.0 refl)) (λ v b. refl);
+  environments = subst₂ (AreEnvironments (opening office).environments) (sym (e.1.1.1.1.1.0 refl)) (sym (e.1.1.1.1.1.1.1.1.1.1.1.1.1.1.0 refl)) (λ q. refl);
+  grants = subst (AreGrants (opening office).grants) (sym (e.1.1.1.1.1.1.0 refl)) (λ t q. refl);
+  contents = subst (AreContents []) (sym (e.1.1.1.1.1.1.1.0 refl)) refl;
+  contracts = subst (AreContracts [] (opening office).contracts) (sym (e.1.1.1.1.1.1.1.1.0 refl)) (λ v p. refl);
+  results = subst₂ (AreResults [] []) (sym (e.1.1.1.1.1.1.1.1.1.0 refl)) (sym (e.1.1.1.1.1.1.1.1.1.1.1.1.1.0 refl)) refl;
+  latest = subst (AreLatest (opening office)) (sym (e.1.1.1.1.1.1.1.1.1.1.0 refl)) (λ c v. refl);
+  deployed = subst (AreDeployed [] (opening office).deployed) (sym (e.1.1.1.1.1.1.1.1.1.1.1.0 refl)) (λ q p i. refl);
+  released = subst (AreReleased [] (opening office).released) (sym (e.1.1.1.1.1.1.1.1.1.1.1.1.0 refl)) (λ q v. refl);
+}
+
+-- a database that holds a state tells its format
+pub held_marked : (db : Database) (s : Broker) → Holds db s → IsMarked format s.office db
+held_marked db s held = record { tables = _; indexes = _; schema = held.broker.schema; row = held.meta }

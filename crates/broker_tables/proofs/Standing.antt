@@ -1,0 +1,66 @@
+-- Rows by their keys: whether one stands, after a row is put in or taken out.
+use Rattle.std.proofs.Common.{◌≡◌, List, [], ◌∷◌, ◌++◌, Bool, true, false, cond, not, ◌||◌, refl, sym, ap, ◌∙◌, map, filter, Some, None, Option, Ordering}
+use Rattle.std.specs.Prelude.{is_some, option_map}
+use Rattle.std.specs.List.{AllByRecursion}
+use Rattle.std.specs.Ordering.{eq_by_cmp}
+use Rattle.std.specs.Cmp.{IsTotalOrder}
+use Rattle.std.specs.FinMap.{get, from_entries, get-from_entries, get-remove, IsAntisymmetric}
+use Rattle.sqlite.specs.Order.{Row}
+use Rattle.table_access.specs.Statements.{IsAdded}
+use Rattle.table_access.proofs.Maps.{take_out}
+use Rattle.broker_tables.specs.Rows.{value_at, stands_at}
+
+module _ {K : Type 0} (R : K → K → Ordering) (key : Row → K) where
+  -- what is found by a key tells whether a row stands there
+  pub stands_found : {V : Type 0} (value : Row → V) (rows : List Row) (k : K) → is_some (value_at R key value rows k) ≡ stands_at R key rows k
+  stands_found value [] k = refl
+  stands_found {V} value (r ∷ rows) k = go (eq_by_cmp R k (key r)) (stands_found value rows k)
+    where
+      go : (b : Bool) → is_some (value_at R key value rows k) ≡ stands_at R key rows k → is_some (cond b (Some (value r)) (value_at R key value rows k)) ≡ (b || stands_at R key rows k)
+      go true later = refl
+      go false later = later
+
+  -- a part of what is found
+  pub value_map : {V W : Type 0} (f : V → W) (value : Row → V) (rows : List Row) (k : K) → option_map f (value_at R key value rows k) ≡ value_at R key (λ r. f (value r)) rows k
+  value_map f value [] k = refl
+  value_map {V} {W} f value (r ∷ rows) k = go (eq_by_cmp R k (key r)) (value_map f value rows k)
+    where
+      go : (b : Bool) → option_map f (value_at R key value rows k) ≡ value_at R key (λ r. f (value r)) rows k
+          → option_map f (cond b (Some (value r)) (value_at R key value rows k)) ≡ cond b (Some (f (value r))) (value_at R key (λ r. f (value r)) rows k)
+      go true later = refl
+      go false later = later
+
+  grouped : (p q r : Bool) → (p || (q || r)) ≡ (q || (p || r))
+  grouped true true r = refl
+  grouped true false r = refl
+  grouped false q r = refl
+
+  past : (front back : List Row) (row : Row) (k : K) → stands_at R key (front ++ row ∷ back) k ≡ (eq_by_cmp R k (key row) || stands_at R key (front ++ back) k)
+  past [] back row k = refl
+  past (r ∷ front) back row k =
+      ap (λ b. eq_by_cmp R k (key r) || b) (past front back row k) ∙ grouped (eq_by_cmp R k (key r)) (eq_by_cmp R k (key row)) (stands_at R key (front ++ back) k)
+
+  -- one row more
+  pub stands_put : (old new : List Row) (row : Row) → IsAdded old new row → (k : K) → stands_at R key new k ≡ (eq_by_cmp R k (key row) || stands_at R key old k)
+  stands_put old new row it k =
+      ap (λ rows. stands_at R key rows k) it.is ∙ past it.front it.back row k ∙ ap (λ rows. eq_by_cmp R k (key row) || stands_at R key rows k) (sym it.was)
+
+module _ {K V : Type 0} {R : K → K → Ordering} (o : IsTotalOrder R) (exact : IsAntisymmetric R) (key : Row → K) (value : Row → V) where
+  -- the rows of one key are taken out
+  pub takes_at : (k : K) (p : Row → Bool) (old new : List Row) → AllByRecursion (λ r. p r ≡ eq_by_cmp R k (key r)) old → new ≡ filter (λ r. not (p r)) old
+      → (q : K) → value_at R key value new q ≡ cond (eq_by_cmp R q k) None (value_at R key value old q)
+  takes_at k p old new same is q =
+      let entries : List Row → List (K × V) = map (λ r. (key r, value r)) in
+      sym (get-from_entries o (entries new) q) ∙ ap (λ m. get m q) (take_out o exact key value k p old new same is) ∙ get-remove o (from_entries (entries old)) k q
+      ∙ ap (cond (eq_by_cmp R q k) None) (get-from_entries o (entries old) q)
+
+cond_some : {V : Type 0} (b : Bool) (found : Option V) → is_some (cond b None found) ≡ cond b false (is_some found)
+cond_some true found = refl
+cond_some false found = refl
+
+module _ {K : Type 0} {R : K → K → Ordering} (o : IsTotalOrder R) (exact : IsAntisymmetric R) (key : Row → K) where
+  pub stands_out : (k : K) (p : Row → Bool) (old new : List Row) → AllByRecursion (λ r. p r ≡ eq_by_cmp R k (key r)) old → new ≡ filter (λ r. not (p r)) old
+      → (q : K) → stands_at R key new q ≡ cond (eq_by_cmp R q k) false (stands_at R key old q)
+  stands_out k p old new same is q =
+      sym (stands_found R key key new q) ∙ ap is_some (takes_at o exact key key k p old new same is q) ∙ cond_some (eq_by_cmp R q k) (value_at R key key old q)
+      ∙ ap (cond (eq_by_cmp R q k) false) (stands_found R key key old q)

@@ -1,0 +1,162 @@
+-- What it means that a database holds a state of the broker, and how a call on the tables is stated by it.
+use Rattle.std.specs.Prelude.{◌≡◌, ℕ, ℤ, pos, List, [], ◌∷◌, map, Bool, false, Option, Some, option_map, option_and_then, codes, Result}
+use Rattle.std.specs.Option.{option_map_or}
+use Rattle.std.specs.Ordering.{int_cmp}
+use Rattle.sqlite.specs.Order.{Row}
+use Rattle.sqlite.specs.Effect.{Database}
+use Rattle.sqlite.specs.State.{State}
+use Rattle.sha2.specs.Sha256.{sha256}
+use Rattle.hex.specs.Hex.{encode_lower}
+use Rattle.table_access.specs.declared.Fault.{Fault}
+use Rattle.table_access.specs.Calls.{Call}
+use Rattle.table_access.specs.Columns.{text, text_cmp, whole_at, by_both}
+use Rattle.table_access.specs.Sound.{IsKept}
+use Rattle.broker_core.specs.declared.command.Version.{Version}
+use Rattle.broker_core.specs.declared.command.Marks.{Marks}
+use Rattle.broker_core.specs.Text.{Text, version}
+use Rattle.broker_core.specs.State.{State as Broker, Verification, latest_result}
+use Rattle.broker_tables.specs.Schema.{broker_schema}
+use Rattle.broker_tables.specs.Rows.{rows_of, truth, maybe_text, value_at, stands_at}
+use Rattle.broker_tables.specs.Numbers.{numbered, number_of}
+
+-- The tables are the broker's and each obeys its columns, keys, checks and references, and its rows are in the order of their numbers.
+pub record IsBroker (db : Database) : Type 0 where
+  pub schema : db.schema ≡ broker_schema
+  pub kept : IsKept db
+
+-- the format of these tables
+abbrev pub format : ℕ
+format = 2
+
+-- ---- what the rows of each table say of a state
+
+-- one row: its number, the format, and the digest of the office's token
+abbrev pub IsMeta : ℕ → Text → List Row → Type 0
+IsMeta n office rows = map {B = ℤ × ℤ × Text} (λ r. (whole_at 0 r, whole_at 2 r, text 3 r)) rows ≡ (pos 1, pos n, office) ∷ []
+
+-- a team: its name, and the digest of its token
+abbrev pub AreTeams : (Text → Option Text) → List Row → Type 0
+AreTeams teams rows = (team : Text) → value_at text_cmp (text 1) (text 2) rows team ≡ teams team
+
+-- a pacticipant: its name, and the team that owns it
+abbrev pub ArePacticipants : (Text → Option Text) → List Row → Type 0
+ArePacticipants pacticipants rows = (p : Text) → value_at text_cmp (text 1) (text 2) rows p ≡ pacticipants p
+
+-- the versions in the order of their numbers, from 1 without gaps: the pacticipant, and the version's name
+abbrev pub AreVersions : List Version → List Row → Type 0
+AreVersions versions rows = map (λ r. (whole_at 0 r, version (text 2 r) (text 3 r))) rows ≡ numbered versions
+
+-- a version's number, and a branch that it is on
+abbrev pub AreBranches : List Version → (Version × Text → Bool) → List Row → Type 0
+AreBranches versions branches rows = (v : Version) (branch : Text)
+    → option_map_or (λ n. stands_at (by_both int_cmp text_cmp) (λ r. (whole_at 1 r, text 2 r)) rows (pos n, branch)) (number_of versions v) false ≡ branches (v, branch)
+
+-- an environment: its name, whether it is gated, and whether its name stands among the strict ones
+abbrev pub marks_in : List Row → Row → Marks
+marks_in strict r = record { gated = truth 2 r; strict = stands_at text_cmp (text 1) strict (text 1 r) }
+
+abbrev pub AreEnvironments : (Text → Option Marks) → List Row → List Row → Type 0
+AreEnvironments environments rows strict = (e : Text) → value_at text_cmp (text 1) (marks_in strict) rows e ≡ environments e
+
+-- a team, and an environment for which it has a grant
+abbrev pub AreGrants : (Text × Text → Bool) → List Row → Type 0
+AreGrants grants rows = (team e : Text) → stands_at (by_both text_cmp text_cmp) (λ r. (text 1 r, text 2 r)) rows (team, e) ≡ grants (team, e)
+
+-- a text with its digest
+abbrev pub with_digest : Text → Text × Text
+with_digest body = (encode_lower (sha256 body), body)
+
+-- the normal texts of pacts in the order of their numbers, from 1 without gaps, each with its digest
+abbrev pub AreContents : List Text → List Row → Type 0
+AreContents contents rows = map (λ r. (whole_at 0 r, (text 2 r, text 3 r))) rows ≡ numbered (map with_digest contents)
+
+-- a contract: the number of the consumer version, the provider, and the number of the content
+abbrev pub AreContracts : List Version → (Version × Text → Option ℕ) → List Row → Type 0
+AreContracts versions contracts rows = (v : Version) (provider : Text)
+    → option_and_then (λ n. value_at (by_both int_cmp text_cmp) (λ r. (whole_at 1 r, text 2 r)) (whole_at 3) rows (pos n, provider)) (number_of versions v) ≡ option_map pos (contracts (v, provider))
+
+-- a result without its number
+pub record ResultRow : Type 0 where
+  pub content : ℤ
+  pub provider : Text
+  -- the number of the provider's version
+  pub version : Option ℤ
+  pub pass : Bool
+  pub checked : Bool
+  pub run : Option Text
+
+-- as its row has it, and as its number stands among the checked ones or doesn't
+abbrev pub result_in : List Row → Row → ResultRow
+result_in checked r = record {
+  content = whole_at 2 r;
+  provider = text 3 r;
+  version = Some (whole_at 4 r);
+  pass = truth 5 r;
+  checked = stands_at int_cmp (whole_at 0) checked (whole_at 0 r);
+  run = maybe_text 6 r;
+}
+
+-- as the state has it: the provider is the pacticipant of the version
+abbrev pub result_of : List Version → Verification → ResultRow
+result_of versions r = record {
+  content = pos r.content;
+  provider = r.version.pacticipant;
+  version = option_map pos (number_of versions r.version);
+  pass = r.pass;
+  checked = r.checked;
+  run = r.run;
+}
+
+-- the results in the order of their numbers, from 1 without gaps
+abbrev pub AreResults : List Version → List Verification → List Row → List Row → Type 0
+AreResults versions results rows checked = map (λ r. (whole_at 0 r, result_in checked r)) rows ≡ numbered (map (result_of versions) results)
+
+-- a content, the number of a version of the provider, and the number of the latest result for them
+abbrev pub AreLatest : Broker → List Row → Type 0
+AreLatest s rows = (content : ℕ) (v : Version)
+    → option_and_then (λ n. value_at (by_both int_cmp int_cmp) (λ r. (whole_at 1 r, whole_at 2 r)) (whole_at 3) rows (pos content, pos n)) (number_of s.versions v)
+    ≡ option_map (λ e. pos e.0) (latest_result s content v)
+
+-- an environment, a pacticipant and an instance, and the number of the version there, which is one of that pacticipant
+abbrev pub AreDeployed : List Version → (Text × Text × Text → Option Text) → List Row → Type 0
+AreDeployed versions deployed rows = (e p instance : Text)
+    → option_map Some (value_at (by_both text_cmp (by_both text_cmp text_cmp)) (λ r. (text 1 r, (text 2 r, text 3 r))) (whole_at 4) rows (e, (p, instance)))
+    ≡ option_map (λ name. option_map pos (number_of versions (version p name))) (deployed (e, p, instance))
+
+-- an environment, and the number of a version that is released there
+abbrev pub AreReleased : List Version → (Text × Version → Bool) → List Row → Type 0
+AreReleased versions released rows = (e : Text) (v : Version)
+    → option_map_or (λ n. stands_at (by_both text_cmp int_cmp) (λ r. (text 1 r, whole_at 2 r)) rows (e, pos n)) (number_of versions v) false ≡ released (e, v)
+
+-- ---- the whole
+
+-- The database holds the state: each field of the state is what the rows of its tables say. A database whose rows break a rule holds none.
+pub record Holds (db : Database) (s : Broker) : Type 0 where
+  pub broker : IsBroker db
+  pub meta : IsMeta format s.office (rows_of db (codes "meta"))
+  pub teams : AreTeams s.teams (rows_of db (codes "teams"))
+  pub pacticipants : ArePacticipants s.pacticipants (rows_of db (codes "pacticipants"))
+  pub versions : AreVersions s.versions (rows_of db (codes "versions"))
+  pub branches : AreBranches s.versions s.branches (rows_of db (codes "branches"))
+  pub environments : AreEnvironments s.environments (rows_of db (codes "environments")) (rows_of db (codes "strict_environments"))
+  pub grants : AreGrants s.grants (rows_of db (codes "grants"))
+  pub contents : AreContents s.contents (rows_of db (codes "contents"))
+  pub contracts : AreContracts s.versions s.contracts (rows_of db (codes "contracts"))
+  pub results : AreResults s.versions s.results (rows_of db (codes "results")) (rows_of db (codes "checked_results"))
+  pub latest : AreLatest s (rows_of db (codes "latest"))
+  pub deployed : AreDeployed s.versions s.deployed (rows_of db (codes "deployed"))
+  pub released : AreReleased s.versions s.released (rows_of db (codes "released"))
+
+-- ---- how a call is stated
+
+-- an answer about the state that the database holds, which it holds still
+abbrev pub Reads : {A : Type 0} → State → State → Result A Fault → (A → Broker → Type 0) → Type 0
+Reads old new r P = Call old new r (λ a. (s : Broker) → Holds old.now s → P a s × Holds new.now s)
+
+-- the state that the database holds leads to another, which it holds now
+abbrev pub Changes : State → State → Result (Unit {0}) Fault → (Broker → Broker → Type 0) → Type 0
+Changes old new r Next = Call old new r (λ _. (s : Broker) → Holds old.now s → (t : Broker) → Next s t → Holds new.now t)
+
+-- where the state that the database holds allows it, an answer, and another state that the database holds now
+abbrev pub Gives : {A : Type 0} → State → State → Result A Fault → (Broker → Type 0) → (A → Broker → Broker → Type 0) → Type 0
+Gives old new r Allows Next = Call old new r (λ a. (s : Broker) → Holds old.now s → Allows s → (t : Broker) × Next a s t × Holds new.now t)

@@ -1,0 +1,5 @@
+pub mod Schema
+pub mod Rows
+pub mod Numbers
+pub mod Holds
+pub mod Making

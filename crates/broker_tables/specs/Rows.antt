@@ -1,0 +1,52 @@
+-- How the rows of a table are read.
+use Rattle.std.specs.Prelude.{◌==◌, ℕ, pos, negsuc, List, [], map, Bool, false, Option, Some, None, option_map}
+use Rattle.std.specs.Option.{option_map_or}
+use Rattle.std.specs.List.{list_any, find as first}
+use Rattle.std.specs.declared.cmp.Ordering.{Ordering}
+use Rattle.std.specs.Ordering.{eq_by_cmp}
+use Rattle.std.specs.FinMap.Entries.{find}
+use Rattle.sqlite.specs.declared.types.Value.{Value}
+use Rattle.sqlite.specs.declared.types.Value.TheVariants as value
+use Rattle.sqlite.specs.Order.{Row, column}
+use Rattle.sqlite.specs.Effect.{Database}
+use Rattle.broker_core.specs.Text.{Text, same_text}
+use Rattle.broker_tables.specs.Schema.{broker_schema}
+
+-- the tree of the table with this name
+abbrev pub tree_of : List ℕ → Option ℕ
+tree_of name = option_map (λ t. t.tree) (first (λ t. same_text t.name name) broker_schema.tables)
+
+-- the rows of the table with this name, in the order of their numbers
+abbrev pub rows_of : Database → List ℕ → List Row
+rows_of db name = option_map_or db.trees (tree_of name) []
+
+abbrev pub truth_in : Value → Bool
+truth_in (value.Int (pos n)) = n == 1
+truth_in (value.Int (negsuc n)) = false
+truth_in value.Null = false
+truth_in (value.Real x) = false
+truth_in (value.Text t) = false
+truth_in (value.Blob b) = false
+
+-- the truth value in a column: 1 is true
+abbrev pub truth : ℕ → Row → Bool
+truth place row = truth_in (column row place)
+
+abbrev pub text_or_null : Value → Option Text
+text_or_null value.Null = None
+text_or_null (value.Int n) = None
+text_or_null (value.Real x) = None
+text_or_null (value.Text t) = Some t
+text_or_null (value.Blob b) = None
+
+-- the text in a column, none where there is NULL
+abbrev pub maybe_text : ℕ → Row → Option Text
+maybe_text place row = text_or_null (column row place)
+
+-- what the row with this key has, none where there is no such row
+abbrev pub value_at : {K V : Type 0} → (K → K → Ordering) → (Row → K) → (Row → V) → List Row → K → Option V
+value_at order key value rows k = find order k (map (λ r. (key r, value r)) rows)
+
+-- whether there is a row with this key
+abbrev pub stands_at : {K : Type 0} → (K → K → Ordering) → (Row → K) → List Row → K → Bool
+stands_at order key rows k = list_any (λ r. eq_by_cmp order k (key r)) rows

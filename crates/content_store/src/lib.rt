@@ -1,0 +1,12 @@
+//! Digests of texts, and the table of the normal texts of pacts.
+//!
+//! A digest is a function of bytes behind the trait `Digester`, so that what is said of the calls doesn't rest on SHA-256 alone.
+#![tactic(auto)]
+
+mod digester;
+mod making;
+#[cfg(test)]
+mod tests;
+
+pub use digester::{Digester, Sha256Digester, digest_text};
+pub use making::make_tables;

@@ -1,0 +1,20 @@
+//! The table as a new broker makes it.
+ghost use Rattle.std.specs.Prelude.{◌≡◌, ◌∷◌, []};
+ghost use Rattle.sqlite.specs.Held.{state};
+ghost use Rattle.table_access.specs.Calls.{Call};
+ghost use Rattle.table_access.specs.Statements.{Makes};
+ghost use Rattle.broker_tables.specs.Schema.{registry_part, contents, schema_of};
+
+use broker_tables::create::CONTENTS;
+use sqlite::{Alter, Connection};
+use table_access::{Fault, change};
+
+/// Makes the table of contents, without rows, after those of the registry. These keep their rows.
+///
+/// # Errors
+/// `Fault::Memory` for want of memory; `Fault::Store` where the database refused the table.
+pub fn make_tables<S: Alter>(conn: &mut Connection<S>) -> Result<(), Fault>
+    ensures { Call (state S.Store conn.old) (state S.Store conn.new) result (λ _. (state S.Store conn.old).now.schema ≡ schema_of registry_part → Makes (contents ∷ []) (state S.Store conn.old).now (state S.Store conn.new).now) }
+{
+    change(conn, CONTENTS, &[])
+}

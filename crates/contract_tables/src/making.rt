@@ -1,0 +1,64 @@
+//! The tables as a new broker makes them.
+ghost use Rattle.std.specs.Prelude.{◌≡◌, ◌++◌, ◌∷◌, []};
+ghost use Rattle.sqlite.specs.Held.{state};
+ghost use Rattle.table_access.specs.Calls.{Call};
+ghost use Rattle.table_access.specs.Statements.{Creates, Makes};
+ghost use Rattle.broker_tables.specs.Schema.{registry_part, contents, contract_part, deploy_part, contracts, results, latest, checked_results, schema_of};
+
+use broker_tables::create::{CHECKED_RESULTS, CONTRACTS, LATEST, RESULTS};
+use sqlite::{Alter, Connection};
+use table_access::{Fault, change};
+
+/// Makes the tables of contracts, results and latest results, without rows, after those of the registry and of contents. These keep their rows.
+///
+/// # Errors
+/// `Fault::Memory` for want of memory; `Fault::Store` where the database refused a table.
+pub fn make_tables<S: Alter>(conn: &mut Connection<S>) -> Result<(), Fault>
+    ensures { Call (state S.Store conn.old) (state S.Store conn.new) result (λ _. (state S.Store conn.old).now.schema ≡ schema_of (registry_part ++ contents ∷ []) → Makes contract_part (state S.Store conn.old).now (state S.Store conn.new).now) }
+{
+    match make_contracts(conn) {
+        Ok(()) => make_verification(conn),
+        Err(fault) => Err(fault),
+    }
+}
+
+/// Makes the tables of results and of the latest ones, after that of contracts.
+fn make_verification<S: Alter>(conn: &mut Connection<S>) -> Result<(), Fault>
+    ensures { Call (state S.Store conn.old) (state S.Store conn.new) result (λ _. (state S.Store conn.old).now.schema ≡ schema_of (registry_part ++ contents ∷ contracts ∷ []) → Makes (results ∷ latest ∷ []) (state S.Store conn.old).now (state S.Store conn.new).now) }
+{
+    match make_results(conn) {
+        Ok(()) => make_latest(conn),
+        Err(fault) => Err(fault),
+    }
+}
+
+/// Makes the table of contracts.
+fn make_contracts<S: Alter>(conn: &mut Connection<S>) -> Result<(), Fault>
+    ensures { Call (state S.Store conn.old) (state S.Store conn.new) result (λ _. (state S.Store conn.old).now.schema ≡ schema_of (registry_part ++ contents ∷ []) → Creates (state S.Store conn.old).now (state S.Store conn.new).now contracts) }
+{
+    change(conn, CONTRACTS, &[])
+}
+
+/// Makes the table of results, after that of contracts.
+fn make_results<S: Alter>(conn: &mut Connection<S>) -> Result<(), Fault>
+    ensures { Call (state S.Store conn.old) (state S.Store conn.new) result (λ _. (state S.Store conn.old).now.schema ≡ schema_of (registry_part ++ contents ∷ contracts ∷ []) → Creates (state S.Store conn.old).now (state S.Store conn.new).now results) }
+{
+    change(conn, RESULTS, &[])
+}
+
+/// Makes the table of the latest results, after that of results.
+fn make_latest<S: Alter>(conn: &mut Connection<S>) -> Result<(), Fault>
+    ensures { Call (state S.Store conn.old) (state S.Store conn.new) result (λ _. (state S.Store conn.old).now.schema ≡ schema_of (registry_part ++ contents ∷ contracts ∷ results ∷ []) → Creates (state S.Store conn.old).now (state S.Store conn.new).now latest) }
+{
+    change(conn, LATEST, &[])
+}
+
+/// Makes the table of the results that the broker checked itself, without rows, after those of what stands where. All others keep their rows.
+///
+/// # Errors
+/// `Fault::Memory` for want of memory; `Fault::Store` where the database refused the table.
+pub fn make_checked_results<S: Alter>(conn: &mut Connection<S>) -> Result<(), Fault>
+    ensures { Call (state S.Store conn.old) (state S.Store conn.new) result (λ _. (state S.Store conn.old).now.schema ≡ schema_of (registry_part ++ contents ∷ contract_part ++ deploy_part) → Creates (state S.Store conn.old).now (state S.Store conn.new).now checked_results) }
+{
+    change(conn, CHECKED_RESULTS, &[])
+}

@@ -1,0 +1,199 @@
+-- The list of what is deployed.
+use Rattle.std.proofs.Common.{◌≡◌, ℕ, ℤ, pos, codes, List, [], ◌∷◌, map, false, refl, sym, ap, subst, ◌∙◌, Some, None, Option, Ordering, Less, Equal, Greater}
+use Rattle.std.specs.Prelude.{option_map}
+use Rattle.std.specs.Ordering.{eq_by_cmp, is_eq, int_cmp, ordering_then}
+use Rattle.std.specs.Cmp.{eq_by_cmp_equiv}
+use Rattle.std.proofs.lemmas.Cmp.{int_cmp_total, on_total}
+use Rattle.sqlite.specs.Tree.{IsAscending}
+use Rattle.sqlite.specs.declared.types.Value.TheVariants.{Text}
+use Rattle.sqlite.specs.Order.{Row, column, value_cmp}
+use Rattle.sqlite.specs.Term.{Term, col, eval_all}
+use Rattle.sqlite.specs.Collation.TheVariants.{Binary}
+use Rattle.sqlite_sql.specs.Query.{sort_cmp}
+use Rattle.sqlite_value.specs.declared.keys.Key.{Key}
+use Rattle.sqlite_value.specs.Keys.{ascending}
+use Rattle.sqlite.specs.Command.{Command}
+use Rattle.sqlite.specs.Command.TheVariants.{Select}
+use Rattle.sqlite.specs.Effect.{Database}
+use Rattle.sqlite.specs.Listing.{understood}
+use Rattle.sqlite_rules.specs.Lists.{Has}
+use Rattle.sqlite_keyed.specs.Lists.{sort_by}
+use Rattle.sqlite_keyed.proofs.ListLemmas.{map-map}
+use Rattle.sqlite_value.proofs.OrderLemmas.{value_cmp-Text, then-Equal}
+use Rattle.sqlite_tied.specs.Compute.{everything}
+use Rattle.table_access.specs.Columns.{text, text_cmp, whole_at, by_both}
+use Rattle.table_access.specs.Sound.{text_in}
+use Rattle.sqlite.specs.Effect.{Answers}
+use Rattle.std.specs.Cmp.{IsTotalOrder, tied_itself}
+use Rattle.std.specs.Cmp.Lexicographic.{nat_list_cmp_total}
+use Rattle.table_access.specs.Statements.{from_both, keeps_both, pairs_kept}
+use Rattle.table_access.specs.Reading.{AreRead}
+use Rattle.table_access.proofs.Steps.{Means}
+use Rattle.table_access.proofs.Keys.{ascending_on}
+use Rattle.table_access.proofs.Parts.{numbers_once}
+use Rattle.table_access.proofs.Maps.{find_has, has_find}
+use Rattle.table_access.proofs.Members.{contains_has, has_contains, map_has, has_map, pair_has, has_pair, pairs_rise, rises_map}
+use Rattle.table_access.proofs.Ordered.{joins_in_order, same_sort, rises, sorted_has, has_sorted}
+use Rattle.table_access.proofs.ReadLemmas.{read_is}
+use Rattle.broker_core.specs.declared.answer.DeployedItem.{DeployedItem}
+use Rattle.broker_core.specs.declared.command.Version.{Version}
+use Rattle.broker_core.specs.Text.{Text as Words, version}
+use Rattle.broker_core.specs.Listing.{Lists}
+use Rattle.broker_core.specs.Machine.{deployed_cmp}
+use Rattle.broker_core.specs.State.{State as Broker}
+use Rattle.broker_tables.specs.Schema.{broker_schema}
+use Rattle.broker_tables.specs.Rows.{value_at}
+use Rattle.broker_tables.specs.Numbers.{number_of}
+use Rattle.broker_tables.specs.Holds.{Holds, IsBroker}
+use Rattle.broker_tables.proofs.Frames.{meant}
+use Rattle.broker_tables.proofs.Orders.{pairs_total, triples_total, exact_triple}
+use Rattle.deploy_tables.specs.Listings.{IsDeployedRow}
+use Rattle.deploy_tables.proofs.DeployedRows.{place_of, environments, pacticipants, instances, numbers, keys}
+use Rattle.deploy_tables.proofs.VersionRows.{joined_by, joined_is, is_joined, versions_numbered, same_version_row, find_version}
+
+abbrev pub list_sql : List ℕ
+list_sql = codes "SELECT d.pacticipant, d.instance, v.version FROM deployed d JOIN versions v ON v.number = d.version_number WHERE d.environment = ?1 ORDER BY d.pacticipant, d.instance"
+
+abbrev list_order : List (Term × Key)
+list_order = (col 1 2, ascending Binary) ∷ (col 1 3, ascending Binary) ∷ []
+
+abbrev list_project : List Term
+list_project = col 1 2 ∷ col 1 3 ∷ col 2 3 ∷ []
+
+abbrev pub list_command : Command
+list_command = Select (record { lets = []; body = from_both 21 6 (joined_by 4) list_project list_order }) (codes "pacticipant" ∷ codes "instance" ∷ codes "version" ∷ [])
+
+list_text : Means broker_schema list_sql list_command
+unfolding understood everything
+list_text = record { is = refl; plain = (refl, refl); unlisted = refl }
+
+pub list_means : (db : Database) → IsBroker db → Means db.schema list_sql list_command
+list_means db broker = meant db broker list_sql list_text
+
+-- ---- sorted pairs of a row and its version
+
+abbrev Pair : Type 0
+Pair = Row × Row
+
+abbrev item_of : Pair → DeployedItem
+item_of q = record { pacticipant = text 2 q.0; instance = text 3 q.0; version = text 3 q.1 }
+
+abbrev by_key : Pair → Pair → Ordering
+by_key a b = by_both text_cmp text_cmp (text 2 a.0, text 3 a.0) (text 2 b.0, text 3 b.0)
+
+by_key_total : IsTotalOrder by_key
+by_key_total = on_total (λ (q : Pair). (text 2 q.0, text 3 q.0)) pairs_total
+
+still_less : (x y z : Ordering) → ordering_then x y ≡ Less → ordering_then x (ordering_then y z) ≡ Less
+still_less Less y z h = refl
+still_less Equal Less z h = refl
+still_less Equal Equal z h = absurd cc
+still_less Equal Greater z h = absurd cc
+still_less Greater y z h = absurd cc
+
+-- a column that names a version
+named : (vs : List Version) (p : Words) (z : ℤ) (o : Option Words) → Some (Some z) ≡ option_map (λ name. option_map pos (number_of vs (version p name))) o → (name : Words) × (o ≡ Some name) × ((k : ℕ) × (number_of vs (version p name) ≡ Some k) × (z ≡ pos k))
+named vs p z None h = absurd cc
+named vs p z (Some name) h = (name, refl, go (number_of vs (version p name)) (let inner : Some z ≡ option_map pos (number_of vs (version p name)) = cc in inner))
+  where
+    go : (n : Option ℕ) → Some z ≡ option_map pos n → (k : ℕ) × (n ≡ Some k) × (z ≡ pos k)
+    go None e = absurd cc
+    go (Some k) e = (k, refl, cc)
+
+-- a number that stands in a column
+valued : (value : Option ℤ) (o : Option ℕ) → option_map Some value ≡ Some (option_map pos o) → (k : ℕ) × (value ≡ Some (pos k)) × (o ≡ Some k)
+valued None o h = absurd cc
+valued (Some z) None h = absurd (let inner : Some z ≡ None = cc in cc)
+valued (Some z) (Some k) h = (k, (let inner : Some z ≡ Some (pos k) = cc in inner), refl)
+
+module _ (db : Database) (broker : IsBroker db) (e : Words) where
+  abbrev kept : List Pair
+  kept = pairs_kept (joined_by 4) (Text e ∷ []) (db.trees 21) (db.trees 6)
+
+  abbrev env : Pair → List Row
+  env q = (Text e ∷ []) ∷ q.0 ∷ q.1 ∷ []
+
+  has_kept : (q : Pair) → Has kept q → Has (db.trees 21) q.0 × Has (db.trees 6) q.1 × ((whole_at 0 q.1 ≡ whole_at 4 q.0) × (text 1 q.0 ≡ e))
+  has_kept q h =
+      let it = pair_has (keeps_both (joined_by 4) (Text e ∷ [])) (db.trees 6) (db.trees 21) q h in
+      (it.0, it.1, joined_is db broker 4 e q.0 q.1 (numbers db broker q.0 it.0) (environments db broker q.0 it.0) it.1 it.2)
+
+  sort_is : (a b : Pair) → Has kept a → Has kept b → sort_cmp list_order (env a) (env b) ≡ by_key a b
+  sort_is a b ha hb =
+      let x = (has_kept a ha).0 in
+      let y = (has_kept b hb).0 in
+      let one : value_cmp (column a.0 2) (column b.0 2) ≡ text_cmp (text 2 a.0) (text 2 b.0) = (λ i. value_cmp (pacticipants db broker a.0 x i) (pacticipants db broker b.0 y i)) ∙ value_cmp-Text (text 2 a.0) (text 2 b.0) in
+      let two : value_cmp (column a.0 3) (column b.0 3) ≡ text_cmp (text 3 a.0) (text 3 b.0) = (λ i. value_cmp (instances db broker a.0 x i) (instances db broker b.0 y i)) ∙ value_cmp-Text (text 3 a.0) (text 3 b.0) in
+      let last : ordering_then (value_cmp (column a.0 3) (column b.0 3)) Equal ≡ text_cmp (text 3 a.0) (text 3 b.0) = then-Equal _ ∙ two in
+      λ i. ordering_then (one i) (last i)
+
+  no_ties : IsAscending (λ a b. is_eq (by_key a b) ≡ false) kept
+  no_ties = pairs_rise (keeps_both (joined_by 4) (Text e ∷ [])) (db.trees 6) (λ a b. is_eq (by_key a b) ≡ false) (db.trees 21)
+      (λ d hd. ascending_on _ _ (db.trees 6) (λ v w hv hw apart kv kw.
+      let a = joined_is db broker 4 e d v (numbers db broker d hd) (environments db broker d hd) hv kv in
+      let b = joined_is db broker 4 e d w (numbers db broker d hd) (environments db broker d hd) hw kw in
+      absurd (let same : whole_at 0 v ≡ whole_at 0 w = a.0 ∙ sym b.0 in let e1 = ap (eq_by_cmp int_cmp (whole_at 0 v)) same in let f = (eq_by_cmp_equiv int_cmp_total).refl (whole_at 0 v) in cc)) (numbers_once (db.trees 6) (versions_numbered db broker)))
+      (ascending_on _ _ (db.trees 21) (λ d f hd hf apart v w hv hw kv kw.
+      let a = joined_is db broker 4 e d v (numbers db broker d hd) (environments db broker d hd) hv kv in
+      let b = joined_is db broker 4 e f w (numbers db broker f hf) (environments db broker f hf) hw kw in
+      let same : text_cmp (text 1 d) (text 1 f) ≡ Equal = ap (text_cmp (text 1 d)) (b.1 ∙ sym a.1) ∙ tied_itself nat_list_cmp_total (text 1 d) in
+      sym (ap (λ o. is_eq (ordering_then o (by_both text_cmp text_cmp (text 2 d, text 3 d) (text 2 f, text 3 f)))) same) ∙ apart) (keys db broker))
+
+  abbrev sorted : List Pair
+  sorted = sort_by by_key kept
+
+  rows_are : (rows : List Row) → Answers db (record { lets = []; body = from_both 21 6 (joined_by 4) list_project list_order }) (Text e ∷ []) rows → rows ≡ map (λ q. eval_all list_project (env q)) sorted
+  rows_are rows h =
+      joins_in_order db (Text e ∷ []) 21 6 (joined_by 4) list_project list_order rows h (ascending_on _ _ kept (λ a b ha hb apart. ap is_eq (sort_is a b ha hb) ∙ apart) no_ties)
+      ∙ ap (map (λ q. eval_all list_project (env q))) (same_sort (λ a b. sort_cmp list_order (env a) (env b)) by_key kept sort_is)
+
+  items_are : (rows : List Row) (items : List DeployedItem) → Answers db (record { lets = []; body = from_both 21 6 (joined_by 4) list_project list_order }) (Text e ∷ []) rows → AreRead IsDeployedRow rows items → items ≡ map item_of sorted
+  items_are rows items h read =
+      read_is IsDeployedRow (λ row. record { pacticipant = text 0 row; instance = text 1 row; version = text 2 row })
+      (λ row item is i. record { pacticipant = text_in (sym is.0 i); instance = text_in (sym is.1 i); version = text_in (sym is.2 i) }) rows items read
+      ∙ ap (map (λ row. record { pacticipant = text 0 row; instance = text 1 row; version = text 2 row })) (rows_are rows h) ∙ map-map _ _ sorted
+
+  in_sorted : (q : Pair) → Has sorted q → Has kept q
+  in_sorted q has = contains_has kept q (sorted_has by_key by_key_total kept q (has_contains sorted q has))
+
+  to_sorted : (q : Pair) → Has kept q → Has sorted q
+  to_sorted q has = contains_has sorted q (has_sorted by_key by_key_total kept q (has_contains kept q has))
+
+  module _ (s : Broker) (held : Holds db s) where
+    -- what is listed is deployed
+    is_deployed : (q : Pair) → Has kept q → s.deployed (e, text 2 q.0, text 3 q.0) ≡ Some (text 3 q.1)
+    is_deployed q has =
+        let d = q.0 in
+        let it = has_kept q has in
+        let value : value_at (by_both text_cmp (by_both text_cmp text_cmp)) place_of (whole_at 4) (db.trees 21) (e, (text 2 d, text 3 d)) ≡ Some (whole_at 4 d) =
+        subst (λ f. value_at (by_both text_cmp (by_both text_cmp text_cmp)) place_of (whole_at 4) (db.trees 21) (f, (text 2 d, text 3 d)) ≡ Some (whole_at 4 d)) it.2.1
+        (has_find triples_total exact_triple place_of (whole_at 4) (db.trees 21) d (keys db broker) it.0) in
+        let name = named s.versions (text 2 d) (whole_at 4 d) (s.deployed (e, text 2 d, text 3 d)) (sym (ap (option_map Some) value) ∙ held.deployed e (text 2 d) (text 3 d)) in
+        let w = find_version db broker s.versions (text 2 d) name.0 name.2.0 held.versions name.2.1 in
+        let same : w.0 ≡ q.1 = same_version_row db broker w.0 q.1 w.1 it.1 (w.4 ∙ sym name.2.2 ∙ sym it.2.0) in
+        name.1 ∙ ap Some (sym w.3 ∙ ap (text 3) same)
+
+    -- and what is deployed is listed
+    is_listed : (p i name : Words) → s.deployed (e, p, i) ≡ Some name → (q : Pair) × Has kept q × (text 2 q.0 ≡ p) × (text 3 q.0 ≡ i) × (text 3 q.1 ≡ name)
+    is_listed p i name there =
+        let at = valued (value_at (by_both text_cmp (by_both text_cmp text_cmp)) place_of (whole_at 4) (db.trees 21) (e, (p, i))) (number_of s.versions (version p name)) (held.deployed e p i ∙ ap (option_map (λ n. option_map pos (number_of s.versions (version p n)))) there) in
+        let d = find_has triples_total exact_triple place_of (whole_at 4) (e, (p, i)) (pos at.0) (db.trees 21) at.1 in
+        let v = find_version db broker s.versions p name at.0 held.versions at.2 in
+        let env_is : text 1 d.0 ≡ e = sym (ap (λ x. x.0) d.2) in
+        let joined = is_joined db broker 4 e d.0 v.0 (numbers db broker d.0 d.1) (environments db broker d.0 d.1) v.1 (v.4 ∙ sym d.3) env_is in
+        ((d.0, v.0), has_pair (keeps_both (joined_by 4) (Text e ∷ [])) (db.trees 6) (db.trees 21) d.0 v.0 d.1 v.1 joined, sym (ap (λ x. x.1.0) d.2), sym (ap (λ x. x.1.1) d.2), v.3)
+
+    pub deployed_listed : (rows : List Row) (items : List DeployedItem) → Answers db (record { lets = []; body = from_both 21 6 (joined_by 4) list_project list_order }) (Text e ∷ []) rows → AreRead IsDeployedRow rows items
+        → Lists deployed_cmp (λ x. s.deployed (e, x.pacticipant, x.instance) ≡ Some x.version) items
+    deployed_listed rows items h read = subst (Lists deployed_cmp (λ x. s.deployed (e, x.pacticipant, x.instance) ≡ Some x.version)) (sym (items_are rows items h read)) (record {
+      sorted = rises_map by_key deployed_cmp item_of (λ a b less. still_less (text_cmp (text 2 a.0) (text 2 b.0)) (text_cmp (text 3 a.0) (text 3 b.0)) (text_cmp (text 3 a.1) (text 3 b.1)) less) sorted (rises by_key by_key_total kept no_ties);
+      exactly = λ x. (
+        λ c.
+            let it = map_has item_of sorted x (contains_has (map item_of sorted) x c) in
+            subst (λ y. s.deployed (e, y.pacticipant, y.instance) ≡ Some y.version) (sym it.2) (is_deployed it.0 (in_sorted it.0 it.1)),
+        λ there.
+            let q = is_listed x.pacticipant x.instance x.version there in
+            let same : item_of q.0 ≡ x = λ j. record { pacticipant = q.2 j; instance = q.3 j; version = q.4 j } in
+            has_contains (map item_of sorted) x (subst (Has (map item_of sorted)) same (has_map item_of sorted q.0 (to_sorted q.0 q.1))),
+      );
+    })

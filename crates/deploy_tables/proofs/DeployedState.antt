@@ -1,0 +1,78 @@
+-- What the rows of the deployed versions say of the state.
+use Rattle.std.proofs.Common.{◌≡◌, ◌==◌, inl, inr, ℕ, ℤ, pos, codes, List, [], ◌∷◌, Bool, true, false, ◌&&◌, refl, sym, ap, ◌∙◌, cond, Some, None, Option, Ok, Ordering}
+use Rattle.std.specs.Prelude.{option_map}
+use Rattle.std.specs.Option.{option_map_or}
+use Rattle.std.specs.Ordering.{eq_by_cmp, int_cmp}
+use Rattle.std.specs.Cmp.{eq_by_cmp_equiv, Equal-is, nat_eq_equiv}
+use Rattle.std.specs.Cmp.Lexicographic.{texts_ties, nat_list_cmp_total}
+use Rattle.std.specs.FinMap.{int_cmp-IsAntisymmetric}
+use Rattle.std.proofs.lemmas.Cmp.{int_cmp_total}
+use Rattle.std.proofs.lemmas.Map.Views.{exact_unsigned_eq}
+use Rattle.std.proofs.lemmas.Bool.{cases_Bool}
+use Rattle.sqlite.specs.declared.types.Value.TheVariants.{Int, Text}
+use Rattle.sqlite.specs.State.{State, Executes}
+use Rattle.table_access.specs.Columns.{text_cmp, whole_at, by_both}
+use Rattle.broker_core.specs.declared.command.Version.{Version}
+use Rattle.broker_core.specs.Text.{Text as Words, same_text, same_place, put_at, version}
+use Rattle.broker_core.specs.Change.{is_text}
+use Rattle.broker_core.specs.State.{State as Broker}
+use Rattle.broker_tables.specs.Rows.{value_at}
+use Rattle.broker_tables.specs.Numbers.{number_of}
+use Rattle.broker_tables.specs.Holds.{Holds}
+use Rattle.broker_tables.proofs.Frames.{frame_of, deployed_change}
+use Rattle.broker_tables.proofs.NumberLemmas.{number_ties}
+use Rattle.broker_tables.proofs.Orders.{exact_triple}
+use Rattle.broker_tables.proofs.Ties.{two_tests, both_eq}
+use Rattle.deploy_tables.proofs.DeployedRows.{Place, place_of, record_sql, recorded}
+
+-- numbers are the same by the machine's test and by the order of the columns
+pub nat_ties : (k n : ℕ) → (k == n) ≡ eq_by_cmp int_cmp (pos k) (pos n)
+nat_ties k n = elim (cases_Bool (k == n)) [
+  | inl same ↦ same ∙ sym (ap (λ m. eq_by_cmp int_cmp (pos k) (pos m)) (sym (exact_unsigned_eq k n same)) ∙ (eq_by_cmp_equiv int_cmp_total).refl (pos k))
+  | inr other ↦ other ∙ sym (none other (eq_by_cmp int_cmp (pos k) (pos n)) refl)
+]
+  where
+    none : (k == n) ≡ false → (b : Bool) → eq_by_cmp int_cmp (pos k) (pos n) ≡ b → eq_by_cmp int_cmp (pos k) (pos n) ≡ false
+    none other true hit = absurd (let ints : pos k ≡ pos n = int_cmp-IsAntisymmetric (pos k) (pos n) ((Equal-is (int_cmp (pos k) (pos n))).0 hit) in let nats : k ≡ n = cc in let e : (k == n) ≡ true = ap (λ m. k == m) (sym nats) ∙ nat_eq_equiv.refl k in cc)
+    none other false miss = miss
+
+same_itself : (t : Words) → same_text t t ≡ true
+same_itself t = texts_ties t t ∙ (eq_by_cmp_equiv nat_list_cmp_total).refl t
+
+-- the number at a place is that of the version there
+pub is_there : (versions : List Version) (p : Words) (value : Option ℤ) (there : Option Words) (found : Option ℕ) → option_map Some value ≡ option_map (λ name. option_map pos (number_of versions (version p name))) there → option_map pos found ≡ value
+    → (v : Version) (n : ℕ) → number_of versions v ≡ Some n → v.pacticipant ≡ p → option_map_or (λ k. k == n) found false ≡ is_text v.name there
+is_there versions p value None None held is v n numbered owner = refl
+is_there versions p value (Some name) None held is v n numbered owner = absurd (let a : None ≡ Some (option_map pos (number_of versions (version p name))) = ap (option_map Some) is ∙ held in cc)
+is_there versions p value None (Some k) held is v n numbered owner = absurd (let a : Some (Some (pos k)) ≡ None = ap (option_map Some) is ∙ held in cc)
+is_there versions p value (Some name) (Some k) held is v n numbered owner =
+    let a : Some (Some (pos k)) ≡ Some (option_map pos (number_of versions (version p name))) = ap (option_map Some) is ∙ held in
+    let b : Some (pos k) ≡ option_map pos (number_of versions (version p name)) = cc in
+    let known : number_of versions (version p name) ≡ Some k = unmapped (number_of versions (version p name)) b in
+    nat_ties k n ∙ sym (number_ties versions (version p name) v k n known numbered) ∙ ap (λ t. t && same_text name v.name) (ap (same_text p) owner ∙ same_itself p)
+  where
+    unmapped : (o : Option ℕ) → Some (pos k) ≡ option_map pos o → o ≡ Some k
+    unmapped None e = absurd cc
+    unmapped (Some m) e = let same : pos k ≡ pos m = cc in let nats : k ≡ m = cc in ap Some (sym nats)
+
+pub place_ties : (e p i f q j : Words) → same_place (e, p, i) (f, q, j) ≡ eq_by_cmp (by_both text_cmp (by_both text_cmp text_cmp)) (e, (p, i)) (f, (q, j))
+place_ties e p i f q j =
+    two_tests _ _ _ _ (texts_ties e f) (two_tests _ _ _ _ (texts_ties p q) (texts_ties i j) ∙ both_eq (text_cmp p q) (text_cmp i j)) ∙ both_eq (text_cmp e f) (by_both text_cmp text_cmp (p, i) (q, j))
+
+-- the version is deployed there now, in place of what was there
+pub now_deployed : (e p i : Words) (n : ℕ) (v : Version) (old new : State) (count : ℕ) (s : Broker) → Holds old.now s → number_of s.versions v ≡ Some n → v.pacticipant ≡ p → Executes record_sql (Text e ∷ Text p ∷ Text i ∷ Int (pos n) ∷ []) old new (Ok count)
+    → Holds new.now (record s { deployed = put_at same_place s.deployed (e, p, i) (Some v.name) })
+now_deployed e p i n v old new count s held numbered owner h =
+    let it = recorded e p i n old new count held.broker h in
+    deployed_change old.now new.now s _ held (frame_of (codes "deployed" ∷ []) 21 refl old new held.broker it.0) (λ f q j.
+    ap (option_map Some) (it.1 (f, (q, j))) ∙ go f q j (eq_by_cmp triple (f, (q, j)) (e, (p, i))) refl ∙ ap (λ b. option_map (λ name. option_map pos (number_of s.versions (version q name))) (cond b (Some v.name) (s.deployed (f, q, j)))) (sym (place_ties f q j e p i)))
+  where
+    triple : Place → Place → Ordering
+    triple = by_both text_cmp (by_both text_cmp text_cmp)
+
+    go : (f q j : Words) (b : Bool) → eq_by_cmp triple (f, (q, j)) (e, (p, i)) ≡ b
+        → option_map Some (cond b (Some (pos n)) (value_at triple place_of (whole_at 4) (old.now.trees 21) (f, (q, j)))) ≡ option_map (λ name. option_map pos (number_of s.versions (version q name))) (cond b (Some v.name) (s.deployed (f, q, j)))
+    go f q j true hit =
+        let same = exact_triple (f, (q, j)) (e, (p, i)) ((Equal-is (triple (f, (q, j)) (e, (p, i)))).0 hit) in
+        ap (λ o. Some (option_map pos o)) (sym numbered) ∙ ap (λ x. Some (option_map pos (number_of s.versions (version x v.name)))) (owner ∙ sym (ap (λ k. k.1.0) same))
+    go f q j false miss = held.deployed f q j

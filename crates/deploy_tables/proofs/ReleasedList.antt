@@ -1,0 +1,239 @@
+-- The list of what is released.
+use Rattle.std.proofs.Common.{true≢false, slice_get, IsTrue, ◌≡◌, inl, inr, ℕ, ℤ, pos, codes, List, [], ◌∷◌, map, Bool, true, false, refl, sym, ap, subst, ◌∙◌, Some, None, Option, Ordering, Equal}
+use Rattle.std.specs.Prelude.{option_map}
+use Rattle.std.specs.Ordering.{eq_by_cmp, is_eq, int_cmp, ordering_then}
+use Rattle.std.specs.Cmp.{eq_by_cmp_equiv, Equal-is}
+use Rattle.std.proofs.lemmas.Cmp.{int_cmp_total, on_total}
+use Rattle.sqlite.specs.Tree.{IsAscending}
+use Rattle.sqlite.specs.declared.types.Value.TheVariants.{Int, Text}
+use Rattle.sqlite.specs.Order.{Row, column, value_cmp}
+use Rattle.sqlite.specs.Term.{Term, col, eval_all}
+use Rattle.sqlite.specs.Collation.TheVariants.{Binary}
+use Rattle.sqlite_sql.specs.Query.{sort_cmp}
+use Rattle.sqlite_value.specs.declared.keys.Key.{Key}
+use Rattle.sqlite_value.specs.Keys.{ascending}
+use Rattle.sqlite.specs.Command.{Command}
+use Rattle.sqlite.specs.Command.TheVariants.{Select}
+use Rattle.sqlite.specs.Effect.{Database}
+use Rattle.sqlite.specs.Listing.{understood}
+use Rattle.sqlite_rules.specs.Lists.{Has}
+use Rattle.sqlite_keyed.specs.Lists.{sort_by}
+use Rattle.sqlite_keyed.proofs.ListLemmas.{map-map}
+use Rattle.sqlite_value.proofs.OrderLemmas.{value_cmp-Text, then-Equal}
+use Rattle.sqlite_tied.specs.Compute.{everything}
+use Rattle.table_access.specs.Columns.{text, text_cmp, whole_at, by_both, pair_cmp}
+use Rattle.table_access.specs.Sound.{text_in}
+use Rattle.sqlite.specs.Effect.{Answers}
+use Rattle.std.specs.Cmp.{IsTotalOrder}
+use Rattle.std.specs.Cmp.Lexicographic.{nat_list_cmp_total}
+use Rattle.table_access.specs.Statements.{from_both, keeps_both, pairs_kept}
+use Rattle.table_access.specs.Reading.{AreRead}
+use Rattle.table_access.proofs.Steps.{Means}
+use Rattle.table_access.proofs.SoundLemmas.{has_place, text_at, whole_in, any_of}
+use Rattle.table_access.proofs.Keys.{ascending_on, apart_by}
+use Rattle.table_access.proofs.Parts.{text_part, whole_part, agree_last, agree_and, once, numbers_once}
+use Rattle.table_access.proofs.Maps.{has_find}
+use Rattle.table_access.proofs.Members.{any_has, contains_has, has_contains, map_has, has_map, pair_has, has_pair, pairs_rise, rises_map}
+use Rattle.table_access.proofs.Ordered.{joins_in_order, same_sort, rises, sorted_has, has_sorted}
+use Rattle.table_access.proofs.ReadLemmas.{read_is}
+use Rattle.broker_core.specs.declared.command.Version.{Version}
+use Rattle.broker_core.specs.Text.{Text as Words, version}
+use Rattle.broker_core.specs.Listing.{Lists}
+use Rattle.broker_core.specs.Machine.{version_cmp}
+use Rattle.broker_core.specs.State.{State as Broker}
+use Rattle.broker_tables.specs.Schema.{broker_schema}
+use Rattle.broker_tables.specs.Rows.{stands_at}
+use Rattle.broker_tables.specs.Numbers.{number_of}
+use Rattle.broker_tables.specs.Holds.{Holds, IsBroker}
+use Rattle.broker_tables.proofs.Frames.{meant}
+use Rattle.broker_tables.proofs.NumberLemmas.{version_row}
+use Rattle.broker_tables.proofs.Orders.{pairs_total, exact_pair, placed_total, exact_placed}
+use Rattle.broker_tables.proofs.Placed.{released, released_there, versions, versions_there}
+use Rattle.deploy_tables.specs.Listings.{IsReleasedRow}
+use Rattle.deploy_tables.proofs.VersionRows.{joined_by, joined_is, is_joined, versions_numbered, find_version}
+use Rattle.table_access.proofs.Changes.{apart_or_same}
+use Rattle.sqlite.specs.Schema.{Schema}
+use Rattle.std.specs.Option.{option_map_or}
+
+abbrev pub list_sql : List ℕ
+list_sql = codes "SELECT v.pacticipant, v.version FROM released r JOIN versions v ON v.number = r.version_number WHERE r.environment = ?1 ORDER BY v.pacticipant, v.version"
+
+abbrev list_order : List (Term × Key)
+list_order = (col 2 2, ascending Binary) ∷ (col 2 3, ascending Binary) ∷ []
+
+abbrev list_project : List Term
+list_project = col 2 2 ∷ col 2 3 ∷ []
+
+abbrev pub list_command : Command
+list_command = Select (record { lets = []; body = from_both 23 6 (joined_by 2) list_project list_order }) (codes "pacticipant" ∷ codes "version" ∷ [])
+
+list_text : Means broker_schema list_sql list_command
+unfolding understood everything
+list_text = record { is = refl; plain = (refl, refl); unlisted = refl }
+
+pub list_means : (db : Database) → IsBroker db → Means db.schema list_sql list_command
+list_means db broker = meant db broker list_sql list_text
+
+-- ---- the columns
+
+abbrev pub placed : ((List ℕ) × ℤ) → ((List ℕ) × ℤ) → Ordering
+placed = by_both text_cmp int_cmp
+
+abbrev pub place_of : Row → (List ℕ) × ℤ
+place_of r = (text 1 r, whole_at 2 r)
+
+module _ (db : Database) (broker : IsBroker db) where
+  pub environments : (r : Row) → Has (db.trees 23) r → column r 1 ≡ Text (text 1 r)
+  environments r has = text_at db broker.kept.sound released (has_place _ 12 released (released_there db broker)) r has 0 _ refl refl refl refl refl
+
+  pub numbers : (r : Row) → Has (db.trees 23) r → column r 2 ≡ Int (whole_at 2 r)
+  numbers r has = whole_in db broker.kept.sound released (has_place _ 12 released (released_there db broker)) r has 1 _ refl refl refl refl refl
+
+  owners : (v : Row) → Has (db.trees 6) v → column v 2 ≡ Text (text 2 v)
+  owners v has = text_at db broker.kept.sound versions (has_place _ 3 versions (versions_there db broker)) v has 1 _ refl refl refl refl refl
+
+  names : (v : Row) → Has (db.trees 6) v → column v 3 ≡ Text (text 3 v)
+  names v has = text_at db broker.kept.sound versions (has_place _ 3 versions (versions_there db broker)) v has 2 _ refl refl refl refl refl
+
+  -- a version is released once in an environment
+  pub keys : IsAscending (λ a b. eq_by_cmp placed (place_of a) (place_of b) ≡ false) (db.trees 23)
+  keys = once placed (db.trees 23) (1 ∷ 2 ∷ []) place_of
+      (λ a b ha hb. agree_and nat_list_cmp_total (db.trees 23) 1 (text 1) (text_part (db.trees 23) 1 environments) int_cmp (whole_at 2) (2 ∷ []) a b ha hb
+      (agree_last int_cmp_total (db.trees 23) 2 (whole_at 2) (whole_part (db.trees 23) 2 numbers) a b ha hb))
+      (apart_by db broker.kept released 12 (released_there db broker) _ 11 (ap (λ (s : Schema). slice_get s.indexes 11) broker.schema) refl)
+
+  -- and a version of a pacticipant stands once
+  version_keys : IsAscending (λ a b. eq_by_cmp pair_cmp (text 2 a, text 3 a) (text 2 b, text 3 b) ≡ false) (db.trees 6)
+  version_keys = once pair_cmp (db.trees 6) (2 ∷ 3 ∷ []) (λ r. (text 2 r, text 3 r))
+      (λ a b ha hb. agree_and nat_list_cmp_total (db.trees 6) 2 (text 2) (text_part (db.trees 6) 2 owners) text_cmp (text 3) (3 ∷ []) a b ha hb
+      (agree_last nat_list_cmp_total (db.trees 6) 3 (text 3) (text_part (db.trees 6) 3 names) a b ha hb))
+      (apart_by db broker.kept versions 3 (versions_there db broker) _ 3 (ap (λ (s : Schema). slice_get s.indexes 3) broker.schema) refl)
+
+-- ---- sorted pairs of a row and its version
+
+abbrev Pair : Type 0
+Pair = Row × Row
+
+abbrev item_of : Pair → Version
+item_of q = version (text 2 q.1) (text 3 q.1)
+
+abbrev by_key : Pair → Pair → Ordering
+by_key a b = pair_cmp (text 2 a.1, text 3 a.1) (text 2 b.1, text 3 b.1)
+
+by_key_total : IsTotalOrder by_key
+by_key_total = on_total (λ (q : Pair). (text 2 q.1, text 3 q.1)) pairs_total
+
+-- the number that a row shows
+numbered_as : (z : ℤ) (o : Option ℕ) → Some z ≡ option_map pos o → (k : ℕ) × (o ≡ Some k) × (z ≡ pos k)
+numbered_as z None h = absurd cc
+numbered_as z (Some k) h = (k, refl, cc)
+
+-- a version that has a number
+has_number : (o : Option ℕ) (test : ℕ → Bool) → option_map_or test o false ≡ true → (k : ℕ) × (o ≡ Some k) × (test k ≡ true)
+has_number None test h = absurd cc
+has_number (Some k) test h = (k, refl, h)
+
+module _ (db : Database) (broker : IsBroker db) (e : Words) where
+  abbrev kept : List Pair
+  kept = pairs_kept (joined_by 2) (Text e ∷ []) (db.trees 23) (db.trees 6)
+
+  abbrev env : Pair → List Row
+  env q = (Text e ∷ []) ∷ q.0 ∷ q.1 ∷ []
+
+  has_kept : (q : Pair) → Has kept q → Has (db.trees 23) q.0 × Has (db.trees 6) q.1 × ((whole_at 0 q.1 ≡ whole_at 2 q.0) × (text 1 q.0 ≡ e))
+  has_kept q h =
+      let it = pair_has (keeps_both (joined_by 2) (Text e ∷ [])) (db.trees 6) (db.trees 23) q h in
+      (it.0, it.1, joined_is db broker 2 e q.0 q.1 (numbers db broker q.0 it.0) (environments db broker q.0 it.0) it.1 it.2)
+
+  sort_is : (a b : Pair) → Has kept a → Has kept b → sort_cmp list_order (env a) (env b) ≡ by_key a b
+  sort_is a b ha hb =
+      let x = (has_kept a ha).1 in
+      let y = (has_kept b hb).1 in
+      let one : value_cmp (column a.1 2) (column b.1 2) ≡ text_cmp (text 2 a.1) (text 2 b.1) = (λ i. value_cmp (owners db broker a.1 x i) (owners db broker b.1 y i)) ∙ value_cmp-Text (text 2 a.1) (text 2 b.1) in
+      let two : value_cmp (column a.1 3) (column b.1 3) ≡ text_cmp (text 3 a.1) (text 3 b.1) = (λ i. value_cmp (names db broker a.1 x i) (names db broker b.1 y i)) ∙ value_cmp-Text (text 3 a.1) (text 3 b.1) in
+      let last : ordering_then (value_cmp (column a.1 3) (column b.1 3)) Equal ≡ text_cmp (text 3 a.1) (text 3 b.1) = then-Equal _ ∙ two in
+      λ i. ordering_then (one i) (last i)
+
+  -- two rows whose versions have one name are one
+  apart_by_name : (d f v w : Row) → Has (db.trees 6) v → Has (db.trees 6) w → (whole_at 0 v ≡ whole_at 2 d) × (text 1 d ≡ e) → (whole_at 0 w ≡ whole_at 2 f) × (text 1 f ≡ e) → eq_by_cmp placed (place_of d) (place_of f) ≡ false
+      → (b : Bool) → is_eq (by_key (d, v) (f, w)) ≡ b → is_eq (by_key (d, v) (f, w)) ≡ false
+  apart_by_name d f v w hv hw a b apart false miss = miss
+  apart_by_name d f v w hv hw a b apart true hit =
+      let named_alike : (text 2 v, text 3 v) ≡ (text 2 w, text 3 w) = exact_pair (text 2 v, text 3 v) (text 2 w, text 3 w) ((Equal-is (by_key (d, v) (f, w))).0 hit) in
+      let same : v ≡ w = elim (apart_or_same _ (db.trees 6) v w (version_keys db broker) hv hw) [
+        | inl is ↦ is
+        | inr (inl other) ↦ absurd (true≢false (sym hit ∙ other))
+        | inr (inr other) ↦ absurd (true≢false (sym ((eq_by_cmp_equiv pairs_total).symm (text 2 w, text 3 w) (text 2 v, text 3 v) ∙ hit) ∙ other))
+      ] in
+      let places : place_of d ≡ place_of f = λ i. ((a.1 ∙ sym b.1) i, (sym a.0 ∙ ap (whole_at 0) same ∙ b.0) i) in
+      let itself : eq_by_cmp placed (place_of d) (place_of f) ≡ true = ap (eq_by_cmp placed (place_of d)) (sym places) ∙ (eq_by_cmp_equiv placed_total).refl (place_of d) in
+      absurd (true≢false (sym itself ∙ apart))
+
+  no_ties : IsAscending (λ a b. is_eq (by_key a b) ≡ false) kept
+  no_ties = pairs_rise (keeps_both (joined_by 2) (Text e ∷ [])) (db.trees 6) (λ a b. is_eq (by_key a b) ≡ false) (db.trees 23)
+      (λ d hd. ascending_on _ _ (db.trees 6) (λ v w hv hw apart kv kw.
+      let a = joined_is db broker 2 e d v (numbers db broker d hd) (environments db broker d hd) hv kv in
+      let b = joined_is db broker 2 e d w (numbers db broker d hd) (environments db broker d hd) hw kw in
+      absurd (let same : whole_at 0 v ≡ whole_at 0 w = a.0 ∙ sym b.0 in let e1 = ap (eq_by_cmp int_cmp (whole_at 0 v)) same in let f = (eq_by_cmp_equiv int_cmp_total).refl (whole_at 0 v) in cc)) (numbers_once (db.trees 6) (versions_numbered db broker)))
+      (ascending_on _ _ (db.trees 23) (λ d f hd hf apart v w hv hw kv kw.
+      let a = joined_is db broker 2 e d v (numbers db broker d hd) (environments db broker d hd) hv kv in
+      let b = joined_is db broker 2 e f w (numbers db broker f hf) (environments db broker f hf) hw kw in
+      apart_by_name d f v w hv hw a b apart (is_eq (by_key (d, v) (f, w))) refl) (keys db broker))
+
+  abbrev sorted : List Pair
+  sorted = sort_by by_key kept
+
+  rows_are : (rows : List Row) → Answers db (record { lets = []; body = from_both 23 6 (joined_by 2) list_project list_order }) (Text e ∷ []) rows → rows ≡ map (λ q. eval_all list_project (env q)) sorted
+  rows_are rows h =
+      joins_in_order db (Text e ∷ []) 23 6 (joined_by 2) list_project list_order rows h (ascending_on _ _ kept (λ a b ha hb apart. ap is_eq (sort_is a b ha hb) ∙ apart) no_ties)
+      ∙ ap (map (λ q. eval_all list_project (env q))) (same_sort (λ a b. sort_cmp list_order (env a) (env b)) by_key kept sort_is)
+
+  items_are : (rows : List Row) (items : List Version) → Answers db (record { lets = []; body = from_both 23 6 (joined_by 2) list_project list_order }) (Text e ∷ []) rows → AreRead IsReleasedRow rows items → items ≡ map item_of sorted
+  items_are rows items h read =
+      read_is IsReleasedRow (λ row. version (text 0 row) (text 1 row)) (λ row item is i. version (text_in (sym is.0 i)) (text_in (sym is.1 i))) rows items read
+      ∙ ap (map (λ row. version (text 0 row) (text 1 row))) (rows_are rows h) ∙ map-map _ _ sorted
+
+  in_sorted : (q : Pair) → Has sorted q → Has kept q
+  in_sorted q has = contains_has kept q (sorted_has by_key by_key_total kept q (has_contains sorted q has))
+
+  to_sorted : (q : Pair) → Has kept q → Has sorted q
+  to_sorted q has = contains_has sorted q (has_sorted by_key by_key_total kept q (has_contains kept q has))
+
+  module _ (s : Broker) (held : Holds db s) where
+    -- what is listed is released
+    is_released : (q : Pair) → Has kept q → s.released (e, version (text 2 q.1) (text 3 q.1)) ≡ true
+    is_released q has =
+        let d = q.0 in
+        let v = q.1 in
+        let it = has_kept q has in
+        let known = numbered_as (whole_at 0 v) (number_of s.versions (version (text 2 v) (text 3 v)))
+        (sym (has_find pairs_total exact_pair (λ r. (text 2 r, text 3 r)) (whole_at 0) (db.trees 6) v (version_keys db broker) it.1) ∙ version_row (db.trees 6) s.versions (text 2 v) (text 3 v) held.versions) in
+        let place : (e, pos known.0) ≡ place_of d = λ i. (sym it.2.1 i, (sym known.2 ∙ it.2.0) i) in
+        let stands : stands_at placed place_of (db.trees 23) (e, pos known.0) ≡ true =
+        any_of (λ r. eq_by_cmp placed (e, pos known.0) (place_of r)) (db.trees 23) d it.0 (ap (eq_by_cmp placed (e, pos known.0)) (sym place) ∙ (eq_by_cmp_equiv placed_total).refl (e, pos known.0)) in
+        sym (held.released e (version (text 2 v) (text 3 v))) ∙ ap (λ o. option_map_or (λ n. stands_at placed place_of (db.trees 23) (e, pos n)) o false) known.1 ∙ stands
+
+    -- and what is released is listed
+    is_listed : (p name : Words) → s.released (e, version p name) ≡ true → (q : Pair) × Has kept q × (text 2 q.1 ≡ p) × (text 3 q.1 ≡ name)
+    is_listed p name there =
+        let known = has_number (number_of s.versions (version p name)) (λ n. stands_at placed place_of (db.trees 23) (e, pos n)) (held.released e (version p name) ∙ there) in
+        let d = any_has (λ r. eq_by_cmp placed (e, pos known.0) (place_of r)) (db.trees 23) known.2 in
+        let place : (e, pos known.0) ≡ place_of d.0 = exact_placed (e, pos known.0) (place_of d.0) ((Equal-is (placed (e, pos known.0) (place_of d.0))).0 d.2) in
+        let v = find_version db broker s.versions p name known.0 held.versions known.1 in
+        let joined = is_joined db broker 2 e d.0 v.0 (numbers db broker d.0 d.1) (environments db broker d.0 d.1) v.1 (v.4 ∙ ap (λ x. x.1) place) (sym (ap (λ x. x.0) place)) in
+        ((d.0, v.0), has_pair (keeps_both (joined_by 2) (Text e ∷ [])) (db.trees 6) (db.trees 23) d.0 v.0 d.1 v.1 joined, v.2, v.3)
+
+    pub released_listed : (rows : List Row) (items : List Version) → Answers db (record { lets = []; body = from_both 23 6 (joined_by 2) list_project list_order }) (Text e ∷ []) rows → AreRead IsReleasedRow rows items
+        → Lists version_cmp (λ v. IsTrue (s.released (e, v))) items
+    released_listed rows items h read = subst (Lists version_cmp (λ v. IsTrue (s.released (e, v)))) (sym (items_are rows items h read)) (record {
+      sorted = rises_map by_key version_cmp item_of (λ a b less. less) sorted (rises by_key by_key_total kept no_ties);
+      exactly = λ x. (
+        λ c.
+            let it = map_has item_of sorted x (contains_has (map item_of sorted) x c) in
+            subst (λ y. IsTrue (s.released (e, y))) (sym it.2) (is_released it.0 (in_sorted it.0 it.1)),
+        λ there.
+            let q = is_listed x.pacticipant x.name there in
+            let same : item_of q.0 ≡ x = λ j. version (q.2 j) (q.3 j) in
+            has_contains (map item_of sorted) x (subst (Has (map item_of sorted)) same (has_map item_of sorted q.0 (to_sorted q.0 q.1))),
+      );
+    })

@@ -1,0 +1,145 @@
+-- The statements on what is released.
+use Rattle.std.proofs.Common.{◌≡◌, ℕ, ℤ, pos, codes, List, [], ◌∷◌, true, false, Bool, ◌&&◌, ◌||◌, refl, sym, ap, ◌∙◌, cond, slice_get, Some, None, Option, Ok}
+use Rattle.std.specs.Prelude.{option_map, is_some}
+use Rattle.std.specs.Option.{option_map_or}
+use Rattle.std.specs.Ordering.{eq_by_cmp, int_cmp}
+use Rattle.std.specs.Cmp.Lexicographic.{nat_list_cmp_total, texts_ties}
+use Rattle.std.proofs.lemmas.Cmp.{int_cmp_total}
+use Rattle.sqlite.specs.Edit.{next_rowid, with_rowid}
+use Rattle.sqlite.specs.Rowids.TheVariants.{Chosen}
+use Rattle.sqlite.specs.declared.types.Value.TheVariants.{Null, Int, Text}
+use Rattle.sqlite.specs.Order.{Row}
+use Rattle.sqlite.specs.Term.{Term, col, lit}
+use Rattle.sqlite.specs.Source.TheVariants.{Values}
+use Rattle.sqlite.specs.Command.{Command}
+use Rattle.sqlite.specs.Command.TheVariants.{Insert, Select, Delete}
+use Rattle.sqlite.specs.Effect.{Database}
+use Rattle.sqlite.specs.State.{State, Shown, Executes}
+use Rattle.sqlite.specs.Listing.{understood}
+use Rattle.sqlite_rules.specs.Lists.{Has}
+use Rattle.sqlite_tied.specs.Compute.{everything}
+use Rattle.table_access.specs.Columns.{text, text_cmp, whole_at}
+use Rattle.table_access.specs.Statements.{from_table, keeps, shows}
+use Rattle.table_access.proofs.Values.{cast_null, cast_int}
+use Rattle.table_access.proofs.Steps.{Means, selects, inserts, deletes}
+use Rattle.table_access.proofs.Maps.{looks_up_at}
+use Rattle.table_access.proofs.SoundLemmas.{has_place, at_has}
+use Rattle.table_access.proofs.Parts.{text_part, whole_part, where_last, where_and, all_where, is_param}
+use Rattle.broker_core.specs.declared.command.Version.{Version}
+use Rattle.broker_core.specs.Text.{Text as Words, put_at, same_text, same_pair, same_version}
+use Rattle.broker_core.specs.State.{State as Broker}
+use Rattle.broker_tables.specs.Schema.{broker_schema}
+use Rattle.broker_tables.specs.Rows.{stands_at}
+use Rattle.broker_tables.specs.Numbers.{number_of}
+use Rattle.broker_tables.specs.Holds.{Holds, IsBroker}
+use Rattle.broker_tables.proofs.Frames.{meant, frame_of, released_change}
+use Rattle.broker_tables.proofs.NumberLemmas.{number_ties, version_unknown}
+use Rattle.broker_tables.proofs.Orders.{placed_total, exact_placed}
+use Rattle.broker_tables.proofs.Standing.{stands_found, stands_put, stands_out}
+use Rattle.broker_tables.proofs.Ties.{two_tests, both_eq}
+use Rattle.broker_tables.proofs.Placed.{released, released_there, calm}
+use Rattle.deploy_tables.proofs.ReleasedList.{placed, place_of, environments, numbers, keys}
+
+abbrev pub by_place : List Term
+by_place = is_param 1 0 ∷ is_param 2 1 ∷ []
+
+module _ (db : Database) (broker : IsBroker db) where
+  pub where_place : (e : Words) (n : ℕ) (r : Row) → Has (db.trees 23) r → keeps by_place (Text e ∷ Int (pos n) ∷ []) r ≡ eq_by_cmp placed (e, pos n) (place_of r)
+  where_place e n r has =
+      let params = Text e ∷ Int (pos n) ∷ [] in
+      where_and nat_list_cmp_total (db.trees 23) 1 (text 1) (text_part (db.trees 23) 1 (environments db broker)) int_cmp (whole_at 2) (pos n) (is_param 2 1 ∷ []) params 0 e refl r has
+      (where_last int_cmp_total (db.trees 23) 2 (whole_at 2) (whole_part (db.trees 23) 2 (numbers db broker)) params 1 (pos n) refl r has)
+
+-- ---- whether a version is released
+
+abbrev pub is_sql : List ℕ
+is_sql = codes "SELECT environment FROM released WHERE environment = ?1 AND version_number = ?2"
+
+abbrev pub is_command : Command
+is_command = Select (record { lets = []; body = from_table 23 by_place (col 1 1 ∷ []) [] }) (codes "environment" ∷ [])
+
+is_text : Means broker_schema is_sql is_command
+unfolding understood everything
+is_text = record { is = refl; plain = (refl, refl); unlisted = refl }
+
+pub is_means : (db : Database) → IsBroker db → Means db.schema is_sql is_command
+is_means db broker = meant db broker is_sql is_text
+
+pub release_found : (e : Words) (n : ℕ) (old new : State) (rows : List Row) (s : Broker) (v : Version) → Holds old.now s → number_of s.versions v ≡ Some n → Shown is_sql (Text e ∷ Int (pos n) ∷ []) old new rows
+    → is_some (option_map (text 0) (slice_get rows 0)) ≡ s.released (e, v)
+release_found e n old new rows s v held is h =
+    let params = Text e ∷ Int (pos n) ∷ [] in
+    ap is_some (looks_up_at placed_total exact_placed place_of (text 1) (shows (col 1 1 ∷ []) params) (text 0) (λ r. refl) (e, pos n) (keeps by_place params) (old.now.trees 23) rows
+    (all_where placed (old.now.trees 23) place_of (e, pos n) by_place params (where_place old.now held.broker e n)) (keys old.now held.broker)
+    (selects is_sql params old new 23 by_place (col 1 1 ∷ []) [] (codes "environment" ∷ []) (is_means old.now held.broker) rows h))
+    ∙ stands_found placed place_of (text 1) (old.now.trees 23) (e, pos n)
+    ∙ sym (ap (λ o. option_map_or (λ k. stands_at placed place_of (old.now.trees 23) (e, pos k)) o false) is) ∙ held.released e v
+
+-- ---- a change of one place
+
+-- the rows that hold the releases, where one place was set
+module _ (old new : Database) (s : Broker) (held : Holds old s) (e : Words) (n : ℕ) (v : Version) (is : number_of s.versions v ≡ Some n) (set : Bool)
+    (now : (q : Words × ℤ) → stands_at placed place_of (new.trees 23) q ≡ cond (eq_by_cmp placed q (e, pos n)) set (stands_at placed place_of (old.trees 23) q)) where
+  pub each : (f : Words) (w : Version) (o : Option ℕ) → number_of s.versions w ≡ o → option_map_or (λ k. stands_at placed place_of (new.trees 23) (f, pos k)) (number_of s.versions w) false ≡ put_at (same_pair same_text same_version) s.released (e, v) set (f, w)
+  each f w None none =
+      let was : s.released (f, w) ≡ false = sym (held.released f w) ∙ ap (λ o. option_map_or (λ k. stands_at placed place_of (old.trees 23) (f, pos k)) o false) none in
+      ap (λ o. option_map_or (λ k. stands_at placed place_of (new.trees 23) (f, pos k)) o false) none
+      ∙ sym (ap (λ t. cond (same_text f e && t) set (s.released (f, w))) (version_unknown s.versions w v n none is) ∙ off (same_text f e) ∙ was)
+    where
+      off : (b : Bool) → cond (b && false) set (s.released (f, w)) ≡ s.released (f, w)
+      off true = refl
+      off false = refl
+  each f w (Some k) some =
+      let was : stands_at placed place_of (old.trees 23) (f, pos k) ≡ s.released (f, w) = sym (ap (λ o. option_map_or (λ m. stands_at placed place_of (old.trees 23) (f, pos m)) o false) some) ∙ held.released f w in
+      let same : (same_text f e && same_version w v) ≡ eq_by_cmp placed (f, pos k) (e, pos n) =
+      two_tests (same_text f e) (same_version w v) (eq_by_cmp text_cmp f e) (eq_by_cmp int_cmp (pos k) (pos n)) (texts_ties f e) (number_ties s.versions w v k n some is) ∙ both_eq (text_cmp f e) (int_cmp (pos k) (pos n)) in
+      ap (λ o. option_map_or (λ m. stands_at placed place_of (new.trees 23) (f, pos m)) o false) some ∙ now (f, pos k) ∙ (λ i. cond (sym same i) set (was i))
+
+-- ---- a release
+
+abbrev pub record_sql : List ℕ
+record_sql = codes "INSERT INTO released (environment, version_number) VALUES (?1, ?2)"
+
+abbrev record_command : Command
+record_command = Insert 12 (Values (lit Null ∷ col 0 0 ∷ col 0 1 ∷ []) 3)
+
+record_text : Means broker_schema record_sql record_command
+unfolding understood everything
+record_text = record { is = refl; plain = (refl, refl); unlisted = refl }
+
+either : (b old : Bool) → (b || old) ≡ cond b true old
+either true old = refl
+either false old = refl
+
+pub now_released : (e : Words) (n : ℕ) (old new : State) (count : ℕ) (s : Broker) (v : Version) → Holds old.now s → number_of s.versions v ≡ Some n → Executes record_sql (Text e ∷ Int (pos n) ∷ []) old new (Ok count)
+    → Holds new.now (record s { released = put_at (same_pair same_text same_version) s.released (e, v) true })
+now_released e n old new count s v held is h =
+    let rows = old.now.trees 23 in
+    let made = Int (next_rowid rows) ∷ Text e ∷ Int (pos n) ∷ [] in
+    let it = inserts (codes "released") 23 released.columns None (1 ∷ 2 ∷ []) released.uniques released.orders [] released.references record_sql (Text e ∷ Int (pos n) ∷ []) old new 12 (released_there old.now held.broker)
+    _ _ (Null ∷ Text e ∷ Int (pos n) ∷ []) made refl (λ i. with_rowid Chosen rows (cast_null i ∷ Text e ∷ cast_int (pos n) i ∷ [])) (meant old.now held.broker record_sql record_text) count h in
+    released_change old.now new.now s _ held (frame_of (codes "released" ∷ []) 23 refl old new held.broker it.0) (λ f w. each old.now new.now s held e n v is true
+    (λ q. stands_put placed place_of rows (new.now.trees 23) made it.1 q ∙ either (eq_by_cmp placed q (e, pos n)) (stands_at placed place_of rows q)) f w (number_of s.versions w) refl)
+
+-- ---- the end of support
+
+abbrev pub end_sql : List ℕ
+end_sql = codes "DELETE FROM released WHERE environment = ?1 AND version_number = ?2"
+
+abbrev end_command : Command
+end_command = Delete 12 (record { lets = []; body = from_table 23 by_place (col 1 0 ∷ []) [] })
+
+end_text : Means broker_schema end_sql end_command
+unfolding understood everything
+end_text = record { is = refl; plain = (refl, refl); unlisted = refl }
+
+pub now_ended : (e : Words) (n : ℕ) (old new : State) (count : ℕ) (s : Broker) (v : Version) → Holds old.now s → number_of s.versions v ≡ Some n → Executes end_sql (Text e ∷ Int (pos n) ∷ []) old new (Ok count)
+    → Holds new.now (record s { released = put_at (same_pair same_text same_version) s.released (e, v) false })
+now_ended e n old new count s v held is h =
+    let rows = old.now.trees 23 in
+    let params = Text e ∷ Int (pos n) ∷ [] in
+    let numbered = at_has _ old.now.schema.tables released held.broker.kept.numbered (has_place _ 12 released (released_there old.now held.broker)) in
+    let it = deletes (codes "released") 23 released.columns None (1 ∷ 2 ∷ []) released.uniques released.orders [] released.references end_sql params old new 12 (released_there old.now held.broker)
+    by_place (meant old.now held.broker end_sql end_text) (calm old.now held.broker) numbered count h in
+    released_change old.now new.now s _ held (frame_of (codes "released" ∷ []) 23 refl old new held.broker it.0) (λ f w. each old.now new.now s held e n v is false
+    (stands_out placed_total exact_placed place_of (e, pos n) (keeps by_place params) rows (new.now.trees 23) (all_where placed rows place_of (e, pos n) by_place params (where_place old.now held.broker e n)) it.1) f w (number_of s.versions w) refl)

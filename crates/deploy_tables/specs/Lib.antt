@@ -1,0 +1,3 @@
+pub mod Deployments
+pub mod Listings
+pub mod Releases

@@ -1,0 +1,18 @@
+-- What a release and its end change of the state.
+use Rattle.std.specs.Prelude.{◌≡◌, ℕ, Some, true, false}
+use Rattle.broker_core.specs.declared.command.Version.{Version}
+use Rattle.broker_core.specs.Text.{Text, put_at, same_pair, same_text, same_version}
+use Rattle.broker_core.specs.State.{State}
+use Rattle.broker_tables.specs.Numbers.{number_of}
+
+-- there is a version of this number
+abbrev pub IsVersion : ℕ → State → Type 0
+IsVersion number s = (v : Version) × (number_of s.versions v ≡ Some number)
+
+-- the version of this number is released there, where it wasn't, and all else is as it was
+abbrev pub RecordsReleased : Text → ℕ → State → State → Type 0
+RecordsReleased e number s t = (v : Version) × (number_of s.versions v ≡ Some number) × (s.released (e, v) ≡ false) × (t ≡ record s { released = put_at (same_pair same_text same_version) s.released (e, v) true })
+
+-- the version of this number isn't released there any more, and all else is as it was
+abbrev pub EndsSupport : Text → ℕ → State → State → Type 0
+EndsSupport e number s t = (v : Version) × (number_of s.versions v ≡ Some number) × (t ≡ record s { released = put_at (same_pair same_text same_version) s.released (e, v) false })

@@ -1,0 +1,66 @@
+//! The versions that are deployed: one of a pacticipant in an environment, as an instance.
+ghost use Rattle.std.specs.Prelude.{◌≡◌, ◌==◌, Some, false};
+ghost use Rattle.std.specs.Option.{option_map_or};
+ghost use Rattle.sqlite.specs.Held.{state};
+ghost use Rattle.broker_core.specs.declared.command.Version.{Version as VersionModel};
+ghost use Rattle.broker_core.specs.Change.{is_text};
+ghost use Rattle.broker_tables.specs.Holds.{Reads, Changes};
+ghost use Rattle.broker_tables.specs.Numbers.{number_of as number_in};
+ghost use Rattle.deploy_tables.specs.Deployments.{RecordsDeployed};
+
+use sqlite::{Alter, Connection, params};
+use table_access::{Fault, change, number_of};
+
+/// Whether the version of that number, one of the pacticipant, is deployed in the environment as that instance.
+///
+/// # Errors
+/// `Fault::Memory` for want of memory; `Fault::Store` where the database refused the query, or where the row holds no number of a version.
+pub fn is_deployed<S: Alter>(
+    conn: &mut Connection<S>,
+    environment: &str,
+    pacticipant: &str,
+    instance: &str,
+    number: u32,
+) -> Result<bool, Fault>
+    ensures { Reads (state S.Store conn.old) (state S.Store conn.new) result (λ has s. (v : VersionModel) → number_in s.versions v ≡ Some number → v.pacticipant ≡ pacticipant.now → has ≡ is_text v.name (s.deployed (environment.now, pacticipant.now, instance.now))) }
+{
+    match number_of(
+        conn,
+        "SELECT version_number FROM deployed WHERE environment = ?1 AND pacticipant = ?2 AND instance = ?3",
+        params![environment, pacticipant, instance],
+    ) {
+        Ok(found) => Ok(is_number(found, number)),
+        Err(fault) => Err(fault),
+    }
+}
+
+/// Whether that number was found.
+fn is_number(found: Option<u32>, number: u32) -> bool
+    ensures { result ≡ option_map_or (λ k. k == number) found false }
+{
+    match found {
+        Some(there) => there == number,
+        None => false,
+    }
+}
+
+/// Deploys the version of that number in the environment as that instance, in place of the version of its pacticipant that is deployed there.
+/// The version is one of the pacticipant, and the environment is there.
+///
+/// # Errors
+/// `Fault::Memory` for want of memory; `Fault::Store` where the database refused the row.
+pub fn record_deployed<S: Alter>(
+    conn: &mut Connection<S>,
+    environment: &str,
+    pacticipant: &str,
+    instance: &str,
+    number: u32,
+) -> Result<(), Fault>
+    ensures { Changes (state S.Store conn.old) (state S.Store conn.new) result (RecordsDeployed environment.now pacticipant.now instance.now number) }
+{
+    change(
+        conn,
+        "INSERT INTO deployed (environment, pacticipant, instance, version_number) VALUES (?1, ?2, ?3, ?4) ON CONFLICT (environment, pacticipant, instance) DO UPDATE SET version_number = excluded.version_number",
+        params![environment, pacticipant, instance, number],
+    )
+}

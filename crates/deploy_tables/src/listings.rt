@@ -1,0 +1,105 @@
+//! What stands in an environment, listed.
+ghost use Rattle.std.specs.Prelude.{◌≡◌, IsTrue, IfOk, Some};
+ghost use Rattle.sqlite.specs.Held.{state};
+ghost use Rattle.sqlite.specs.Order.{column};
+ghost use Rattle.sqlite.specs.declared.types.Value.TheVariants.{Text as SqlText};
+ghost use Rattle.broker_core.specs.Listing.{Lists};
+ghost use Rattle.broker_core.specs.Machine.{deployed_cmp, version_cmp};
+ghost use Rattle.broker_tables.specs.Holds.{Reads};
+ghost use Rattle.deploy_tables.specs.Listings.{IsDeployedRow, IsReleasedRow};
+
+use broker_core::answer::DeployedItem;
+use broker_core::command::Version;
+use broker_core::name::{Name, NameFault, Text};
+use sqlite::{Alter, Connection, Row, params};
+use std::alloc::Global;
+use table_access::{Fault, ReadRow, list_of};
+
+/// The name in a column.
+fn name_in(alloc: Global, row: &Row, at: usize) -> Result<Name, Fault>
+    ensures { IfOk result (λ name. column row.now at ≡ SqlText name) }
+{
+    let text: String = row.get(at)?;
+    match Name::new(alloc, &text) {
+        Ok(name) => Ok(name),
+        Err(NameFault::Memory) => Err(Fault::Memory),
+        Err(NameFault::BadName) => Err(Fault::Store),
+    }
+}
+
+/// A pacticipant, an instance and a version.
+struct DeployedRow;
+
+impl ReadRow for DeployedRow {
+    type Item = DeployedItem;
+
+    ghost reads_as = { IsDeployedRow };
+
+    ghost is_readable = { λ row. ⊥ };
+
+    fn read(alloc: Global, row: &Row) -> Result<DeployedItem, Fault> {
+        let pacticipant = name_in(alloc, row, 0)?;
+        let instance: String = row.get(1)?;
+        let version = name_in(alloc, row, 2)?;
+        Ok(DeployedItem {
+            pacticipant,
+            instance: Text::new(instance),
+            version,
+        })
+    }
+}
+
+/// A pacticipant and a version.
+struct ReleasedRow;
+
+impl ReadRow for ReleasedRow {
+    type Item = Version;
+
+    ghost reads_as = { IsReleasedRow };
+
+    ghost is_readable = { λ row. ⊥ };
+
+    fn read(alloc: Global, row: &Row) -> Result<Version, Fault> {
+        let pacticipant = name_in(alloc, row, 0)?;
+        let name = name_in(alloc, row, 1)?;
+        Ok(Version { pacticipant, name })
+    }
+}
+
+/// What is deployed in the environment, each once, in the order of pacticipants and instances.
+///
+/// # Errors
+/// `Fault::Memory` for want of memory; `Fault::Store` where the database refused the query, or where a row holds a text that is no name.
+pub fn deployed<S: Alter>(
+    alloc: Global,
+    conn: &mut Connection<S>,
+    environment: &str,
+) -> Result<Vec<DeployedItem>, Fault>
+    ensures { Reads (state S.Store conn.old) (state S.Store conn.new) result (λ items s. Lists deployed_cmp (λ x. s.deployed (environment.now, x.pacticipant, x.instance) ≡ Some x.version) items.items) }
+{
+    list_of::<DeployedRow, S>(
+        alloc,
+        conn,
+        "SELECT d.pacticipant, d.instance, v.version FROM deployed d JOIN versions v ON v.number = d.version_number WHERE d.environment = ?1 ORDER BY d.pacticipant, d.instance",
+        params![environment],
+    )
+}
+
+/// The versions that are released in the environment, each once, in the order of pacticipants and versions.
+///
+/// # Errors
+/// `Fault::Memory` for want of memory; `Fault::Store` where the database refused the query, or where a row holds a text that is no name.
+pub fn released<S: Alter>(
+    alloc: Global,
+    conn: &mut Connection<S>,
+    environment: &str,
+) -> Result<Vec<Version>, Fault>
+    ensures { Reads (state S.Store conn.old) (state S.Store conn.new) result (λ items s. Lists version_cmp (λ v. IsTrue (s.released (environment.now, v))) items.items) }
+{
+    list_of::<ReleasedRow, S>(
+        alloc,
+        conn,
+        "SELECT v.pacticipant, v.version FROM released r JOIN versions v ON v.number = r.version_number WHERE r.environment = ?1 ORDER BY v.pacticipant, v.version",
+        params![environment],
+    )
+}

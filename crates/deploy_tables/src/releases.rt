@@ -1,0 +1,84 @@
+//! The versions that are released and supported in an environment.
+ghost use Rattle.std.specs.Prelude.{◌≡◌, Some};
+ghost use Rattle.sqlite.specs.Held.{state};
+ghost use Rattle.broker_core.specs.declared.command.Version.{Version as VersionModel};
+ghost use Rattle.broker_tables.specs.Holds.{Reads, Changes, Gives};
+ghost use Rattle.broker_tables.specs.Numbers.{number_of as number_in};
+ghost use Rattle.deploy_tables.specs.Releases.{IsVersion, RecordsReleased, EndsSupport};
+
+use sqlite::{Alter, Connection, params};
+use table_access::{Fault, change, text_of};
+
+/// Whether the version of that number is released in the environment.
+///
+/// # Errors
+/// `Fault::Memory` for want of memory; `Fault::Store` where the database refused the query.
+pub fn is_released<S: Alter>(
+    conn: &mut Connection<S>,
+    environment: &str,
+    number: u32,
+) -> Result<bool, Fault>
+    ensures { Reads (state S.Store conn.old) (state S.Store conn.new) result (λ has s. (v : VersionModel) → number_in s.versions v ≡ Some number → has ≡ s.released (environment.now, v)) }
+{
+    match text_of(
+        conn,
+        "SELECT environment FROM released WHERE environment = ?1 AND version_number = ?2",
+        params![environment, number],
+    ) {
+        Ok(found) => Ok(found.is_some()),
+        Err(fault) => Err(fault),
+    }
+}
+
+/// Releases the version of that number in the environment, which is there; it isn't released there yet.
+///
+/// # Errors
+/// `Fault::Memory` for want of memory; `Fault::Store` where the database refused the row.
+pub fn record_released<S: Alter>(
+    conn: &mut Connection<S>,
+    environment: &str,
+    number: u32,
+) -> Result<(), Fault>
+    ensures { Changes (state S.Store conn.old) (state S.Store conn.new) result (RecordsReleased environment.now number) }
+{
+    change(
+        conn,
+        "INSERT INTO released (environment, version_number) VALUES (?1, ?2)",
+        params![environment, number],
+    )
+}
+
+/// Takes the version of that number out of what is released in the environment.
+fn remove_released<S: Alter>(
+    conn: &mut Connection<S>,
+    environment: &str,
+    number: u32,
+) -> Result<(), Fault>
+    ensures { Changes (state S.Store conn.old) (state S.Store conn.new) result (EndsSupport environment.now number) }
+{
+    change(
+        conn,
+        "DELETE FROM released WHERE environment = ?1 AND version_number = ?2",
+        params![environment, number],
+    )
+}
+
+/// Ends the support of the version of that number in the environment, and answers whether it was released there. All other releases stay.
+///
+/// # Errors
+/// `Fault::Memory` for want of memory; `Fault::Store` where the database refused the query or the change.
+pub fn end_support<S: Alter>(
+    conn: &mut Connection<S>,
+    environment: &str,
+    number: u32,
+) -> Result<bool, Fault>
+    ensures { Gives (state S.Store conn.old) (state S.Store conn.new) result (IsVersion number) (λ stood s t. EndsSupport environment.now number s t × ((v : VersionModel) → number_in s.versions v ≡ Some number → stood ≡ s.released (environment.now, v))) }
+{
+    match is_released(conn, environment, number) {
+        Ok(stood) => match remove_released(conn, environment, number) {
+            Ok(()) => Ok(stood),
+            Err(fault) => Err(fault),
+        },
+        Err(fault) => Err(fault),
+    }
+}

@@ -1,0 +1,6 @@
+pub mod Names
+pub mod Queries
+pub mod Bodies
+pub mod Commands
+pub mod Tokens
+pub mod Views

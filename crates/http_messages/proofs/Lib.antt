@@ -1,0 +1,3 @@
+mod LinesLemmas
+pub mod MessagesLemmas
+mod OptionsLemmas

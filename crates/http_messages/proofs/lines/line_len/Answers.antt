@@ -1,0 +1,11 @@
+use Rattle.std.proofs.Common.{◌≡◌, ◌≢◌, ◌<◌, ℕ, get_or, length, add-one, arith}
+use Rattle.http_messages.specs.Lines.{line_feed}
+use Rattle.http_messages.proofs.LinesLemmas.{first_line, no_line}
+use Rattle.http_messages.proofs.lines.line_len.Goals as goal
+
+pub returns-then-b-eq-LINE_FEED-clause-found : goal.returns-then-b-eq-LINE_FEED-clause-found
+returns-then-b-eq-LINE_FEED-clause-found c =
+    rw add-one (first_line c.args.bytes.now c.loop-i.i c.loop-i-test.true c.if-b-eq-LINE_FEED.true c.loop-i.invariant)
+
+pub returns-clause-none : goal.returns-clause-none
+returns-clause-none c = no_line c.args.bytes.now (λ k h. c.loop-i.invariant k (omega arith))

@@ -1,0 +1,97 @@
+-- What a head says: the checks on it, and how long its body is.
+use Rattle.std.specs.Prelude.{◌≡◌, ℕ, ◌+◌, ◌≤◌, ◌⊎◌, ◌==◌, ◌&&◌, Bool, true, false, not, List, [], ◌∷◌, length, map, bytes_eq, codes, nat_lt, is_some, slice_index, if◌then◌else◌, Option, Some, None, Result, Ok, Err}
+use Rattle.std.specs.List.{list_any}
+use Rattle.std.specs.Result.{result_unwrap_or}
+use Rattle.std.specs.Str.Parse.{digits_value}
+use Rattle.httparse.specs.Grammar.{RequestHead, ReadsRequest}
+use Rattle.httparse.specs.Spans.{name_and_value}
+use Rattle.http_messages.specs.Lines.{lines_of, head_text, from_first}
+use Rattle.http_messages.specs.Fields.{values_named, is_short_number}
+use Rattle.http_messages.specs.Options.{has_close}
+use Rattle.http_messages.specs.declared.head.TheConstants.{FIELD_LIMIT, BODY_LIMIT}
+use Rattle.http_messages.specs.declared.head.Method.{Method}
+use Rattle.http_messages.specs.declared.head.Method.TheVariants.{Get, Put, Post, Delete}
+use Rattle.http_messages.specs.declared.head.Refusal.{Refusal}
+use Rattle.http_messages.specs.declared.head.Refusal.TheVariants.{BadRequest, BodyTooLarge, HeadTooLarge, NotImplemented}
+
+-- the methods that are known
+unfoldable pub known_method : List ℕ → Option Method
+known_method method =
+    if bytes_eq method (codes "GET") then Some Get
+    else (if bytes_eq method (codes "PUT") then Some Put
+    else (if bytes_eq method (codes "POST") then Some Post
+    else (if bytes_eq method (codes "DELETE") then Some Delete
+    else None)))
+
+-- the length of the body by the values of content-length
+unfoldable pub body_length : List (List ℕ) → Result ℕ Refusal
+body_length [] = Ok 0
+body_length (value ∷ []) =
+    if is_short_number value
+    then (if nat_lt BODY_LIMIT (digits_value 10 value) then Err BodyTooLarge else Ok (digits_value 10 value))
+    else Err BadRequest
+body_length (value ∷ other ∷ values) = Err BadRequest
+
+-- The length of the body, or the first check that fails: the target, the host, the method, the transfer coding, the length.
+unfoldable pub judge : (method target : List ℕ) (minor : ℕ) (hosts codings lengths : List (List ℕ)) → Result ℕ Refusal
+judge method target minor hosts codings lengths =
+    if not (slice_index target 0 == 47) then Err BadRequest
+    else (if (minor == 1) && not (length hosts == 1) then Err BadRequest
+    else (if not (is_some (known_method method)) then Err NotImplemented
+    else (if not (length codings == 0) then Err NotImplemented
+    else body_length lengths)))
+
+-- the names and values of the fields
+abbrev pub fields_of : RequestHead → List (List ℕ × List ℕ)
+fields_of h = map name_and_value h.fields
+
+-- the length of the body behind this head, or its first fault
+abbrev pub body_of_head : RequestHead → Result ℕ Refusal
+body_of_head h =
+    judge h.method h.target h.minor
+    (values_named (codes "host") (fields_of h))
+    (values_named (codes "transfer-encoding") (fields_of h))
+    (values_named (codes "content-length") (fields_of h))
+
+-- the method HEAD asks for an answer without its body
+abbrev pub is_head_method : List ℕ → Bool
+is_head_method method = bytes_eq method (codes "HEAD")
+
+-- what the checks on a head come to: whether an answer goes without its body, and the length of the message's own body or why it is refused
+pub record Judgement : Type 0 where
+  pub is_bodiless : Bool
+  pub body : Result ℕ Refusal
+
+-- a refusal before there is a head
+abbrev pub unread : Refusal → Judgement
+unread refusal = record { is_bodiless = false; body = Err refusal }
+
+abbrev pub judge_head : RequestHead → Judgement
+judge_head h = record { is_bodiless = is_head_method h.method; body = body_of_head h }
+
+-- the connection closes behind the answer: after HTTP/1.0, or where the head has the option close (RFC 9112, section 9.6; that HTTP/1.0 always closes is this project's own choice)
+abbrev pub is_last : ℕ → List (List ℕ) → Bool
+is_last minor connections = if minor == 0 then true else list_any has_close connections
+
+abbrev pub is_last_head : RequestHead → Bool
+is_last_head h = is_last h.minor (values_named (codes "connection") (fields_of h))
+
+-- the whole text is this head, of no more fields than the limit
+pub record IsHeadText (text : List ℕ) (h : RequestHead) : Type 0 where
+  pub reads : ReadsRequest text h []
+  pub few : length h.fields ≤ FIELD_LIMIT
+
+-- no head text, or too many lines between its first that isn't empty and its last
+abbrev pub is_too_large : List ℕ → Bool
+is_too_large text = if is_some (head_text text) then nat_lt (FIELD_LIMIT + 2) (length (from_first (lines_of text))) else true
+
+-- What the checks on a head text come to: it is too large, it is no head, or the head is judged.
+abbrev pub IsJudged : List ℕ → Judgement → Type 0
+IsJudged text judged =
+    ((is_too_large text ≡ true) × (judged ≡ unread HeadTooLarge))
+    ⊎ ((is_too_large text ≡ false) × ((h : RequestHead) → ¬ (IsHeadText text h)) × (judged ≡ unread BadRequest))
+    ⊎ ((is_too_large text ≡ false) × (h : RequestHead) × IsHeadText text h × (judged ≡ judge_head h))
+
+-- how many bytes of body the head announces: none where it is refused
+unfoldable pub IsBodyLength : List ℕ → ℕ → Type 0
+IsBodyLength text n = (judged : Judgement) × IsJudged text judged × (n ≡ result_unwrap_or judged.body 0)

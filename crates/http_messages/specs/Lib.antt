@@ -1,0 +1,7 @@
+pub mod Message
+pub mod Lines
+pub mod Fields
+pub mod Options
+pub mod Heads
+pub mod Messages
+pub mod Views

@@ -1,0 +1,203 @@
+//! The head of a message.
+ghost use Rattle.std.specs.Prelude.{All, codes, ◌≡◌, ℕ, ◌≤◌, ◌==◌, Bool, true, List, length, take, map, Option, Ok, Err, false, IfOk, IfErr, IfSome, IfNone, is_some};
+ghost use Rattle.httparse.specs.Grammar.{RequestHead};
+ghost use Rattle.httparse.specs.Spans.{IsHeaderWithin, header_bytes, IsRequestAt, IsRequestWithin};
+ghost use Rattle.http_messages.specs.Fields.{IsField, values_named};
+ghost use Rattle.http_messages.specs.Heads.{known_method, body_length, judge, IsHeadText, IsJudged, is_too_large, body_of_head, is_last, is_last_head, unread};
+ghost use Rattle.http_messages.specs.Views.{judgement_of};
+
+use crate::fields::{Field, field_of, short_number};
+use crate::lines::{head_len, line_count};
+use crate::options::closes;
+use httparse::Status;
+use httparse::spans::{EMPTY_HEADER_SPAN, HeaderSpan, RequestSpans, parse_request};
+
+/// How many fields a head may have (this project's own limit).
+pub const FIELD_LIMIT: usize = 64;
+
+/// How many bytes a body may have (this project's own limit).
+pub const BODY_LIMIT: usize = 1_048_576;
+
+/// The methods that this server knows (RFC 9110, section 9.3).
+#[derive(Clone, Copy, Debug, PartialEq, Eq)]
+pub enum Method {
+    Get,
+    Put,
+    Post,
+    Delete,
+}
+
+/// Why a head is refused.
+#[derive(Clone, Copy, Debug, PartialEq, Eq)]
+pub enum Refusal {
+    /// It is no head, its target or host is wrong, or its content-length isn't one number of 1 to 10 digits.
+    BadRequest,
+    /// Its content-length is over the limit.
+    BodyTooLarge,
+    /// It doesn't end within the limit, or has too many lines.
+    HeadTooLarge,
+    /// Its method isn't known, or it has a transfer-encoding.
+    NotImplemented,
+}
+
+/// The method, if it is known.
+#[tactic(auto, unfolding(crate::specs::Heads::known_method))]
+pub fn method_of(method: &[u8]) -> Option<Method>
+    ensures { result ≡ known_method method.now }
+{
+    if method == b"GET".as_slice() {
+        Some(Method::Get)
+    } else if method == b"PUT".as_slice() {
+        Some(Method::Put)
+    } else if method == b"POST".as_slice() {
+        Some(Method::Post)
+    } else if method == b"DELETE".as_slice() {
+        Some(Method::Delete)
+    } else {
+        None
+    }
+}
+
+/// The length of the body by its content-length.
+#[tactic(auto, unfolding(crate::specs::Heads::body_length))]
+fn body_length(field: Field<'_>) -> Result<usize, Refusal>
+    ensures length { (values : List (List ℕ)) → IsField values field.entry → result ≡ body_length values }
+    ensures small { IfOk result (λ n. n ≤ BODY_LIMIT) }
+{
+    match field {
+        Field::Absent => Ok(0),
+        Field::Repeated => Err(Refusal::BadRequest),
+        Field::Once(value) => match short_number(value) {
+            None => Err(Refusal::BadRequest),
+            Some(length) if length > BODY_LIMIT as u64 => Err(Refusal::BodyTooLarge),
+            Some(length) => Ok(length as usize),
+        },
+    }
+}
+
+/// The checks on the parts of a head.
+#[tactic(auto, unfolding(crate::specs::Heads::judge))]
+fn judge(
+    method: &[u8],
+    target: &[u8],
+    minor: u8,
+    host: Field<'_>,
+    coding: Field<'_>,
+    length: Field<'_>,
+) -> Result<usize, Refusal>
+    ensures judged { (hosts codings lengths : List (List ℕ))
+        → IsField hosts host.entry → IsField codings coding.entry → IsField lengths length.entry
+        → result ≡ judge method.now target.now minor hosts codings lengths }
+    ensures small { IfOk result (λ n. n ≤ BODY_LIMIT) }
+{
+    if target.is_empty() || target[0] != b'/' {
+        return Err(Refusal::BadRequest);
+    }
+    if minor == 1 && !matches!(host, Field::Once(_)) {
+        return Err(Refusal::BadRequest);
+    }
+    if method_of(method).is_none() || !matches!(coding, Field::Absent) {
+        return Err(Refusal::NotImplemented);
+    }
+    body_length(length)
+}
+
+/// Parses a head that is the whole text.
+fn parse_head(text: &[u8], spans: &mut [HeaderSpan; FIELD_LIMIT]) -> Option<RequestSpans>
+    ensures within { IfSome result (IsRequestWithin text.now spans.new) }
+    ensures found { IfSome result (λ parsed. (h : RequestHead) × IsHeadText text.now h × IsRequestAt text.now spans.new parsed h) }
+    ensures none { IfNone result ((h : RequestHead) → ¬ (IsHeadText text.now h)) }
+{
+    match parse_request(text, spans) {
+        Ok(Status::Complete(parsed)) if parsed.len == text.len() => Some(parsed),
+        _ => None,
+    }
+}
+
+/// A head that passed the checks on it, in the bytes that it was read from.
+#[derive(Clone, Copy, Drop)]
+pub struct Head {
+    pub parsed: RequestSpans,
+    pub spans: [HeaderSpan; FIELD_LIMIT],
+    /// How many bytes of body follow.
+    pub body_len: usize,
+    /// Whether the connection closes behind the answer.
+    pub closes: bool,
+}
+
+/// Why a head is refused, and whether its answer goes without a body, as the method HEAD asks.
+#[derive(Clone, Copy, Debug, PartialEq, Eq)]
+pub struct Refused {
+    pub refusal: Refusal,
+    pub is_bodiless: bool,
+}
+
+impl Refused {
+    /// A refusal before there is a head.
+    fn unread(refusal: Refusal) -> Refused
+        ensures { judgement_of result ≡ unread refusal }
+    {
+        Refused {
+            refusal,
+            is_bodiless: false,
+        }
+    }
+}
+
+/// Whether no head text is there, or one of too many lines.
+fn is_too_large(text: &[u8]) -> bool
+    ensures { result ≡ is_too_large text.now }
+{
+    head_len(text).is_none() || line_count(text) > FIELD_LIMIT + 2
+}
+
+/// Whether the connection closes behind the answer to a head of this minor version with these fields.
+fn is_last(text: &[u8], minor: u8, fields: &[HeaderSpan]) -> bool
+    requires { All (IsHeaderWithin (length text.now)) fields.now }
+    ensures { result ≡ is_last minor (values_named (codes "connection") (map (header_bytes text.now) fields.now)) }
+{
+    minor == 0 || closes(text, fields)
+}
+
+/// Reads a head and makes the checks on it.
+///
+/// `text` is a head text, or as many bytes as a head may have in which none ends.
+/// The first check that fails is told.
+pub fn read_head(text: &[u8]) -> Result<Head, Refused>
+    ensures small { IfOk result (λ head. head.body_len ≤ BODY_LIMIT) }
+    ensures ok { IfOk result (λ head. (is_too_large text.now ≡ false) × (h : RequestHead) × IsHeadText text.now h
+        × (body_of_head h ≡ Ok head.body_len) × (head.closes ≡ is_last_head h)
+        × IsRequestAt text.now head.spans head.parsed h × IsRequestWithin text.now head.spans head.parsed) }
+    ensures err { IfErr result (λ refused. IsJudged text.now (judgement_of refused)) }
+{
+    if is_too_large(text) {
+        return Err(Refused::unread(Refusal::HeadTooLarge));
+    }
+    let mut spans = [EMPTY_HEADER_SPAN; FIELD_LIMIT];
+    let Some(parsed) = parse_head(text, &mut spans) else {
+        return Err(Refused::unread(Refusal::BadRequest));
+    };
+    let fields = &spans[..parsed.headers];
+    let method = parsed.method.of(text);
+    let judged = judge(
+        method,
+        parsed.path.of(text),
+        parsed.version,
+        field_of(text, fields, b"host"),
+        field_of(text, fields, b"transfer-encoding"),
+        field_of(text, fields, b"content-length"),
+    );
+    let closes = is_last(text, parsed.version, fields);
+    match judged {
+        Ok(body_len) => Ok(Head {
+            parsed,
+            spans,
+            body_len,
+            closes,
+        }),
+        Err(refusal) => Err(Refused {
+            refusal,
+            is_bodiless: method == b"HEAD".as_slice(),
+        }),
+    }
+}

@@ -1,0 +1,2 @@
+pub mod RepliesLemmas
+mod ReadingLemmas

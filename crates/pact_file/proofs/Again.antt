@@ -1,0 +1,249 @@
+-- The normal text of a pact is read as that pact.
+use Rattle.std.proofs.Common.{◌≡◌, ◌⊎◌, inl, inr, ℕ, suc, ◌+◌, ◌≤◌, List, [], ◌∷◌, length, codes, map, not, Bool, true, false, cond, nat_le, Option, Some, None, option_map, option_and_then, Result, Ok, Err, Ordering, Less, Equal, Greater, refl, sym, ap, ◌∙◌, subst, arith}
+use Rattle.std.proofs.lemmas.Bool.Decides.{nat_tests}
+use Rattle.std.proofs.lemmas.Option.{same_Some}
+use Rattle.std.specs.Option.{ok_or}
+use Rattle.std.specs.Ordering.{match_ordering}
+use Rattle.std.specs.Str.{IsUtf8, bytes_eq}
+use Rattle.serde_json.specs.Data.{Data, Items, no_items, item}
+use Rattle.serde_json.specs.Events.{items_len}
+use Rattle.serde_json.specs.Find.{get, as_array}
+use Rattle.serde_json.specs.View.{items_of}
+use Rattle.serde_json.proofs.OnLiterals.{serde_json_on_literals}
+use Rattle.pact_file.specs.File.{most_bytes, most_interactions, json_of, file_of, is_version_3, has_no_messages, is_name, side_of, sides_of, items_of as items_at}
+use Rattle.pact_file.specs.Laws.{NormalAgain, OnePact}
+use Rattle.pact_file.specs.Normal.{InteractionRead, InOrder, InteractionsRead, if_short, Normal, IsRefusal}
+use Rattle.pact_file.specs.Outcome.{guard}
+use Rattle.pact_file.specs.Pact.{Interaction, Pact, interaction_data, key_cmp, pact_data, normal_text}
+use Rattle.pact_file.specs.Parts.{text_at, object_at, listed}
+use Rattle.pact_file.specs.Placing.{placed, placed_all, same_text}
+use Rattle.pact_file.specs.Reading.{just, EachRead}
+use Rattle.pact_file.specs.Sets.{IsIn, IsRising, HasClash}
+use Rattle.pact_file.specs.Sound.{IsSound}
+use Rattle.pact_file.specs.declared.fault.PactFault.{PactFault}
+use Rattle.pact_file.specs.declared.fault.PactFault.TheVariants.{SameInteraction, Shape, Version, Messages, SelfContract, TooMany, TooLong}
+use Rattle.pact_file.specs.declared.fault.Place.{Place}
+use Rattle.pact_file.specs.declared.fault.Place.TheVariants.{Consumer, ConsumerName, Provider, ProviderName, Interactions}
+use Rattle.pact_file.proofs.Agreement.{one_answer}
+use Rattle.pact_file.proofs.Files.{is_json}
+use Rattle.pact_file.proofs.Itself.{interaction_again, listed_again}
+use Rattle.pact_file.proofs.OrderedSets.{IsGood, ordered, one_order}
+use Rattle.pact_file.proofs.ReadBack.{read-compact_text}
+use Rattle.pact_file.proofs.ReadLemmas.{read_ok, is_tree, file_sound, items_sound, each_sound, interactions_sound}
+use Rattle.pact_file.proofs.SetLemmas.{one_such, each_such}
+use Rattle.pact_file.proofs.SoundData.{kept, whole, shallow, text_utf8}
+use Rattle.pact_file.proofs.SoundParts.{of_object_at, of_text_at, of_pact}
+use Rattle.pact_file.proofs.Steps.{bind_ok, found_ok, guard_ok, ok_same}
+
+-- ---- each interaction reads to itself
+
+abbrev IsAgain : Interaction → Type 0
+IsAgain z = (j : ℕ) → InteractionRead j (interaction_data z) (Ok z)
+
+first_again : (x z : Interaction) (xs : List Interaction) → IsAgain x → ((w : Interaction) → IsIn w xs → IsAgain w) → IsIn z (x ∷ xs) → IsAgain z
+first_again x z xs h k (inl same) = subst IsAgain (sym same) h
+first_again x z xs h k (inr m) = k z m
+
+each_again : (i : ℕ) (ds : List Data) (xs : List Interaction) → EachRead InteractionRead i ds (Ok xs) → (z : Interaction) → IsIn z xs → IsAgain z
+unfolding EachRead
+each_again i [] xs e z m = absurd (subst (IsIn z) (sym (ok_same _ _ e)) m)
+each_again i (d ∷ ds) xs e z m =
+    let first = read_ok (InteractionRead i d) _ xs e in
+    let others = read_ok (EachRead InteractionRead (i + 1) ds) _ xs first.2 in
+    let same : first.0 ∷ others.0 ≡ xs = ok_same _ _ others.2 in
+    first_again first.0 z others.0 (λ j. interaction_again i j d first.0 first.1) (λ w k. each_again (i + 1) ds others.0 others.1 w k) (subst (IsIn z) (sym same) m)
+
+normals_read : (i : ℕ) (xs : List Interaction) → ((z : Interaction) → IsIn z xs → IsAgain z) → EachRead InteractionRead i (map interaction_data xs) (Ok xs)
+unfolding EachRead
+normals_read i [] h = refl
+normals_read i (x ∷ xs) h = (Ok x, h x (inl refl) i, (Ok xs, normals_read (i + 1) xs (λ z m. h z (inr m)), refl))
+
+-- ---- no more than were found
+
+each_length : (i : ℕ) (ds : List Data) (xs : List Interaction) → EachRead InteractionRead i ds (Ok xs) → length xs ≡ length ds
+unfolding EachRead
+each_length i [] xs e = ap length (sym (ok_same _ _ e))
+each_length i (d ∷ ds) xs e =
+    let first = read_ok (InteractionRead i d) _ xs e in
+    let others = read_ok (EachRead InteractionRead (i + 1) ds) _ xs first.2 in
+    ap length (sym (ok_same _ _ others.2)) ∙ ap suc (each_length (i + 1) ds others.0 others.1)
+
+placed_case : (o : Ordering) (b : Bool) (x y : Interaction) (ys zs : List Interaction) → ((ms : List Interaction) → placed key_cmp same_text x ys ≡ Some ms → length ms ≤ suc (length ys))
+    → match_ordering o (Some (x ∷ y ∷ ys)) (cond b (Some (y ∷ ys)) None) (option_map (λ more. y ∷ more) (placed key_cmp same_text x ys)) ≡ Some zs → length zs ≤ suc (suc (length ys))
+placed_case Less b x y ys zs k e = subst (λ l. length l ≤ suc (suc (length ys))) (same_Some _ _ e) (omega arith)
+placed_case Equal true x y ys zs k e = subst (λ l. length l ≤ suc (suc (length ys))) (same_Some _ _ e) (omega arith)
+placed_case Equal false x y ys zs k e = absurd cc
+placed_case Greater b x y ys zs k e = more (placed key_cmp same_text x ys) refl e where
+  more : (o : Option (List Interaction)) → placed key_cmp same_text x ys ≡ o → option_map (λ more. y ∷ more) o ≡ Some zs → length zs ≤ suc (suc (length ys))
+  more None is h = absurd cc
+  more (Some ms) is h = let few = k ms is in subst (λ l. length l ≤ suc (suc (length ys))) (same_Some _ _ h) (omega (arith, few))
+
+placed_length : (x : Interaction) (ys zs : List Interaction) → placed key_cmp same_text x ys ≡ Some zs → length zs ≤ suc (length ys)
+unfolding placed
+placed_length x [] zs e = subst (λ l. length l ≤ 1) (same_Some _ _ e) (omega arith)
+placed_length x (y ∷ ys) zs e = placed_case (key_cmp x y) (same_text x y) x y ys zs (λ ms is. placed_length x ys ms is) e
+
+all_length : (list xs zs : List Interaction) → placed_all key_cmp same_text list xs ≡ Some zs → length zs ≤ length list + length xs
+unfolding placed_all
+all_length list [] zs e = subst (λ l. length l ≤ length list + 0) (same_Some _ _ e) (omega arith)
+all_length list (x ∷ xs) zs e = by_case (λ more h. all_length more xs zs h) (placed key_cmp same_text x list) refl e where
+  by_case : ((more : List Interaction) → placed_all key_cmp same_text more xs ≡ Some zs → length zs ≤ length more + length xs)
+      → (o : Option (List Interaction)) → placed key_cmp same_text x list ≡ o → option_and_then (λ more. placed_all key_cmp same_text more xs) o ≡ Some zs → length zs ≤ length list + suc (length xs)
+  by_case again None is h = absurd cc
+  by_case again (Some more) is h = omega (arith, again more h, placed_length x list more is)
+
+order_length : (found xs : List Interaction) → ((z : Interaction) → IsIn z found → IsGood z) → InOrder found (Ok xs) → length xs ≤ length found
+order_length found xs good h = by_case (placed_all key_cmp same_text [] found) refl where
+  by_case : (o : Option (List Interaction)) → placed_all key_cmp same_text [] found ≡ o → length xs ≤ length found
+  by_case None is = let clash : Ok xs ≡ Err SameInteraction = one_order found (Ok xs) (Err SameInteraction) h (ordered found (Err SameInteraction) good (ap (λ o. ok_or o SameInteraction) is)) in absurd cc
+  by_case (Some ys) is =
+      let same : Ok xs ≡ Ok ys = one_order found (Ok xs) (Ok ys) h (ordered found (Ok ys) good (ap (λ o. ok_or o SameInteraction) is)) in
+      subst (λ l. length l ≤ length found) (sym (ok_same _ _ same)) (omega (arith, all_length [] found ys is))
+
+-- ---- the order stays
+
+not_both : (o : Ordering) → o ≡ Less → ¬ (o ≡ Equal)
+not_both o h k = let e : Less ≡ Equal = sym h ∙ k in absurd cc
+
+rising_apart : (D : Interaction → Interaction → Type 0) (xs : List Interaction) → IsRising key_cmp xs → ¬ HasClash key_cmp D xs
+rising_apart D [] r h = h
+rising_apart D (x ∷ xs) r (inl one) =
+    let p = one_such (λ y. (key_cmp x y ≡ Equal) × D x y) xs one in
+    not_both (key_cmp x p.0) (each_such (λ y. key_cmp x y ≡ Less) xs p.0 r.0 p.1) p.2.0
+rising_apart D (x ∷ xs) r (inr h) = rising_apart D xs r.1 h
+
+in_order_itself : (found xs : List Interaction) → InOrder found (Ok xs) → InOrder xs (Ok xs)
+in_order_itself found xs h = (rising_apart _ xs h.1.rising, record { rising = h.1.rising; kept = λ z m. m; known = λ z m. m })
+
+listed_len : (ds : Items) → length (listed ds) ≡ items_len ds
+listed_len no_items = refl
+listed_len (item d ds) = ap suc (listed_len ds)
+
+normals_len : (xs : List Interaction) → items_len (items_of (map interaction_data xs)) ≡ length xs
+normals_len [] = refl
+normals_len (x ∷ xs) = ap suc (normals_len xs)
+
+fewer : (m n k : ℕ) → m ≤ n → nat_le n k ≡ true → nat_le m k ≡ true
+fewer m n k h e = grind (arith, nat_tests)
+
+items_few : (file : Data) (ds : List Data) → items_at file ≡ Ok ds → nat_le (length ds) most_interactions ≡ true
+unfolding items_at
+items_few file ds e =
+    let items = bind_ok (ok_or (option_and_then as_array (get (codes "interactions") file)) (Shape Interactions)) _ ds e in
+    let few = bind_ok (guard (nat_le (items_len items.0) most_interactions) TooMany) _ ds items.2 in
+    ap (λ l. nat_le (length l) most_interactions) (sym (ok_same _ _ few.2)) ∙ ap (λ n. nat_le n most_interactions) (listed_len items.0) ∙ guard_ok _ _ few.0 few.1
+
+items_again : (p : Pact) → nat_le (length p.interactions) most_interactions ≡ true → items_at (pact_data p) ≡ Ok (map interaction_data p.interactions)
+unfolding items_at serde_json_on_literals
+items_again p few =
+    let count : nat_le (items_len (items_of (map interaction_data p.interactions))) most_interactions ≡ true = ap (λ n. nat_le n most_interactions) (normals_len p.interactions) ∙ few in
+    rw (count, listed_again (map interaction_data p.interactions)) refl
+
+interactions_again : (file : Data) (p : Pact) → IsSound 100 file → InteractionsRead file (Ok p.interactions) → InteractionsRead (pact_data p) (Ok p.interactions)
+unfolding InteractionsRead
+interactions_again file p h r =
+    let xs = p.interactions in
+    let items = read_ok (just (items_at file)) _ xs r in
+    let found = read_ok (EachRead InteractionRead 0 items.0) _ xs items.2 in
+    let good = each_sound 0 items.0 found.0 (items_sound file items.0 h items.1) found.1 in
+    let again = each_again 0 items.0 found.0 found.1 in
+    let few = fewer (length xs) (length items.0) most_interactions (omega (arith, order_length found.0 xs good found.2, each_length 0 items.0 found.0 found.1)) (items_few file items.0 items.1) in
+    (Ok (map interaction_data xs), items_again p few, (Ok xs, normals_read 0 xs (λ z m. again z (found.2.1.known z m)), in_order_itself found.0 xs found.2))
+
+-- ---- the sides
+
+record IsSide (name : List ℕ) : Type 0 where
+  named : is_name name ≡ true
+  text : IsUtf8 name
+
+side_is : (k : List ℕ) (s n : Place) (file : Data) (name : List ℕ) → IsSound 100 file → side_of k s n file ≡ Ok name → IsSide name
+unfolding side_of
+side_is k s n file name h e =
+    let found = bind_ok (ok_or (object_at k file) (Shape s)) _ name e in
+    let text = bind_ok (ok_or (text_at (codes "name") found.0) (Shape n)) _ name found.2 in
+    let is = bind_ok (guard (is_name text.0) (Shape n)) _ name text.2 in
+    subst IsSide (ok_same _ _ is.2)
+    (record {
+      named = guard_ok (is_name text.0) (Shape n) is.0 is.1;
+      text = of_text_at 98 (codes "name") found.0 text.0 (of_object_at 99 k file found.0 h (found_ok _ _ found.0 found.1)) (found_ok _ _ text.0 text.1);
+    })
+
+record AreSides (c q : List ℕ) : Type 0 where
+  consumer : IsSide c
+  provider : IsSide q
+  two : not (bytes_eq c q) ≡ true
+
+sides_are : (file : Data) (c q : List ℕ) → IsSound 100 file → sides_of file ≡ Ok (c, q) → AreSides c q
+unfolding sides_of
+sides_are file c q h e =
+    let v = bind_ok (guard (is_version_3 file) Version) _ (c, q) e in
+    let m = bind_ok (guard (has_no_messages file) Messages) _ (c, q) v.2 in
+    let one = bind_ok (side_of (codes "consumer") Consumer ConsumerName file) _ (c, q) m.2 in
+    let two = bind_ok (side_of (codes "provider") Provider ProviderName file) _ (c, q) one.2 in
+    let apart = bind_ok (guard (not (bytes_eq one.0 two.0)) SelfContract) _ (c, q) two.2 in
+    let same = ok_same _ _ apart.2 in
+    let first : one.0 ≡ c = ap (λ x. x.0) same in
+    let second : two.0 ≡ q = ap (λ x. x.1) same in
+    record {
+      consumer = subst IsSide first (side_is (codes "consumer") Consumer ConsumerName file one.0 h one.1);
+      provider = subst IsSide second (side_is (codes "provider") Provider ProviderName file two.0 h two.1);
+      two = ap not (ap (λ x. bytes_eq x q) (sym first) ∙ ap (bytes_eq one.0) (sym second)) ∙ guard_ok (not (bytes_eq one.0 two.0)) SelfContract apart.0 apart.1;
+    }
+
+sides_again : (p : Pact) → AreSides p.consumer p.provider → sides_of (pact_data p) ≡ Ok (p.consumer, p.provider)
+unfolding sides_of side_of is_version_3 has_no_messages serde_json_on_literals
+sides_again p h = rw (h.consumer.named, h.provider.named, h.two) refl
+
+-- ---- the file
+
+file_again : (p : Pact) → IsSound 100 (pact_data p) → nat_le (length (normal_text p)) most_bytes ≡ true → file_of (normal_text p) ≡ Ok (pact_data p)
+unfolding file_of
+file_again p h short =
+    let d = pact_data p in
+    let json : json_of (normal_text p) ≡ Ok (pact_data p) =
+    is_json (normal_text p) (pact_data p) (text_utf8 100 (pact_data p) h) (read-compact_text (pact_data p) (kept 100 (pact_data p) h) (whole 100 (pact_data p) h) (omega (arith, shallow 100 (pact_data p) h))) in
+    let tree = is_tree 100 (pact_data p) (omega arith) h in
+    rw (short, json, tree.1) refl
+
+short_case : (t : Bool) (p q : Pact) → cond t (Ok p) (Err TooLong) ≡ Ok q → (p ≡ q) × (t ≡ true)
+short_case true p q h = (ok_same _ _ h, refl)
+short_case false p q h = absurd cc
+
+if_short_ok : (p q : Pact) → if_short p ≡ Ok q → (p ≡ q) × (nat_le (length (normal_text q)) most_bytes ≡ true)
+if_short_ok p q h = let r = short_case (nat_le (length (normal_text p)) most_bytes) p q h in (r.0, ap (λ (x : Pact). nat_le (length (normal_text x)) most_bytes) (sym r.0) ∙ r.1)
+
+if_short_again : (p : Pact) → nat_le (length (normal_text p)) most_bytes ≡ true → if_short p ≡ Ok p
+if_short_again p h = rw h refl
+
+pub read_again : (bytes : List ℕ) (p : Pact) → Normal bytes (Ok p) → Normal (normal_text p) (Ok p)
+unfolding Normal
+read_again bytes p e =
+    let file = read_ok (just (file_of bytes)) _ p e in
+    let sides = read_ok (just (sides_of file.0)) _ p file.2 in
+    let found = read_ok (InteractionsRead file.0) _ p sides.2 in
+    let short = if_short_ok (record { consumer = sides.0.0; provider = sides.0.1; interactions = found.0 }) p found.2 in
+    let good = file_sound bytes file.0 file.1 in
+    let s : sides_of file.0 ≡ Ok (p.consumer, p.provider) = sides.1 ∙ ap (λ (x : Pact). Ok (x.consumer, x.provider)) short.0 in
+    let i : InteractionsRead file.0 (Ok p.interactions) = subst (λ (x : Pact). InteractionsRead file.0 (Ok x.interactions)) short.0 found.1 in
+    let two = sides_are file.0 p.consumer p.provider good s in
+    let sound = of_pact p two.consumer.text two.provider.text (interactions_sound file.0 p.interactions good i) in
+    (Ok (pact_data p), file_again p sound short.1, (Ok (p.consumer, p.provider), sides_again p two, (Ok p.interactions, interactions_again file.0 p good i, if_short_again p short.1)))
+
+pub normal_again : NormalAgain
+normal_again bytes p e = (read_again bytes p e, λ answer h. by_case answer (one_answer (normal_text p) answer (Ok p) h (read_again bytes p e))) where
+  by_case : (answer : Result Pact PactFault) → (answer ≡ Ok p) ⊎ (IsRefusal answer ⊎ IsRefusal (Ok p)) → (answer ≡ Ok p) ⊎ IsRefusal answer
+  by_case answer (inl same) = inl same
+  by_case answer (inr (inl refusal)) = inr refusal
+  by_case answer (inr (inr (i, h))) = absurd cc
+
+one_pact_of : (p q : Pact) → (Path (Result Pact PactFault) (Ok p) (Ok q)) ⊎ (IsRefusal (Ok p) ⊎ IsRefusal (Ok q)) → p ≡ q
+one_pact_of p q (inl same) = ok_same _ _ same
+one_pact_of p q (inr (inl (i, h))) = absurd cc
+one_pact_of p q (inr (inr (i, h))) = absurd cc
+
+-- one pact at most is read of a file
+pub one_read : (bytes : List ℕ) (p q : Pact) → Normal bytes (Ok p) → Normal bytes (Ok q) → p ≡ q
+one_read bytes p q h k = one_pact_of p q (one_answer bytes (Ok p) (Ok q) h k)
+
+pub one_pact : OnePact
+one_pact a b p q h k e = one_read (normal_text p) p q (read_again a p h) (subst (λ text. Normal text (Ok q)) (sym e) (read_again b q k))

@@ -1,0 +1,292 @@
+-- What a reading that succeeds went through, and that what is read of sound data is sound.
+use Rattle.std.proofs.Common.{◌≡◌, inl, inr, ℕ, zero, suc, ◌+◌, ◌≤◌, ◌<◌, nat_le, List, [], ◌∷◌, length, map, codes, get_or, Bool, true, false, cond, is_some, Option, Some, None, option_map, option_and_then, Result, Ok, Err, refl, sym, ap, ◌∙◌, subst, arith}
+use Rattle.std.specs.Prelude.{⊤}
+use Rattle.std.specs.Option.{ok_or}
+use Rattle.std.specs.Str.{IsUtf8, is_utf8}
+use Rattle.std.proofs.lemmas.Bool.Decides.{nat_tests}
+use Rattle.std.proofs.lemmas.Str.{IsUtf8-from_is_utf8}
+use Rattle.serde_json.specs.Data.{Num, unsigned, negative, float, Data, null, boolean, number, string, array, object, Items, no_items, item, Members, no_members, member, depth}
+use Rattle.serde_json.specs.Events.{items_len}
+use Rattle.serde_json.specs.Find.{get, as_array, as_object}
+use Rattle.serde_json.specs.Read.{read}
+use Rattle.serde_json.specs.View.{view, items_view, items_of}
+use Rattle.serde_json.specs.Written.{has_float, items_have_float, members_have_float}
+use Rattle.serde_json.specs.declared.value.Value.{Value}
+use Rattle.pact_rules.specs.Trees.{Node, list, object as tree_object, Nodes, node, Fields, field}
+use Rattle.pact_rules.specs.Rules.{no_rules, Rules as Table}
+use Rattle.pact_rules.specs.RuleReading.{IsReading}
+use Rattle.pact_rules.specs.TreeReading.{whole_number, whole_tree, whole_items, whole_members, whole_or, tree_in}
+use Rattle.pact_rules.specs.declared.rule_fault.RuleFault.{RuleFault}
+use Rattle.pact_rules.specs.declared.rule_fault.RuleFault.TheVariants as rule_fault
+use Rattle.pact_rules.specs.declared.tree.TreeFault.{TreeFault}
+use Rattle.pact_rules.specs.declared.tree.TreeFault.TheVariants.{TooDeep}
+use Rattle.pact_file.specs.File.{most_bytes, most_interactions, json_of, tree_told, file_of, items_of as items_at}
+use Rattle.pact_file.specs.Interactions.{at, parts_at}
+use Rattle.pact_file.specs.Normal.{InteractionRead, HeadersRead, InteractionsRead, if_short}
+use Rattle.pact_file.specs.Outcome.{guard, Gives}
+use Rattle.pact_file.specs.Pact.{Interaction, Pact, interaction_data, normal_text}
+use Rattle.pact_file.specs.Parts.{text_at, object_at, states_in, status_in, listed, given}
+use Rattle.pact_file.specs.Reading.{◌>>=◌, Follows, just, EachRead, GivesOne}
+use Rattle.pact_file.specs.Rules.{TableRead, rules_told, RulesRead, IsRulesOf}
+use Rattle.pact_file.specs.Sets.{IsIn}
+use Rattle.pact_file.specs.Sound.{IsSound, AreSound, MembersAreSound}
+use Rattle.pact_file.specs.Told.{rule_told}
+use Rattle.pact_file.specs.declared.fault.PactFault.{PactFault}
+use Rattle.pact_file.specs.declared.fault.PactFault.TheVariants.{Memory, Rules, Shape, TooLong, NotJson, TooMany}
+use Rattle.pact_file.specs.declared.fault.Part.TheVariants.{Whole, Description, States, Request, Response, Status}
+use Rattle.pact_file.specs.declared.fault.Place.TheVariants.{File, Interactions}
+use Rattle.pact_file.proofs.ReadKept.{read_kept}
+use Rattle.pact_file.proofs.SoundData.{sound, shallow, whole as is_whole}
+use Rattle.pact_file.proofs.SoundParts.{of_get, of_object_at, of_text_at, of_array, of_states, of_parts}
+use Rattle.pact_file.proofs.Steps.{bind_ok, found_ok, ok_same, then_some}
+
+-- ---- trees
+
+number_tree : (m : Num) → has_float (number m) ≡ false → (t : Node) × (whole_number m ≡ Some t)
+number_tree (unsigned m) h = (_, refl)
+number_tree (negative z) h = (_, refl)
+number_tree (float x) h = absurd cc
+
+both_some : {A B C : Type 0} (f : A → B → C) (a : A) (b : B) (o : Option A) (p : Option B) → o ≡ Some a → p ≡ Some b → option_and_then (λ x. option_map (f x) p) o ≡ Some (f a b)
+both_some f a b o p h k = rw (h, k) refl
+
+mutual
+  has_tree : (n : ℕ) (d : Data) → IsSound n d → (t : Node) × (whole_tree d ≡ Some t)
+  has_tree n null h = (_, refl)
+  has_tree n (boolean b) h = (_, refl)
+  has_tree n (number m) h = number_tree m (is_whole n (number m) h)
+  has_tree n (string s) h = (_, refl)
+  has_tree zero (array ds) h = absurd h
+  has_tree (suc n) (array ds) h = let t = have_trees n ds h in (list t.0, ap (option_map list) t.1)
+  has_tree zero (object ms) h = absurd h
+  has_tree (suc n) (object ms) h = let t = members_have_trees n ms h in (tree_object t.0, ap (option_map tree_object) t.1)
+
+  have_trees : (n : ℕ) (ds : Items) → AreSound n ds → (ts : Nodes) × (whole_items ds ≡ Some ts)
+  have_trees n no_items h = (_, refl)
+  have_trees n (item d ds) h =
+      let t = has_tree n d h.0 in
+      let ts = have_trees n ds h.1 in
+      (node t.0 ts.0, both_some node t.0 ts.0 (whole_tree d) (whole_items ds) t.1 ts.1)
+
+  members_have_trees : (n : ℕ) (ms : Members) → MembersAreSound n ms → (fs : Fields) × (whole_members ms ≡ Some fs)
+  members_have_trees n no_members h = (_, refl)
+  members_have_trees n (member k d ms) h =
+      let t = has_tree n d h.1 in
+      let ts = members_have_trees n ms h.2 in
+      (field k t.0 ts.0, both_some (field k) t.0 ts.0 (whole_tree d) (whole_members ms) t.1 ts.1)
+
+test_le : (m k : ℕ) → m ≤ k → nat_le m k ≡ true
+test_le m k h = grind (arith, nat_tests)
+
+pub is_tree : (n : ℕ) (d : Data) → n ≤ 100 → IsSound n d → (t : Node) × (tree_in d ≡ Ok t)
+is_tree n d few h =
+    let t = has_tree n d h in
+    let fits : nat_le (depth d) 100 ≡ true = test_le (depth d) 100 (omega (arith, shallow n d h)) in
+    (t.0, rw (fits, t.1) refl)
+
+pub no_tree_fault : {P : Type 0} (n : ℕ) (d : Data) (e : TreeFault) → n ≤ 100 → IsSound n d → tree_in d ≡ Err e → P
+no_tree_fault n d e few h is = let t = is_tree n d few h in let clash : Ok t.0 ≡ Err e = sym t.1 ∙ is in absurd cc
+
+-- ---- rules
+
+pub rules_none : (i : ℕ) (response : Data) (t : Table) → None ≡ given (codes "matchingRules") response → t ≡ no_rules → RulesRead i response (Ok t)
+unfolding RulesRead
+rules_none i response t none is = (Ok t, subst (λ o. TableRead o (Ok t)) none (ap Ok is), refl)
+
+pub no_rules_of : (response : Data) (t : Table) → None ≡ given (codes "matchingRules") response → t ≡ no_rules → IsRulesOf response t
+unfolding IsRulesOf
+no_rules_of response t none is = subst (λ o. TableRead o (Ok t)) none (ap Ok is)
+
+pub rules_some : (i : ℕ) (response d : Data) (n : Node) (r : Result Table RuleFault) → Some d ≡ given (codes "matchingRules") response → whole_tree d ≡ Some n → IsReading n r → RulesRead i response (rules_told i r)
+unfolding RulesRead
+rules_some i response d n r some is h = (r, subst (λ o. TableRead o r) some (n, is, h), refl)
+
+pub rules_of : (response d : Data) (n : Node) (t : Table) → Some d ≡ given (codes "matchingRules") response → whole_tree d ≡ Some n → IsReading n (Ok t) → IsRulesOf response t
+unfolding IsRulesOf
+rules_of response d n t some is h = subst (λ o. TableRead o (Ok t)) some (n, is, h)
+
+pub told_apart : (i : ℕ) (fault : RuleFault) → ¬ (rule_told i fault ≡ Memory) → (¬ (fault ≡ rule_fault.Memory)) × (rule_told i fault ≡ Rules i fault)
+told_apart i rule_fault.Form h = ((λ e. absurd cc), refl)
+told_apart i rule_fault.OldRules h = ((λ e. absurd cc), refl)
+told_apart i rule_fault.BadPath h = ((λ e. absurd cc), refl)
+told_apart i rule_fault.SamePathTwice h = ((λ e. absurd cc), refl)
+told_apart i (rule_fault.Unsupported name) h = ((λ e. absurd cc), refl)
+told_apart i rule_fault.BadBound h = ((λ e. absurd cc), refl)
+told_apart i rule_fault.Pattern h = ((λ e. absurd cc), refl)
+told_apart i rule_fault.BadCombine h = ((λ e. absurd cc), refl)
+told_apart i rule_fault.Memory h = absurd (h refl)
+
+-- ---- steps
+
+pub follows_ok : {A B : Type 0} (r : Result A PactFault) (next : A → Result B PactFault → Type 0) (y : B) → Follows r next (Ok y) → (x : A) × (r ≡ Ok x) × next x (Ok y)
+follows_ok (Ok x) next y h = (x, refl, h)
+follows_ok (Err e) next y h = absurd cc
+
+pub read_ok : {A B : Type 0} (first : Result A PactFault → Type 0) (next : A → Result B PactFault → Type 0) (y : B) → (first >>= next) (Ok y) → (x : A) × first (Ok x) × next x (Ok y)
+read_ok first next y h = let f = follows_ok h.0 next y h.2 in (f.0, subst first f.1 h.1, f.2)
+
+-- ---- what is read is sound
+
+pub parts_sound : (i : ℕ) (d : Data) (x : Interaction) → IsSound 98 d → parts_at i d ≡ Ok x → IsSound 98 (interaction_data x)
+unfolding parts_at
+parts_sound i d x h e =
+    let a = bind_ok (guard (is_some (as_object d)) (at i Whole)) _ x e in
+    let b = bind_ok (ok_or (text_at (codes "description") d) (at i Description)) _ x a.2 in
+    let s = bind_ok (ok_or (states_in d) (at i States)) _ x b.2 in
+    let q = bind_ok (ok_or (object_at (codes "request") d) (at i Request)) _ x s.2 in
+    let r = bind_ok (ok_or (object_at (codes "response") d) (at i Response)) _ x q.2 in
+    let n = bind_ok (ok_or (status_in r.0) (at i Status)) _ x r.2 in
+    let y : Interaction = record { description = b.0; states = s.0; request = q.0; response = r.0 } in
+    let same : y ≡ x = ok_same _ _ n.2 in
+    subst (λ (z : Interaction). IsSound 98 (interaction_data z)) same
+    (of_parts 95 y (of_text_at 97 (codes "description") d b.0 h (found_ok _ _ b.0 b.1)) (of_states 95 d s.0 h (found_ok _ _ s.0 s.1))
+    (of_object_at 97 (codes "request") d q.0 h (found_ok _ _ q.0 q.1)) (of_object_at 97 (codes "response") d r.0 h (found_ok _ _ r.0 r.1)))
+
+pub interaction_sound : (i : ℕ) (d : Data) (x : Interaction) → IsSound 98 d → InteractionRead i d (Ok x) → IsSound 98 (interaction_data x)
+unfolding InteractionRead
+interaction_sound i d x h r =
+    let parts = read_ok (just (parts_at i d)) _ x r in
+    let headers = read_ok (HeadersRead i parts.0.response) _ x parts.2 in
+    let rules = read_ok (RulesRead i parts.0.response) _ x headers.2 in
+    parts_sound i d x h (parts.1 ∙ rules.2)
+
+-- each of them is sound
+abbrev pub AllSound : List Data → Type 0
+AllSound [] = ⊤
+AllSound (d ∷ ds) = IsSound 98 d × AllSound ds
+
+pub listed_sound : (ds : Items) → AreSound 98 ds → AllSound (listed ds)
+listed_sound no_items h = tt
+listed_sound (item d ds) h = (h.0, listed_sound ds h.1)
+
+first_sound : (x z : Interaction) (xs : List Interaction) → IsSound 98 (interaction_data x) → ((w : Interaction) → IsIn w xs → IsSound 98 (interaction_data w)) → IsIn z (x ∷ xs) → IsSound 98 (interaction_data z)
+first_sound x z xs h k (inl same) = subst (λ w. IsSound 98 (interaction_data w)) (sym same) h
+first_sound x z xs h k (inr m) = k z m
+
+pub each_sound : (i : ℕ) (ds : List Data) (xs : List Interaction) → AllSound ds → EachRead InteractionRead i ds (Ok xs) → (z : Interaction) → IsIn z xs → IsSound 98 (interaction_data z)
+unfolding EachRead
+each_sound i [] xs h e z m = absurd (subst (IsIn z) (sym (ok_same _ _ e)) m)
+each_sound i (d ∷ ds) xs h e z m =
+    let first = read_ok (InteractionRead i d) _ xs e in
+    let others = read_ok (EachRead InteractionRead (i + 1) ds) _ xs first.2 in
+    let same : first.0 ∷ others.0 ≡ xs = ok_same _ _ others.2 in
+    first_sound first.0 z others.0 (interaction_sound i d first.0 h.0 first.1) (λ w k. each_sound (i + 1) ds others.0 h.1 others.1 w k) (subst (IsIn z) (sym same) m)
+
+-- ---- the file
+
+json_case : (t : Bool) (o : Option Data) (d : Data) → cond t (ok_or o NotJson) (Err NotJson) ≡ Ok d → (t ≡ true) × (o ≡ Some d)
+json_case true o d h = (refl, found_ok o NotJson d h)
+json_case false o d h = absurd cc
+
+told_ok : {A : Type 0} (r : Result A TreeFault) (x : ⊤) → tree_told r ≡ Ok x → (a : A) × (r ≡ Ok a)
+told_ok (Ok a) x h = (a, refl)
+told_ok (Err e) x h = absurd cc
+
+whole_case : (t : Bool) (o : Option Node) (n : Node) → cond t (whole_or o) (Err TooDeep) ≡ Ok n → (t ≡ true) × (o ≡ Some n)
+whole_case true None n h = absurd cc
+whole_case true (Some m) n h = (refl, ap Some (ok_same _ _ h))
+whole_case false o n h = absurd cc
+
+le_of : (m k : ℕ) → nat_le m k ≡ true → m ≤ k
+le_of m k h = grind (arith, nat_tests)
+
+number_whole : (m : Num) (t : Node) → whole_number m ≡ Some t → has_float (number m) ≡ false
+number_whole (unsigned m) t h = refl
+number_whole (negative z) t h = refl
+number_whole (float x) t h = absurd cc
+
+two_some : {A B C : Type 0} (f : A → B → C) (o : Option A) (p : Option B) (c : C) → option_and_then (λ x. option_map (f x) p) o ≡ Some c → (a : A) × (b : B) × (o ≡ Some a) × (p ≡ Some b)
+two_some f None p c h = absurd cc
+two_some f (Some a) None c h = absurd cc
+two_some f (Some a) (Some b) c h = (a, b, refl, refl)
+
+one_some : {A B : Type 0} (f : A → B) (o : Option A) (b : B) → option_map f o ≡ Some b → (a : A) × (o ≡ Some a)
+one_some f None b h = absurd cc
+one_some f (Some a) b h = (a, refl)
+
+mutual
+  no_float : (d : Data) (t : Node) → whole_tree d ≡ Some t → has_float d ≡ false
+  no_float null t h = refl
+  no_float (boolean b) t h = refl
+  no_float (number m) t h = number_whole m t h
+  no_float (string s) t h = refl
+  no_float (array ds) t h = let p = one_some list (whole_items ds) t h in no_floats ds p.0 p.1
+  no_float (object ms) t h = let p = one_some tree_object (whole_members ms) t h in no_float_members ms p.0 p.1
+
+  no_floats : (ds : Items) (ts : Nodes) → whole_items ds ≡ Some ts → items_have_float ds ≡ false
+  no_floats no_items ts h = refl
+  no_floats (item d ds) ts h = let p = two_some node (whole_tree d) (whole_items ds) ts h in rw (no_float d p.0 p.2) (no_floats ds p.1 p.3)
+
+  no_float_members : (ms : Members) (fs : Fields) → whole_members ms ≡ Some fs → members_have_float ms ≡ false
+  no_float_members no_members fs h = refl
+  no_float_members (member k d ms) fs h = let p = two_some (field k) (whole_tree d) (whole_members ms) fs h in rw (no_float d p.0 p.2) (no_float_members ms p.1 p.3)
+
+-- a value that is read of UTF-8 and that is a tree
+pub read_sound : (bytes : List ℕ) (d : Data) (t : Node) → IsUtf8 bytes → read bytes ≡ Some d → tree_in d ≡ Ok t → IsSound 100 d
+read_sound bytes d t utf8 is tree =
+    let parts = whole_case (nat_le (depth d) 100) (whole_tree d) t tree in
+    sound 100 d (read_kept bytes d utf8 is) (no_float d t parts.1) (le_of (depth d) 100 parts.0)
+
+pub file_sound : (bytes : List ℕ) (d : Data) → file_of bytes ≡ Ok d → IsSound 100 d
+unfolding file_of json_of
+file_sound bytes d e =
+    let short = bind_ok (guard (nat_le (length bytes) most_bytes) TooLong) _ d e in
+    let json = bind_ok (json_of bytes) _ d short.2 in
+    let tree = bind_ok (tree_told (tree_in json.0)) _ d json.2 in
+    let is = bind_ok (guard (is_some (as_object json.0)) (Shape File)) _ d tree.2 in
+    let found_text = json_case (is_utf8 bytes) (read bytes) json.0 json.1 in
+    let found = told_ok (tree_in json.0) tree.0 tree.1 in
+    subst (IsSound 100) (ok_same _ _ is.2) (read_sound bytes json.0 found.0 (IsUtf8-from_is_utf8 bytes found_text.0) found_text.1 found.1)
+
+pub items_sound : (file : Data) (ds : List Data) → IsSound 100 file → items_at file ≡ Ok ds → AllSound ds
+unfolding items_at
+items_sound file ds h e =
+    let items = bind_ok (ok_or (option_and_then as_array (get (codes "interactions") file)) (Shape Interactions)) _ ds e in
+    let few = bind_ok (guard (nat_le (items_len items.0) most_interactions) TooMany) _ ds items.2 in
+    let found = then_some as_array (get (codes "interactions") file) items.0 (found_ok _ _ items.0 items.1) in
+    subst AllSound (ok_same _ _ few.2) (listed_sound items.0 (of_array 98 found.0 items.0 (of_get 99 (codes "interactions") file found.0 h found.1) found.2))
+
+-- of the values of a list
+pub value_sound : (n : ℕ) (vs : List Value) (i : ℕ) (v : Value) → i < length vs → v ≡ get_or vs i v → AreSound n (items_view vs) → IsSound n (view v)
+value_sound n [] i v lt is h = absurd (omega arith)
+value_sound n (x ∷ vs) zero v lt is h = subst (λ y. IsSound n (view y)) (sym is) h.0
+value_sound n (x ∷ vs) (suc i) v lt is h = value_sound n vs i v (omega arith) is h.1
+
+pub values_sound : (vs : List Value) → AllSound (map view vs) → AreSound 98 (items_view vs)
+values_sound [] h = tt
+values_sound (v ∷ vs) h = (h.0, values_sound vs h.1)
+
+-- what a function gives is one answer of a reading that has that answer
+pub from_gives : {X Y : Type 0} (view : X → Y) (r : Result X PactFault) (read : Result Y PactFault) (reads : Result Y PactFault → Type 0) → ((a : Result Y PactFault) → read ≡ a → reads a) → Gives Memory view r read → GivesOne view r reads
+from_gives view (Ok x) read reads f h = f (Ok (view x)) h
+from_gives view (Err e) read reads f h = λ memory. f (Err e) (h memory)
+
+known_sound : (xs : List Interaction) → ((z : Interaction) → IsIn z xs → IsSound 98 (interaction_data z)) → AreSound 98 (items_of (map interaction_data xs))
+known_sound [] h = tt
+known_sound (x ∷ xs) h = (h x (inl refl), known_sound xs (λ z m. h z (inr m)))
+
+pub interactions_sound : (file : Data) (xs : List Interaction) → IsSound 100 file → InteractionsRead file (Ok xs) → AreSound 98 (items_of (map interaction_data xs))
+unfolding InteractionsRead
+interactions_sound file xs h r =
+    let items = read_ok (just (items_at file)) _ xs r in
+    let found = read_ok (EachRead InteractionRead 0 items.0) _ xs items.2 in
+    let each = each_sound 0 items.0 found.0 (items_sound file items.0 h items.1) found.1 in
+    known_sound xs (λ z m. each z (found.2.1.known z m))
+
+pub interactions_whole : (file : Data) (xs : List Interaction) → IsSound 100 file → InteractionsRead file (Ok xs) → items_have_float (items_of (map interaction_data xs)) ≡ false
+interactions_whole file xs h r = is_whole 99 (array (items_of (map interaction_data xs))) (interactions_sound file xs h r)
+
+-- ---- the length of the normal text
+
+test_gt : (m k : ℕ) → k < m → nat_le m k ≡ false
+test_gt m k h = grind (arith, nat_tests)
+
+pub too_long : (p : Pact) (s : List ℕ) → s ≡ normal_text p → 1048576 < length s → if_short p ≡ Err TooLong
+too_long p s is h = let long : nat_le (length (normal_text p)) most_bytes ≡ false = ap (λ t. nat_le (length t) most_bytes) (sym is) ∙ test_gt (length s) most_bytes h in rw long refl
+
+pub short_enough : (p : Pact) (s : List ℕ) → s ≡ normal_text p → length s ≤ 1048576 → if_short p ≡ Ok p
+short_enough p s is h = let short : nat_le (length (normal_text p)) most_bytes ≡ true = ap (λ t. nat_le (length t) most_bytes) (sym is) ∙ test_le (length s) most_bytes h in rw short refl
+
+-- a pact of equal parts
+pub made : {c d q r : List ℕ} (xs : List Interaction) → c ≡ d → q ≡ r → ◌≡◌ {A = Pact} (record { consumer = c; provider = q; interactions = xs }) (record { consumer = d; provider = r; interactions = xs })
+made xs e f = λ i. record { consumer = e i; provider = f i; interactions = xs }

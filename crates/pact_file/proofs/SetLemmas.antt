@@ -1,0 +1,292 @@
+-- Placing one after another makes the set in order, and there is one such set.
+use Rattle.std.proofs.Common.{◌≡◌, ◌⊎◌, inl, inr, List, [], ◌∷◌, Bool, true, false, cond, Ordering, Less, Equal, Greater, Option, Some, None, option_map, option_and_then, refl, sym, ap, ap₂, ◌∙◌, subst}
+use Rattle.std.specs.List.{AllByRecursion}
+use Rattle.std.specs.Ordering.{match_ordering, ordering_reverse}
+use Rattle.std.specs.Cmp.{IsTotalOrder}
+use Rattle.std.proofs.lemmas.Option.{same_Some}
+use Rattle.pact_file.specs.Placing.{placed, placed_all}
+use Rattle.pact_file.specs.Sets.{OneOf, IsIn, IsRising, IsSetInOrder, HasClash}
+
+-- ---- one of them
+
+pub one_such : {A : Type 0} (P : A → Type 0) (xs : List A) → OneOf P xs → (z : A) × IsIn z xs × P z
+one_such P [] h = absurd h
+one_such P (x ∷ xs) (inl p) = (x, inl refl, p)
+one_such P (x ∷ xs) (inr h) = let r = one_such P xs h in (r.0, inr r.1, r.2)
+
+pub is_such : {A : Type 0} (P : A → Type 0) (xs : List A) (z : A) → IsIn z xs → P z → OneOf P xs
+is_such P [] z h p = absurd h
+is_such P (x ∷ xs) z (inl same) p = inl (subst P same p)
+is_such P (x ∷ xs) z (inr h) p = inr (is_such P xs z h p)
+
+pub each_such : {A : Type 0} (P : A → Type 0) (xs : List A) (z : A) → AllByRecursion P xs → IsIn z xs → P z
+each_such P [] z a h = absurd h
+each_such P (x ∷ xs) z a (inl same) = subst P (sym same) a.0
+each_such P (x ∷ xs) z a (inr h) = each_such P xs z a.1 h
+
+module _ {A : Type 0} (cmp : A → A → Ordering) (total : IsTotalOrder cmp) where
+  abbrev Below : A → List A → Type 0
+  Below x ys = AllByRecursion (λ y. cmp x y ≡ Less) ys
+
+  lower : (w x : A) (ys : List A) → cmp w x ≡ Less → Below x ys → Below w ys
+  lower w x [] h b = tt
+  lower w x (y ∷ ys) h b = (total.trans w x y h b.0, lower w x ys h b.1)
+
+  turned : (x y : A) (o : Ordering) → cmp x y ≡ o → cmp y x ≡ ordering_reverse o
+  turned x y o h = total.antisymm y x ∙ ap ordering_reverse h
+
+  not_less : (x : A) → ¬ (cmp x x ≡ Less)
+  not_less x h = let g : cmp x x ≡ Greater = turned x x Less h in let e : Less ≡ Greater = sym h ∙ g in cc
+
+  not_both : (x y : A) → cmp x y ≡ Less → ¬ (cmp y x ≡ Less)
+  not_both x y h k = let g : cmp y x ≡ Greater = turned x y Less h in let e : Less ≡ Greater = sym k ∙ g in cc
+
+  -- ---- one set
+
+  same_first : (x y : A) (xs ys : List A) → Below x xs → Below y ys → IsIn x (y ∷ ys) → IsIn y (x ∷ xs) → x ≡ y
+  same_first x y xs ys a b (inl same) k = same
+  same_first x y xs ys a b (inr h) (inl same) = sym same
+  same_first x y xs ys a b (inr h) (inr k) = absurd (not_both x y (each_such (λ z. cmp x z ≡ Less) xs y a k) (each_such (λ z. cmp y z ≡ Less) ys x b h))
+
+  others : (x y z : A) (xs ys : List A) → x ≡ y → Below x xs → IsIn z xs → IsIn z (y ∷ ys) → IsIn z ys
+  others x y z xs ys same a h (inr k) = k
+  others x y z xs ys same a h (inl is) =
+      absurd (not_less x (subst (λ w. cmp x w ≡ Less) (is ∙ sym same) (each_such (λ w. cmp x w ≡ Less) xs z a h)))
+
+  pub one_set : (xs ys : List A) → IsRising cmp xs → IsRising cmp ys → ((z : A) → IsIn z xs → IsIn z ys) → ((z : A) → IsIn z ys → IsIn z xs) → xs ≡ ys
+  one_set [] [] r s f g = refl
+  one_set [] (y ∷ ys) r s f g = absurd (g y (inl refl))
+  one_set (x ∷ xs) [] r s f g = absurd (f x (inl refl))
+  one_set (x ∷ xs) (y ∷ ys) r s f g =
+      let same : x ≡ y = same_first x y xs ys r.0 s.0 (f x (inl refl)) (g y (inl refl)) in
+      ap₂ (λ z zs. z ∷ zs) same
+      (one_set xs ys r.1 s.1 (λ z h. others x y z xs ys same r.0 h (f z (inr h))) (λ z h. others y x z ys xs (sym same) s.0 h (g z (inr h))))
+
+  pub one_ordered_set : (found xs ys : List A) → IsSetInOrder cmp found xs → IsSetInOrder cmp found ys → xs ≡ ys
+  one_ordered_set found xs ys a b = one_set xs ys a.rising b.rising (λ z h. b.kept z (a.known z h)) (λ z h. a.kept z (b.known z h))
+
+  -- ---- placing
+
+  module _ (same : A → A → Bool) (Differ : A → A → Type 0) (Good : A → Type 0)
+      (alike : (x y : A) → Good x → Good y → same x y ≡ true → (x ≡ y) × ¬ (Differ y x)) (unlike : (x y : A) → same x y ≡ false → Differ y x) where
+    -- the new list has x beside those of the list, in order
+    record IsPlaced (x : A) (list new : List A) : Type 0 where
+      rising : IsRising cmp new
+      fresh : IsIn x new
+      old : (z : A) → IsIn z list → IsIn z new
+      known : (z : A) → IsIn z new → (z ≡ x) ⊎ IsIn z list
+      apart : (z : A) → IsIn z list → cmp z x ≡ Equal → ¬ (Differ z x)
+
+    less_apart : (x z : A) → cmp x z ≡ Less → ¬ (cmp z x ≡ Equal)
+    less_apart x z h k = let g : cmp z x ≡ Greater = turned x z Less h in let e : Equal ≡ Greater = sym k ∙ g in cc
+
+    greater_apart : (x z : A) → cmp x z ≡ Greater → ¬ (cmp z x ≡ Equal)
+    greater_apart x z h k = let g : cmp z x ≡ Less = turned x z Greater h in let e : Equal ≡ Less = sym k ∙ g in cc
+
+    known_here : (x z : A) (ys : List A) → IsIn z (x ∷ ys) → (z ≡ x) ⊎ IsIn z ys
+    known_here x z ys (inl same) = inl same
+    known_here x z ys (inr h) = inr h
+
+    here : (x y : A) (ys : List A) → cmp x y ≡ Less → IsRising cmp (y ∷ ys) → IsPlaced x (y ∷ ys) (x ∷ y ∷ ys)
+    here x y ys h r = record {
+      rising = ((h, lower x y ys h r.0), r);
+      fresh = inl refl;
+      old = λ z k. inr k;
+      known = λ z k. known_here x z (y ∷ ys) k;
+      apart = λ z k e. absurd (less_apart x z (each_such (λ w. cmp x w ≡ Less) (y ∷ ys) z (h, lower x y ys h r.0) k) e);
+    }
+
+    there_apart : (x y : A) (ys : List A) → x ≡ y → ¬ (Differ y x) → Below y ys → (z : A) → IsIn z (y ∷ ys) → cmp z x ≡ Equal → ¬ (Differ z x)
+    there_apart x y ys is alone b z (inl first) e d = alone (subst (λ w. Differ w x) first d)
+    there_apart x y ys is alone b z (inr k) e d = less_apart x z (subst (λ w. cmp w z ≡ Less) (sym is) (each_such (λ w. cmp y w ≡ Less) ys z b k)) e
+
+    there : (x y : A) (ys : List A) → x ≡ y → ¬ (Differ y x) → IsRising cmp (y ∷ ys) → IsPlaced x (y ∷ ys) (y ∷ ys)
+    there x y ys is alone r = record {
+      rising = r;
+      fresh = inl is;
+      old = λ z k. k;
+      known = λ z k. inr k;
+      apart = there_apart x y ys is alone r.0;
+    }
+
+    past_below : (x y : A) (ys more : List A) → cmp y x ≡ Less → Below y ys → ((z : A) → IsIn z more → (z ≡ x) ⊎ IsIn z ys) → Below y more
+    past_below x y ys more h b known = all_below more known where
+      step_below : (z : A) → (z ≡ x) ⊎ IsIn z ys → cmp y z ≡ Less
+      step_below z (inl same) = subst (λ w. cmp y w ≡ Less) (sym same) h
+      step_below z (inr k) = each_such (λ w. cmp y w ≡ Less) ys z b k
+
+      all_below : (zs : List A) → ((z : A) → IsIn z zs → (z ≡ x) ⊎ IsIn z ys) → Below y zs
+      all_below [] f = tt
+      all_below (z ∷ zs) f = (step_below z (f z (inl refl)), all_below zs (λ w k. f w (inr k)))
+
+    past_old : (y : A) (ys more : List A) → ((z : A) → IsIn z ys → IsIn z more) → (z : A) → IsIn z (y ∷ ys) → IsIn z (y ∷ more)
+    past_old y ys more f z (inl same) = inl same
+    past_old y ys more f z (inr k) = inr (f z k)
+
+    shift : (x y z : A) (ys : List A) → (z ≡ x) ⊎ IsIn z ys → (z ≡ x) ⊎ IsIn z (y ∷ ys)
+    shift x y z ys (inl same) = inl same
+    shift x y z ys (inr k) = inr (inr k)
+
+    past_known : (x y : A) (ys more : List A) → ((z : A) → IsIn z more → (z ≡ x) ⊎ IsIn z ys) → (z : A) → IsIn z (y ∷ more) → (z ≡ x) ⊎ IsIn z (y ∷ ys)
+    past_known x y ys more f z (inl same) = inr (inl same)
+    past_known x y ys more f z (inr k) = shift x y z ys (f z k)
+
+    past_apart : (x y : A) (ys : List A) → cmp x y ≡ Greater → ((z : A) → IsIn z ys → cmp z x ≡ Equal → ¬ (Differ z x)) → (z : A) → IsIn z (y ∷ ys) → cmp z x ≡ Equal → ¬ (Differ z x)
+    past_apart x y ys h f z (inl same) e d = greater_apart x y h (subst (λ w. cmp w x ≡ Equal) same e)
+    past_apart x y ys h f z (inr k) e d = f z k e d
+
+    past : (x y : A) (ys more : List A) → cmp x y ≡ Greater → IsRising cmp (y ∷ ys) → IsPlaced x ys more → IsPlaced x (y ∷ ys) (y ∷ more)
+    past x y ys more h r p = record {
+      rising = (past_below x y ys more (turned x y Greater h) r.0 p.known, p.rising);
+      fresh = inr p.fresh;
+      old = past_old y ys more p.old;
+      known = past_known x y ys more p.known;
+      apart = past_apart x y ys h p.apart;
+    }
+
+    some_map : (y : A) (o : Option (List A)) (new : List A) → option_map (λ more. y ∷ more) o ≡ Some new → (more : List A) × (o ≡ Some more) × (y ∷ more ≡ new)
+    some_map y None new e = absurd cc
+    some_map y (Some more) new e = (more, refl, same_Some _ _ e)
+
+    placed_case : (o : Ordering) (b : Bool) (x y : A) (ys new : List A) → cmp x y ≡ o → same x y ≡ b → Good x → Good y → IsRising cmp (y ∷ ys)
+        → ((more : List A) → placed cmp same x ys ≡ Some more → IsPlaced x ys more)
+        → match_ordering o (Some (x ∷ y ∷ ys)) (cond b (Some (y ∷ ys)) None) (option_map (λ more. y ∷ more) (placed cmp same x ys)) ≡ Some new → IsPlaced x (y ∷ ys) new
+    placed_case Less b x y ys new is eq g h r k e = subst (IsPlaced x (y ∷ ys)) (same_Some _ _ e) (here x y ys is r)
+    placed_case Equal true x y ys new is eq g h r k e = let a = alike x y g h eq in subst (IsPlaced x (y ∷ ys)) (same_Some _ _ e) (there x y ys a.0 a.1 r)
+    placed_case Equal false x y ys new is eq g h r k e = absurd cc
+    placed_case Greater b x y ys new is eq g h r k e =
+        let m = some_map y (placed cmp same x ys) new e in
+        subst (IsPlaced x (y ∷ ys)) m.2 (past x y ys m.0 is r (k m.0 m.1))
+
+    alone_known : (x z : A) → IsIn z (x ∷ []) → (z ≡ x) ⊎ IsIn z []
+    alone_known x z (inl same) = inl same
+    alone_known x z (inr k) = inr k
+
+    is_placed : (x : A) (list new : List A) → Good x → ((z : A) → IsIn z list → Good z) → IsRising cmp list → placed cmp same x list ≡ Some new → IsPlaced x list new
+    unfolding placed
+    is_placed x [] new g h r e =
+        subst (IsPlaced x []) (same_Some _ _ e) (record { rising = (tt, tt); fresh = inl refl; old = λ z k. absurd k; known = λ z k. alone_known x z k; apart = λ z k. absurd k })
+    is_placed x (y ∷ ys) new g h r e =
+        placed_case (cmp x y) (same x y) x y ys new refl refl g (h y (inl refl)) r (λ more k. is_placed x ys more g (λ z m. h z (inr m)) r.1 k) e
+
+    abbrev Clashes : A → A → Type 0
+    Clashes y x = (cmp y x ≡ Equal) × Differ y x
+
+    refused_case : (o : Ordering) (b : Bool) (x y : A) (ys : List A) → cmp x y ≡ o → same x y ≡ b → (placed cmp same x ys ≡ None → OneOf (λ z. Clashes z x) ys)
+        → match_ordering o (Some (x ∷ y ∷ ys)) (cond b (Some (y ∷ ys)) None) (option_map (λ more. y ∷ more) (placed cmp same x ys)) ≡ None → OneOf (λ z. Clashes z x) (y ∷ ys)
+    refused_case Less b x y ys is eq k e = absurd cc
+    refused_case Equal true x y ys is eq k e = absurd cc
+    refused_case Equal false x y ys is eq k e = inl (turned x y Equal is, unlike x y eq)
+    refused_case Greater b x y ys is eq k e = inr (k (none_map (placed cmp same x ys) e)) where
+      none_map : (o : Option (List A)) → option_map (λ more. y ∷ more) o ≡ None → o ≡ None
+      none_map None h = refl
+      none_map (Some more) h = absurd cc
+
+    is_refused : (x : A) (list : List A) → placed cmp same x list ≡ None → OneOf (λ z. Clashes z x) list
+    unfolding placed
+    is_refused x [] e = absurd cc
+    is_refused x (y ∷ ys) e = refused_case (cmp x y) (same x y) x y ys refl refl (λ k. is_refused x ys k) e
+
+    -- ---- one after another
+
+    record AreAllPlaced (list xs new : List A) : Type 0 where
+      rising : IsRising cmp new
+      old : (z : A) → IsIn z list → IsIn z new
+      added : (z : A) → IsIn z xs → IsIn z new
+      known : (z : A) → IsIn z new → IsIn z list ⊎ IsIn z xs
+      apart : ¬ HasClash cmp Differ xs
+      between : (y z : A) → IsIn y list → IsIn z xs → cmp y z ≡ Equal → ¬ (Differ y z)
+
+    some_then : (o : Option (List A)) (f : List A → Option (List A)) (new : List A) → option_and_then f o ≡ Some new → (more : List A) × (o ≡ Some more) × (f more ≡ Some new)
+    some_then None f new e = absurd cc
+    some_then (Some more) f new e = (more, refl, e)
+
+    grow_added : (x : A) (xs new : List A) → IsIn x new → ((z : A) → IsIn z xs → IsIn z new) → (z : A) → IsIn z (x ∷ xs) → IsIn z new
+    grow_added x xs new h f z (inl same) = subst (λ w. IsIn w new) (sym same) h
+    grow_added x xs new h f z (inr k) = f z k
+
+    regroup : (x z : A) (list xs : List A) → (z ≡ x) ⊎ IsIn z list → IsIn z list ⊎ IsIn z (x ∷ xs)
+    regroup x z list xs (inl same) = inr (inl same)
+    regroup x z list xs (inr k) = inl k
+
+    grow_known : (x : A) (list xs more : List A) → ((z : A) → IsIn z more → (z ≡ x) ⊎ IsIn z list) → (z : A) → IsIn z more ⊎ IsIn z xs → IsIn z list ⊎ IsIn z (x ∷ xs)
+    grow_known x list xs more f z (inl k) = regroup x z list xs (f z k)
+    grow_known x list xs more f z (inr k) = inr (inr k)
+
+    grow_apart : (x : A) (xs more : List A) → IsIn x more → ((y z : A) → IsIn y more → IsIn z xs → cmp y z ≡ Equal → ¬ (Differ y z)) → ¬ HasClash cmp Differ xs → ¬ HasClash cmp Differ (x ∷ xs)
+    grow_apart x xs more h f k (inl one) = let r = one_such (λ y. Clashes x y) xs one in f x r.0 h r.1 r.2.0 r.2.1
+    grow_apart x xs more h f k (inr clash) = k clash
+
+    grow_between : (x : A) (list xs more : List A) → ((z : A) → IsIn z list → cmp z x ≡ Equal → ¬ (Differ z x)) → ((y z : A) → IsIn y list → IsIn z xs → cmp y z ≡ Equal → ¬ (Differ y z))
+        → (y z : A) → IsIn y list → IsIn z (x ∷ xs) → cmp y z ≡ Equal → ¬ (Differ y z)
+    grow_between x list xs more f g y z h (inl same) e d = f y h (subst (λ w. cmp y w ≡ Equal) same e) (subst (λ w. Differ y w) same d)
+    grow_between x list xs more f g y z h (inr k) e d = g y z h k e d
+
+    grown : (x : A) (list xs more new : List A) → IsPlaced x list more → AreAllPlaced more xs new → AreAllPlaced list (x ∷ xs) new
+    grown x list xs more new p a = record {
+      rising = a.rising;
+      old = λ z h. a.old z (p.old z h);
+      added = grow_added x xs new (a.old x p.fresh) a.added;
+      known = λ z h. grow_known x list xs more p.known z (a.known z h);
+      apart = grow_apart x xs more p.fresh a.between a.apart;
+      between = grow_between x list xs more p.apart (λ y z h. a.between y z (p.old y h));
+    }
+
+    still_good : (x : A) (list more : List A) → Good x → ((z : A) → IsIn z list → Good z) → ((z : A) → IsIn z more → (z ≡ x) ⊎ IsIn z list) → (z : A) → IsIn z more → Good z
+    still_good x list more g h f z k = by_case (f z k) where
+      by_case : (z ≡ x) ⊎ IsIn z list → Good z
+      by_case (inl same) = subst Good (sym same) g
+      by_case (inr m) = h z m
+
+    all_placed : (list xs new : List A) → ((z : A) → IsIn z list → Good z) → ((z : A) → IsIn z xs → Good z) → IsRising cmp list → placed_all cmp same list xs ≡ Some new → AreAllPlaced list xs new
+    unfolding placed_all
+    all_placed list [] new g h r e =
+        subst (AreAllPlaced list []) (same_Some _ _ e)
+        (record { rising = r; old = λ z k. k; added = λ z k. absurd k; known = λ z k. inl k; apart = λ k. k; between = λ y z k m. absurd m })
+    all_placed list (x ∷ xs) new g h r e =
+        let m = some_then (placed cmp same x list) (λ more. placed_all cmp same more xs) new e in
+        let p = is_placed x list m.0 (h x (inl refl)) g r m.1 in
+        grown x list xs m.0 new p (all_placed m.0 xs new (still_good x list m.0 (h x (inl refl)) g p.known) (λ z k. h z (inr k)) p.rising m.2)
+
+    -- a clash in what is placed, or of one that is there with one of these
+    abbrev ClashesWith : List A → List A → Type 0
+    ClashesWith list xs = HasClash cmp Differ xs ⊎ ((y : A) × IsIn y list × OneOf (λ z. Clashes y z) xs)
+
+    clash_more : (x : A) (list xs more : List A) → ((z : A) → IsIn z more → (z ≡ x) ⊎ IsIn z list) → ClashesWith more xs → ClashesWith list (x ∷ xs)
+    clash_more x list xs more f (inl clash) = inl (inr clash)
+    clash_more x list xs more f (inr one) = by_case (f one.0 one.1) where
+      by_case : (one.0 ≡ x) ⊎ IsIn one.0 list → ClashesWith list (x ∷ xs)
+      by_case (inl same) = inl (inl (subst (λ w. OneOf (λ z. Clashes w z) xs) same one.2))
+      by_case (inr k) = inr (one.0, k, inr one.2)
+
+    clash_first : (x : A) (list xs : List A) → OneOf (λ z. Clashes z x) list → ClashesWith list (x ∷ xs)
+    clash_first x list xs one = let r = one_such (λ z. Clashes z x) list one in inr (r.0, r.1, inl r.2)
+
+    all_refused : (list xs : List A) → ((z : A) → IsIn z list → Good z) → ((z : A) → IsIn z xs → Good z) → IsRising cmp list → placed_all cmp same list xs ≡ None → ClashesWith list xs
+    unfolding placed_all
+    all_refused list [] g h r e = absurd cc
+    all_refused list (x ∷ xs) g h r e = by_case (λ more good rising k. all_refused more xs good (λ z m. h z (inr m)) rising k) (placed cmp same x list) refl e where
+      by_case : ((more : List A) → ((z : A) → IsIn z more → Good z) → IsRising cmp more → placed_all cmp same more xs ≡ None → ClashesWith more xs)
+          → (o : Option (List A)) → placed cmp same x list ≡ o → option_and_then (λ more. placed_all cmp same more xs) o ≡ None → ClashesWith list (x ∷ xs)
+      by_case again None is k = clash_first x list xs (is_refused x list is)
+      by_case again (Some more) is k =
+          let p = is_placed x list more (h x (inl refl)) g r is in
+          clash_more x list xs more p.known (again more (still_good x list more (h x (inl refl)) g p.known) p.rising k)
+
+    -- ---- from nothing
+
+    known_found : (z : A) (xs : List A) → IsIn z [] ⊎ IsIn z xs → IsIn z xs
+    known_found z xs (inl h) = absurd h
+    known_found z xs (inr h) = h
+
+    pub set_of : (found list : List A) → ((z : A) → IsIn z found → Good z) → placed_all cmp same [] found ≡ Some list → (¬ HasClash cmp Differ found) × IsSetInOrder cmp found list
+    set_of found list h e =
+        let p = all_placed [] found list (λ z k. absurd k) h tt e in
+        (p.apart, record { rising = p.rising; kept = p.added; known = λ z k. known_found z found (p.known z k) })
+
+    clash_found : (xs : List A) → ClashesWith [] xs → HasClash cmp Differ xs
+    clash_found xs (inl clash) = clash
+    clash_found xs (inr one) = absurd one.1
+
+    pub clash_of : (found : List A) → ((z : A) → IsIn z found → Good z) → placed_all cmp same [] found ≡ None → HasClash cmp Differ found
+    clash_of found h e = clash_found found (all_refused [] found (λ z k. absurd k) h tt e)

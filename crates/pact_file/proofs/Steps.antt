@@ -1,0 +1,32 @@
+-- What a read that succeeds went through.
+use Rattle.std.proofs.Common.{◌≡◌, Bool, true, false, Option, Some, None, option_map, option_and_then, Result, Ok, Err, refl}
+use Rattle.std.specs.Option.{ok_or}
+use Rattle.std.proofs.lemmas.Option.{same_Some}
+use Rattle.pact_file.specs.Outcome.{◌>>=◌, guard}
+
+pub bind_ok : {A B F : Type 0} (r : Result A F) (f : A → Result B F) (y : B) → (r >>= f) ≡ Ok y → (x : A) × (r ≡ Ok x) × (f x ≡ Ok y)
+bind_ok (Ok x) f y h = (x, refl, h)
+bind_ok (Err e) f y h = absurd cc
+
+pub found_ok : {A F : Type 0} (o : Option A) (fault : F) (x : A) → ok_or o fault ≡ Ok x → o ≡ Some x
+found_ok None fault x h = absurd cc
+found_ok (Some y) fault x h = cc
+
+pub lacks_err : {A F : Type 0} (o : Option A) (fault e : F) → ok_or o fault ≡ Err e → (o ≡ None) × (fault ≡ e)
+lacks_err None fault e h = (refl, cc)
+lacks_err (Some y) fault e h = absurd cc
+
+pub guard_ok : {F : Type 0} (b : Bool) (fault : F) (x : Unit {0}) → guard b fault ≡ Ok x → b ≡ true
+guard_ok true fault x h = refl
+guard_ok false fault x h = absurd cc
+
+pub ok_same : {A F : Type 0} (x y : A) (h : Path (Result A F) (Ok x) (Ok y)) → x ≡ y
+ok_same x y h = cc
+
+pub map_some : {A B : Type 0} (f : A → B) (o : Option A) (y : B) → option_map f o ≡ Some y → (x : A) × (o ≡ Some x) × (f x ≡ y)
+map_some f None y h = absurd cc
+map_some f (Some x) y h = (x, refl, same_Some _ _ h)
+
+pub then_some : {A B : Type 0} (f : A → Option B) (o : Option A) (y : B) → option_and_then f o ≡ Some y → (x : A) × (o ≡ Some x) × (f x ≡ Some y)
+then_some f None y h = absurd cc
+then_some f (Some x) y h = (x, refl, h)

@@ -1,0 +1,267 @@
+-- The strings among the tokens of a text that is UTF-8 are UTF-8, and so are those of the value that it is.
+use Rattle.std.proofs.Common.{◌≡◌, ℕ, zero, suc, ◌<◌, List, [], ◌∷◌, ◌++◌, length, Bool, true, false, cond, ◌==◌, Option, Some, None, option_and_then, refl, sym, subst, arith, append_assoc}
+use Rattle.std.proofs.lemmas.Bool.Decides.{nat_tests}
+use Rattle.std.specs.Prelude.{⊤}
+use Rattle.std.specs.Str.{IsUtf8}
+use Rattle.json.specs.Token.{Token, begin_object, end_object, begin_array, end_array, key, string, number, boolean, null, bad}
+use Rattle.json.specs.Word.{is_operator, is_space, word, number_before, ends_word, literal, after_number, head}
+use Rattle.json.specs.Text.{content, plain}
+use Rattle.json.specs.Lex.{Lexeme, token, comma, colon, Class, quote, backslash, operator, space, other, class, operator_lexeme, string_token, Mode, between, in_word, in_string, in_escape, lex_byte, lex, Place, fresh, after_value, after_comma, after_key, begins_colon, may_begin, may_close, if_allowed, place_token, punctuate, tokens}
+use Rattle.json.specs.Ascii as ascii
+use Rattle.json.specs.Json as json
+use Rattle.pact_file.proofs.Utf8Content.{behind_ascii, in_plain}
+
+abbrev pub TokenIsText : Token → Type 0
+TokenIsText begin_object = ⊤
+TokenIsText end_object = ⊤
+TokenIsText begin_array = ⊤
+TokenIsText end_array = ⊤
+TokenIsText (key s) = IsUtf8 s
+TokenIsText (string s) = IsUtf8 s
+TokenIsText (number s) = ⊤
+TokenIsText (boolean b) = ⊤
+TokenIsText null = ⊤
+TokenIsText bad = ⊤
+
+abbrev pub AreTexts : List Token → Type 0
+AreTexts [] = ⊤
+AreTexts (t ∷ ts) = TokenIsText t × AreTexts ts
+
+abbrev LexemeIsText : Lexeme → Type 0
+LexemeIsText (token t) = TokenIsText t
+LexemeIsText comma = ⊤
+LexemeIsText colon = ⊤
+
+abbrev LexemesAreTexts : List Lexeme → Type 0
+LexemesAreTexts [] = ⊤
+LexemesAreTexts (l ∷ ls) = LexemeIsText l × LexemesAreTexts ls
+
+-- ---- lexemes
+
+either_lexeme : (b : Bool) (l m : Lexeme) → LexemeIsText l → LexemeIsText m → LexemeIsText (cond b l m)
+either_lexeme true l m h k = h
+either_lexeme false l m h k = k
+
+either_token : (b : Bool) (t u : Token) → TokenIsText t → TokenIsText u → TokenIsText (cond b t u)
+either_token true t u h k = h
+either_token false t u h k = k
+
+operator_text : (x : ℕ) → LexemeIsText (operator_lexeme x)
+operator_text x =
+    either_lexeme (x == 123) (token begin_object) _ tt (either_lexeme (x == 125) (token end_object) _ tt (either_lexeme (x == 91) (token begin_array) _ tt
+    (either_lexeme (x == 93) (token end_array) _ tt (either_lexeme (x == 44) comma colon tt tt))))
+
+number_text : (t : List ℕ) (o : Option (List ℕ)) → TokenIsText (number_before t o)
+number_text t None = tt
+number_text t (Some rest) = either_token (ends_word rest) _ bad tt tt
+
+literal_text : (name : List ℕ) (t : Token) (s : List ℕ) → TokenIsText t → TokenIsText (literal name t s)
+literal_text name t s h = either_token _ t bad h tt
+
+word_text : (t : List ℕ) → TokenIsText (word t)
+unfolding word
+word_text t =
+    either_token (head t == 116) _ _ (literal_text ascii.true_text (boolean true) t tt) (either_token (head t == 102) _ _ (literal_text ascii.false_text (boolean false) t tt)
+    (either_token (head t == 110) _ _ (literal_text ascii.null_text null t tt) (number_text t (after_number t))))
+
+string_text : (o : Option (List ℕ)) → ((s : List ℕ) → o ≡ Some s → IsUtf8 s) → TokenIsText (string_token o)
+string_text None h = tt
+string_text (Some s) h = h s refl
+
+quote_is : (a b c d : Bool) → cond a quote (cond b backslash (cond c operator (cond d space other))) ≡ quote → a ≡ true
+quote_is true b c d e = refl
+quote_is false true c d e = absurd cc
+quote_is false false true d e = absurd cc
+quote_is false false false true e = absurd cc
+quote_is false false false false e = absurd cc
+
+quote_byte : (x : ℕ) → (x == 34) ≡ true → x < 128
+quote_byte x h = grind (arith, nat_tests)
+
+byte_text : (m : Mode) (c : Class) (front : List ℕ) (x : ℕ) (xs : List ℕ) → class x ≡ c → IsUtf8 (front ++ x ∷ xs) → (k : Mode → List Lexeme) → ((n : Mode) → LexemesAreTexts (k n))
+    → LexemesAreTexts (lex_byte m c x xs k)
+byte_text between quote front x xs e u k h =
+    (string_text (content plain xs) (λ s is. in_plain [] xs s (behind_ascii front x xs u (quote_byte x (quote_is (x == 34) (x == 92) (is_operator x) (is_space x) e))) is), h in_string)
+byte_text between backslash front x xs e u k h = (tt, h in_word)
+byte_text between operator front x xs e u k h = (operator_text x, h between)
+byte_text between space front x xs e u k h = h between
+byte_text between other front x xs e u k h = (word_text (x ∷ xs), h in_word)
+byte_text in_word quote front x xs e u k h = h in_word
+byte_text in_word backslash front x xs e u k h = h in_word
+byte_text in_word operator front x xs e u k h = (operator_text x, h between)
+byte_text in_word space front x xs e u k h = h between
+byte_text in_word other front x xs e u k h = h in_word
+byte_text in_string quote front x xs e u k h = h between
+byte_text in_string backslash front x xs e u k h = h in_escape
+byte_text in_string operator front x xs e u k h = h in_string
+byte_text in_string space front x xs e u k h = h in_string
+byte_text in_string other front x xs e u k h = h in_string
+byte_text in_escape c front x xs e u k h = h in_string
+
+lex_text : (m : Mode) (front xs : List ℕ) → IsUtf8 (front ++ xs) → LexemesAreTexts (lex m xs)
+unfolding lex
+lex_text m front [] u = tt
+lex_text m front (x ∷ xs) u =
+    byte_text m (class x) front x xs refl u (λ next. lex next xs) (λ n. lex_text n (front ++ x ∷ []) xs (subst IsUtf8 (sym (append_assoc front (x ∷ []) xs)) u))
+
+-- ---- tokens
+
+allowed_text : (b : Bool) (t : Token) (k : Place → List Token) (next : Place) → TokenIsText t → ((p : Place) → AreTexts (k p)) → AreTexts (if_allowed b t k next)
+allowed_text true t k next h f = (h, f next)
+allowed_text false t k next h f = (tt, tt)
+
+placed_text : (p : Place) (t : Token) (b : Bool) (k : Place → List Token) → TokenIsText t → ((q : Place) → AreTexts (k q)) → AreTexts (place_token p t b k)
+placed_text p begin_object b k h f = allowed_text (may_begin p) begin_object k fresh h f
+placed_text p end_object b k h f = allowed_text (may_close p) end_object k after_value h f
+placed_text p begin_array b k h f = allowed_text (may_begin p) begin_array k fresh h f
+placed_text p end_array b k h f = allowed_text (may_close p) end_array k after_value h f
+placed_text p (key s) b k h f = (tt, tt)
+placed_text p (string s) true k h f = allowed_text (may_begin p) (key s) k after_key h f
+placed_text p (string s) false k h f = allowed_text (may_begin p) (string s) k after_value h f
+placed_text p (number s) b k h f = allowed_text (may_begin p) (number s) k after_value h f
+placed_text p (boolean c) b k h f = allowed_text (may_begin p) (boolean c) k after_value h f
+placed_text p null b k h f = allowed_text (may_begin p) null k after_value h f
+placed_text p bad b k h f = (tt, tt)
+
+punctuated : (p : Place) (ls : List Lexeme) → LexemesAreTexts ls → AreTexts (punctuate p ls)
+unfolding punctuate
+punctuated fresh [] h = tt
+punctuated after_value [] h = tt
+punctuated after_comma [] h = (tt, tt)
+punctuated after_key [] h = (tt, tt)
+punctuated fresh (token t ∷ ls) h = placed_text fresh t (begins_colon ls) (λ next. punctuate next ls) h.0 (λ q. punctuated q ls h.1)
+punctuated after_value (token t ∷ ls) h = placed_text after_value t (begins_colon ls) (λ next. punctuate next ls) h.0 (λ q. punctuated q ls h.1)
+punctuated after_comma (token t ∷ ls) h = placed_text after_comma t (begins_colon ls) (λ next. punctuate next ls) h.0 (λ q. punctuated q ls h.1)
+punctuated after_key (token t ∷ ls) h = placed_text after_key t (begins_colon ls) (λ next. punctuate next ls) h.0 (λ q. punctuated q ls h.1)
+punctuated fresh (comma ∷ ls) h = (tt, tt)
+punctuated after_value (comma ∷ ls) h = punctuated after_comma ls h.1
+punctuated after_comma (comma ∷ ls) h = (tt, tt)
+punctuated after_key (comma ∷ ls) h = (tt, tt)
+punctuated fresh (colon ∷ ls) h = (tt, tt)
+punctuated after_value (colon ∷ ls) h = (tt, tt)
+punctuated after_comma (colon ∷ ls) h = (tt, tt)
+punctuated after_key (colon ∷ ls) h = punctuated fresh ls h.1
+
+tokens_text : (text : List ℕ) → IsUtf8 text → AreTexts (tokens text)
+tokens_text text u = punctuated fresh (lex between text) (lex_text between [] text u)
+
+-- ---- values
+
+abbrev mutual
+  pub HasTexts : json.Json → Type 0
+  HasTexts json.null = ⊤
+  HasTexts (json.boolean b) = ⊤
+  HasTexts (json.number s) = ⊤
+  HasTexts (json.string s) = IsUtf8 s
+  HasTexts (json.array js) = ItemsHaveTexts js
+  HasTexts (json.object ms) = MembersHaveTexts ms
+
+  pub ItemsHaveTexts : json.Items → Type 0
+  ItemsHaveTexts json.no_items = ⊤
+  ItemsHaveTexts (json.item j js) = HasTexts j × ItemsHaveTexts js
+
+  pub MembersHaveTexts : json.Members → Type 0
+  MembersHaveTexts json.no_members = ⊤
+  MembersHaveTexts (json.member k j ms) = IsUtf8 k × HasTexts j × MembersHaveTexts ms
+
+-- what is read, where something is, and what is left
+abbrev Read : {A : Type 0} → (A → Type 0) → Option (A × List Token) → Type 0
+Read P None = ⊤
+Read P (Some x) = P x.0 × AreTexts x.1
+
+abbrev Reads : {A : Type 0} → (A → Type 0) → json.Parse A → Type 0
+Reads P parse = (ts : List Token) → AreTexts ts → Read P (parse ts)
+
+mapped : {A B : Type 0} (P : A → Type 0) (Q : B → Type 0) (f : A → B) → ((a : A) → P a → Q (f a)) → (o : Option (A × List Token)) → Read P o → Read Q (json.parse_map f o)
+mapped P Q f g None h = tt
+mapped P Q f g (Some x) h = (g x.0 h.0, h.1)
+
+then : {A B : Type 0} (P : A → Type 0) (Q : B → Type 0) (f : A × List Token → Option (B × List Token)) → ((x : A × List Token) → P x.0 → AreTexts x.1 → Read Q (f x))
+    → (o : Option (A × List Token)) → Read P o → Read Q (option_and_then f o)
+then P Q f g None h = tt
+then P Q f g (Some x) h = g x h.0 h.1
+
+abbrev IfTexts : Option (List Token) → Type 0
+IfTexts None = ⊤
+IfTexts (Some ts) = AreTexts ts
+
+closed : (ts : List Token) → AreTexts ts → IfTexts (json.after_end_array ts)
+closed [] h = tt
+closed (begin_object ∷ ts) h = tt
+closed (end_object ∷ ts) h = tt
+closed (begin_array ∷ ts) h = tt
+closed (end_array ∷ ts) h = h.1
+closed (key s ∷ ts) h = tt
+closed (string s ∷ ts) h = tt
+closed (number s ∷ ts) h = tt
+closed (boolean b ∷ ts) h = tt
+closed (null ∷ ts) h = tt
+closed (bad ∷ ts) h = tt
+
+abbrev IfText : Option (List ℕ) → Type 0
+IfText None = ⊤
+IfText (Some s) = IsUtf8 s
+
+key_text : Reads IfText json.read_key
+key_text [] h = tt
+key_text (begin_object ∷ ts) h = tt
+key_text (end_object ∷ ts) h = (tt, h.1)
+key_text (begin_array ∷ ts) h = tt
+key_text (end_array ∷ ts) h = tt
+key_text (key s ∷ ts) h = (h.0, h.1)
+key_text (string s ∷ ts) h = tt
+key_text (number s ∷ ts) h = tt
+key_text (boolean b ∷ ts) h = tt
+key_text (null ∷ ts) h = tt
+key_text (bad ∷ ts) h = tt
+
+module _ (value : json.Parse json.Json) (reads : Reads HasTexts value) where
+  item_turn : (more : json.Parse json.Items) → Reads ItemsHaveTexts more → (ts : List Token) (o : Option (List Token)) → AreTexts ts → IfTexts o → Read ItemsHaveTexts (json.items_step value more ts o)
+  item_turn more h ts (Some rest) t r = (tt, r)
+  item_turn more h ts None t r =
+      then HasTexts ItemsHaveTexts _ (λ x j rest. mapped ItemsHaveTexts ItemsHaveTexts (json.item x.0) (λ js k. (j, k)) (more x.1) (h x.1 rest)) (value ts) (reads ts t)
+
+  items_read : (n : ℕ) → Reads ItemsHaveTexts (json.items value n)
+  unfolding json.items
+  items_read zero ts t = tt
+  items_read (suc n) ts t = item_turn (json.items value n) (items_read n) ts (json.after_end_array ts) t (closed ts t)
+
+  member_turn : (more : json.Parse json.Members) → Reads MembersHaveTexts more → (k : Option (List ℕ)) (ts : List Token) → IfText k → AreTexts ts → Read MembersHaveTexts (json.members_step value more k ts)
+  member_turn more h None ts k t = (tt, t)
+  member_turn more h (Some s) ts k t =
+      then HasTexts MembersHaveTexts _ (λ x j rest. mapped MembersHaveTexts MembersHaveTexts (json.member s x.0) (λ ms m. (k, j, m)) (more x.1) (h x.1 rest)) (value ts) (reads ts t)
+
+  members_read : (n : ℕ) → Reads MembersHaveTexts (json.members value n)
+  unfolding json.members
+  members_read zero ts t = tt
+  members_read (suc n) ts t =
+      then IfText MembersHaveTexts _ (λ x k rest. member_turn (json.members value n) (members_read n) x.0 x.1 k rest) (json.read_key ts) (key_text ts t)
+
+value_reads : (a : json.Parse json.Items) (o : json.Parse json.Members) → Reads ItemsHaveTexts a → Reads MembersHaveTexts o → Reads HasTexts (json.value_with a o)
+value_reads a o g h [] t = tt
+value_reads a o g h (begin_object ∷ ts) t = mapped MembersHaveTexts HasTexts json.object (λ ms k. k) (o ts) (h ts t.1)
+value_reads a o g h (end_object ∷ ts) t = tt
+value_reads a o g h (begin_array ∷ ts) t = mapped ItemsHaveTexts HasTexts json.array (λ js k. k) (a ts) (g ts t.1)
+value_reads a o g h (end_array ∷ ts) t = tt
+value_reads a o g h (key s ∷ ts) t = tt
+value_reads a o g h (string s ∷ ts) t = (t.0, t.1)
+value_reads a o g h (number s ∷ ts) t = (tt, t.1)
+value_reads a o g h (boolean b ∷ ts) t = (tt, t.1)
+value_reads a o g h (null ∷ ts) t = (tt, t.1)
+value_reads a o g h (bad ∷ ts) t = tt
+
+reads_texts : (depth : ℕ) → Reads HasTexts (json.value depth)
+unfolding json.value
+reads_texts zero = value_reads (λ ts. None) (λ ts. None) (λ ts t. tt) (λ ts t. tt)
+reads_texts (suc depth) =
+    value_reads (λ ts. json.items (json.value depth) (length ts) ts) (λ ts. json.members (json.value depth) (length ts) ts)
+    (λ ts t. items_read (json.value depth) (reads_texts depth) (length ts) ts t) (λ ts t. members_read (json.value depth) (reads_texts depth) (length ts) ts t)
+
+last_case : (o : Option (json.Json × List Token)) (j : json.Json) → Read HasTexts o → option_and_then (λ p. json.if_last p.0 p.1) o ≡ Some j → HasTexts j
+last_case None j h e = absurd cc
+last_case (Some (i, [])) j h e = let same : i ≡ j = cc in subst HasTexts same h.0
+last_case (Some (i, t ∷ ts)) j h e = absurd cc
+
+-- the value that a text is
+pub value_texts : (depth : ℕ) (text : List ℕ) (j : json.Json) → IsUtf8 text → option_and_then (λ p. json.if_last p.0 p.1) (json.value depth (tokens text)) ≡ Some j → HasTexts j
+value_texts depth text j u e = last_case (json.value depth (tokens text)) j (reads_texts depth (tokens text) (tokens_text text u)) e

@@ -1,0 +1,75 @@
+use Rattle.std.proofs.Common.{◌≡◌, Ok, Err, string_bytes, refl, sym, ap, ◌∙◌, subst, arith}
+use Rattle.std.proofs.lemmas.Result.{err_from_is_err_and}
+use Rattle.serde_json.specs.View.{view}
+use Rattle.pact_file.specs.Normal.{Normal}
+use Rattle.pact_file.specs.Pact.{Pact, normal_text}
+use Rattle.pact_file.proofs.ReadLemmas.{file_sound, interactions_whole, too_long, short_enough, made}
+use Rattle.pact_file.proofs.read.read_pact.Goals as goal
+
+pub returns-in_err-file : goal.returns-in_err-file
+unfolding Normal
+returns-in_err-file c =
+    let p = err_from_is_err_and c.from_residual.result c.from_residual.ensures.1 in
+    rw (p.1, p.2) (λ memory. (Err c.in_err-file.field-0.0, c.in_err-file.ensures memory, refl))
+
+pub returns-in_err-consumer : goal.returns-in_err-consumer
+unfolding Normal
+returns-in_err-consumer c =
+    let p = err_from_is_err_and c.from_residual-in_err-consumer.result c.from_residual-in_err-consumer.ensures.1 in
+    rw (p.1, p.2) (λ memory. (Ok (view c.in_ok-file.file), c.in_ok-file.ensures, (Err c.in_err-consumer.field-0.0, c.in_err-consumer.ensures memory, refl)))
+
+pub read_interactions-requires : goal.read_interactions-requires
+read_interactions-requires c = file_sound c.args.bytes.now (view c.in_ok-file.file) c.in_ok-file.ensures
+
+pub returns-in_err-interactions : goal.returns-in_err-interactions
+unfolding Normal
+returns-in_err-interactions c =
+    let p = err_from_is_err_and c.from_residual-in_err-interactions.result c.from_residual-in_err-interactions.ensures.1 in
+    rw (p.1, p.2) (λ memory.
+    (Ok (view c.in_ok-file.file), c.in_ok-file.ensures, (Ok (c.in_ok-consumer.consumer.now, c.in_ok-consumer.provider.now), c.in_ok-consumer.ensures, (Err c.in_err-interactions.field-0.0, c.in_err-interactions.ensures memory, refl))))
+
+pub text_of_pact-requires : goal.text_of_pact-requires
+text_of_pact-requires c =
+    rw c.as_slice.ensures.value (interactions_whole (view c.in_ok-file.file) c.in_ok-interactions.interactions.items (file_sound c.args.bytes.now (view c.in_ok-file.file) c.in_ok-file.ensures) c.in_ok-interactions.ensures)
+
+pub returns-then-len-gt-MOST_BYTES : goal.returns-then-len-gt-MOST_BYTES
+unfolding Normal
+returns-then-len-gt-MOST_BYTES c = λ memory.
+    let xs = c.in_ok-interactions.interactions.items in
+    let p : Pact = record { consumer = c.in_ok-consumer.consumer.now; provider = c.in_ok-consumer.provider.now; interactions = xs } in
+    let text : string_bytes c.in_ok-text.text ≡ normal_text p =
+    subst (λ ys. string_bytes c.in_ok-text.text ≡ normal_text (record { consumer = c.in_ok-consumer.consumer.now; provider = c.in_ok-consumer.provider.now; interactions = ys })) c.as_slice.ensures.value c.in_ok-text.ensures in (
+      Ok (view c.in_ok-file.file),
+      c.in_ok-file.ensures,
+      (
+        Ok (c.in_ok-consumer.consumer.now, c.in_ok-consumer.provider.now),
+        c.in_ok-consumer.ensures,
+        (
+          Ok xs,
+          c.in_ok-interactions.ensures,
+          too_long p (string_bytes c.in_ok-text.text) text (omega (arith, c.len.ensures, c.in_ok-text.text.bytes.ok.0, c.if-len-gt-MOST_BYTES.true)),
+        ),
+      ),
+    )
+
+pub returns : goal.returns
+unfolding Normal
+returns c =
+    let xs = c.in_ok-interactions.interactions.items in
+    let p : Pact = record { consumer = c.in_ok-consumer.consumer.now; provider = c.in_ok-consumer.provider.now; interactions = xs } in
+    let text : string_bytes c.in_ok-text.text ≡ normal_text p =
+    subst (λ ys. string_bytes c.in_ok-text.text ≡ normal_text (record { consumer = c.in_ok-consumer.consumer.now; provider = c.in_ok-consumer.provider.now; interactions = ys })) c.as_slice.ensures.value c.in_ok-text.ensures in
+    let same : p ≡ record { consumer = string_bytes c.in_ok-from_str.field-0; provider = string_bytes c.in_ok-from_str-2.field-0; interactions = xs } =
+    made xs (sym c.in_ok-from_str.ensures.ok) (sym c.in_ok-from_str-2.ensures.ok) in (
+      Ok (view c.in_ok-file.file),
+      c.in_ok-file.ensures,
+      (
+        Ok (c.in_ok-consumer.consumer.now, c.in_ok-consumer.provider.now),
+        c.in_ok-consumer.ensures,
+        (
+          Ok xs,
+          c.in_ok-interactions.ensures,
+          short_enough p (string_bytes c.in_ok-text.text) text (omega (arith, c.len.ensures, c.in_ok-text.text.bytes.ok.0, c.if-len-gt-MOST_BYTES.false)) ∙ ap Ok same,
+        ),
+      ),
+    )

@@ -1,0 +1,109 @@
+-- What comes before the interactions of a pact file: its form, its version, and the two sides.
+use Rattle.std.specs.Prelude.{ℕ, ◌&&◌, ◌||◌, ◌==◌, List, [], ◌∷◌, length, Bool, true, false, not, nat_eq, nat_le, Option, Some, None, option_map, option_and_then, unwrap_or, is_some, Result, Ok, Err, codes, if◌then◌else◌, ⊤}
+use Rattle.std.specs.List.{starts_with}
+use Rattle.std.specs.Option.{ok_or, option_or}
+use Rattle.std.specs.Str.{bytes_eq, is_utf8}
+use Rattle.serde_json.specs.Data.{Data, Num, null, boolean, number, string, array, object, unsigned, negative, float}
+use Rattle.serde_json.specs.Events.{items_len}
+use Rattle.serde_json.specs.Find.{get, as_array, as_object}
+use Rattle.serde_json.specs.Read.{read}
+use Rattle.pact_rules.specs.TreeReading.{tree_in}
+use Rattle.pact_rules.specs.declared.tree.TreeFault.{TreeFault}
+use Rattle.pact_file.specs.Outcome.{◌>>=◌, guard}
+use Rattle.pact_file.specs.Parts.{text_at, object_at, listed}
+use Rattle.pact_file.specs.declared.fault.PactFault.{PactFault}
+use Rattle.pact_file.specs.declared.fault.PactFault.TheVariants.{TooLong, NotJson, Shape, Version, Messages, Tree, TooMany, SelfContract}
+use Rattle.pact_file.specs.declared.fault.Place.{Place}
+use Rattle.pact_file.specs.declared.fault.Place.TheVariants.{File, Consumer, ConsumerName, Provider, ProviderName, Interactions}
+
+abbrev pub most_bytes : ℕ
+most_bytes = 1048576
+
+abbrev pub most_interactions : ℕ
+most_interactions = 512
+
+-- ---- the file
+
+-- the value that the bytes are, a text of JSON in UTF-8
+unfoldable pub json_of : List ℕ → Result Data PactFault
+json_of bytes = if is_utf8 bytes then ok_or (read bytes) NotJson else Err NotJson
+
+abbrev pub tree_told : {A : Type 0} → Result A TreeFault → Result ⊤ PactFault
+tree_told (Ok x) = Ok tt
+tree_told (Err e) = Err (Tree e)
+
+-- an object without fractions that nests not too deep
+unfoldable pub file_of : List ℕ → Result Data PactFault
+file_of bytes = do
+  short ← guard (nat_le (length bytes) most_bytes) TooLong
+  whole ← json_of bytes
+  tree ← tree_told (tree_in whole)
+  is ← guard (is_some (as_object whole)) (Shape File)
+  Ok whole
+
+-- ---- version, messages and the two sides
+
+abbrev pub number_is_3 : Num → Bool
+number_is_3 (unsigned n) = n == 3
+number_is_3 (negative z) = false
+number_is_3 (float x) = false
+
+-- whether the text of a version, if it is a text or a number, has 3 before its first point
+abbrev pub is_3 : Data → Option Bool
+is_3 null = None
+is_3 (boolean b) = None
+is_3 (number n) = Some (number_is_3 n)
+is_3 (string s) = Some (bytes_eq s (codes "3") || starts_with nat_eq s (codes "3."))
+is_3 (array ds) = None
+is_3 (object ms) = None
+
+abbrev pub version_under : List ℕ → Data → Option Bool
+version_under key file = option_and_then is_3 (option_and_then (get (codes "version")) (option_and_then (get key) (get (codes "metadata") file)))
+
+-- a file that names no version is read as version 3
+unfoldable pub is_version_3 : Data → Bool
+is_version_3 file = unwrap_or (option_or (version_under (codes "pactSpecification") file) (version_under (codes "pact-specification") file)) true
+
+abbrev pub holds_nothing : Data → Bool
+holds_nothing null = true
+holds_nothing (boolean b) = false
+holds_nothing (number n) = false
+holds_nothing (string s) = false
+holds_nothing (array ds) = items_len ds == 0
+holds_nothing (object ms) = false
+
+-- message pacts are another kind of contract
+unfoldable pub has_no_messages : Data → Bool
+has_no_messages file = unwrap_or (option_map holds_nothing (get (codes "messages") file)) true
+
+abbrev pub are_printable : List ℕ → Bool
+are_printable [] = true
+are_printable (b ∷ bs) = (nat_le 32 b && not (b == 127)) && are_printable bs
+
+-- a name has 1 to 100 bytes and no control characters of ASCII
+unfoldable pub is_name : List ℕ → Bool
+is_name s = nat_le 1 (length s) && nat_le (length s) 100 && are_printable s
+
+unfoldable pub side_of : List ℕ → Place → Place → Data → Result (List ℕ) PactFault
+side_of key side its_name file = do
+  found ← ok_or (object_at key file) (Shape side)
+  name ← ok_or (text_at (codes "name") found) (Shape its_name)
+  is ← guard (is_name name) (Shape its_name)
+  Ok name
+
+-- the names of the consumer and the provider
+unfoldable pub sides_of : Data → Result (List ℕ × List ℕ) PactFault
+sides_of file = do
+  version ← guard (is_version_3 file) Version
+  messages ← guard (has_no_messages file) Messages
+  consumer ← side_of (codes "consumer") Consumer ConsumerName file
+  provider ← side_of (codes "provider") Provider ProviderName file
+  two ← guard (not (bytes_eq consumer provider)) SelfContract
+  Ok (consumer, provider)
+
+-- the values that stand as interactions
+unfoldable pub items_of : Data → Result (List Data) PactFault
+items_of file = do
+  items ← ok_or (option_and_then as_array (get (codes "interactions") file)) (Shape Interactions)
+  few ← guard (nat_le (items_len items) most_interactions) TooMany
+  Ok (listed items)

@@ -1,0 +1,17 @@
+pub mod DataCode
+pub mod Outcome
+pub mod Pact
+pub mod Sets
+pub mod Parts
+pub mod Headers
+pub mod Placing
+pub mod Sound
+pub mod Reading
+pub mod Rules
+pub mod Filled
+pub mod File
+pub mod Interactions
+pub mod Normal
+pub mod Told
+pub mod Laws
+pub mod Words

@@ -1,0 +1,57 @@
+-- The normal pact of a file, or its first fault. At a pattern this is a relation: it goes on only where the rules were
+-- read, and a pattern may be refused; everywhere else it is a function.
+use Rattle.std.specs.Prelude.{◌≡◌, ◌≢◌, ℕ, List, length, nat_le, Result, Ok, Err, if◌then◌else◌}
+use Rattle.serde_json.specs.Data.{Data}
+use Rattle.pact_rules.specs.declared.rule_fault.RuleFault.TheVariants.{Pattern}
+use Rattle.pact_file.specs.File.{most_bytes, file_of, sides_of, items_of}
+use Rattle.pact_file.specs.Headers.{HasHeaders, LacksHeaders}
+use Rattle.pact_file.specs.Interactions.{at, parts_at}
+use Rattle.pact_file.specs.Pact.{Header, Interaction, Pact, interaction_data, key_cmp, normal_text}
+use Rattle.pact_file.specs.Reading.{just, ◌>>=◌, EachRead}
+use Rattle.pact_file.specs.Rules.{RulesRead}
+use Rattle.pact_file.specs.Sets.{IsSetInOrder, HasClash}
+use Rattle.pact_file.specs.declared.fault.PactFault.{PactFault}
+use Rattle.pact_file.specs.declared.fault.PactFault.TheVariants.{TooLong, SameInteraction, Rules}
+use Rattle.pact_file.specs.declared.fault.Part.TheVariants.{Headers}
+
+-- the headers of the interaction i
+abbrev pub HeadersRead : ℕ → Data → Result (List Header) PactFault → Type 0
+HeadersRead i response (Ok headers) = HasHeaders response headers
+HeadersRead i response (Err fault) = LacksHeaders response × (fault ≡ at i Headers)
+
+-- an interaction, in the order of its tests
+unfoldable pub InteractionRead : ℕ → Data → Result Interaction PactFault → Type 0
+InteractionRead i d = do
+  interaction ← just (parts_at i d)
+  headers ← HeadersRead i interaction.response
+  rules ← RulesRead i interaction.response
+  just (Ok interaction)
+
+-- two of one key differ in their normal form
+abbrev pub HasRivals : List Interaction → Type 0
+HasRivals found = HasClash key_cmp (λ x y. interaction_data x ≢ interaction_data y) found
+
+-- equal ones are kept once, in order
+abbrev pub InOrder : List Interaction → Result (List Interaction) PactFault → Type 0
+InOrder found (Ok interactions) = (¬ HasRivals found) × IsSetInOrder key_cmp found interactions
+InOrder found (Err fault) = HasRivals found × (fault ≡ SameInteraction)
+
+unfoldable pub InteractionsRead : Data → Result (List Interaction) PactFault → Type 0
+InteractionsRead file = do
+  items ← just (items_of file)
+  found ← EachRead InteractionRead 0 items
+  InOrder found
+
+abbrev pub if_short : Pact → Result Pact PactFault
+if_short p = if nat_le (length (normal_text p)) most_bytes then Ok p else Err TooLong
+
+unfoldable pub Normal : List ℕ → Result Pact PactFault → Type 0
+Normal bytes = do
+  file ← just (file_of bytes)
+  sides ← just (sides_of file)
+  interactions ← InteractionsRead file
+  just (if_short (record { consumer = sides.0; provider = sides.1; interactions = interactions }))
+
+-- a pattern was refused
+abbrev pub IsRefusal : {A : Type 0} → Result A PactFault → Type 0
+IsRefusal answer = (i : ℕ) × (answer ≡ Err (Rules i Pattern))

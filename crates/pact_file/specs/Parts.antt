@@ -1,0 +1,117 @@
+-- The parts of an interaction, as they stand in JSON data (Pact Specification, version 3). A part that isn't as it must be is none.
+use Rattle.std.specs.Prelude.{ℕ, ◌&&◌, List, [], ◌∷◌, ◌++◌, Option, Some, None, option_map, option_and_then, nat_le, codes, if◌then◌else◌}
+use Rattle.std.specs.Option.{option_or}
+use Rattle.std.specs.Str.{str_to_ascii_lowercase}
+use Rattle.serde_json.specs.Data.{Data, null, boolean, number, string, array, object, Items, no_items, item, Members, no_members, member}
+use Rattle.serde_json.specs.Find.{get, as_str, as_array, as_object, as_number, as_u64}
+use Rattle.pact_rules.specs.Trees.{Node}
+use Rattle.pact_rules.specs.TreeReading.{whole_tree}
+use Rattle.pact_file.specs.Pact.{State, Header}
+
+abbrev pub unless_null : Data → Option Data
+unless_null null = None
+unless_null (boolean b) = Some (boolean b)
+unless_null (number n) = Some (number n)
+unless_null (string s) = Some (string s)
+unless_null (array ds) = Some (array ds)
+unless_null (object ms) = Some (object ms)
+
+-- an optional member: null counts as absent
+abbrev pub given : List ℕ → Data → Option Data
+given key d = option_and_then unless_null (get key d)
+
+-- a member that is a text
+abbrev pub text_at : List ℕ → Data → Option (List ℕ)
+text_at key d = option_and_then as_str (get key d)
+
+abbrev pub if_object : Data → Option Data
+if_object null = None
+if_object (boolean b) = None
+if_object (number n) = None
+if_object (string s) = None
+if_object (array ds) = None
+if_object (object ms) = Some (object ms)
+
+-- a member that is an object
+abbrev pub object_at : List ℕ → Data → Option Data
+object_at key d = option_and_then if_object (get key d)
+
+-- the values of a list
+abbrev pub listed : Items → List Data
+listed no_items = []
+listed (item d ds) = d ∷ listed ds
+
+-- the members of an object
+abbrev pub members_listed : Members → List (List ℕ × Data)
+members_listed no_members = []
+members_listed (member k d ms) = (k, d) ∷ members_listed ms
+
+-- each of them, if each is one
+unfoldable pub all_of : {A B : Type 0} → (A → Option B) → List A → Option (List B)
+all_of f [] = Some []
+all_of f (x ∷ xs) = option_and_then (λ y. option_map (λ ys. y ∷ ys) (all_of f xs)) (f x)
+
+-- ---- provider states
+
+-- an object with a name, and parameters where they are given
+abbrev pub state_in : Data → Option State
+state_in d = option_map (λ name. record { name = name; params = given (codes "params") d }) (text_at (codes "name") d)
+
+abbrev pub one_state : Option Data → Option (List State)
+one_state None = Some []
+one_state (Some d) = option_map (λ name. record { name = name; params = None } ∷ []) (as_str d)
+
+abbrev pub states_from : Option Data → Option Data → Option (List State)
+states_from None older = one_state older
+states_from (Some list) older = option_and_then (λ ds. all_of state_in (listed ds)) (as_array list)
+
+-- the list under `providerStates`, or where it is absent the one state of the older spelling
+unfoldable pub states_in : Data → Option (List State)
+states_in d = states_from (given (codes "providerStates") d) (given (codes "providerState") d)
+
+-- ---- the response
+
+-- a whole number from 100 to 999
+abbrev pub in_range : ℕ → Option ℕ
+in_range n = if nat_le 100 n && nat_le n 999 then Some n else None
+
+abbrev pub status_at : Data → Option ℕ
+status_at d = option_and_then in_range (option_and_then as_u64 (as_number d))
+
+abbrev pub status_from : Option Data → Option ℕ
+status_from None = Some 200
+status_from (Some d) = status_at d
+
+-- the status, 200 where it is absent
+unfoldable pub status_in : Data → Option ℕ
+status_in response = status_from (given (codes "status") response)
+
+-- the tree under `body`
+unfoldable pub body_in : Data → Option Node
+body_in response = option_and_then whole_tree (get (codes "body") response)
+
+-- ---- headers
+
+abbrev pub behind : List (List ℕ) → List ℕ
+behind [] = []
+behind (t ∷ ts) = (codes ", " ++ t) ++ behind ts
+
+-- the texts, with a comma and a space between each two
+abbrev pub joined : List (List ℕ) → List ℕ
+joined [] = []
+joined (t ∷ ts) = t ++ behind ts
+
+-- a text, or a list of texts
+abbrev pub header_value : Data → Option (List ℕ)
+header_value d = option_or (as_str d) (option_and_then (λ ds. option_map joined (all_of as_str (listed ds))) (as_array d))
+
+abbrev pub header_in : List ℕ × Data → Option Header
+header_in m = option_map (λ value. record { name = str_to_ascii_lowercase m.0; value = value }) (header_value m.1)
+
+abbrev pub headers_from : Option Data → Option (List Header)
+headers_from None = Some []
+headers_from (Some d) = option_and_then (λ ms. all_of header_in (members_listed ms)) (as_object d)
+
+-- the headers in the order of the file, none where they are absent
+unfoldable pub headers_found : Data → Option (List Header)
+headers_found response = headers_from (given (codes "headers") response)

@@ -1,0 +1,28 @@
+-- The rules of a response, read by `pact_rules`. Whether a pattern is refused is open there, so this is a relation.
+use Rattle.std.specs.Prelude.{◌≡◌, ℕ, Option, Some, None, Result, Ok, Err, codes}
+use Rattle.serde_json.specs.Data.{Data}
+use Rattle.pact_rules.specs.Trees.{Node}
+use Rattle.pact_rules.specs.TreeReading.{whole_tree}
+use Rattle.pact_rules.specs.Rules.{Rules as Table, no_rules}
+use Rattle.pact_rules.specs.RuleReading.{IsReading}
+use Rattle.pact_rules.specs.declared.rule_fault.RuleFault.{RuleFault}
+use Rattle.pact_file.specs.declared.fault.PactFault.{PactFault}
+use Rattle.pact_file.specs.declared.fault.PactFault.TheVariants.{Rules}
+use Rattle.pact_file.specs.Parts.{given}
+
+-- no rules where they are absent
+abbrev pub TableRead : Option Data → Result Table RuleFault → Type 0
+TableRead None answer = answer ≡ Ok no_rules
+TableRead (Some d) answer = (n : Node) × (whole_tree d ≡ Some n) × IsReading n answer
+
+abbrev pub rules_told : ℕ → Result Table RuleFault → Result Table PactFault
+rules_told i (Ok table) = Ok table
+rules_told i (Err fault) = Err (Rules i fault)
+
+-- of the response of the interaction i
+unfoldable pub RulesRead : ℕ → Data → Result Table PactFault → Type 0
+RulesRead i response answer = (r : Result Table RuleFault) × TableRead (given (codes "matchingRules") response) r × (rules_told i r ≡ answer)
+
+-- the table that is read of the response
+unfoldable pub IsRulesOf : Data → Table → Type 0
+IsRulesOf response table = TableRead (given (codes "matchingRules") response) (Ok table)

@@ -1,0 +1,194 @@
+//! An interaction, in the order of its tests.
+
+ghost use Rattle.std.specs.Prelude.{◌≡◌, Some, option_map, IfOk};
+ghost use Rattle.std.specs.Option.{ok_or};
+ghost use Rattle.serde_json.specs.View.{view};
+ghost use Rattle.pact_rules.specs.TreeReading.{whole_tree};
+ghost use Rattle.pact_rules.specs.TreeView.{tree_view};
+ghost use Rattle.pact_file.specs.declared.fault.PactFault.TheVariants.{Memory, Shape};
+ghost use Rattle.pact_file.specs.Headers.{HasHeaders};
+ghost use Rattle.pact_file.specs.Interactions.{at, parts_at};
+ghost use Rattle.pact_file.specs.Normal.{InteractionRead};
+ghost use Rattle.pact_file.specs.Outcome.{Gives};
+ghost use Rattle.pact_file.specs.Pact.{interaction_data};
+ghost use Rattle.pact_file.specs.Parts.{text_at, object_at, states_in as states_at, status_in as status_found, body_in};
+ghost use Rattle.pact_file.specs.Reading.{GivesOne};
+ghost use Rattle.pact_file.specs.Rules.{RulesRead, IsRulesOf};
+ghost use Rattle.pact_file.specs.Sound.{IsSound};
+ghost use Rattle.pact_file.specs.Told.{parts_view, rule_told as fault_told};
+
+use crate::fault::{PactFault, Part, Place};
+use crate::headers::read_headers;
+use crate::pact::{Header, Interaction, State};
+use crate::parts::{given_at, object_of, read_states, status_of, text_of};
+use crate::texts::{parts_text, states_text};
+use pact_rules::{RuleFault, RuleTable, Tree, TreeFault, tree_of};
+use serde_json::Value;
+use std::alloc::{AllocError, Global};
+
+/// What is read of an interaction before its headers and its rules.
+#[derive(Drop)]
+struct Parts {
+    description: String,
+    states: Vec<State>,
+    request: Value,
+    response: Value,
+    status: u16,
+}
+
+pub(crate) fn text_in<'a>(value: &'a Value, key: &str, place: Place) -> Result<&'a str, PactFault>
+    ensures { Gives Memory (λ s. s.now) result (ok_or (text_at key.now (view value.now)) (Shape place)) }
+{
+    text_of(value, key).ok_or(PactFault::Shape(place))
+}
+
+pub(crate) fn object_in<'a>(
+    value: &'a Value,
+    key: &str,
+    place: Place,
+) -> Result<&'a Value, PactFault>
+    ensures { Gives Memory (λ v. view v.now) result (ok_or (object_at key.now (view value.now)) (Shape place)) }
+{
+    object_of(value, key).ok_or(PactFault::Shape(place))
+}
+
+fn states_in(alloc: Global, value: &Value, place: Place) -> Result<Vec<State>, PactFault>
+    ensures { Gives Memory (λ v. v.items) result (ok_or (states_at (view value.now)) (Shape place)) }
+{
+    read_states(alloc, value)?.ok_or(PactFault::Shape(place))
+}
+
+fn status_in(response: &Value, place: Place) -> Result<u16, PactFault>
+    ensures { Gives Memory (λ n. n) result (ok_or (status_found (view response.now)) (Shape place)) }
+{
+    status_of(response).ok_or(PactFault::Shape(place))
+}
+
+#[tactic(auto, unfolding(crate::specs::Interactions::parts_at))]
+fn read_parts(alloc: Global, index: usize, value: &Value) -> Result<Parts, PactFault>
+    ensures parts { Gives Memory parts_view result (parts_at index (view value.now)) }
+    ensures status { IfOk result (λ p. status_found (view p.response) ≡ Some p.status) }
+{
+    if !value.is_object() {
+        return Err(PactFault::Shape(Place::Interaction(index, Part::Whole)));
+    }
+    let description = text_in(
+        value,
+        "description",
+        Place::Interaction(index, Part::Description),
+    )?;
+    let states = states_in(alloc, value, Place::Interaction(index, Part::States))?;
+    let request = object_in(value, "request", Place::Interaction(index, Part::Request))?;
+    let response = object_in(value, "response", Place::Interaction(index, Part::Response))?;
+    let status = status_in(response, Place::Interaction(index, Part::Status))?;
+    Ok(Parts {
+        description: String::from_str(alloc, description)?,
+        states,
+        request: request.clone()?,
+        response: response.clone()?,
+        status,
+    })
+}
+
+/// The tree of a part: a part of a tree is a tree, so that memory alone can be wanting.
+fn part_of(alloc: Global, value: &Value) -> Result<Tree, AllocError>
+    requires { IsSound 96 (view value.now) }
+    ensures { IfOk result (λ t. whole_tree (view value.now) ≡ Some (tree_view t)) }
+{
+    match tree_of(alloc, value) {
+        Ok(tree) => Ok(tree),
+        Err(TreeFault::Memory) => Err(AllocError),
+        Err(TreeFault::NotWhole) => unreachable!(),
+        Err(TreeFault::TooDeep) => unreachable!(),
+    }
+}
+
+#[tactic(auto, unfolding(crate::specs::Parts::body_in))]
+fn body_of(alloc: Global, response: &Value) -> Result<Option<Tree>, AllocError>
+    requires { IsSound 97 (view response.now) }
+    ensures { IfOk result (λ o. option_map tree_view o ≡ body_in (view response.now)) }
+{
+    match response.get("body") {
+        None => Ok(None),
+        Some(body) => Ok(Some(part_of(alloc, body)?)),
+    }
+}
+
+fn rule_told(index: usize, fault: RuleFault) -> PactFault
+    ensures { result ≡ fault_told index fault }
+{
+    match fault {
+        RuleFault::Memory => PactFault::Memory,
+        fault => PactFault::Rules(index, fault),
+    }
+}
+
+fn read_rules(alloc: Global, index: usize, response: &Value) -> Result<RuleTable, PactFault>
+    requires { IsSound 97 (view response.now) }
+    ensures read { GivesOne (λ t. t) result (RulesRead index (view response.now)) }
+    ensures table { IfOk result (λ t. IsRulesOf (view response.now) t) }
+{
+    match given_at(response, "matchingRules") {
+        None => Ok(RuleTable::none(alloc)),
+        Some(rules) => {
+            let tree = part_of(alloc, rules)?;
+            match RuleTable::read(alloc, &tree) {
+                Ok(table) => Ok(table),
+                Err(fault) => Err(rule_told(index, fault)),
+            }
+        }
+    }
+}
+
+fn finished(
+    alloc: Global,
+    parts: Parts,
+    headers: Vec<Header>,
+    rules: RuleTable,
+) -> Result<Interaction, AllocError>
+    requires sound { IsSound 98 (interaction_data (parts_view parts)) }
+    requires status { status_found (view parts.response) ≡ Some parts.status }
+    requires headers { HasHeaders (view parts.response) headers.items }
+    requires rules { IsRulesOf (view parts.response) rules }
+    ensures { IfOk result (λ x. x ≡ parts_view parts) }
+{
+    let states_text = states_text(alloc, parts.states.as_slice())?;
+    let text = parts_text(
+        alloc,
+        parts.description.as_str(),
+        parts.states.as_slice(),
+        &parts.request,
+        &parts.response,
+    )?;
+    let body = body_of(alloc, &parts.response)?;
+    Ok(Interaction {
+        description: parts.description,
+        states: parts.states,
+        request: parts.request,
+        response: parts.response,
+        status: parts.status,
+        headers,
+        body,
+        rules,
+        states_text,
+        text,
+    })
+}
+
+pub(crate) fn read_interaction(
+    alloc: Global,
+    index: usize,
+    value: &Value,
+) -> Result<Interaction, PactFault>
+    requires { IsSound 98 (view value.now) }
+    ensures { GivesOne (λ x. x) result (InteractionRead index (view value.now)) }
+{
+    let parts = read_parts(alloc, index, value)?;
+    match read_headers(alloc, &parts.response)? {
+        None => Err(PactFault::Shape(Place::Interaction(index, Part::Headers))),
+        Some(headers) => {
+            let rules = read_rules(alloc, index, &parts.response)?;
+            Ok(finished(alloc, parts, headers, rules)?)
+        }
+    }
+}

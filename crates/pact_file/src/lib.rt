@@ -1,0 +1,22 @@
+//! Pact files and their normal form.
+#![tactic(auto)]
+
+mod fault;
+mod headers;
+mod interaction;
+pub mod laws;
+mod order;
+mod pact;
+mod parts;
+mod read;
+mod texts;
+
+pub use fault::{PactFault, Part, Place};
+pub use headers::read_headers;
+pub use pact::{Header, Interaction, Pact, State};
+pub use parts::{read_states, read_status};
+pub use read::read_pact;
+pub use texts::states_text;
+
+#[cfg(test)]
+mod tests;

@@ -1,0 +1,71 @@
+//! Interactions in order, each once.
+
+ghost use Rattle.std.specs.Prelude.{◌≡◌, ◌≤◌, ◌++◌, ◌∷◌, [], length, take, drop, IfOk, IfErr, MatchOption, Some, None};
+ghost use Rattle.std.specs.Option.{ok_or};
+ghost use Rattle.pact_file.specs.declared.fault.PactFault.TheVariants.{Memory, SameInteraction};
+ghost use Rattle.pact_file.specs.Outcome.{Gives};
+ghost use Rattle.pact_file.specs.Pact.{key_cmp};
+ghost use Rattle.pact_file.specs.Placing.{placed, placed_all, same_text};
+
+use crate::fault::PactFault;
+use crate::pact::Interaction;
+use std::alloc::Global;
+use std::cmp::Ordering;
+
+fn key_order(left: &Interaction, right: &Interaction) -> Ordering
+    ensures { result ≡ key_cmp left.now right.now }
+{
+    left.description
+        .cmp(&right.description)
+        .then(left.states_text.cmp(&right.states_text))
+}
+
+fn is_same(left: &Interaction, right: &Interaction) -> bool
+    ensures { result ≡ same_text left.now right.now }
+{
+    left.text.as_str() == right.text.as_str()
+}
+
+/// Where the interaction goes, or None where it is there.
+fn place_of(list: &[Interaction], new: &Interaction) -> Result<Option<usize>, PactFault>
+    ensures ok { IfOk result (λ o. MatchOption o (placed key_cmp same_text new.now list.now ≡ Some list.now)
+        (λ at. (at ≤ length list.now) × (placed key_cmp same_text new.now list.now ≡ Some (take at list.now ++ new.now ∷ drop at list.now)))) }
+    ensures err { IfErr result (λ e. (e ≡ SameInteraction) × (placed key_cmp same_text new.now list.now ≡ None)) }
+{
+    for (at, other) in list.iter().enumerate() {
+        match key_order(new, other) {
+            Ordering::Less => return Ok(Some(at)),
+            Ordering::Greater => {}
+            Ordering::Equal => {
+                if is_same(new, other) {
+                    return Ok(None);
+                }
+                return Err(PactFault::SameInteraction);
+            }
+        }
+    }
+    Ok(Some(list.len()))
+}
+
+fn place(list: &mut Vec<Interaction>, new: Interaction) -> Result<(), PactFault>
+    ensures { Gives Memory (λ _. list.new.items) result (ok_or (placed key_cmp same_text new list.old.items) SameInteraction) }
+{
+    if let Some(at) = place_of(list, &new)? {
+        list.insert(at, new)?;
+    }
+    Ok(())
+}
+
+/// Places them all, in the order of the file.
+pub(crate) fn in_key_order(
+    alloc: Global,
+    found: Vec<Interaction>,
+) -> Result<Vec<Interaction>, PactFault>
+    ensures { Gives Memory (λ v. v.items) result (ok_or (placed_all key_cmp same_text [] found.items) SameInteraction) }
+{
+    let mut list = Vec::new(alloc);
+    for new in found {
+        place(&mut list, new)?;
+    }
+    Ok(list)
+}

@@ -1,0 +1,115 @@
+//! The parts of an interaction.
+
+ghost use Rattle.std.specs.Prelude.{◌≡◌, ◌∷◌, [], codes, map, option_map, IfOk};
+ghost use Rattle.serde_json.specs.Find.{get, as_str};
+ghost use Rattle.serde_json.specs.View.{view, items_view};
+ghost use Rattle.pact_file.specs.Pact.{State as Stands};
+ghost use Rattle.pact_file.specs.Parts.{given, text_at, object_at, state_in, all_of, one_state, states_from, states_in, status_at, status_in};
+
+use crate::pact::State;
+use serde_json::Value;
+use std::alloc::{AllocError, Global};
+
+/// An optional member: null counts as absent.
+pub(crate) fn given_at<'a>(value: &'a Value, key: &str) -> Option<&'a Value>
+    ensures { option_map (λ v. view v.now) result ≡ given key.now (view value.now) }
+{
+    value.get(key).filter(|found| !found.is_null())
+}
+
+pub(crate) fn text_of<'a>(value: &'a Value, key: &str) -> Option<&'a str>
+    ensures { option_map (λ s. s.now) result ≡ text_at key.now (view value.now) }
+{
+    value.get(key).and_then(Value::as_str)
+}
+
+pub(crate) fn object_of<'a>(value: &'a Value, key: &str) -> Option<&'a Value>
+    ensures { option_map (λ v. view v.now) result ≡ object_at key.now (view value.now) }
+{
+    value.get(key).filter(|found| found.is_object())
+}
+
+fn read_state(alloc: Global, value: &Value) -> Result<Option<State>, AllocError>
+    ensures { IfOk result (λ o. o ≡ state_in (view value.now)) }
+{
+    let Some(name) = text_of(value, "name") else {
+        return Ok(None);
+    };
+    let params = match given_at(value, "params") {
+        Some(params) => Some(params.clone()?),
+        None => None,
+    };
+    Ok(Some(State {
+        name: String::from_str(alloc, name)?,
+        params,
+    }))
+}
+
+fn read_state_list(alloc: Global, items: &[Value]) -> Result<Option<Vec<State>>, AllocError>
+    ensures { IfOk result (λ o. option_map (λ v. v.items) o ≡ all_of state_in (map view items.now)) }
+{
+    let mut states = Vec::new(alloc);
+    for item in items {
+        match read_state(alloc, item)? {
+            Some(state) => states.push(state)?,
+            None => return Ok(None),
+        }
+    }
+    Ok(Some(states))
+}
+
+/// The one state of the older spelling.
+fn read_one_state(alloc: Global, older: Option<&Value>) -> Result<Option<Vec<State>>, AllocError>
+    ensures { IfOk result (λ o. option_map (λ v. v.items) o ≡ one_state (option_map (λ v. view v.now) older.entry)) }
+{
+    let mut states = Vec::new(alloc);
+    if let Some(older) = older {
+        let Some(name) = older.as_str() else {
+            return Ok(None);
+        };
+        states.push(State {
+            name: String::from_str(alloc, name)?,
+            params: None,
+        })?;
+    }
+    Ok(Some(states))
+}
+
+/// The provider states of an interaction or a reply: the list under `providerStates`, each an object with a text `name`
+/// and optional `params`; where it is absent, a text under `providerState` is one state of that name, and none is no
+/// states. All else is None. An error is want of memory. (Pact Specification, versions 2 and 3.)
+#[tactic(auto, using(crate::proofs::Lists::listed_view), unfolding(crate::specs::Parts::states_in))]
+pub fn read_states(alloc: Global, value: &Value) -> Result<Option<Vec<State>>, AllocError>
+    ensures { IfOk result (λ o. option_map (λ v. v.items) o ≡ states_in (view value.now)) }
+{
+    let Some(list) = given_at(value, "providerStates") else {
+        return read_one_state(alloc, given_at(value, "providerState"));
+    };
+    match list.as_array() {
+        Some(items) => read_state_list(alloc, items),
+        None => Ok(None),
+    }
+}
+
+/// A status: a whole number from 100 to 999.
+pub fn read_status(value: &Value) -> Option<u16>
+    ensures { result ≡ status_at (view value.now) }
+{
+    let number = value.as_u64()?;
+    if 100 <= number && number <= 999 {
+        Some(number as u16)
+    } else {
+        None
+    }
+}
+
+/// The status of a response, 200 where it is absent.
+#[tactic(auto, unfolding(crate::specs::Parts::status_in))]
+pub(crate) fn status_of(response: &Value) -> Option<u16>
+    ensures { result ≡ status_in (view response.now) }
+{
+    match given_at(response, "status") {
+        Some(status) => read_status(status),
+        None => Some(200),
+    }
+}

@@ -1,0 +1,241 @@
+//! Reading a pact file.
+
+ghost use Rattle.std.specs.Prelude.{◌≡◌, map, option_map, option_and_then, nat_le};
+ghost use Rattle.std.specs.Option.{ok_or};
+ghost use Rattle.serde_json.specs.Events.{items_len};
+ghost use Rattle.serde_json.specs.Find.{get, as_array};
+ghost use Rattle.serde_json.specs.View.{view, items_view};
+ghost use Rattle.pact_rules.specs.TreeReading.{tree_in};
+ghost use Rattle.pact_file.specs.declared.fault.PactFault.TheVariants.{Memory, Shape};
+ghost use Rattle.pact_file.specs.File.{most_interactions, json_of, tree_told, file_of, is_3, version_under, is_version_3, holds_nothing, has_no_messages, are_printable, is_name, side_of, sides_of, items_of};
+ghost use Rattle.pact_file.specs.Normal.{InteractionRead, InteractionsRead, Normal};
+ghost use Rattle.pact_file.specs.Outcome.{Gives};
+ghost use Rattle.pact_file.specs.Reading.{EachRead, GivesOne};
+ghost use Rattle.pact_file.specs.Sound.{IsSound, AreSound};
+
+use crate::fault::{PactFault, Place};
+use crate::interaction::{object_in, read_interaction, text_in};
+use crate::order::in_key_order;
+use crate::pact::{Interaction, Pact};
+use crate::texts::text_of_pact;
+use pact_rules::{TreeFault, tree_of};
+use serde_json::Value;
+use std::alloc::Global;
+
+const MOST_BYTES: usize = 1_048_576;
+
+const MOST_INTERACTIONS: usize = 512;
+
+#[tactic(auto, unfolding(crate::specs::File::json_of))]
+fn read_json(alloc: Global, bytes: &[u8]) -> Result<Value, PactFault>
+    ensures { Gives Memory view result (json_of bytes.now) }
+{
+    match Value::from_slice(alloc, bytes) {
+        Ok(value) => Ok(value),
+        Err(e) => {
+            if e.is_memory() {
+                Err(PactFault::Memory)
+            } else {
+                Err(PactFault::NotJson)
+            }
+        }
+    }
+}
+
+fn check_tree(alloc: Global, value: &Value) -> Result<(), PactFault>
+    ensures { Gives Memory (λ x. x) result (tree_told (tree_in (view value.now))) }
+{
+    match tree_of(alloc, value) {
+        Ok(_) => Ok(()),
+        Err(TreeFault::NotWhole) => Err(PactFault::Tree(TreeFault::NotWhole)),
+        Err(TreeFault::TooDeep) => Err(PactFault::Tree(TreeFault::TooDeep)),
+        Err(TreeFault::Memory) => Err(PactFault::Memory),
+    }
+}
+
+#[tactic(auto, unfolding(crate::specs::File::file_of))]
+fn read_file(alloc: Global, bytes: &[u8]) -> Result<Value, PactFault>
+    ensures { Gives Memory view result (file_of bytes.now) }
+{
+    if bytes.len() > MOST_BYTES {
+        return Err(PactFault::TooLong);
+    }
+    let value = read_json(alloc, bytes)?;
+    check_tree(alloc, &value)?;
+    if !value.is_object() {
+        return Err(PactFault::Shape(Place::File));
+    }
+    Ok(value)
+}
+
+/// Whether a version has 3 before its first point, if it is a text or a number.
+fn is_three(version: &Value) -> Option<bool>
+    ensures { result ≡ is_3 (view version.now) }
+{
+    match version {
+        Value::String(text) => {
+            let text = text.as_bytes();
+            Some(text == b"3".as_slice() || text.starts_with(b"3."))
+        }
+        Value::Number(number) => Some(number.as_u64() == Some(3)),
+        _ => None,
+    }
+}
+
+fn version_of(file: &Value, key: &str) -> Option<bool>
+    ensures { result ≡ version_under key.now (view file.now) }
+{
+    let version = file.get("metadata")?.get(key)?.get("version")?;
+    is_three(version)
+}
+
+#[tactic(auto, unfolding(crate::specs::File::is_version_3))]
+fn has_version_3(file: &Value) -> bool
+    ensures { result ≡ is_version_3 (view file.now) }
+{
+    version_of(file, "pactSpecification")
+        .or(version_of(file, "pact-specification"))
+        .unwrap_or(true)
+}
+
+fn is_nothing(messages: &Value) -> bool
+    ensures { result ≡ holds_nothing (view messages.now) }
+{
+    match messages {
+        Value::Null => true,
+        Value::Array(list) => list.len() == 0,
+        _ => false,
+    }
+}
+
+#[tactic(auto, unfolding(crate::specs::File::has_no_messages))]
+fn lacks_messages(file: &Value) -> bool
+    ensures { result ≡ has_no_messages (view file.now) }
+{
+    match file.get("messages") {
+        None => true,
+        Some(messages) => is_nothing(messages),
+    }
+}
+
+fn all_printable(text: &[u8]) -> bool
+    ensures { result ≡ are_printable text.now }
+{
+    for byte in text {
+        if *byte < 32 || *byte == 127 {
+            return false;
+        }
+    }
+    true
+}
+
+#[tactic(auto, unfolding(crate::specs::File::is_name))]
+fn names(text: &str) -> bool
+    ensures { result ≡ is_name text.now }
+{
+    1 <= text.len() && text.len() <= 100 && all_printable(text.as_bytes())
+}
+
+#[tactic(auto, unfolding(crate::specs::File::side_of))]
+fn read_side<'a>(
+    file: &'a Value,
+    key: &str,
+    side: Place,
+    its_name: Place,
+) -> Result<&'a str, PactFault>
+    ensures { Gives Memory (λ s. s.now) result (side_of key.now side its_name (view file.now)) }
+{
+    let found = object_in(file, key, side)?;
+    let name = text_in(found, "name", its_name)?;
+    if !names(name) {
+        return Err(PactFault::Shape(its_name));
+    }
+    Ok(name)
+}
+
+#[tactic(auto, unfolding(crate::specs::File::sides_of))]
+fn read_sides(file: &Value) -> Result<(&str, &str), PactFault>
+    ensures { Gives Memory (λ x. (x.0.now, x.1.now)) result (sides_of (view file.now)) }
+{
+    if !has_version_3(file) {
+        return Err(PactFault::Version);
+    }
+    if !lacks_messages(file) {
+        return Err(PactFault::Messages);
+    }
+    let consumer = read_side(file, "consumer", Place::Consumer, Place::ConsumerName)?;
+    let provider = read_side(file, "provider", Place::Provider, Place::ProviderName)?;
+    if consumer == provider {
+        return Err(PactFault::SelfContract);
+    }
+    Ok((consumer, provider))
+}
+
+fn read_list(alloc: Global, items: &[Value]) -> Result<Vec<Interaction>, PactFault>
+    requires { AreSound 98 (items_view items.now) }
+    ensures { GivesOne (λ v. v.items) result (EachRead InteractionRead 0 (map view items.now)) }
+{
+    let mut found = Vec::new(alloc);
+    for (index, item) in items.iter().enumerate() {
+        found.push(read_interaction(alloc, index, item)?)?;
+    }
+    Ok(found)
+}
+
+fn array_of<'a>(value: &'a Value, key: &str, place: Place) -> Result<&'a Vec<Value>, PactFault>
+    ensures { Gives Memory (λ v. items_view v.now.items) result (ok_or (option_and_then as_array (get key.now (view value.now))) (Shape place)) }
+{
+    value
+        .get(key)
+        .and_then(Value::as_array)
+        .ok_or(PactFault::Shape(place))
+}
+
+fn is_few(items: &Vec<Value>) -> bool
+    ensures { result ≡ nat_le (items_len (items_view items.now.items)) most_interactions }
+{
+    items.len() <= MOST_INTERACTIONS
+}
+
+/// The values that stand as interactions.
+#[tactic(auto, using(crate::proofs::Lists::listed_view), unfolding(crate::specs::File::items_of))]
+fn items_in(file: &Value) -> Result<&Vec<Value>, PactFault>
+    ensures { Gives Memory (λ v. map view v.now.items) result (items_of (view file.now)) }
+{
+    let items = array_of(file, "interactions", Place::Interactions)?;
+    if !is_few(items) {
+        return Err(PactFault::TooMany);
+    }
+    Ok(items)
+}
+
+fn read_interactions(alloc: Global, file: &Value) -> Result<Vec<Interaction>, PactFault>
+    requires { IsSound 100 (view file.now) }
+    ensures { GivesOne (λ v. v.items) result (InteractionsRead (view file.now)) }
+{
+    let items = items_in(file)?;
+    let found = read_list(alloc, items.as_slice())?;
+    in_key_order(alloc, found)
+}
+
+/// Reads a pact file (Pact Specification, version 3) to its normal pact: metadata and all other further keys are dropped,
+/// equal interactions are kept once, and they stand in the order of their descriptions, then of the compact texts of their
+/// states. The bytes are any. Each fault is the first one in the order of `PactFault`'s documentation, but that at a text
+/// under `regex` in matching rules the pattern may be refused. `Memory` comes for want of memory alone.
+pub fn read_pact(alloc: Global, bytes: &[u8]) -> Result<Pact, PactFault>
+    ensures { GivesOne (λ p. p) result (Normal bytes.now) }
+{
+    let file = read_file(alloc, bytes)?;
+    let (consumer, provider) = read_sides(&file)?;
+    let interactions = read_interactions(alloc, &file)?;
+    let text = text_of_pact(alloc, consumer, provider, interactions.as_slice())?;
+    if text.len() > MOST_BYTES {
+        return Err(PactFault::TooLong);
+    }
+    Ok(Pact {
+        consumer: String::from_str(alloc, consumer)?,
+        provider: String::from_str(alloc, provider)?,
+        interactions,
+        text,
+    })
+}

@@ -1,0 +1,122 @@
+-- Paths and weights worked out: each line is the definitions, computed.
+use Rattle.std.proofs.Common.{◌≡◌, [], ◌∷◌, ◌++◌, Ok, Err, codes, replicate, refl, inl, inr}
+use Rattle.std.specs.List.{concat}
+use Rattle.std.specs.Fmt.{digits}
+use Rattle.pact_paths.specs.Paths.{named, indexed, any, key, item, Location}
+use Rattle.pact_paths.specs.Weights.{weight}
+use Rattle.pact_paths.specs.Spelling.{IsSpelled, path_text}
+use Rattle.pact_paths.specs.PathReading.{path_in, tokens_in}
+use Rattle.pact_paths.specs.declared.path_reader.PathFault.TheVariants.{NoRoot, BadToken, TooManyTokens}
+
+-- ---- weights at `$.item1.level[1].id`
+
+abbrev place : Location
+place = key (codes "item1") ∷ key (codes "level") ∷ item 1 ∷ key (codes "id") ∷ []
+
+root : weight [] place ≡ 2
+root = refl
+
+one_name : weight (named (codes "item1") ∷ []) place ≡ 4
+one_name = refl
+
+two_names : weight (named (codes "item1") ∷ named (codes "level") ∷ []) place ≡ 8
+two_names = refl
+
+an_index : weight (named (codes "item1") ∷ named (codes "level") ∷ indexed 1 ∷ []) place ≡ 16
+an_index = refl
+
+whole : weight (named (codes "item1") ∷ named (codes "level") ∷ indexed 1 ∷ named (codes "id") ∷ []) place ≡ 32
+whole = refl
+
+any_index : weight (named (codes "item1") ∷ named (codes "level") ∷ any ∷ []) place ≡ 8
+any_index = refl
+
+name_behind_any : weight (named (codes "item1") ∷ named (codes "level") ∷ any ∷ named (codes "id") ∷ []) place ≡ 16
+name_behind_any = refl
+
+two_any : weight (any ∷ named (codes "level") ∷ any ∷ named (codes "id") ∷ []) place ≡ 8
+two_any = refl
+
+other_name : weight (named (codes "item2") ∷ []) place ≡ 0
+other_name = refl
+
+-- a name never equals an index
+name_for_index : weight (named (codes "item1") ∷ named (codes "level") ∷ named (codes "1") ∷ named (codes "id") ∷ []) place ≡ 0
+name_for_index = refl
+
+longer : weight (named (codes "item1") ∷ named (codes "level") ∷ indexed 1 ∷ named (codes "id") ∷ named (codes "x") ∷ []) place ≡ 0
+longer = refl
+
+most : weight (replicate 60 (named (codes "a"))) (replicate 60 (key (codes "a"))) ≡ 2305843009213693952
+most = refl
+
+-- ---- spellings
+
+name_behind_dot : IsSpelled (codes ".it em") (named (codes "it em"))
+name_behind_dot = inl (refl, refl)
+
+empty_name : IsSpelled (codes "['']") (named [])
+empty_name = inr (refl, tt)
+
+leading_zeros : IsSpelled (codes "[007]") (indexed 7)
+leading_zeros = (codes "007", refl, refl, refl)
+
+-- ---- texts and what they read as
+
+root_alone : path_in (codes "$") ≡ Ok []
+unfolding tokens_in
+root_alone = refl
+
+quotes_and_zeros : path_in (codes "$['it em'][007]") ≡ Ok (named (codes "it em") ∷ indexed 7 ∷ [])
+unfolding tokens_in
+quotes_and_zeros = refl
+
+dot_in_quotes : path_in (codes "$['a.b'].*") ≡ Ok (named (codes "a.b") ∷ any ∷ [])
+unfolding tokens_in
+dot_in_quotes = refl
+
+no_root : path_in (codes "item") ≡ Err NoRoot
+no_root = refl
+
+two_dots : path_in (codes "$.a..b") ≡ Err (BadToken 3)
+unfolding tokens_in
+two_dots = refl
+
+dot_alone : path_in (codes "$.") ≡ Err (BadToken 1)
+unfolding tokens_in
+dot_alone = refl
+
+ten_digits : path_in (codes "$[1234567890]") ≡ Err (BadToken 1)
+unfolding tokens_in
+ten_digits = refl
+
+-- the name takes all that it can, and the star begins no token
+star_behind_name : path_in (codes "$.a*") ≡ Err (BadToken 3)
+unfolding tokens_in
+star_behind_name = refl
+
+name_behind_star : path_in (codes "$.*a") ≡ Err (BadToken 3)
+unfolding tokens_in
+name_behind_star = refl
+
+full : path_in (codes "$" ++ concat (replicate 60 (codes ".a"))) ≡ Ok (replicate 60 (named (codes "a")))
+unfolding tokens_in
+full = refl
+
+too_many : path_in (codes "$" ++ concat (replicate 61 (codes ".a"))) ≡ Err TooManyTokens
+unfolding tokens_in
+too_many = refl
+
+-- behind 60 tokens no token is looked for
+too_many_and_bad : path_in (codes "$" ++ concat (replicate 60 (codes ".a")) ++ codes "*") ≡ Err TooManyTokens
+unfolding tokens_in
+too_many_and_bad = refl
+
+-- ---- canonical texts
+
+quotes_dropped : path_text (named (codes "it em") ∷ indexed 7 ∷ []) ≡ codes "$.it em[7]"
+unfolding digits
+quotes_dropped = refl
+
+quotes_kept : path_text (named (codes "a.b") ∷ any ∷ named [] ∷ []) ≡ codes "$['a.b'][*]['']"
+quotes_kept = refl

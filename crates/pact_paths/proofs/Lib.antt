@@ -1,0 +1,6 @@
+pub mod WeightLemmas
+pub mod PathLemmas
+pub mod Spellings
+pub mod ReadingLemmas
+pub mod WalkLemmas
+mod Examples

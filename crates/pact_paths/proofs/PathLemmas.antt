@@ -1,0 +1,71 @@
+-- Reading paths, token by token.
+use Rattle.std.proofs.Common.{◌≡◌, ◌≢◌, ℕ, zero, suc, ◌-◌, ◌<◌, eqb, List, [], ◌∷◌, ◌++◌, length, Option, Some, None, option_map, Result, Ok, Err, MatchOption, Bor, eq-eqb, ne_eqb, refl, sym, ap, ◌∙◌, arith, le-ltb, lt-ltb, append_assoc, Bool, true, false, not, ◌&&◌, cond, ltb, ltb-false, ◌≤◌, unwrap_or}
+use Rattle.std.specs.List.{list_all, position_or_len, before_first, after_first}
+use Rattle.std.specs.Char.{is_ascii_digit}
+use Rattle.std.specs.Str.{all_ascii_digits}
+use Rattle.std.proofs.lemmas.List.Sums.{prefix_len-le-length}
+use Rattle.std.proofs.lemmas.List.{append-nil}
+use Rattle.pact_paths.specs.Paths.{Token}
+use Rattle.pact_paths.specs.PathReading.{behind, cut, token_in, tokens_in, first_of_more, with_front, with_all}
+use Rattle.pact_paths.specs.declared.path_reader.PathFault.{PathFault}
+use Rattle.pact_paths.specs.declared.path_reader.PathFault.TheVariants.{BadToken, TooManyTokens}
+
+pub behind_is : (c : ℕ) (bs : List ℕ) (r : Option (Bor (List ℕ))) → MatchOption r ((rest : List ℕ) → bs ≢ c ∷ rest) (λ x. bs ≡ c ∷ x.now) → option_map (λ (x : Bor (List ℕ)). x.now) r ≡ behind c bs
+behind_is c bs (Some x) h = sym (ap (behind c) h ∙ rw (eq-eqb c c refl) refl)
+behind_is c [] None h = refl
+behind_is c (b ∷ bs) None h = sym (rw (ne_eqb b c (λ e. h bs (ap (λ a. a ∷ bs) e))) refl)
+
+pub cut_is : (c : ℕ) (bs : List ℕ) (r : Option (Bor (List ℕ) × Bor (List ℕ))) → MatchOption r (position_or_len (λ b. eqb b c) bs ≡ length bs)
+    (λ x. (position_or_len (λ b. eqb b c) bs < length bs) × (x.0.now ≡ before_first (λ b. eqb b c) bs) × (x.1.now ≡ after_first (λ b. eqb b c) bs))
+    → option_map (λ (x : Bor (List ℕ) × Bor (List ℕ)). (x.0.now, x.1.now)) r ≡ cut c bs
+cut_is c bs None h = sym (rw (le-ltb (position_or_len (λ b. eqb b c) bs) (length bs) (omega (arith, h))) refl)
+cut_is c bs (Some x) h = sym (rw (lt-ltb (position_or_len (λ b. eqb b c) bs) (length bs) h.0) (ap (λ (p : List ℕ × List ℕ). Some p) (rw (h.1, h.2) refl)))
+
+pub tokens_end : (total n : ℕ) (t : List ℕ) → length t ≡ 0 → tokens_in total n t ≡ Ok []
+unfolding tokens_in
+tokens_end total zero [] e = refl
+tokens_end total (suc n) [] e = refl
+tokens_end total n (b ∷ t) e = absurd (omega (arith, e))
+
+pub tokens_too_many : (total : ℕ) (t : List ℕ) → 0 < length t → tokens_in total 0 t ≡ Err TooManyTokens
+unfolding tokens_in
+tokens_too_many total [] h = absurd (omega arith)
+tokens_too_many total (b ∷ t) h = refl
+
+pub tokens_bad : (total n : ℕ) (t : List ℕ) → 0 < length t → 0 < n → token_in t ≡ None → tokens_in total n t ≡ Err (BadToken (total - length t))
+unfolding tokens_in
+tokens_bad total n [] h p e = absurd (omega arith)
+tokens_bad total zero (b ∷ t) h p e = absurd (omega arith)
+tokens_bad total (suc n) (b ∷ t) h p e = ap (first_of_more (tokens_in total n) (BadToken (total - length (b ∷ t)))) e
+
+pub tokens_more : (total n : ℕ) (t : List ℕ) (x : Token) (rest : List ℕ) → 0 < length t → 0 < n → token_in t ≡ Some (x, rest) → tokens_in total n t ≡ with_front x (tokens_in total (n - 1) rest)
+unfolding tokens_in
+tokens_more total n [] x rest h p e = absurd (omega arith)
+tokens_more total zero (b ∷ t) x rest h p e = absurd (omega arith)
+tokens_more total (suc n) (b ∷ t) x rest h p e =
+    let down : suc n - 1 ≡ n = omega arith in
+    ap (first_of_more (tokens_in total n) (BadToken (total - length (b ∷ t)))) e ∙ ap (λ k. with_front x (tokens_in total k rest)) (sym down)
+
+pub with_all-front : (front : List Token) (x : Token) (r : Result (List Token) PathFault) → with_all front (with_front x r) ≡ with_all (front ++ x ∷ []) r
+with_all-front front x (Ok ts) = ap (λ us. Ok us) (sym (append_assoc front (x ∷ []) ts))
+with_all-front front x (Err e) = refl
+
+pub with_all-none : (front : List Token) → with_all front (Ok []) ≡ Ok front
+with_all-none front = ap (λ ts. Ok ts) (append-nil front)
+
+pub with_no_front : (r : Result (List Token) PathFault) → with_all [] r ≡ r
+with_no_front (Ok ts) = refl
+with_no_front (Err e) = refl
+
+-- ---- tests over a text
+
+pub digits_all : (ds : List ℕ) → list_all is_ascii_digit ds ≡ all_ascii_digits ds
+digits_all [] = refl
+digits_all (d ∷ ds) = ap (λ b. is_ascii_digit d && b) (digits_all ds)
+
+position_at : (k n : ℕ) (v : Bool) → ltb k n ≡ v → k ≤ n → unwrap_or (cond v (Some k) None) n ≡ k
+position_at k n true e h = refl
+position_at k n false e h = omega (arith, ltb-false k n e)
+
+pub position_or_end : (p : ℕ → Bool) (t : List ℕ) → unwrap_or (cond (ltb (position_or_len p t) (length t)) (Some (position_or_len p t)) None) (length t) ≡ position_or_len p t
+position_or_end p t = position_at (position_or_len p t) (length t) (ltb (position_or_len p t) (length t)) refl (prefix_len-le-length (λ b. not (p b)) t)

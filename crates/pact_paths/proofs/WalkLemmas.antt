@@ -1,0 +1,177 @@
+-- Weights of a path while a location grows by one step at its end.
+use Rattle.std.proofs.Common.{◌≡◌, ◌⊎◌, inl, inr, ℕ, zero, suc, ◌+◌, ◌*◌, ◌^◌, ◌<◌, ◌≤◌, Bool, true, false, ◌&&◌, cond, eqb, ltb, leb, List, [], ◌∷◌, ◌++◌, map, length, filter, slice_get, zip, Some, refl, sym, ap, ◌∙◌, arith, mul-one, one-mul, mul-zero, zero-mul, mul_assoc, mul_comm, pow-suc, length-append, lt-ltb, le-ltb, eq-eqb, ne_eqb, le-leb, ltb-false, bytes_eq, true≢false, mul-pos, eq-zero-or-pos}
+use Rattle.std.proofs.Math.Pow.{pow-lt}
+use Rattle.std.proofs.lemmas.Bool.{cases_order, cases_lt, lt-leb, and_right}
+use Rattle.std.proofs.lemmas.List.{length-map}
+use Rattle.std.proofs.lemmas.List.Elements.{filter-append}
+use Rattle.std.proofs.lemmas.Slice.Zip.{length-zip}
+use Rattle.std.proofs.lemmas.Option.{none-some, same_Some}
+use Rattle.pact_paths.specs.Paths.{Token, named, indexed, any, Step, key, item, Location}
+use Rattle.pact_paths.specs.Weights.{token_weight, token_weights, product, product_over, weight, is_alive, exact_tokens}
+
+-- ---- no step
+
+token_weights_none : (ts : List Token) → token_weights ts [] ≡ []
+token_weights_none [] = refl
+token_weights_none (t ∷ ts) = refl
+
+pub alive_at_root : (ts : List Token) → is_alive ts [] ≡ true
+alive_at_root ts = ap (λ ws. ltb 0 (product ws)) (token_weights_none ts)
+
+pub exact_at_root : (ts : List Token) → exact_tokens ts [] ≡ 0
+exact_at_root ts = ap (λ ws. length (filter (λ w. eqb w 2) ws)) (token_weights_none ts)
+
+-- ---- one step more
+
+token_weights_past : (ts : List Token) (at : Location) (s : Step) → length ts ≤ length at → token_weights ts (at ++ s ∷ []) ≡ token_weights ts at
+token_weights_past [] at s h = refl
+token_weights_past (t ∷ ts) [] s h = absurd (omega (arith, h))
+token_weights_past (t ∷ ts) (l ∷ at) s h = ap (λ ws. token_weight t l ∷ ws) (token_weights_past ts at s (omega (arith, h)))
+
+token_weights_step : (ts : List Token) (at : Location) (s : Step) (w : ℕ) → slice_get (map (λ t. token_weight t s) ts) (length at) ≡ Some w → token_weights ts (at ++ s ∷ []) ≡ token_weights ts at ++ w ∷ []
+token_weights_step [] at s w e = absurd (none-some w e)
+token_weights_step (t ∷ []) [] s w e = ap (λ v. v ∷ []) (same_Some (token_weight t s) w e)
+token_weights_step (t ∷ u ∷ ts) [] s w e = ap (λ v. v ∷ []) (same_Some (token_weight t s) w e)
+token_weights_step (t ∷ ts) (l ∷ at) s w e = ap (λ ws. token_weight t l ∷ ws) (token_weights_step ts at s w e)
+
+-- a path that ends before the last step isn't touched by it
+pub alive_past : (ts : List Token) (at : Location) (s : Step) → length ts ≤ length at → is_alive ts (at ++ s ∷ []) ≡ is_alive ts at
+alive_past ts at s h = ap (λ ws. ltb 0 (product ws)) (token_weights_past ts at s h)
+
+pub exact_past : (ts : List Token) (at : Location) (s : Step) → length ts ≤ length at → exact_tokens ts (at ++ s ∷ []) ≡ exact_tokens ts at
+exact_past ts at s h = ap (λ ws. length (filter (λ w. eqb w 2) ws)) (token_weights_past ts at s h)
+
+product_push : (ws : List ℕ) (w : ℕ) → product (ws ++ w ∷ []) ≡ product ws * w
+product_push [] w = mul-one w ∙ sym (one-mul w)
+product_push (v ∷ ws) w = ap (λ n. v * n) (product_push ws w) ∙ sym (mul_assoc v (product ws) w)
+
+pub product_over_step : (ts : List Token) (at : Location) (s : Step) (w : ℕ) → slice_get (map (λ t. token_weight t s) ts) (length at) ≡ Some w → product_over ts (at ++ s ∷ []) ≡ product_over ts at * w
+product_over_step ts at s w e = ap product (token_weights_step ts at s w e) ∙ product_push (token_weights ts at) w
+
+positive_product : (p w : ℕ) → ltb 0 (p * w) ≡ (ltb 0 p && ltb 0 w)
+positive_product p w = by_zero (eq-zero-or-pos p) (eq-zero-or-pos w) where
+  by_zero : (p ≡ zero) ⊎ (zero < p) → (w ≡ zero) ⊎ (zero < w) → ltb 0 (p * w) ≡ (ltb 0 p && ltb 0 w)
+  by_zero (inl e) k = ap (λ n. ltb 0 n) (ap (λ n. n * w) e ∙ zero-mul w) ∙ sym (ap (λ n. ltb 0 n && ltb 0 w) e)
+  by_zero (inr h) (inl e) = ap (λ n. ltb 0 n) (ap (λ n. p * n) e ∙ mul-zero p) ∙ sym (and_right (ltb 0 p) (ltb 0 w) (ap (λ n. ltb 0 n) e))
+  by_zero (inr h) (inr k) = lt-ltb 0 (p * w) (mul-pos h k) ∙ sym (ap (λ b. b && ltb 0 w) (lt-ltb 0 p h) ∙ lt-ltb 0 w k)
+
+-- another path lives on where its next token counts at the step
+pub alive_step : (ts : List Token) (at : Location) (s : Step) (w : ℕ) → length at < length ts → slice_get (map (λ t. token_weight t s) ts) (length at) ≡ Some w
+    → is_alive ts (at ++ s ∷ []) ≡ (is_alive ts at && ltb 0 w)
+alive_step ts at s w h e = ap (λ n. ltb 0 n) (product_over_step ts at s w e) ∙ positive_product (product_over ts at) w
+
+counted : (w : ℕ) (b : Bool) → length (cond b (w ∷ []) []) ≡ cond b 1 0
+counted w true = refl
+counted w false = refl
+
+pub exact_step : (ts : List Token) (at : Location) (s : Step) (w : ℕ) → length at < length ts → slice_get (map (λ t. token_weight t s) ts) (length at) ≡ Some w
+    → exact_tokens ts (at ++ s ∷ []) ≡ exact_tokens ts at + cond (eqb w 2) 1 0
+exact_step ts at s w h e =
+    ap (λ ws. length (filter (λ v. eqb v 2) ws)) (token_weights_step ts at s w e)
+    ∙ ap length (filter-append (λ v. eqb v 2) (token_weights ts at) (w ∷ []))
+    ∙ length-append (filter (λ v. eqb v 2) (token_weights ts at)) (filter (λ v. eqb v 2) (w ∷ []))
+    ∙ ap (λ n. exact_tokens ts at + n) (counted w (eqb w 2))
+
+filtered_few : (p : ℕ → Bool) (ws : List ℕ) → length (filter p ws) ≤ length ws
+filtered_few p [] = omega arith
+filtered_few p (w ∷ ws) = one_more (filtered_few p ws) (p w) where
+  one_more : length (filter p ws) ≤ length ws → (b : Bool) → length (cond b (w ∷ filter p ws) (filter p ws)) ≤ suc (length ws)
+  one_more h true = omega (arith, h)
+  one_more h false = omega (arith, h)
+
+pub exact_few : (ts : List Token) (at : Location) → exact_tokens ts at ≤ length ts
+exact_few ts at = omega (arith, filtered_few (λ w. eqb w 2) (token_weights ts at), length-map (zip ts at) (λ (p : Token × Step). token_weight p.0 p.1), length-zip ts at)
+
+-- ---- the weight is a power of two, by the tokens that are exact
+
+-- what a token can count
+data Counts : ℕ → Type 0 where
+  none : Counts 0
+  one : Counts 1
+  two : Counts 2
+
+counts_if : (b : Bool) → Counts (cond b 2 0)
+counts_if true = two
+counts_if false = none
+
+token_counts : (t : Token) (s : Step) → Counts (token_weight t s)
+token_counts (named n) (key k) = counts_if (bytes_eq n k)
+token_counts (named n) (item j) = none
+token_counts (indexed i) (key k) = none
+token_counts (indexed i) (item j) = counts_if (eqb i j)
+token_counts any (key k) = one
+token_counts any (item j) = one
+
+doubles : (n : ℕ) → 2 * 2 ^ n ≡ 2 ^ suc n
+doubles n = mul_comm 2 (2 ^ n) ∙ sym (pow-suc 2 n)
+
+power_more : (w : ℕ) (ws : List ℕ) → Counts w → (product ws ≡ 0) ⊎ (product ws ≡ 2 ^ length (filter (λ v. eqb v 2) ws))
+    → (w * product ws ≡ 0) ⊎ (w * product ws ≡ 2 ^ length (filter (λ v. eqb v 2) (w ∷ ws)))
+power_more w ws none h = inl (zero-mul (product ws))
+power_more w ws one (inl h) = inl (one-mul (product ws) ∙ h)
+power_more w ws one (inr h) = inr (one-mul (product ws) ∙ h)
+power_more w ws two (inl h) = inl (omega (arith, h))
+power_more w ws two (inr h) = inr (ap (λ m. 2 * m) h ∙ doubles (length (filter (λ v. eqb v 2) ws)))
+
+powers : (ps : List (Token × Step)) → let ws = map (λ (p : Token × Step). token_weight p.0 p.1) ps in (product ws ≡ 0) ⊎ (product ws ≡ 2 ^ length (filter (λ v. eqb v 2) ws))
+powers [] = inr refl
+powers (p ∷ ps) = power_more (token_weight p.0 p.1) (map (λ (p : Token × Step). token_weight p.0 p.1) ps) (token_counts p.0 p.1) (powers ps)
+
+-- a token that counts nothing makes the product 0, and else it is a power of two
+pub product_over_power : (ts : List Token) (at : Location) → (product_over ts at ≡ 0) ⊎ (product_over ts at ≡ 2 ^ exact_tokens ts at)
+product_over_power ts at = powers (zip ts at)
+
+pub weight_alive : (ts : List Token) (at : Location) → length ts ≤ length at → is_alive ts at ≡ true → weight ts at ≡ 2 ^ (1 + exact_tokens ts at)
+weight_alive ts at h e = by_power (product_over_power ts at) where
+  by_power : (product_over ts at ≡ 0) ⊎ (product_over ts at ≡ 2 ^ exact_tokens ts at) → weight ts at ≡ 2 ^ (1 + exact_tokens ts at)
+  by_power (inl k) = absurd (true≢false (sym e ∙ ap (λ n. ltb 0 n) k))
+  by_power (inr k) =
+      let up : suc (exact_tokens ts at) ≡ 1 + exact_tokens ts at = omega arith in
+      ap (λ b. cond b (2 * product_over ts at) 0) (le-leb (length ts) (length at) h) ∙ ap (λ n. 2 * n) k ∙ doubles (exact_tokens ts at) ∙ ap (λ n. 2 ^ n) up
+
+pub weight_dead : (ts : List Token) (at : Location) → is_alive ts at ≡ false → weight ts at ≡ 0
+weight_dead ts at e = nothing (leb (length ts) (length at)) where
+  nothing : (b : Bool) → cond b (2 * product_over ts at) 0 ≡ 0
+  nothing true =
+      let h : product_over ts at ≤ 0 = ltb-false 0 (product_over ts at) e in
+      omega (arith, h)
+  nothing false = refl
+
+pub weight_longer : (ts : List Token) (at : Location) → length at < length ts → weight ts at ≡ 0
+weight_longer ts at h = ap (λ b. cond b (2 * product_over ts at) 0) (lt-leb (length ts) (length at) h)
+
+pub weight_positive : (ts : List Token) (at : Location) → 0 < weight ts at → (length ts ≤ length at) × (is_alive ts at ≡ true)
+weight_positive ts at h = (short (cases_lt (length at) (length ts)), live (is_alive ts at) refl) where
+  short : (length at < length ts) ⊎ (length ts ≤ length at) → length ts ≤ length at
+  short (inl k) = absurd (omega (arith, h, weight_longer ts at k))
+  short (inr k) = k
+
+  live : (b : Bool) → is_alive ts at ≡ b → is_alive ts at ≡ true
+  live true e = e
+  live false e = absurd (omega (arith, h, weight_dead ts at e))
+
+-- weights compare as the counts of exact tokens do
+pub ltb-powers : (m n : ℕ) → ltb (2 ^ (1 + m)) (2 ^ (1 + n)) ≡ ltb m n
+ltb-powers m n = by_order (cases_order m n) where
+  by_order : (m ≡ n) ⊎ ((m < n) ⊎ (n < m)) → ltb (2 ^ (1 + m)) (2 ^ (1 + n)) ≡ ltb m n
+  by_order (inl e) = ap (λ k. ltb (2 ^ (1 + k)) (2 ^ (1 + n))) e ∙ le-ltb (2 ^ (1 + n)) (2 ^ (1 + n)) (omega arith) ∙ sym (le-ltb m n (omega (arith, e)))
+  by_order (inr (inl h)) =
+      let up : 1 + m < 1 + n = omega (arith, h) in
+      lt-ltb (2 ^ (1 + m)) (2 ^ (1 + n)) (pow-lt up) ∙ sym (lt-ltb m n h)
+  by_order (inr (inr h)) =
+      let up : 1 + n < 1 + m = omega (arith, h) in
+      let more : 2 ^ (1 + n) < 2 ^ (1 + m) = pow-lt up in
+      le-ltb (2 ^ (1 + m)) (2 ^ (1 + n)) (omega arith) ∙ sym (le-ltb m n (omega (arith, h)))
+
+pub eqb-powers : (m n : ℕ) → eqb (2 ^ (1 + m)) (2 ^ (1 + n)) ≡ eqb m n
+eqb-powers m n = by_order (cases_order m n) where
+  by_order : (m ≡ n) ⊎ ((m < n) ⊎ (n < m)) → eqb (2 ^ (1 + m)) (2 ^ (1 + n)) ≡ eqb m n
+  by_order (inl e) = eq-eqb (2 ^ (1 + m)) (2 ^ (1 + n)) (ap (λ k. 2 ^ (1 + k)) e) ∙ sym (eq-eqb m n e)
+  by_order (inr (inl h)) =
+      let up : 1 + m < 1 + n = omega (arith, h) in
+      let more : 2 ^ (1 + m) < 2 ^ (1 + n) = pow-lt up in
+      ne_eqb (2 ^ (1 + m)) (2 ^ (1 + n)) (λ e. omega arith) ∙ sym (ne_eqb m n (λ e. omega arith))
+  by_order (inr (inr h)) =
+      let up : 1 + n < 1 + m = omega (arith, h) in
+      let more : 2 ^ (1 + n) < 2 ^ (1 + m) = pow-lt up in
+      ne_eqb (2 ^ (1 + m)) (2 ^ (1 + n)) (λ e. omega arith) ∙ sym (ne_eqb m n (λ e. omega arith))

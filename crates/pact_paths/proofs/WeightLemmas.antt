@@ -1,0 +1,42 @@
+-- The product of a weight, token by token.
+use Rattle.std.proofs.Common.{◌≡◌, ℕ, suc, ◌+◌, ◌*◌, ◌^◌, ◌<◌, ◌≤◌, List, ◌∷◌, map, length, get_or, slice_get, option_map, Some, drop, add-one, lit<, refl, sym, ap, ◌∙◌, arith}
+use Rattle.std.proofs.Math.Nat.{mul-le-mul_left, pow-le-pow_right}
+use Rattle.std.proofs.Math.Seq.{drop-cons}
+use Rattle.std.proofs.lemmas.List.{length-map}
+use Rattle.std.proofs.lemmas.Option.{slice_get-map, slice_get_read}
+use Rattle.pact_paths.specs.Paths.{Token as PathToken, Step as PathStep}
+use Rattle.pact_paths.specs.Weights.{token_weight, product_over}
+use Rattle.pact_paths.specs.Locations.{step_view}
+use Rattle.pact_paths.specs.TokenView.{token_view}
+use Rattle.pact_paths.specs.declared.path.Step.{Step}
+use Rattle.pact_paths.specs.declared.path.Token.{Token}
+
+abbrev pub of_parts : List Token → List Step → ℕ
+of_parts ts ls = product_over (map token_view ts) (map step_view ls)
+
+take_front : {A : Type 0} (xs : List A) (i : ℕ) (x : A) → i < length xs → x ≡ get_or xs i x → drop i xs ≡ x ∷ drop (i + 1) xs
+take_front xs i x p e = rw add-one (drop-cons xs i x p ∙ ap (λ y. y ∷ drop (suc i) xs) (sym e))
+
+pub parts_more : (ts : List Token) (ls : List Step) (i : ℕ) (t : Token) (s : Step) → i < length ts → i < length ls → t ≡ get_or ts i t → s ≡ get_or ls i s
+    → of_parts (drop i ts) (drop i ls) ≡ token_weight (token_view t) (step_view s) * of_parts (drop (i + 1) ts) (drop (i + 1) ls)
+parts_more ts ls i t s p q et es = rw (take_front ts i t p et, take_front ls i s q es) refl
+
+pub doubled : (p w k : ℕ) → p ≤ 2 ^ k → w ≤ 2 → p * w ≤ 2 ^ (k + 1)
+doubled p w k a b =
+    let up : p * w ≤ p * 2 = mul-le-mul_left p b in
+    rw add-one (omega arith)
+
+pub within_60 : (k : ℕ) → k ≤ 60 → 2 ^ k ≤ 2 ^ 60
+within_60 k h = pow-le-pow_right {n = 2} (lit< tt) {i = k} {j = 60} h
+
+pub regroup : (p w r total : ℕ) → p * (w * r) ≡ total → (p * w) * r ≡ total
+regroup p w r total h = omega (arith, h)
+
+-- the weight of the token at a place of a path
+pub weight_there : (ts : List Token) (tokens : List PathToken) (place : ℕ) (t : Token) (s : PathStep) (n : ℕ) → tokens ≡ map token_view ts → place < length tokens → t ≡ get_or ts place t → n ≡ token_weight (token_view t) s
+    → slice_get (map (λ u. token_weight u s) tokens) place ≡ Some n
+weight_there ts tokens place t s n view within read e =
+    let weigh = λ (u : PathToken). token_weight u s in
+    let inside : place < length ts = omega (arith, ap length view, length-map ts token_view) in
+    ap (λ us. slice_get (map weigh us) place) view ∙ slice_get-map weigh (map token_view ts) place ∙ ap (option_map weigh) (slice_get-map token_view ts place ∙ ap (option_map token_view) (slice_get_read ts (length ts) place t refl inside read))
+    ∙ ap (λ m. Some m) (sym e)

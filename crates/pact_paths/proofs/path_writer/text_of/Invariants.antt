@@ -1,0 +1,9 @@
+use Rattle.std.proofs.Common.{◌≡◌, ◌++◌, map, drop, string_bytes}
+use Rattle.std.specs.List.{flat_map}
+use Rattle.pact_paths.specs.TokenView.{token_view}
+use Rattle.pact_paths.specs.Spelling.{path_text, token_text}
+use Rattle.pact_paths.proofs.path_writer.text_of.Given as goal
+
+abbrev pub invariant-loop-token : goal.invariant-loop-token
+invariant-loop-token l =
+    string_bytes l.text ++ flat_map token_text (map token_view (drop l.token-index l.tokens)) ≡ path_text (map token_view l.tokens)

@@ -1,0 +1,10 @@
+-- What a `Token` stands for.
+use Rattle.std.specs.Prelude.{string_bytes}
+use Rattle.pact_paths.specs.Paths as path
+use Rattle.pact_paths.specs.declared.path.Token.{Token}
+use Rattle.pact_paths.specs.declared.path.Token.TheVariants.{Name, Index, Any}
+
+abbrev pub token_view : Token → path.Token
+token_view (Name n) = path.named (string_bytes n)
+token_view (Index i) = path.indexed i
+token_view Any = path.any

@@ -1,0 +1,223 @@
+ghost use Rattle.std.specs.Prelude.{◌≡◌, ◌⊎◌, ◌<◌, IsTrue, ◌≤◌, IfOk, option_map, length, map, IsCharBoundary, IfSome, Some, None, if◌then◌else◌};
+ghost use Rattle.std.specs.List.{position_or_len};
+ghost use Rattle.pact_paths.specs.TokenView.{token_view};
+ghost use Rattle.pact_paths.specs.Spelling.{is_special, is_index};
+ghost use Rattle.pact_paths.specs.PathReading.{token_in, dotted as dotted_in, bracketed as bracketed_in, plain as plain_in, quoted as quoted_in, index as index_in, behind as behind_of, cut as cut_of, closed_star as closed_star_in, tokens_in, path_in, with_all, Gives};
+ghost use Rattle.pact_paths.specs.Readings.{IsTheReading};
+ghost use Rattle.pact_paths.specs.Paths.{named, indexed, any};
+ghost use Rattle.std.specs.Str.Parse.{digits_value};
+ghost use Rattle.std.specs.Str.{all_ascii_digits};
+
+use crate::path::{Path, Token};
+use std::alloc::{AllocError, AllocFailed, Global};
+use thiserror::Error;
+
+/// Why a text was not read as a path: its first fault from left to right, or want of memory.
+#[derive(Clone, Copy, Debug, PartialEq, Eq, Error)]
+pub enum PathFault {
+    /// The text doesn't begin with `$`.
+    #[error("no `$` at the front")]
+    NoRoot,
+    /// No token begins at this byte, counted from 0, where reading stops before it has 60 tokens.
+    #[error("no token at byte {0}")]
+    BadToken(usize),
+    /// Text is left behind 60 tokens.
+    #[error("too many tokens")]
+    TooManyTokens,
+    /// A growth was refused.
+    #[error("out of memory")]
+    Memory,
+}
+
+impl From<AllocError> for PathFault {
+    ghost use Rattle.pact_paths.specs.declared.path_reader.PathFault.TheVariants.{Memory};
+
+    ghost from_gives = { λ _ fault. fault ≡ Memory };
+
+    fn from(_: AllocError) -> PathFault {
+        PathFault::Memory
+    }
+}
+
+impl<T: Drop> From<AllocFailed<T>> for PathFault {
+    ghost use Rattle.pact_paths.specs.declared.path_reader.PathFault.TheVariants.{Memory};
+
+    ghost from_gives = { λ _ fault. fault ≡ Memory };
+
+    fn from(_: AllocFailed<T>) -> PathFault {
+        PathFault::Memory
+    }
+}
+
+/// How many tokens a path has at most.
+const MAX_TOKENS: usize = 60;
+
+impl Path {
+    /// Reads a path: the root `$`, and then at most 60 tokens, each `.name`, `['name']`, `[n]`, `.*` or `[*]`. A name behind a dot has one or
+    /// more characters, none of them `.` `[` `]` `'` `*`; a name in quotes has any but `'`, or none; an index has one to nine digits.
+    /// Each token takes what it can, and the first fault from the left is told.
+    pub fn read(alloc: Global, text: &str) -> Result<Path, PathFault>
+        // The result is the one reading of the text, unless memory runs out.
+        ensures reading { (result ≡ Err PathFault.Memory) ⊎ IsTheReading text.now result }
+
+        // The same, computed.
+        ensures computed { Gives (λ p. p) result (path_in text.now) }
+    {
+        let Some(rest) = behind(text, '$') else {
+            return Err(PathFault::NoRoot);
+        };
+        let tokens = tokens_of(alloc, text.len(), MAX_TOKENS, rest, Vec::new(alloc))?;
+        Ok(Path { tokens })
+    }
+}
+
+/// The tokens so far, and at most so many more in what is left of a text of `total` bytes.
+fn tokens_of(
+    alloc: Global,
+    total: usize,
+    limit: usize,
+    text: &str,
+    tokens: Vec<Token>,
+) -> Result<Vec<Token>, PathFault>
+    requires { length text.now ≤ total }
+    ensures { Gives (λ v. map token_view v.items) result (with_all (map token_view tokens.items) (tokens_in total limit text.now)) }
+{
+    if text.is_empty() {
+        return Ok(tokens);
+    }
+    if limit == 0 {
+        return Err(PathFault::TooManyTokens);
+    }
+    match token_at(alloc, text)? {
+        Some((token, rest)) => {
+            let mut tokens = tokens;
+            tokens.push(token)?;
+            tokens_of(alloc, total, limit - 1, rest, tokens)
+        }
+        None => Err(PathFault::BadToken(total - text.len())),
+    }
+}
+
+/// The token at the front, and what follows it.
+fn token_at(alloc: Global, text: &str) -> Result<Option<(Token, &str)>, AllocError>
+    ensures value { IfOk result (λ o. option_map (λ x. (token_view x.0, x.1.now)) o ≡ token_in text.now) }
+    ensures shorter { IfOk result (λ o. IfSome o (λ x. length x.1.now ≤ length text.now)) }
+{
+    if let Some(rest) = behind(text, '.') {
+        return dotted(alloc, rest);
+    }
+    if let Some(rest) = behind(text, '[') {
+        return bracketed(alloc, rest);
+    }
+    Ok(None)
+}
+
+fn dotted(alloc: Global, text: &str) -> Result<Option<(Token, &str)>, AllocError>
+    ensures value { IfOk result (λ o. option_map (λ x. (token_view x.0, x.1.now)) o ≡ dotted_in text.now) }
+    ensures shorter { IfOk result (λ o. IfSome o (λ x. length x.1.now ≤ length text.now)) }
+{
+    if let Some(rest) = behind(text, '*') {
+        return Ok(Some((Token::Any, rest)));
+    }
+    let end = plain_len(text);
+    if end == 0 {
+        return Ok(None);
+    }
+    let (name, rest) = text.split_at(end);
+    Ok(Some((Token::Name(String::from_str(alloc, name)?), rest)))
+}
+
+fn bracketed(alloc: Global, text: &str) -> Result<Option<(Token, &str)>, AllocError>
+    ensures value { IfOk result (λ o. option_map (λ x. (token_view x.0, x.1.now)) o ≡ bracketed_in text.now) }
+    ensures shorter { IfOk result (λ o. IfSome o (λ x. length x.1.now ≤ length text.now)) }
+{
+    if let Some(rest) = closed_star(text) {
+        return Ok(Some((Token::Any, rest)));
+    }
+    if let Some((name, rest)) = quoted(text) {
+        return Ok(Some((Token::Name(String::from_str(alloc, name)?), rest)));
+    }
+    match index(text) {
+        Some((index, rest)) => Ok(Some((Token::Index(index), rest))),
+        None => Ok(None),
+    }
+}
+
+/// What stands behind a mark at the front.
+fn behind(text: &str, mark: char) -> Option<&str>
+    requires { mark < 128 }
+    ensures value { option_map (λ r. r.now) result ≡ behind_of mark text.now }
+    ensures shorter { IfSome result (λ r. length r.now ≤ length text.now) }
+{
+    text.strip_prefix(mark)
+}
+
+/// What stands before and behind the first mark.
+fn cut(text: &str, mark: char) -> Option<(&str, &str)>
+    requires { mark < 128 }
+    ensures value { option_map (λ r. (r.0.now, r.1.now)) result ≡ cut_of mark text.now }
+    ensures shorter { IfSome result (λ r. length r.1.now ≤ length text.now) }
+{
+    text.split_once(mark)
+}
+
+fn closed_star(text: &str) -> Option<&str>
+    ensures value { option_map (λ r. (any, r.now)) result ≡ closed_star_in text.now }
+    ensures shorter { IfSome result (λ r. length r.now ≤ length text.now) }
+{
+    behind(behind(text, '*')?, ']')
+}
+
+/// The name in quotes at the front, and what follows the bracket behind it.
+fn quoted(text: &str) -> Option<(&str, &str)>
+    ensures value { option_map (λ x. (named x.0.now, x.1.now)) result ≡ quoted_in text.now }
+    ensures shorter { IfSome result (λ x. length x.1.now ≤ length text.now) }
+{
+    let (name, rest) = cut(behind(text, '\'')?, '\'')?;
+    let rest = behind(rest, ']')?;
+    Some((name, rest))
+}
+
+/// The index up to the bracket, and what follows it.
+fn index(text: &str) -> Option<(u64, &str)>
+    ensures value { option_map (λ x. (indexed x.0, x.1.now)) result ≡ index_in text.now }
+    ensures shorter { IfSome result (λ x. length x.1.now ≤ length text.now) }
+{
+    let (digits, rest) = cut(text, ']')?;
+    Some((number(digits)?, rest))
+}
+
+/// The number that 1 to 9 digits write.
+fn number(digits: &str) -> Option<u64>
+    ensures { result ≡ (if is_index digits.now then Some (digits_value 10 digits.now) else None) }
+{
+    if are_digits(digits) && !digits.is_empty() && digits.len() <= 9 {
+        digits.parse().ok()
+    } else {
+        None
+    }
+}
+
+fn are_digits(text: &str) -> bool
+    ensures { result ≡ all_ascii_digits text.now }
+{
+    text.as_bytes().iter().all(|byte| byte.is_ascii_digit())
+}
+
+/// How many bytes stand before the first that stands in no name without quotes.
+pub(crate) fn plain_len(text: &str) -> usize
+    ensures value { result ≡ position_or_len is_special text.now }
+    ensures boundary { IsCharBoundary text.now result }
+{
+    text.as_bytes()
+        .iter()
+        .position(|byte| is_special_byte(*byte))
+        .unwrap_or(text.len())
+}
+
+fn is_special_byte(byte: u8) -> bool
+    ensures value { result ≡ is_special byte }
+    ensures ascii { IsTrue result → byte < 128 }
+{
+    matches!(byte, b'.' | b'[' | b']' | b'\'' | b'*')
+}

@@ -1,0 +1,177 @@
+-- A tree and its JSON value are each other's.
+use Rattle.std.proofs.Common.{◌≡◌, ℕ, ℤ, pos, negsuc, List, Bool, false, ◌||◌, Option, Some, None, option_map, option_and_then, Ordering, Less, Equal, Greater, nat_cmp, bytes_eq, cond, refl, sym, ap, ◌∙◌, subst}
+use Rattle.std.proofs.lemmas.Option.{same_Some}
+use Rattle.std.proofs.lemmas.Bool.{or_parts}
+use Rattle.std.proofs.lemmas.Map.Text.{is_eq-slice_cmp}
+use Rattle.std.specs.Ordering.{match_ordering, is_eq}
+use Rattle.std.specs.Cmp.Lexicographic.{slice_cmp}
+use Rattle.serde_json.specs.Data as json
+use Rattle.serde_json.specs.Find.{of_integer, is_float, get_member}
+use Rattle.serde_json.specs.Written.{has_float, items_have_float, members_have_float}
+use Rattle.pact_rules.specs.Kept as kept
+use Rattle.pact_rules.specs.Holding.{get_field}
+use Rattle.pact_rules.specs.Trees.{Node, null, truth, whole, text, list, object, Nodes, no_nodes, node, Fields, no_fields, field, IsTree, AreTrees, IsMap, IsBelow}
+use Rattle.pact_rules.specs.TreeReading.{whole_number, whole_tree, whole_items, whole_members, data_of, items_data, members_data}
+use Rattle.pact_rules.proofs.TreeLemmas.{both_some, both_make}
+
+map_some : {A B : Type 0} (f : A → B) (o : Option A) (y : B) → option_map f o ≡ Some y → (x : A) × (o ≡ Some x) × (f x ≡ y)
+map_some f None y e = cc
+map_some f (Some x) y e = (x, refl, same_Some _ _ e)
+
+-- ---- from a tree to its value and back
+
+integer_back : (n : ℤ) → whole_number (of_integer n) ≡ Some (whole n)
+integer_back (pos n) = refl
+integer_back (negsuc n) = refl
+
+mutual
+  pub whole_of_data : (t : Node) → whole_tree (data_of t) ≡ Some t
+  whole_of_data null = refl
+  whole_of_data (truth b) = refl
+  whole_of_data (whole n) = integer_back n
+  whole_of_data (text s) = refl
+  whole_of_data (list ts) = ap (option_map list) (whole_of_items ts)
+  whole_of_data (object fs) = ap (option_map object) (whole_of_members fs)
+
+  pub whole_of_items : (ts : Nodes) → whole_items (items_data ts) ≡ Some ts
+  whole_of_items no_nodes = refl
+  whole_of_items (node t ts) = both_make (whole_tree (data_of t)) (whole_items (items_data ts)) node t ts (whole_of_data t) (whole_of_items ts)
+
+  pub whole_of_members : (fs : Fields) → whole_members (members_data fs) ≡ Some fs
+  whole_of_members no_fields = refl
+  whole_of_members (field k t fs) = both_make (whole_tree (data_of t)) (whole_members (members_data fs)) (field k) t fs (whole_of_data t) (whole_of_members fs)
+
+-- ---- from a value that was read to its tree and back
+
+number_back : (n : json.Num) (t : Node) → kept.IsWhole n → whole_number n ≡ Some t → data_of t ≡ json.number n
+number_back (json.unsigned n) t h e = ap data_of (sym (same_Some _ _ e))
+number_back (json.negative (pos n)) t h e = absurd h
+number_back (json.negative (negsuc n)) t h e = ap data_of (sym (same_Some _ _ e))
+number_back (json.float x) t h e = cc
+
+mutual
+  pub data_of_whole : (d : json.Data) (t : Node) → kept.IsKept d → whole_tree d ≡ Some t → data_of t ≡ d
+  data_of_whole json.null t h e = ap data_of (sym (same_Some _ _ e))
+  data_of_whole (json.boolean b) t h e = ap data_of (sym (same_Some _ _ e))
+  data_of_whole (json.number n) t h e = number_back n t h e
+  data_of_whole (json.string s) t h e = ap data_of (sym (same_Some _ _ e))
+  data_of_whole (json.array ds) t h e =
+      let p = map_some list (whole_items ds) t e in
+      ap data_of (sym p.2) ∙ ap json.array (data_of_whole_items ds p.0 h p.1)
+  data_of_whole (json.object ms) t h e =
+      let p = map_some object (whole_members ms) t e in
+      ap data_of (sym p.2) ∙ ap json.object (data_of_whole_members ms p.0 h p.1)
+
+  pub data_of_whole_items : (ds : json.Items) (ts : Nodes) → kept.AreKept ds → whole_items ds ≡ Some ts → items_data ts ≡ ds
+  data_of_whole_items json.no_items ts h e = ap items_data (sym (same_Some _ _ e))
+  data_of_whole_items (json.item d ds) ts h e =
+      let p = both_some (whole_tree d) (whole_items ds) node ts e in
+      ap items_data (sym p.4) ∙ ap (λ x. json.item x (items_data p.1)) (data_of_whole d p.0 h.0 p.2) ∙ ap (json.item d) (data_of_whole_items ds p.1 h.1 p.3)
+
+  pub data_of_whole_members : (ms : json.Members) (fs : Fields) → kept.MembersAreKept ms → whole_members ms ≡ Some fs → members_data fs ≡ ms
+  data_of_whole_members json.no_members fs h e = ap members_data (sym (same_Some _ _ e))
+  data_of_whole_members (json.member k d ms) fs h e =
+      let p = both_some (whole_tree d) (whole_members ms) (field k) fs e in
+      ap members_data (sym p.4) ∙ ap (λ x. json.member k x (members_data p.1)) (data_of_whole d p.0 h.1 p.2) ∙ ap (json.member k d) (data_of_whole_members ms p.1 h.2 p.3)
+
+-- ---- a value without fractions has a tree, and one with a tree has no fractions
+
+number_float : (n : json.Num) (t : Node) → whole_number n ≡ Some t → is_float n ≡ false
+number_float (json.unsigned n) t e = refl
+number_float (json.negative z) t e = refl
+number_float (json.float x) t e = cc
+
+mutual
+  pub no_float : (d : json.Data) (t : Node) → whole_tree d ≡ Some t → has_float d ≡ false
+  no_float json.null t e = refl
+  no_float (json.boolean b) t e = refl
+  no_float (json.number n) t e = number_float n t e
+  no_float (json.string s) t e = refl
+  no_float (json.array ds) t e = let p = map_some list (whole_items ds) t e in no_float_items ds p.0 p.1
+  no_float (json.object ms) t e = let p = map_some object (whole_members ms) t e in no_float_members ms p.0 p.1
+
+  pub no_float_items : (ds : json.Items) (ts : Nodes) → whole_items ds ≡ Some ts → items_have_float ds ≡ false
+  no_float_items json.no_items ts e = refl
+  no_float_items (json.item d ds) ts e =
+      let p = both_some (whole_tree d) (whole_items ds) node ts e in
+      ap (λ b. b || items_have_float ds) (no_float d p.0 p.2) ∙ no_float_items ds p.1 p.3
+
+  pub no_float_members : (ms : json.Members) (fs : Fields) → whole_members ms ≡ Some fs → members_have_float ms ≡ false
+  no_float_members json.no_members fs e = refl
+  no_float_members (json.member k d ms) fs e =
+      let p = both_some (whole_tree d) (whole_members ms) (field k) fs e in
+      ap (λ b. b || members_have_float ms) (no_float d p.0 p.2) ∙ no_float_members ms p.1 p.3
+
+number_has_tree : (n : json.Num) → is_float n ≡ false → (t : Node) × (whole_number n ≡ Some t)
+number_has_tree (json.unsigned n) h = (whole (pos n), refl)
+number_has_tree (json.negative z) h = (whole z, refl)
+number_has_tree (json.float x) h = absurd cc
+
+mutual
+  pub has_tree : (d : json.Data) → has_float d ≡ false → (t : Node) × (whole_tree d ≡ Some t)
+  has_tree json.null h = (null, refl)
+  has_tree (json.boolean b) h = (truth b, refl)
+  has_tree (json.number n) h = number_has_tree n h
+  has_tree (json.string s) h = (text s, refl)
+  has_tree (json.array ds) h = let p = items_have_trees ds h in (list p.0, ap (option_map list) p.1)
+  has_tree (json.object ms) h = let p = members_have_trees ms h in (object p.0, ap (option_map object) p.1)
+
+  pub items_have_trees : (ds : json.Items) → items_have_float ds ≡ false → (ts : Nodes) × (whole_items ds ≡ Some ts)
+  items_have_trees json.no_items h = (no_nodes, refl)
+  items_have_trees (json.item d ds) h =
+      let p = or_parts (has_float d) _ h in let a = has_tree d p.0 in let b = items_have_trees ds p.1 in
+      (node a.0 b.0, both_make (whole_tree d) (whole_items ds) node a.0 b.0 a.1 b.1)
+
+  pub members_have_trees : (ms : json.Members) → members_have_float ms ≡ false → (fs : Fields) × (whole_members ms ≡ Some fs)
+  members_have_trees json.no_members h = (no_fields, refl)
+  members_have_trees (json.member k d ms) h =
+      let p = or_parts (has_float d) _ h in let a = has_tree d p.0 in let b = members_have_trees ms p.1 in
+      (field k a.0 b.0, both_make (whole_tree d) (whole_members ms) (field k) a.0 b.0 a.1 b.1)
+
+-- ---- a part of a tree is a tree
+
+found_by : (o : Ordering) (t : Bool) (d : json.Data) (u : Node) (rest : Option json.Data) (more : Option Node) → is_eq o ≡ t → whole_tree d ≡ Some u
+    → option_and_then whole_tree rest ≡ more → option_and_then whole_tree (match_ordering o rest (Some d) rest) ≡ cond t (Some u) more
+found_by Less t d u rest more e h k = rw (sym e) k
+found_by Equal t d u rest more e h k = rw (sym e) h
+found_by Greater t d u rest more e h k = rw (sym e) k
+
+pub member_of_tree : (k : List ℕ) (ms : json.Members) (fs : Fields) → whole_members ms ≡ Some fs → option_and_then whole_tree (get_member k ms) ≡ get_field k fs
+member_of_tree k json.no_members fs e = ap (get_field k) (same_Some _ _ e)
+member_of_tree k (json.member l d ms) fs e =
+    let p = both_some (whole_tree d) (whole_members ms) (field l) fs e in
+    found_by (slice_cmp nat_cmp k l) (bytes_eq k l) d p.0 (get_member k ms) (get_field k p.1) (is_eq-slice_cmp k l) p.2 (member_of_tree k ms p.1 p.3) ∙ ap (get_field k) p.4
+
+-- ---- the keys stay in order
+
+below : (k : List ℕ) (ms : json.Members) (fs : Fields) → kept.IsBelow k ms → whole_members ms ≡ Some fs → IsBelow k fs
+below k json.no_members fs h e = subst (IsBelow k) (same_Some _ _ e) tt
+below k (json.member l d ms) fs h e =
+    let p = both_some (whole_tree d) (whole_members ms) (field l) fs e in
+    subst (IsBelow k) p.4 (h.0, below k ms p.1 h.1 p.3)
+
+number_tree : (n : json.Num) (t : Node) → whole_number n ≡ Some t → IsTree t
+number_tree (json.unsigned n) t e = subst IsTree (same_Some _ _ e) tt
+number_tree (json.negative z) t e = subst IsTree (same_Some _ _ e) tt
+number_tree (json.float x) t e = cc
+
+mutual
+  pub is_tree : (d : json.Data) (t : Node) → kept.IsKept d → whole_tree d ≡ Some t → IsTree t
+  is_tree json.null t h e = subst IsTree (same_Some _ _ e) tt
+  is_tree (json.boolean b) t h e = subst IsTree (same_Some _ _ e) tt
+  is_tree (json.number n) t h e = number_tree n t e
+  is_tree (json.string s) t h e = subst IsTree (same_Some _ _ e) tt
+  is_tree (json.array ds) t h e = let p = map_some list (whole_items ds) t e in subst IsTree p.2 (are_trees ds p.0 h p.1)
+  is_tree (json.object ms) t h e = let p = map_some object (whole_members ms) t e in subst IsTree p.2 (is_map ms p.0 h p.1)
+
+  pub are_trees : (ds : json.Items) (ts : Nodes) → kept.AreKept ds → whole_items ds ≡ Some ts → AreTrees ts
+  are_trees json.no_items ts h e = subst AreTrees (same_Some _ _ e) tt
+  are_trees (json.item d ds) ts h e =
+      let p = both_some (whole_tree d) (whole_items ds) node ts e in
+      subst AreTrees p.4 (is_tree d p.0 h.0 p.2, are_trees ds p.1 h.1 p.3)
+
+  pub is_map : (ms : json.Members) (fs : Fields) → kept.MembersAreKept ms → whole_members ms ≡ Some fs → IsMap fs
+  is_map json.no_members fs h e = subst IsMap (same_Some _ _ e) tt
+  is_map (json.member k d ms) fs h e =
+      let p = both_some (whole_tree d) (whole_members ms) (field k) fs e in
+      subst IsMap p.4 (below k ms p.1 h.0 p.3, is_tree d p.0 h.1 p.2, is_map ms p.1 h.2 p.3)

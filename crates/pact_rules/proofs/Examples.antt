@@ -1,0 +1,175 @@
+-- Worked examples, computed from the definitions.
+use Rattle.std.proofs.Common.{◌≡◌, ℕ, pos, negsuc, true, false, List, [], ◌∷◌, Some, None, Ok, Err, codes, refl}
+use Rattle.pact_paths.specs.Paths.{Token, named, indexed, any, key, item, Location}
+use Rattle.pact_paths.specs.PathReading.{tokens_in}
+use Rattle.pact_rules.specs.Trees.{Node, null, truth, whole, text, list, object, Nodes, no_nodes, node, Fields, no_fields, field}
+use Rattle.pact_rules.specs.Rules.{equality, same_type, regex, include, integer, is_null, Entry, BodyRule, HeaderRule, has_regex}
+use Rattle.pact_rules.specs.Choice.{chosen}
+use Rattle.pact_rules.specs.Holding.{holds, entry_holds}
+use Rattle.pact_rules.specs.Tables.{header_entry}
+use Rattle.pact_rules.specs.RuleReading.{found_in, no_pattern}
+use Rattle.pact_rules.specs.Walks.{own_place}
+use Rattle.pact_rules.specs.declared.rule_fault.RuleFault.TheVariants.{OldRules, BadPath, SamePathTwice, Unsupported, BadBound, Pattern, BadCombine}
+
+-- ---- the choice
+
+abbrev type_entry : Entry
+type_entry = record { any = false; matchers = same_type None None ∷ [] }
+
+abbrev rule : List Token → BodyRule
+rule path = record { path = path; entry = type_entry }
+
+-- item1.level[1].id
+abbrev deep : Location
+deep = key (codes "item1") ∷ key (codes "level") ∷ item 1 ∷ key (codes "id") ∷ []
+
+abbrev item1_level : List Token → List Token
+item1_level more = named (codes "item1") ∷ named (codes "level") ∷ more
+
+abbrev any_level_id : List Token
+any_level_id = any ∷ named (codes "level") ∷ any ∷ named (codes "id") ∷ []
+
+-- of three that weigh 8 the longest is chosen, and not the first
+most_tokens : chosen (rule (item1_level []) ∷ rule (item1_level (any ∷ [])) ∷ rule any_level_id ∷ []) deep ≡ Some 2
+most_tokens = refl
+
+-- the heaviest is chosen, and not the longest
+heaviest : chosen (rule (item1_level []) ∷ rule (item1_level (any ∷ [])) ∷ rule (item1_level (indexed 1 ∷ [])) ∷ rule any_level_id ∷ []) deep ≡ Some 2
+heaviest = refl
+
+-- of one weight and length the lesser text is chosen
+least_text : chosen (rule (named (codes "a") ∷ any ∷ []) ∷ rule (any ∷ named (codes "b") ∷ []) ∷ []) (key (codes "a") ∷ key (codes "b") ∷ []) ≡ Some 0
+least_text = refl
+
+-- a shorter path cascades, away from its own place
+cascades : chosen (rule (named (codes "a") ∷ []) ∷ []) (key (codes "a") ∷ item 0 ∷ []) ≡ Some 0
+cascades = refl
+
+not_own : own_place (rule (named (codes "a") ∷ []) ∷ []) (key (codes "a") ∷ item 0 ∷ []) ≡ false
+not_own = refl
+
+own : own_place (rule (named (codes "a") ∷ []) ∷ []) (key (codes "a") ∷ []) ≡ true
+own = refl
+
+nothing_chosen : chosen (rule (named (codes "a") ∷ []) ∷ []) (key (codes "z") ∷ []) ≡ None
+nothing_chosen = refl
+
+-- ---- matchers
+
+abbrev one : Node → Node
+one n = list (node n no_nodes)
+
+-- the least length counts at its own place alone
+least_at_own_place : holds (same_type (Some 1) None) (one (text (codes "a"))) (list no_nodes) true ≡ false
+least_at_own_place = refl
+
+least_elsewhere : holds (same_type (Some 1) None) (one (text (codes "a"))) (list no_nodes) false ≡ true
+least_elsewhere = refl
+
+other_kind : holds (same_type None None) (text (codes "a")) (whole (pos 1)) true ≡ false
+other_kind = refl
+
+equal_numbers : holds equality (whole (pos 1)) (whole (pos 2)) true ≡ false
+equal_numbers = refl
+
+-- the values behind the keys are no matter of this place
+equal_keys : holds equality (object (field (codes "a") null no_fields)) (object (field (codes "a") (truth true) no_fields)) true ≡ true
+equal_keys = refl
+
+part_of_text : holds (include (codes "b")) null (text (codes "abc")) true ≡ true
+part_of_text = refl
+
+truth_as_text : holds (include (codes "ru")) null (truth true) true ≡ true
+truth_as_text = refl
+
+null_has_no_text : holds (include []) null null true ≡ false
+null_has_no_text = refl
+
+null_or_type : entry_holds (record { any = true; matchers = is_null ∷ same_type None None ∷ [] }) (text (codes "Ada")) null true ≡ true
+null_or_type = refl
+
+neither : entry_holds (record { any = true; matchers = is_null ∷ same_type None None ∷ [] }) (text (codes "Ada")) (whole (pos 5)) true ≡ false
+neither = refl
+
+-- ---- reading a table
+
+abbrev entry : Nodes → Node
+entry matchers = object (field (codes "matchers") (list matchers) no_fields)
+
+abbrev match : List ℕ → Fields → Node
+match name more = object (field (codes "match") (text name) more)
+
+abbrev category : List ℕ → Fields → Node
+category name entries = object (field name (object entries) no_fields)
+
+abbrev at_root : Nodes → Node
+at_root matchers = category (codes "body") (field (codes "$") (entry matchers) no_fields)
+
+old_rules : found_in no_pattern (object (field (codes "$.id") (match (codes "type") no_fields) no_fields)) ≡ Err OldRules
+old_rules = refl
+
+same_path : found_in no_pattern (category (codes "body") (field (codes "$.a") (entry no_nodes) (field (codes "$['a']") (entry no_nodes) no_fields))) ≡ Err SamePathTwice
+unfolding tokens_in
+same_path = refl
+
+same_name : found_in no_pattern (category (codes "header") (field (codes "A") (entry no_nodes) (field (codes "a") (entry no_nodes) no_fields))) ≡ Err SamePathTwice
+same_name = refl
+
+bad_path : found_in no_pattern (category (codes "body") (field (codes "item") null no_fields)) ≡ Err BadPath
+bad_path = refl
+
+-- combine is looked at before the matchers
+combine_first : found_in no_pattern (category (codes "body") (field (codes "$") (object (field (codes "combine") (text (codes "XOR")) (field (codes "matchers") (list (node (match (codes "date") no_fields) no_nodes)) no_fields))) no_fields)) ≡ Err BadCombine
+unfolding tokens_in
+combine_first = refl
+
+-- another category is told before its form
+unknown_category : found_in no_pattern (object (field (codes "cookies") null no_fields)) ≡ Err (Unsupported (codes "cookies"))
+unknown_category = refl
+
+null_category : found_in no_pattern (object (field (codes "body") null no_fields)) ≡ Ok (record { body = []; headers = [] })
+null_category = refl
+
+number_in_header : found_in no_pattern (category (codes "header") (field (codes "x") (entry (node (match (codes "number") no_fields) no_nodes)) no_fields)) ≡ Err (Unsupported (codes "number"))
+number_in_header = refl
+
+nameless : found_in no_pattern (at_root (node (object no_fields) no_nodes)) ≡ Err (Unsupported (codes "?"))
+unfolding tokens_in
+nameless = refl
+
+least_over_most : found_in no_pattern (at_root (node (match (codes "type") (field (codes "max") (whole (pos 1)) (field (codes "min") (whole (pos 2)) no_fields))) no_nodes)) ≡ Err BadBound
+unfolding tokens_in
+least_over_most = refl
+
+-- bounds beside another name are further keys
+further_bounds : found_in no_pattern (at_root (node (match (codes "integer") (field (codes "min") (whole (negsuc 0)) no_fields)) no_nodes))
+    ≡ Ok (record { body = record { path = []; entry = record { any = false; matchers = integer ∷ [] } } ∷ []; headers = [] })
+unfolding tokens_in
+further_bounds = refl
+
+refused_pattern : found_in no_pattern (at_root (node (match (codes "regex") (field (codes "regex") (text (codes "a")) no_fields)) no_nodes)) ≡ Err Pattern
+unfolding tokens_in
+refused_pattern = refl
+
+-- an entry without matchers is read, and has no effect
+without_effect : found_in no_pattern (object (field (codes "body") (object (field (codes "$") (entry no_nodes) no_fields)) (field (codes "path") (whole (pos 5)) no_fields)))
+    ≡ Ok (record { body = record { path = []; entry = record { any = false; matchers = [] } } ∷ []; headers = [] })
+unfolding tokens_in
+without_effect = refl
+
+-- ---- the parts of a table
+
+abbrev accept : HeaderRule
+accept = record { name = codes "Accept"; entry = record { any = false; matchers = regex (codes "json") ∷ [] } }
+
+by_name : header_entry (accept ∷ []) (codes "aCCEPT") ≡ Some accept.entry
+by_name = refl
+
+no_name : header_entry (accept ∷ []) (codes "accepts") ≡ None
+no_name = refl
+
+a_pattern : has_regex (record { body = []; headers = accept ∷ [] }) ≡ true
+a_pattern = refl
+
+no_patterns : has_regex (record { body = rule [] ∷ []; headers = [] }) ≡ false
+no_patterns = refl

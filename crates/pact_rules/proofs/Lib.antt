@@ -1,0 +1,10 @@
+pub mod TreeLemmas
+pub mod Bridge
+pub mod Candidates
+pub mod ChoiceLemmas
+pub mod HoldingLemmas
+pub mod PatternLemmas
+pub mod OrderLemmas
+pub mod ReadingLemmas
+pub mod WalkLemmas
+mod Examples

@@ -1,0 +1,13 @@
+use Rattle.std.proofs.Common.{◌≡◌, ◌∙◌, Option, None, Some, Bor, option_map, refl, ap}
+use Rattle.std.specs.Option.{option_copied}
+use Rattle.pact_rules.specs.TreeView.{tree_view}
+use Rattle.pact_rules.specs.declared.tree.Tree.{Tree}
+use Rattle.pact_rules.proofs.HoldingLemmas.{view-lookup}
+use Rattle.pact_rules.proofs.rule_reader.look_up.Goals as goal
+
+seen : (o : Option (Bor Tree)) → option_map (λ t. tree_view t.now) o ≡ option_map tree_view (option_copied o)
+seen None = refl
+seen (Some x) = refl
+
+pub returns : goal.returns
+returns c = seen c.get.result ∙ ap (option_map tree_view) c.get.ensures.value ∙ view-lookup c.args.name.now c.args.members.now.entries

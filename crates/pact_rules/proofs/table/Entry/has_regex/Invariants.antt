@@ -1,0 +1,10 @@
+use Rattle.std.proofs.Common.{◌≡◌, drop, map}
+use Rattle.std.specs.List.{list_any}
+use Rattle.pact_rules.specs.Rules.{is_regex}
+use Rattle.pact_rules.specs.RuleViews.{matcher_view}
+use Rattle.pact_rules.proofs.table.Entry.has_regex.Given as goal
+
+-- there is one just where there is one among those that are left
+abbrev pub invariant-loop-matcher : goal.invariant-loop-matcher
+invariant-loop-matcher l =
+    list_any is_regex (map matcher_view l.self.matchers.items) ≡ list_any is_regex (map matcher_view (drop l.matcher-index l.matcher-items))

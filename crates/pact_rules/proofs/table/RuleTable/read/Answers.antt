@@ -1,0 +1,27 @@
+use Rattle.std.proofs.Common.{◌∙◌, map, ap}
+use Rattle.std.proofs.lemmas.Result.{err_from_is_err_and}
+use Rattle.std.specs.List.{filter}
+use Rattle.pact_rules.specs.TreeView.{tree_view}
+use Rattle.pact_rules.specs.Rules.{BodyRule, HeaderRule, Rules, has_effect}
+use Rattle.pact_rules.specs.RuleViews.{rule_view, header_view}
+use Rattle.pact_rules.proofs.ReadingLemmas.{is_table, is_read, is_fault}
+use Rattle.pact_rules.proofs.table.RuleTable.read.Goals as goal
+
+pub returns-in_err-body : goal.returns-in_err-body
+returns-in_err-body c =
+    let p = err_from_is_err_and c.from_residual.result c.from_residual.ensures.1 in
+    rw (p.1, p.2) (is_fault (tree_view c.args.tree.now) c.in_err-body.field-0.0 c.in_err-body.ensures)
+
+pub invariant_of-result : goal.invariant_of-result
+invariant_of-result c =
+    is_table (tree_view c.args.tree.now) c.in_ok-body.field-0 (record { body = map rule_view c.in_ok-body-2.body.items; headers = map header_view c.in_ok-headers.headers.items }) c.in_ok-body.ensures
+    c.in_ok-body-2.ensures.order c.in_ok-headers.ensures.order
+    (c.in_ok-body-2.ensures.items ∙ ap (λ (r : Rules). filter (λ (b : BodyRule). has_effect b.entry) r.body) c.body.view_is)
+    (c.in_ok-headers.ensures.items ∙ ap (λ (r : Rules). filter (λ (h : HeaderRule). has_effect h.entry) r.headers) c.body.view_is)
+
+pub returns : goal.returns
+returns c =
+    is_read (tree_view c.args.tree.now) c.in_ok-body.field-0 (record { body = map rule_view c.in_ok-body-2.body.items; headers = map header_view c.in_ok-headers.headers.items }) c.in_ok-body.ensures
+    c.in_ok-body-2.ensures.order c.in_ok-headers.ensures.order
+    (c.in_ok-body-2.ensures.items ∙ ap (λ (r : Rules). filter (λ (b : BodyRule). has_effect b.entry) r.body) c.body.view_is)
+    (c.in_ok-headers.ensures.items ∙ ap (λ (r : Rules). filter (λ (h : HeaderRule). has_effect h.entry) r.headers) c.body.view_is)

@@ -1,0 +1,11 @@
+use Rattle.std.proofs.Common.{◌≡◌, drop, map}
+use Rattle.pact_rules.specs.Choice.{best}
+use Rattle.pact_paths.specs.Locations.{step_view}
+use Rattle.pact_rules.specs.RuleViews.{rule_view}
+use Rattle.pact_rules.proofs.ChoiceLemmas.{as_candidate}
+use Rattle.pact_rules.proofs.table.best_of.Given as goal
+
+-- the best of the rules from the place on
+abbrev pub invariant-loop-place : goal.invariant-loop-place
+invariant-loop-place l =
+    l.found ≡ as_candidate l.place (map step_view l.location) (best (drop l.place (map rule_view l.rules)) (map step_view l.location))

@@ -1,0 +1,8 @@
+use Rattle.std.proofs.Common.{◌∙◌}
+use Rattle.pact_rules.specs.Rules.{name_key}
+use Rattle.pact_rules.specs.RuleViews.{header_view}
+use Rattle.pact_rules.proofs.OrderLemmas.{has_text}
+use Rattle.pact_rules.proofs.table_reader.is_name_taken.Goals as goal
+
+pub returns : goal.returns
+returns c = c.contains_key.ensures ∙ has_text header_view name_key c.args.name.now c.args.rules.now.entries c.requires

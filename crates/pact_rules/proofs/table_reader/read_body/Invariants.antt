@@ -1,0 +1,21 @@
+use Rattle.std.proofs.Common.{◌≡◌, Err}
+use Rattle.pact_rules.specs.Holding.{is_pattern}
+use Rattle.pact_rules.specs.Rules.{rule_text}
+use Rattle.pact_rules.specs.RuleViews.{rule_view, body_rules}
+use Rattle.pact_rules.specs.RuleReading.{no_pattern}
+use Rattle.pact_rules.specs.OrderedReading.{IsKeyedBy, ordered_body}
+use Rattle.pact_rules.specs.TreeView.{object_view}
+use Rattle.pact_rules.specs.declared.rule_fault.RuleFault.TheVariants.{Pattern}
+use Rattle.pact_rules.proofs.table_reader.read_body.Given as goal
+
+-- what is read, with what is left, is the whole; and a pattern that is met in what is left is met in the whole
+abbrev pub invariant-loop-key : goal.invariant-loop-key
+invariant-loop-key l =
+    let left = object_view l.key-iterator in
+    let all = object_view l.members.entries in
+    let so_far = body_rules l.rules.entries in
+    let start = body_rules l.fn.before.entries in record {
+      keyed : IsKeyedBy rule_view rule_text l.rules.entries;
+      value : ordered_body is_pattern so_far left ≡ ordered_body is_pattern start all;
+      stops : ordered_body no_pattern so_far left ≡ Err Pattern → ordered_body no_pattern start all ≡ Err Pattern;
+    }

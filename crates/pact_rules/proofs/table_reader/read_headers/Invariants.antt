@@ -1,0 +1,21 @@
+use Rattle.std.proofs.Common.{◌≡◌, Err}
+use Rattle.pact_rules.specs.Holding.{is_pattern}
+use Rattle.pact_rules.specs.Rules.{name_key}
+use Rattle.pact_rules.specs.RuleViews.{header_view, header_rules}
+use Rattle.pact_rules.specs.RuleReading.{no_pattern}
+use Rattle.pact_rules.specs.OrderedReading.{IsKeyedBy, ordered_headers}
+use Rattle.pact_rules.specs.TreeView.{object_view}
+use Rattle.pact_rules.specs.declared.rule_fault.RuleFault.TheVariants.{Pattern}
+use Rattle.pact_rules.proofs.table_reader.read_headers.Given as goal
+
+-- what is read, with what is left, is the whole; and a pattern that is met in what is left is met in the whole
+abbrev pub invariant-loop-key : goal.invariant-loop-key
+invariant-loop-key l =
+    let left = object_view l.key-iterator in
+    let all = object_view l.members.entries in
+    let so_far = header_rules l.rules.entries in
+    let start = header_rules l.fn.before.entries in record {
+      keyed : IsKeyedBy header_view name_key l.rules.entries;
+      value : ordered_headers is_pattern so_far left ≡ ordered_headers is_pattern start all;
+      stops : ordered_headers no_pattern so_far left ≡ Err Pattern → ordered_headers no_pattern start all ≡ Err Pattern;
+    }

@@ -1,0 +1,12 @@
+pub mod Trees
+pub mod TreeView
+pub mod TreeReading
+pub mod Kept
+pub mod Rules
+pub mod RuleViews
+pub mod Choice
+pub mod Holding
+pub mod Tables
+pub mod RuleReading
+pub mod OrderedReading
+pub mod Walks

@@ -1,0 +1,216 @@
+-- Reading a table of rules, with the first fault in the order: the table's form, old rules, then the categories and
+-- entries in the order of their keys; of an entry its path, the same path, its form, combine, and its matchers in turn;
+-- of a matcher its form, its name, its bounds and its pattern. The names are those of the Pact Specification, version 3.
+use Rattle.std.specs.Prelude.{◌≡◌, ◌⊎◌, ℕ, pos, Bool, true, false, ◌&&◌, ◌||◌, not, List, [], ◌∷◌, ◌++◌, codes, Option, Some, None, Result, Ok, Err, bytes_eq, is_some, nat_le, nat_eq, if◌then◌else◌}
+use Rattle.std.specs.List.{list_any}
+use Rattle.std.specs.Str.{str_eq_ignore_ascii_case}
+use Rattle.pact_paths.specs.Paths.{Token}
+use Rattle.pact_paths.specs.Spelling.{path_text}
+use Rattle.pact_paths.specs.PathReading.{path_in}
+use Rattle.pact_paths.specs.declared.path_reader.PathFault.{PathFault}
+use Rattle.pact_rules.specs.Trees.{Node, whole, text, list, object, Nodes, no_nodes, node, Fields, no_fields, field}
+use Rattle.pact_rules.specs.Holding.{get_field, kind, begins, is_pattern}
+use Rattle.pact_rules.specs.declared.rule_fault.RuleFault.{RuleFault}
+use Rattle.pact_rules.specs.declared.rule_fault.RuleFault.TheVariants.{Form, OldRules, BadPath, SamePathTwice, Unsupported, BadBound, Pattern, BadCombine, Memory}
+use Rattle.pact_rules.specs.Rules.{Matcher, equality, same_type, regex, include, integer, is_null, Entry, BodyRule, HeaderRule, Rules, no_rules, rule_text}
+use Rattle.pact_rules.specs.Tables.{IsTableOf}
+
+infixl 10 ◌>>=◌
+abbrev pub ◌>>=◌ : {A B : Type 0} → Result A RuleFault → (A → Result B RuleFault) → Result B RuleFault
+(Ok x) >>= f = f x
+(Err e) >>= f = Err e
+
+-- `Ok` where the test passes
+abbrev pub guard : Bool → RuleFault → Result (Unit {0}) RuleFault
+guard b e = if b then Ok tt else Err e
+
+-- an optional member: null counts as absent
+abbrev pub present : Option Node → Option Node
+present None = None
+present (Some n) = if nat_eq (kind n) 0 then None else Some n
+
+abbrev pub member : Fields → List ℕ → Option Node
+member fs name = present (get_field name fs)
+
+abbrev pub as_text : Option Node → Option (List ℕ)
+as_text (Some (text s)) = Some s
+as_text _ = None
+
+abbrev pub or_fault : {A : Type 0} → Option A → RuleFault → Result A RuleFault
+or_fault None e = Err e
+or_fault (Some x) e = Ok x
+
+abbrev pub as_object : Node → Option Fields
+as_object (object fs) = Some fs
+as_object _ = None
+
+abbrev pub as_list : Option Node → Option Nodes
+as_list (Some (list ts)) = Some ts
+as_list _ = None
+
+-- a bound is absent, or a whole number of at least 0
+abbrev pub bound : Option Node → Result (Option ℕ) RuleFault
+bound None = Ok None
+bound (Some (whole (pos n))) = Ok (Some n)
+bound (Some _) = Err BadBound
+
+abbrev pub in_order : Option ℕ → Option ℕ → Bool
+in_order (Some min) (Some max) = nat_le min max
+in_order _ _ = true
+
+abbrev pub is_null_node : Node → Bool
+is_null_node n = nat_eq (kind n) 0
+
+-- a key that is no category but a path, as in version 2
+abbrev pub has_old_key : Fields → Bool
+has_old_key no_fields = false
+has_old_key (field k n fs) = begins (codes "$") k || has_old_key fs
+
+-- any fault of a path expression is this one
+abbrev pub path_or_fault : Result (List Token) PathFault → Result (List Token) RuleFault
+path_or_fault (Ok path) = Ok path
+path_or_fault (Err fault) = Err BadPath
+
+abbrev pub path_at : List ℕ → Result (List Token) RuleFault
+path_at k = path_or_fault (path_in k)
+
+abbrev pub include_at : Fields → Result Matcher RuleFault
+include_at fs = or_fault (as_text (member fs (codes "value"))) Form >>= (λ part. Ok (include part))
+
+module _ (accepts : List ℕ → Bool) where
+  abbrev pub pattern_at : Fields → Result Matcher RuleFault
+  pattern_at fs = do
+    source ← or_fault (as_text (member fs (codes "regex"))) Pattern
+    guarded ← guard (accepts source) Pattern
+    Ok (regex source)
+
+  abbrev pub same_type_at : Fields → Result Matcher RuleFault
+  same_type_at fs = do
+    min ← bound (member fs (codes "min"))
+    max ← bound (member fs (codes "max"))
+    guarded ← guard (in_order min max) BadBound
+    Ok (same_type min max)
+
+  -- by the text under match; under a header there is no integer, number or null
+  abbrev pub named_matcher : Bool → Fields → List ℕ → Result Matcher RuleFault
+  named_matcher in_header fs name =
+      if bytes_eq name (codes "equality") then Ok equality
+      else if bytes_eq name (codes "type") then same_type_at fs
+      else if bytes_eq name (codes "regex") then pattern_at fs
+      else if bytes_eq name (codes "include") then include_at fs
+      else if not in_header && (bytes_eq name (codes "integer") || bytes_eq name (codes "number")) then Ok integer
+      else if not in_header && bytes_eq name (codes "null") then Ok is_null
+      else Err (Unsupported name)
+
+  abbrev pub bounds_alone : Fields → Result Matcher RuleFault
+  bounds_alone fs =
+      if is_some (member fs (codes "min")) || is_some (member fs (codes "max")) then same_type_at fs
+      else Err (Unsupported (codes "?"))
+
+  abbrev pub nameless_matcher : Fields → Result Matcher RuleFault
+  nameless_matcher fs = if is_some (member fs (codes "regex")) then pattern_at fs else bounds_alone fs
+
+  abbrev pub matcher_by : Bool → Fields → Option Node → Result Matcher RuleFault
+  matcher_by in_header fs None = nameless_matcher fs
+  matcher_by in_header fs (Some n) = or_fault (as_text (Some n)) Form >>= (λ name. named_matcher in_header fs name)
+
+  abbrev pub matcher_at : Bool → Node → Result Matcher RuleFault
+  matcher_at in_header n = or_fault (as_object n) Form >>= (λ fs. matcher_by in_header fs (member fs (codes "match")))
+
+  abbrev pub matchers_at : Bool → Nodes → Result (List Matcher) RuleFault
+  matchers_at in_header no_nodes = Ok []
+  matchers_at in_header (node n ns) = matcher_at in_header n >>= (λ m. matchers_at in_header ns >>= (λ ms. Ok (m ∷ ms)))
+
+  abbrev pub combine_of : Option Node → Result Bool RuleFault
+  combine_of None = Ok false
+  combine_of (Some n) =
+      or_fault (as_text (Some n)) BadCombine >>= (λ word.
+      if bytes_eq word (codes "AND") then Ok false else if bytes_eq word (codes "OR") then Ok true else Err BadCombine)
+
+  -- an entry, behind its key
+  abbrev pub entry_at : Bool → Node → Result Entry RuleFault
+  entry_at in_header n = do
+    fs ← or_fault (as_object n) Form
+    ns ← or_fault (as_list (member fs (codes "matchers"))) Form
+    any ← combine_of (member fs (codes "combine"))
+    ms ← matchers_at in_header ns
+    Ok (record { any = any; matchers = ms })
+
+  -- a body entry, beside those that were read before it
+  abbrev pub body_rule_at : List BodyRule → List ℕ → Node → Result BodyRule RuleFault
+  body_rule_at before k n = do
+    path ← path_at k
+    guarded ← guard (not (list_any (λ r. bytes_eq (path_text path) (rule_text r)) before)) SamePathTwice
+    entry ← entry_at false n
+    Ok (record { path = path; entry = entry })
+
+  abbrev pub body_at : List BodyRule → Fields → Result (List BodyRule) RuleFault
+  body_at before no_fields = Ok before
+  body_at before (field k n fs) = body_rule_at before k n >>= (λ r. body_at (before ++ r ∷ []) fs)
+
+  -- a header entry: two names are one where they differ in ASCII case alone
+  abbrev pub header_rule_at : List HeaderRule → List ℕ → Node → Result HeaderRule RuleFault
+  header_rule_at before k n = do
+    guarded ← guard (not (list_any (λ h. str_eq_ignore_ascii_case k h.name) before)) SamePathTwice
+    entry ← entry_at true n
+    Ok (record { name = k; entry = entry })
+
+  abbrev pub headers_at : List HeaderRule → Fields → Result (List HeaderRule) RuleFault
+  headers_at before no_fields = Ok before
+  headers_at before (field k n fs) = header_rule_at before k n >>= (λ h. headers_at (before ++ h ∷ []) fs)
+
+  abbrev pub body_in : Rules → Node → Result Rules RuleFault
+  body_in before n = do
+    fs ← or_fault (as_object n) Form
+    body ← body_at before.body fs
+    Ok (record { body = body; headers = before.headers })
+
+  abbrev pub headers_in : Rules → Node → Result Rules RuleFault
+  headers_in before n = do
+    fs ← or_fault (as_object n) Form
+    headers ← headers_at before.headers fs
+    Ok (record { body = before.body; headers = headers })
+
+  -- the rules of paths and queries are kept as data; another category is told before its form; null counts as absent
+  abbrev pub category_at : Rules → List ℕ → Node → Result Rules RuleFault
+  category_at before k n =
+      if bytes_eq k (codes "body") then (if is_null_node n then Ok before else body_in before n)
+      else if bytes_eq k (codes "header") then (if is_null_node n then Ok before else headers_in before n)
+      else if bytes_eq k (codes "path") || bytes_eq k (codes "query") then Ok before
+      else Err (Unsupported k)
+
+  abbrev pub categories_at : Rules → Fields → Result Rules RuleFault
+  categories_at before no_fields = Ok before
+  categories_at before (field k n fs) = category_at before k n >>= (λ found. categories_at found fs)
+
+  -- the entries of a table, those without effect among them, in the order of the keys
+  abbrev pub found_in : Node → Result Rules RuleFault
+  found_in tree = do
+    fs ← or_fault (as_object tree) Form
+    guarded ← guard (not (has_old_key fs)) OldRules
+    categories_at no_rules fs
+
+-- no pattern is accepted
+abbrev pub no_pattern : List ℕ → Bool
+no_pattern source = false
+
+-- What reading a table may give. Ok is the table of the entries that are found where each pattern that the grammar reads
+-- is accepted, and a fault is the first one then. Beside it, a pattern may be refused: then one is met before any other fault.
+abbrev pub IsReading : Node → Result Rules RuleFault → Type 0
+IsReading tree (Ok table) = (found : Rules) × (found_in is_pattern tree ≡ Ok found) × IsTableOf found table
+IsReading tree (Err fault) = (found_in is_pattern tree ≡ Err fault) ⊎ ((fault ≡ Pattern) × (found_in no_pattern tree ≡ Err Pattern))
+
+-- What a function returned, seen by view, is what reading gives, unless memory ran out or a pattern was refused.
+abbrev pub FailsAs : {Y : Type 0} → RuleFault → ((List ℕ → Bool) → Result Y RuleFault) → Type 0
+FailsAs Memory read = Unit {0}
+FailsAs Pattern read = read no_pattern ≡ Err Pattern
+FailsAs fault read = read is_pattern ≡ Err fault
+
+abbrev pub Reads : {X Y : Type 0} → (X → Y) → Result X RuleFault → ((List ℕ → Bool) → Result Y RuleFault) → Type 0
+Reads view (Ok x) read = read is_pattern ≡ Ok (view x)
+Reads view (Err e) read = FailsAs e read
+
+abbrev pub IsRefusalOfPattern : RuleFault → Type 0
+IsRefusalOfPattern Memory = Unit {0}
+IsRefusalOfPattern Pattern = Unit {0}
+IsRefusalOfPattern _ = ⊥

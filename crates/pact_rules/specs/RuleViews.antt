@@ -1,0 +1,33 @@
+-- What the parts of a table stand for.
+use Rattle.std.specs.Prelude.{List, map, String, string_bytes}
+use Rattle.std.specs.declared.alloc.Global.{Global}
+use Rattle.pact_rules.specs.Rules as rules
+use Rattle.pact_rules.specs.declared.table.Matcher.{Matcher}
+use Rattle.pact_rules.specs.declared.table.Matcher.TheVariants.{Equality, SameType, Regex, Include, Integer, IsNull}
+use Rattle.pact_rules.specs.declared.table.Entry.{Entry}
+use Rattle.pact_rules.specs.declared.table.BodyRule.{BodyRule}
+use Rattle.pact_rules.specs.declared.table.HeaderRule.{HeaderRule}
+
+abbrev pub matcher_view : Matcher → rules.Matcher
+matcher_view Equality = rules.equality
+matcher_view (SameType min max) = rules.same_type min max
+matcher_view (Regex p) = rules.regex (string_bytes p)
+matcher_view (Include t) = rules.include (string_bytes t)
+matcher_view Integer = rules.integer
+matcher_view IsNull = rules.is_null
+
+abbrev pub entry_view : Entry → rules.Entry
+entry_view e = record { any = e.any; matchers = map matcher_view e.matchers.items }
+
+abbrev pub rule_view : BodyRule → rules.BodyRule
+rule_view r = record { path = r.path; entry = entry_view r.entry }
+
+abbrev pub header_view : HeaderRule → rules.HeaderRule
+header_view r = record { name = string_bytes r.name; entry = entry_view r.entry }
+
+-- the rules of a map, in the order of its keys
+abbrev pub body_rules : List (String Global × BodyRule) → List rules.BodyRule
+body_rules es = map (λ e. rule_view e.1) es
+
+abbrev pub header_rules : List (String Global × HeaderRule) → List rules.HeaderRule
+header_rules es = map (λ e. header_view e.1) es

@@ -1,0 +1,37 @@
+-- Which rules are a table, and which table holds what was found.
+use Rattle.std.specs.Prelude.{◌≡◌, ◌↔◌, ℕ, true, List, Option, option_map}
+use Rattle.std.specs.List.{AllByRecursion, find}
+use Rattle.std.specs.Str.{str_eq_ignore_ascii_case}
+use Rattle.pact_rules.specs.Rules.{Matcher, equality, same_type, regex, include, integer, is_null, Entry, BodyRule, HeaderRule, Rules, IsIn, IsOrderedBy, IsInOrder, name_key, has_effect}
+use Rattle.pact_rules.specs.Holding.{is_pattern}
+
+-- the grammar of patterns reads its pattern, where it has one
+abbrev pub CanBeHeld : Matcher → Type 0
+CanBeHeld equality = Unit {0}
+CanBeHeld (same_type min max) = Unit {0}
+CanBeHeld (regex source) = is_pattern source ≡ true
+CanBeHeld (include part) = Unit {0}
+CanBeHeld integer = Unit {0}
+CanBeHeld is_null = Unit {0}
+
+-- an entry of a table has matchers, and each can be held against a value
+abbrev pub IsEffective : Entry → Type 0
+IsEffective e = (has_effect e ≡ true) × AllByRecursion CanBeHeld e.matchers
+
+-- body entries in order of canonical text, header entries in order of names without ASCII case, each of them once
+pub record IsTable (rules : Rules) : Type 0 where
+  pub order : IsInOrder rules.body
+  pub names : IsOrderedBy name_key rules.headers
+  pub body : AllByRecursion (λ r. IsEffective r.entry) rules.body
+  pub headers : AllByRecursion (λ h. IsEffective h.entry) rules.headers
+
+-- a table of the entries that were found: it has just those with an effect, in order
+pub record IsTableOf (found table : Rules) : Type 0 where
+  pub order : IsInOrder table.body
+  pub names : IsOrderedBy name_key table.headers
+  pub body : (r : BodyRule) → IsIn r table.body ↔ (IsIn r found.body × (has_effect r.entry ≡ true))
+  pub headers : (h : HeaderRule) → IsIn h table.headers ↔ (IsIn h found.headers × (has_effect h.entry ≡ true))
+
+-- the entry of a header, by its name without ASCII case
+abbrev pub header_entry : List HeaderRule → List ℕ → Option Entry
+header_entry headers name = option_map (λ h. h.entry) (find (λ h. str_eq_ignore_ascii_case h.name name) headers)

@@ -1,0 +1,286 @@
+//! Reading a whole table: its categories, and the entries of each.
+ghost use Rattle.std.specs.Prelude.{◌≡◌, MatchResult, IfOk, Ok, Err, map, string_bytes, bytes_eq};
+ghost use Rattle.std.specs.List.{filter, AllByRecursion, list_any};
+ghost use Rattle.pact_rules.specs.TreeView.{tree_view, object_view};
+ghost use Rattle.pact_rules.specs.Rules.{rule_text, name_key, has_effect, no_rules, IsOrderedBy};
+ghost use Rattle.pact_rules.specs.RuleViews.{rule_view, header_view, body_rules, header_rules};
+ghost use Rattle.pact_rules.specs.RuleReading.{IsReading, Reads, path_at, body_rule_at, header_rule_at, has_old_key as has_old_key_of};
+ghost use Rattle.pact_rules.specs.OrderedReading.{IsKeyedBy, ordered_body, ordered_headers, ordered_body_in, ordered_headers_in, ordered_category, ordered_categories, ordered_found};
+ghost use Rattle.pact_rules.specs.declared.rule_fault.RuleFault.TheVariants.{Memory};
+
+use crate::rule_fault::{RuleFault, Word};
+use crate::rule_reader::{entry_of, is_null, object_of};
+use crate::table::{BodyRule, HeaderRule, RuleTable};
+use crate::tree::Tree;
+use pact_paths::{Path, PathFault};
+use std::alloc::{AllocError, Global};
+use std::collections::BTreeMap;
+use std::marker::Model;
+
+/// A body rule's path.
+fn path_of(alloc: Global, key: &str) -> Result<Path, RuleFault>
+    ensures { Reads (λ p. p) result (λ accepts. path_at key.now) }
+{
+    match Path::read(alloc, key) {
+        Ok(path) => Ok(path),
+        Err(PathFault::Memory) => Err(RuleFault::Memory),
+        Err(PathFault::NoRoot | PathFault::BadToken(_) | PathFault::TooManyTokens) => Err(
+            RuleFault::BadPath,
+        ),
+    }
+}
+
+/// Whether a body entry has the canonical text.
+fn is_path_taken(rules: &BTreeMap<String, BodyRule>, text: &str) -> bool
+    requires { IsKeyedBy rule_view rule_text rules.now.entries }
+    ensures { result ≡ list_any (λ r. bytes_eq text.now (rule_text r)) (body_rules rules.now.entries) }
+{
+    rules.contains_key(text)
+}
+
+/// A body entry with its canonical text, beside those that were read before it.
+fn body_rule(
+    alloc: Global,
+    before: &BTreeMap<String, BodyRule>,
+    key: &str,
+    tree: &Tree,
+) -> Result<(String, BodyRule), RuleFault>
+    requires { IsKeyedBy rule_view rule_text before.now.entries }
+    ensures value { Reads (λ p. rule_view p.1) result (λ accepts. body_rule_at accepts (body_rules before.now.entries) key.now (tree_view tree.now)) }
+    ensures text { IfOk result (λ p. string_bytes p.0 ≡ rule_text (rule_view p.1)) }
+{
+    let path = path_of(alloc, key)?;
+    let text = path.text(alloc)?;
+    if is_path_taken(before, text.as_str()) {
+        return Err(RuleFault::SamePathTwice);
+    }
+    let entry = entry_of(alloc, false, tree)?;
+    Ok((text, BodyRule { path, entry }))
+}
+
+/// The body entries of an object, beside those that were read before them.
+fn read_body(
+    alloc: Global,
+    before: BTreeMap<String, BodyRule>,
+    members: &BTreeMap<String, Tree>,
+) -> Result<BTreeMap<String, BodyRule>, RuleFault>
+    requires { IsKeyedBy rule_view rule_text before.entries }
+    ensures value { Reads (λ m. body_rules m.entries) result (λ accepts. ordered_body accepts (body_rules before.entries) (object_view members.now.entries)) }
+    ensures keyed { IfOk result (λ m. IsKeyedBy rule_view rule_text m.entries) }
+{
+    let mut rules = before;
+    for (key, tree) in members.iter() {
+        let (text, rule) = body_rule(alloc, &rules, key.as_str(), tree)?;
+        drop(rules.insert(text, rule)?);
+    }
+    Ok(rules)
+}
+
+/// Whether a header entry has the name in lower case.
+fn is_name_taken(rules: &BTreeMap<String, HeaderRule>, name: &str) -> bool
+    requires { IsKeyedBy header_view name_key rules.now.entries }
+    ensures { result ≡ list_any (λ h. bytes_eq name.now (name_key h)) (header_rules rules.now.entries) }
+{
+    rules.contains_key(name)
+}
+
+/// A header entry with its name in lower case, beside those that were read before it.
+fn header_rule(
+    alloc: Global,
+    before: &BTreeMap<String, HeaderRule>,
+    key: &str,
+    tree: &Tree,
+) -> Result<(String, HeaderRule), RuleFault>
+    requires { IsKeyedBy header_view name_key before.now.entries }
+    ensures value { Reads (λ p. header_view p.1) result (λ accepts. header_rule_at accepts (header_rules before.now.entries) key.now (tree_view tree.now)) }
+    ensures text { IfOk result (λ p. string_bytes p.0 ≡ name_key (header_view p.1)) }
+{
+    let name = key.to_ascii_lowercase(alloc)?;
+    if is_name_taken(before, name.as_str()) {
+        return Err(RuleFault::SamePathTwice);
+    }
+    let entry = entry_of(alloc, true, tree)?;
+    let as_written = String::from_str(alloc, key)?;
+    Ok((
+        name,
+        HeaderRule {
+            name: as_written,
+            entry,
+        },
+    ))
+}
+
+/// The header entries of an object, beside those that were read before them.
+fn read_headers(
+    alloc: Global,
+    before: BTreeMap<String, HeaderRule>,
+    members: &BTreeMap<String, Tree>,
+) -> Result<BTreeMap<String, HeaderRule>, RuleFault>
+    requires { IsKeyedBy header_view name_key before.entries }
+    ensures value { Reads (λ m. header_rules m.entries) result (λ accepts. ordered_headers accepts (header_rules before.entries) (object_view members.now.entries)) }
+    ensures keyed { IfOk result (λ m. IsKeyedBy header_view name_key m.entries) }
+{
+    let mut rules = before;
+    for (key, tree) in members.iter() {
+        let (name, rule) = header_rule(alloc, &rules, key.as_str(), tree)?;
+        drop(rules.insert(name, rule)?);
+    }
+    Ok(rules)
+}
+
+/// The entries found so far: each body entry under its canonical text, each header entry under its name in lower case.
+#[derive(Drop)]
+struct Found {
+    body: BTreeMap<String, BodyRule>,
+    headers: BTreeMap<String, HeaderRule>,
+}
+
+impl Model for Found {
+    ghost use Rattle.pact_rules.specs.Rules.{Rules, rule_text, name_key};
+    ghost use Rattle.pact_rules.specs.OrderedReading.{IsKeyedBy};
+
+    ghost Value = { Rules };
+
+    ghost use Rattle.pact_rules.specs.RuleViews.{rule_view, header_view, body_rules, header_rules};
+
+    ghost view = { λ f. record { body = body_rules f.body.entries; headers = header_rules f.headers.entries } };
+
+    ghost invariant = { λ f. IsKeyedBy rule_view rule_text f.body.entries × IsKeyedBy header_view name_key f.headers.entries };
+}
+
+impl Found {
+    fn with_body(self, alloc: Global, tree: &Tree) -> Result<Found, RuleFault>
+        ensures { Reads (λ f. f) result (λ accepts. ordered_body_in accepts self (tree_view tree.now)) }
+    {
+        let Found { body, headers } = self;
+        let Some(members) = object_of(tree) else {
+            return Err(RuleFault::Form);
+        };
+        let body = read_body(alloc, body, members)?;
+        Ok(Found { body, headers })
+    }
+
+    fn with_headers(self, alloc: Global, tree: &Tree) -> Result<Found, RuleFault>
+        ensures { Reads (λ f. f) result (λ accepts. ordered_headers_in accepts self (tree_view tree.now)) }
+    {
+        let Found { body, headers } = self;
+        let Some(members) = object_of(tree) else {
+            return Err(RuleFault::Form);
+        };
+        let headers = read_headers(alloc, headers, members)?;
+        Ok(Found { body, headers })
+    }
+
+    /// The entries of a category, beside those found before; null counts as absent.
+    fn with_category(self, alloc: Global, name: &str, tree: &Tree) -> Result<Found, RuleFault>
+        ensures { Reads (λ f. f) result (λ accepts. ordered_category accepts self name.now (tree_view tree.now)) }
+    {
+        if name == "body" {
+            if is_null(tree) {
+                Ok(self)
+            } else {
+                self.with_body(alloc, tree)
+            }
+        } else if name == "header" {
+            if is_null(tree) {
+                Ok(self)
+            } else {
+                self.with_headers(alloc, tree)
+            }
+        } else if name == "path" || name == "query" {
+            Ok(self)
+        } else {
+            Err(RuleFault::Unsupported(Word::new(String::from_str(alloc, name)?)))
+        }
+    }
+}
+
+/// Whether a key begins with `$`, as in version 2 of the Pact Specification.
+fn has_old_key(members: &BTreeMap<String, Tree>) -> bool
+    ensures { result ≡ has_old_key_of (object_view members.now.entries) }
+{
+    for (key, _) in members.iter() {
+        if key.starts_with("$") {
+            return true;
+        }
+    }
+    false
+}
+
+/// The entries of all categories.
+fn categories(alloc: Global, members: &BTreeMap<String, Tree>) -> Result<Found, RuleFault>
+    ensures { Reads (λ f. f) result (λ accepts. ordered_categories accepts no_rules (object_view members.now.entries)) }
+{
+    let mut found = Found {
+        body: BTreeMap::new(alloc),
+        headers: BTreeMap::new(alloc),
+    };
+    for (name, tree) in members.iter() {
+        found = found.with_category(alloc, name.as_str(), tree)?;
+    }
+    Ok(found)
+}
+
+fn found_in(alloc: Global, tree: &Tree) -> Result<Found, RuleFault>
+    ensures { Reads (λ f. f) result (λ accepts. ordered_found accepts (tree_view tree.now)) }
+{
+    let Some(members) = object_of(tree) else {
+        return Err(RuleFault::Form);
+    };
+    if has_old_key(members) {
+        return Err(RuleFault::OldRules);
+    }
+    categories(alloc, members)
+}
+
+/// The body entries with an effect, in order of canonical text.
+fn effective_body(
+    alloc: Global,
+    rules: BTreeMap<String, BodyRule>,
+) -> Result<Vec<BodyRule>, AllocError>
+    requires { IsKeyedBy rule_view rule_text rules.entries }
+    ensures items { IfOk result (λ v. map rule_view v.items ≡ filter (λ r. has_effect r.entry) (body_rules rules.entries)) }
+    ensures order { IfOk result (λ v. IsOrderedBy rule_text (map rule_view v.items)) }
+{
+    let mut kept = Vec::new(alloc);
+    for (_, rule) in rules {
+        if !rule.entry.matchers.is_empty() {
+            kept.push(rule)?;
+        }
+    }
+    Ok(kept)
+}
+
+/// The header entries with an effect, in order of names in lower case.
+fn effective_headers(
+    alloc: Global,
+    rules: BTreeMap<String, HeaderRule>,
+) -> Result<Vec<HeaderRule>, AllocError>
+    requires { IsKeyedBy header_view name_key rules.entries }
+    ensures items { IfOk result (λ v. map header_view v.items ≡ filter (λ h. has_effect h.entry) (header_rules rules.entries)) }
+    ensures order { IfOk result (λ v. IsOrderedBy name_key (map header_view v.items)) }
+{
+    let mut kept = Vec::new(alloc);
+    for (_, rule) in rules {
+        if !rule.entry.matchers.is_empty() {
+            kept.push(rule)?;
+        }
+    }
+    Ok(kept)
+}
+
+impl RuleTable {
+    /// Reads the object `matchingRules` of a response: the categories `body`, whose keys are path expressions, and `header`,
+    /// whose keys are header names (Pact Specification, version 3); `path` and `query` are kept as data by the caller.
+    /// The fault is the first one: the table's form, rules of version 2, then categories and entries in order of their keys,
+    /// of an entry its path, the same path twice, its form, `combine`, and its matchers in turn. `Memory` comes for want of memory
+    /// alone, and `Pattern` also where the crate `regex` refuses a pattern that its grammar reads.
+    pub fn read(alloc: Global, tree: &Tree) -> Result<RuleTable, RuleFault>
+        ensures { MatchResult result (λ t. IsReading (tree_view tree.now) (Ok t)) (λ e. ¬ (e ≡ Memory) → IsReading (tree_view tree.now) (Err e)) }
+    {
+        let Found { body, headers } = found_in(alloc, tree)?;
+        let body = effective_body(alloc, body)?;
+        let headers = effective_headers(alloc, headers)?;
+        Ok(RuleTable { body, headers })
+    }
+}

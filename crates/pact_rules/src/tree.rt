@@ -1,0 +1,155 @@
+ghost use Rattle.std.specs.Prelude.{◌≡◌, IfOk};
+ghost use Rattle.std.specs.Prelude.{nat_le};
+ghost use Rattle.serde_json.specs.Data.{depth, items_depth, members_depth};
+ghost use Rattle.serde_json.specs.View.{view, number_view, items_view, members_view};
+ghost use Rattle.pact_rules.specs.TreeView.{tree_view, list_view, object_view};
+ghost use Rattle.pact_rules.specs.TreeReading.{whole_or, whole_tree, whole_items, whole_members, whole_number, tree_in, Gives};
+
+use serde_json::{Map, Number, Value};
+use std::alloc::{AllocError, AllocFailed, Global};
+use std::collections::BTreeMap;
+use thiserror::Error;
+
+/// A JSON value whose numbers are whole, from -2^63 to 2^64 - 1 where it was read.
+#[derive(Drop)]
+pub enum Tree {
+    Null,
+    Truth(bool),
+    Whole(i128),
+    Text(String),
+    List(Vec<Tree>),
+    Object(BTreeMap<String, Tree>),
+}
+
+/// Why a value is no tree.
+#[derive(Clone, Copy, Debug, PartialEq, Eq, Error)]
+pub enum TreeFault {
+    /// A number has a fraction or an exponent, or is out of range.
+    #[error("a number that isn't whole")]
+    NotWhole,
+    /// Lists and objects nest more than 100 deep.
+    #[error("lists and objects nest too deep")]
+    TooDeep,
+    /// No memory was left.
+    #[error("out of memory")]
+    Memory,
+}
+
+impl From<AllocError> for TreeFault {
+    ghost use Rattle.pact_rules.specs.declared.tree.TreeFault.TheVariants.{Memory};
+
+    ghost from_gives = { λ _ fault. fault ≡ Memory };
+
+    fn from(_: AllocError) -> TreeFault {
+        TreeFault::Memory
+    }
+}
+
+impl<T: Drop> From<AllocFailed<T>> for TreeFault {
+    ghost use Rattle.pact_rules.specs.declared.tree.TreeFault.TheVariants.{Memory};
+
+    ghost from_gives = { λ _ fault. fault ≡ Memory };
+
+    fn from(_: AllocFailed<T>) -> TreeFault {
+        TreeFault::Memory
+    }
+}
+
+/// How deep lists and objects may nest.
+const MAX_DEPTH: usize = 100;
+
+/// The tree that a value is. `TooDeep` is looked at first, for the whole value, and then `NotWhole`; a scalar has depth 0, a list or
+/// object one more than its deepest member, 1 if empty. `Memory` comes for want of memory alone.
+pub fn tree_of(alloc: Global, value: &Value) -> Result<Tree, TreeFault>
+    ensures { Gives tree_view result (tree_in (view value.now)) }
+{
+    if !nests_within(value, MAX_DEPTH) {
+        return Err(TreeFault::TooDeep);
+    }
+    convert(alloc, value)
+}
+
+/// Whether the value nests at most so deep.
+#[cycle(nesting)]
+fn nests_within(value: &Value, limit: usize) -> bool
+    ensures { result ≡ nat_le (depth (view value.now)) limit }
+{
+    match value {
+        Value::Null | Value::Bool(_) | Value::Number(_) | Value::String(_) => true,
+        Value::Array(items) => limit > 0 && items_nest_within(items, limit - 1),
+        Value::Object(members) => limit > 0 && members_nest_within(members, limit - 1),
+    }
+}
+
+#[cycle(nesting)]
+fn items_nest_within(items: &Vec<Value>, limit: usize) -> bool
+    ensures { result ≡ nat_le (items_depth (items_view items.now.items)) limit }
+{
+    for item in items {
+        if !nests_within(item, limit) {
+            return false;
+        }
+    }
+    true
+}
+
+#[cycle(nesting)]
+fn members_nest_within(members: &Map<String, Value>, limit: usize) -> bool
+    ensures { result ≡ nat_le (members_depth (members_view members.now.entries)) limit }
+{
+    for (_, member) in members.iter() {
+        if !nests_within(member, limit) {
+            return false;
+        }
+    }
+    true
+}
+
+#[cycle(convert)]
+fn convert(alloc: Global, value: &Value) -> Result<Tree, TreeFault>
+    ensures { Gives tree_view result (whole_or (whole_tree (view value.now))) }
+{
+    match value {
+        Value::Null => Ok(Tree::Null),
+        Value::Bool(b) => Ok(Tree::Truth(*b)),
+        Value::Number(number) => whole_number(*number),
+        Value::String(text) => Ok(Tree::Text(String::from_str(alloc, text)?)),
+        Value::Array(items) => Ok(Tree::List(convert_items(alloc, items)?)),
+        Value::Object(members) => Ok(Tree::Object(convert_members(alloc, members)?)),
+    }
+}
+
+fn whole_number(number: Number) -> Result<Tree, TreeFault>
+    ensures { Gives tree_view result (whole_or (whole_number (number_view number))) }
+{
+    match number.as_i128() {
+        Some(n) => Ok(Tree::Whole(n)),
+        None => Err(TreeFault::NotWhole),
+    }
+}
+
+#[cycle(convert)]
+fn convert_items(alloc: Global, items: &Vec<Value>) -> Result<Vec<Tree>, TreeFault>
+    ensures { Gives (λ v. list_view v.items) result (whole_or (whole_items (items_view items.now.items))) }
+{
+    let mut trees = Vec::new(alloc);
+    for item in items {
+        trees.push(convert(alloc, item)?)?;
+    }
+    Ok(trees)
+}
+
+#[cycle(convert)]
+fn convert_members(
+    alloc: Global,
+    members: &Map<String, Value>,
+) -> Result<BTreeMap<String, Tree>, TreeFault>
+    ensures { Gives (λ m. object_view m.entries) result (whole_or (whole_members (members_view members.now.entries))) }
+{
+    let mut trees = BTreeMap::new(alloc);
+    for (key, member) in members.iter() {
+        let name = String::from_str(alloc, key)?;
+        drop(trees.insert(name, convert(alloc, member)?)?);
+    }
+    Ok(trees)
+}

@@ -1,0 +1,252 @@
+-- The query for the numbers of the versions on a branch.
+use Rattle.std.proofs.Common.{◌≡◌, ℕ, ℤ, pos, codes, List, [], ◌∷◌, map, Bool, true, false, cond, nat_lt, ◌&&◌, refl, sym, ap, subst, ◌∙◌, Some, None, Option, Ordering, Less, Equal, Greater, inl, inr}
+use Rattle.std.specs.Prelude.{option_map, Contains, ◌==◌}
+use Rattle.std.specs.Option.{option_map_or}
+use Rattle.std.specs.List.{AllByRecursion}
+use Rattle.std.specs.List.Sorted.{IsStrictlySortedBy}
+use Rattle.std.specs.Ordering.{eq_by_cmp, is_eq, int_cmp, nat_cmp, flip_args, on}
+use Rattle.std.specs.Cmp.{IsTotalOrder, int_cmp_total, on_total, back_total, eq_by_cmp_equiv, Equal-is}
+use Rattle.std.specs.Cmp.Lexicographic.{nat_list_cmp_total}
+use Rattle.std.specs.FinMap.{int_cmp-IsAntisymmetric}
+use Rattle.sqlite.specs.Tree.{IsAscending, rowid}
+use Rattle.sqlite.specs.Edit.{id_in}
+use Rattle.sqlite.specs.declared.types.Value.TheVariants.{Int, Text}
+use Rattle.sqlite.specs.Order.{Row, column, value_cmp}
+use Rattle.sqlite.specs.Term.{Term, col, op2, eval_all}
+use Rattle.sqlite.specs.Collation.TheVariants.{Binary}
+use Rattle.sqlite_sql.specs.declared.ops.BinaryOp.TheVariants.{Compare}
+use Rattle.sqlite_sql.specs.declared.ops.CompareOp.TheVariants.{Eq}
+use Rattle.sqlite_sql.specs.Ops.{binary, is_true}
+use Rattle.sqlite_sql.specs.Query.{sort_cmp}
+use Rattle.sqlite_value.specs.declared.keys.Key.{Key}
+use Rattle.sqlite_value.proofs.OrderLemmas.{value_cmp-Int, then-Equal}
+use Rattle.sqlite.specs.Command.{Command}
+use Rattle.sqlite.specs.Command.TheVariants.{Select}
+use Rattle.sqlite.specs.Effect.{Database}
+use Rattle.sqlite.specs.State.{State, Shown}
+use Rattle.sqlite.specs.Listing.{understood}
+use Rattle.sqlite_rules.specs.Lists.{Has}
+use Rattle.sqlite_rules.proofs.TableLemmas.{int_is}
+use Rattle.sqlite_keyed.specs.Lists.{sort_by}
+use Rattle.sqlite_keyed.proofs.RuleLemmas.{first_of_both, second_of_both}
+use Rattle.sqlite_tied.specs.Compute.{everything}
+use Rattle.table_access.specs.Columns.{text, text_cmp, whole_at, by_both}
+use Rattle.table_access.specs.Statements.{from_both, keeps_both, pairs_kept}
+use Rattle.table_access.proofs.Values.{same_texts, same_ints}
+use Rattle.table_access.proofs.Steps.{Means, shown_answers}
+use Rattle.table_access.proofs.Keys.{ascending_on}
+use Rattle.table_access.proofs.Maps.{find_has, has_find}
+use Rattle.table_access.proofs.Members.{contains_has, has_contains, has_map, map_has, has_pair, pair_has, pairs_rise, rises_map}
+use Rattle.table_access.proofs.Ordered.{joins_in_order, same_sort, rises, sorted_has, has_sorted}
+use Rattle.table_access.proofs.Parts.{numbers_once}
+use Rattle.table_access.proofs.SoundLemmas.{at_has, any_of}
+use Rattle.broker_core.specs.Listing.{Lists}
+use Rattle.broker_core.specs.Text.{version}
+use Rattle.broker_core.specs.State.{State as Broker}
+use Rattle.broker_tables.specs.Schema.{broker_schema}
+use Rattle.broker_tables.specs.Rows.{stands_at}
+use Rattle.broker_tables.specs.Numbers.{number_of}
+use Rattle.broker_tables.specs.Holds.{Holds, IsBroker}
+use Rattle.broker_tables.proofs.Frames.{meant}
+use Rattle.broker_tables.proofs.Orders.{exact_texts, pairs_total, exact_pair, marked_total, exact_marked}
+use Rattle.broker_tables.proofs.NumberLemmas.{version_row}
+use Rattle.broker_tables.proofs.References.{any_has}
+use Rattle.registry_tables.specs.Registry.{IsBranchNumber}
+use Rattle.registry_tables.proofs.VersionRows as of_versions
+use Rattle.registry_tables.proofs.BranchRows as of_branches
+use Rattle.registry_tables.proofs.BranchRows.{key}
+
+abbrev pub numbers_sql : List ℕ
+numbers_sql = codes "SELECT v.number FROM versions v JOIN branches b ON b.version_number = v.number WHERE v.pacticipant = ?1 AND b.branch = ?2 ORDER BY v.number DESC"
+
+abbrev terms : List Term
+terms = op2 (Compare Eq Binary) (col 2 1) (col 1 0) ∷ op2 (Compare Eq Binary) (col 1 2) (col 0 0) ∷ op2 (Compare Eq Binary) (col 2 2) (col 0 1) ∷ []
+
+abbrev order : List (Term × Key)
+order = (col 1 0, record { collation = Binary; descending = true }) ∷ []
+
+abbrev pub numbers_command : Command
+numbers_command = Select (record { lets = []; body = from_both 6 8 terms (col 1 0 ∷ []) order }) (codes "number" ∷ [])
+
+numbers_text : Means broker_schema numbers_sql numbers_command
+unfolding understood everything
+numbers_text = record { is = refl; plain = (refl, refl); unlisted = refl }
+
+pub numbers_means : (db : Database) → IsBroker db → Means db.schema numbers_sql numbers_command
+numbers_means db broker = meant db broker numbers_sql numbers_text
+
+-- ---- lists of numbers
+
+unmapped : (xs : List ℕ) → IsStrictlySortedBy (flip_args int_cmp) (map pos xs) → IsStrictlySortedBy (flip_args nat_cmp) xs
+unfolding IsStrictlySortedBy
+unmapped [] up = tt
+unmapped (x ∷ xs) up = (each xs up.0, unmapped xs up.1)
+  where
+    less : (a b : ℕ) → int_cmp (pos a) (pos b) ≡ Less → nat_cmp a b ≡ Less
+    less a b h = go (nat_lt a b) (nat_lt b a) (a == b) h
+      where
+        go : (t u e : Bool) → cond t Less (cond u Greater Equal) ≡ Less → cond t Less (cond e Equal Greater) ≡ Less
+        go true u e h = refl
+        go false true e h = absurd cc
+        go false false e h = absurd cc
+
+    each : (ys : List ℕ) → AllByRecursion (λ y. int_cmp y (pos x) ≡ Less) (map pos ys) → AllByRecursion (λ y. nat_cmp y x ≡ Less) ys
+    each [] all = tt
+    each (y ∷ ys) all = (less y x all.0, each ys all.1)
+
+pair_ascending : {X : Type 0} (R S : X → X → Type 0) (xs : List X) → ((a b : X) → Has xs a → Has xs b → R a b → S a b) → IsAscending R xs → IsAscending S xs
+pair_ascending R S [] each up = tt
+pair_ascending R S (x ∷ xs) each up = (all xs up.0 (λ b has. each x b (inl refl) (inr has)), pair_ascending R S xs (λ a b ha hb. each a b (inr ha) (inr hb)) up.1)
+  where
+    all : (ys : List _) → AllByRecursion (R x) ys → ((b : _) → Has ys b → R x b → S x b) → AllByRecursion (S x) ys
+    all [] h one = tt
+    all (y ∷ ys) h one = (one y (inl refl) h.0, all ys h.1 (λ b has. one b (inr has)))
+
+-- ---- the pairs that the query keeps
+
+module _ (db : Database) (broker : IsBroker db) (p b : List ℕ) where
+  abbrev params : Row
+  params = Text p ∷ Text b ∷ []
+
+  ids : (r : Row) → Has (db.trees 6) r → column r 0 ≡ Int (whole_at 0 r)
+  ids r has = int_is (rowid r) (at_has _ (db.trees 6) r (of_versions.numbered_rows db broker).1 has)
+
+  test : (r s : Row) → Has (db.trees 6) r → Has (db.trees 8) s → keeps_both terms params r s ≡ (is_eq (int_cmp (whole_at 1 s) (whole_at 0 r)) && (is_eq (text_cmp (text 2 r) p) && (is_eq (text_cmp (text 2 s) b) && true)))
+  test r s hr hs = λ i. one i && (two i && (three i && true))
+    where
+      one : is_true (binary (Compare Eq Binary) (column s 1) (column r 0)) ≡ is_eq (int_cmp (whole_at 1 s) (whole_at 0 r))
+      one = ap (λ v. is_true (binary (Compare Eq Binary) v (column r 0))) ((of_branches.numbers db broker).typed s hs) ∙ ap (λ v. is_true (binary (Compare Eq Binary) (Int (whole_at 1 s)) v)) (ids r hr) ∙ same_ints (whole_at 1 s) (whole_at 0 r)
+
+      two : is_true (binary (Compare Eq Binary) (column r 2) (Text p)) ≡ is_eq (text_cmp (text 2 r) p)
+      two = ap (λ v. is_true (binary (Compare Eq Binary) v (Text p))) (of_versions.owners db broker r hr) ∙ same_texts (text 2 r) p
+
+      three : is_true (binary (Compare Eq Binary) (column s 2) (Text b)) ≡ is_eq (text_cmp (text 2 s) b)
+      three = ap (λ v. is_true (binary (Compare Eq Binary) v (Text b))) ((of_branches.names db broker).typed s hs) ∙ same_texts (text 2 s) b
+
+  agrees : (r s : Row) → Has (db.trees 6) r → Has (db.trees 8) s → keeps_both terms params r s ≡ true → (whole_at 1 s ≡ whole_at 0 r) × (text 2 r ≡ p) × (text 2 s ≡ b)
+  agrees r s hr hs kept =
+      let t : (is_eq (int_cmp (whole_at 1 s) (whole_at 0 r)) && (is_eq (text_cmp (text 2 r) p) && (is_eq (text_cmp (text 2 s) b) && true))) ≡ true = sym (test r s hr hs) ∙ kept in
+      let u : (is_eq (text_cmp (text 2 r) p) && (is_eq (text_cmp (text 2 s) b) && true)) ≡ true = second_of_both _ _ t in
+      let w : (is_eq (text_cmp (text 2 s) b) && true) ≡ true = second_of_both _ _ u in (
+        int_cmp-IsAntisymmetric (whole_at 1 s) (whole_at 0 r) ((Equal-is (int_cmp (whole_at 1 s) (whole_at 0 r))).0 (first_of_both _ _ t)),
+        exact_texts (text 2 r) p ((Equal-is (text_cmp (text 2 r) p)).0 (first_of_both _ _ u)),
+        exact_texts (text 2 s) b ((Equal-is (text_cmp (text 2 s) b)).0 (first_of_both _ _ w)),
+      )
+
+  both_kept : (r s : Row) → Has (db.trees 6) r → Has (db.trees 8) s → whole_at 1 s ≡ whole_at 0 r → text 2 r ≡ p → text 2 s ≡ b → keeps_both terms params r s ≡ true
+  both_kept r s hr hs number owner branch = test r s hr hs ∙ (λ i. x i && (y i && (z i && true)))
+    where
+      x : is_eq (int_cmp (whole_at 1 s) (whole_at 0 r)) ≡ true
+      x = ap (λ n. is_eq (int_cmp n (whole_at 0 r))) number ∙ (eq_by_cmp_equiv int_cmp_total).refl (whole_at 0 r)
+
+      y : is_eq (text_cmp (text 2 r) p) ≡ true
+      y = ap (λ t. is_eq (text_cmp t p)) owner ∙ (eq_by_cmp_equiv nat_list_cmp_total).refl p
+
+      z : is_eq (text_cmp (text 2 s) b) ≡ true
+      z = ap (λ t. is_eq (text_cmp t b)) branch ∙ (eq_by_cmp_equiv nat_list_cmp_total).refl b
+
+  abbrev pairs : List (Row × Row)
+  pairs = pairs_kept terms params (db.trees 6) (db.trees 8)
+
+  abbrev by_query : Row × Row → Row × Row → Ordering
+  by_query a c = sort_cmp order (params ∷ a.0 ∷ a.1 ∷ []) (params ∷ c.0 ∷ c.1 ∷ [])
+
+  abbrev number : Row × Row → ℤ
+  number q = whole_at 0 q.0
+
+  abbrev by_number : Row × Row → Row × Row → Ordering
+  by_number = on number (flip_args int_cmp)
+
+  same_order : (a c : Row × Row) → Has (db.trees 6) a.0 → Has (db.trees 6) c.0 → by_query a c ≡ by_number a c
+  same_order a c ha hc =
+      then-Equal (value_cmp (column c.0 0) (column a.0 0)) ∙ ap (λ v. value_cmp v (column a.0 0)) (ids c.0 hc) ∙ ap (value_cmp (Int (whole_at 0 c.0))) (ids a.0 ha) ∙ value_cmp-Int (whole_at 0 c.0) (whole_at 0 a.0)
+
+  apart : IsAscending (λ a c. is_eq (by_number a c) ≡ false) pairs
+  apart = pairs_rise (keeps_both terms params) (db.trees 8) (λ a c. is_eq (by_number a c) ≡ false) (db.trees 6) inner outer
+    where
+      inner : (x : Row) → Has (db.trees 6) x → IsAscending (λ y z. keeps_both terms params x y ≡ true → keeps_both terms params x z ≡ true → is_eq (by_number (x, y) (x, z)) ≡ false) (db.trees 8)
+      inner x hx = ascending_on _ _ (db.trees 8) (λ y z hy hz differ ky kz.
+          let one = agrees x y hx hy ky in
+          let two = agrees x z hx hz kz in
+          let same : key y ≡ key z = λ i. ((one.0 ∙ sym two.0) i, (one.2 ∙ sym two.2) i) in
+          let tied : eq_by_cmp (by_both int_cmp text_cmp) (key y) (key z) ≡ true = ap (eq_by_cmp (by_both int_cmp text_cmp) (key y)) (sym same) ∙ (eq_by_cmp_equiv marked_total).refl (key y) in
+          absurd (let clash : true ≡ false = sym tied ∙ differ in cc)) (of_branches.keys db broker)
+
+      outer : IsAscending (λ x w. (y z : Row) → Has (db.trees 8) y → Has (db.trees 8) z → keeps_both terms params x y ≡ true → keeps_both terms params w z ≡ true → is_eq (by_number (x, y) (w, z)) ≡ false) (db.trees 6)
+      outer = ascending_on _ _ (db.trees 6) (λ x w hx hw differ y z hy hz ky kz. (eq_by_cmp_equiv int_cmp_total).symm (whole_at 0 w) (whole_at 0 x) ∙ differ) (numbers_once (db.trees 6) (of_versions.numbered_rows db broker))
+
+  from_rows : (q : Row × Row) → Has pairs q → Has (db.trees 6) q.0 × Has (db.trees 8) q.1 × (keeps_both terms params q.0 q.1 ≡ true)
+  from_rows q has = pair_has (keeps_both terms params) (db.trees 8) (db.trees 6) q has
+
+  total : IsTotalOrder by_number
+  total = on_total number (back_total int_cmp_total)
+
+  sorted : sort_by by_query pairs ≡ sort_by by_number pairs
+  sorted = same_sort by_query by_number pairs (λ a c ha hc. same_order a c (from_rows a ha).0 (from_rows c hc).0)
+
+  apart_too : IsAscending (λ a c. is_eq (by_query a c) ≡ false) pairs
+  apart_too = pair_ascending _ _ pairs (λ a c ha hc h. ap is_eq (same_order a c (from_rows a ha).0 (from_rows c hc).0) ∙ h) apart
+
+exact_pos : (n k : ℕ) → pos n ≡ pos k → n ≡ k
+exact_pos n k e = cc
+
+exact_number : (o : Option ℕ) (n : ℕ) → option_map pos o ≡ Some (pos n) → o ≡ Some n
+exact_number None n e = absurd cc
+exact_number (Some k) n e = let same : k ≡ n = cc in ap Some same
+
+wholes : (items : List ℕ) → map id_in (map (λ n. Int (pos n)) items) ≡ map pos items
+wholes [] = refl
+wholes (n ∷ items) = ap (λ more. pos n ∷ more) (wholes items)
+
+firsts : (p b : List ℕ) (qs : List (Row × Row)) → map id_in (map (λ r. column r 0) (map (λ (q : Row × Row). eval_all (col 1 0 ∷ []) ((Text p ∷ Text b ∷ []) ∷ q.0 ∷ q.1 ∷ [])) qs)) ≡ map (λ (q : Row × Row). whole_at 0 q.0) qs
+firsts p b [] = refl
+firsts p b (q ∷ qs) = ap (λ more. whole_at 0 q.0 ∷ more) (firsts p b qs)
+
+pub numbers_listed : (p b : List ℕ) (old new : State) (rows : List Row) (items : List ℕ) (s : Broker) → Holds old.now s → Shown numbers_sql (Text p ∷ Text b ∷ []) old new rows → map (λ n. Int (pos n)) items ≡ map (λ r. column r 0) rows
+    → Lists (flip_args nat_cmp) (IsBranchNumber s p b) items
+numbers_listed p b old new rows items s held h read = record { sorted = unmapped items rising; exactly = λ n. (there n, back n) }
+  where
+    is : rows ≡ map (λ (q : Row × Row). eval_all (col 1 0 ∷ []) ((Text p ∷ Text b ∷ []) ∷ q.0 ∷ q.1 ∷ [])) (sort_by (by_query old.now held.broker p b) (pairs old.now held.broker p b))
+    is = joins_in_order old.now (Text p ∷ Text b ∷ []) 6 8 terms (col 1 0 ∷ []) order rows (shown_answers numbers_sql (Text p ∷ Text b ∷ []) old new _ _ (numbers_means old.now held.broker) rows h) (apart_too old.now held.broker p b)
+
+    ints : map pos items ≡ map (number old.now held.broker p b) (sort_by (by_number old.now held.broker p b) (pairs old.now held.broker p b))
+    ints = sym (wholes items) ∙ ap (map id_in) (read ∙ ap (map (λ r. column r 0)) is) ∙ firsts p b _ ∙ ap (map (number old.now held.broker p b)) (sorted old.now held.broker p b)
+
+    rising : IsStrictlySortedBy (flip_args int_cmp) (map pos items)
+    rising = subst (IsStrictlySortedBy (flip_args int_cmp)) (sym ints) (rises_map (by_number old.now held.broker p b) (flip_args int_cmp) (number old.now held.broker p b) (λ a c less. less) _
+        (rises (by_number old.now held.broker p b) (total old.now held.broker p b) (pairs old.now held.broker p b) (apart old.now held.broker p b)))
+
+    there : (n : ℕ) → Contains items n → IsBranchNumber s p b n
+    there n contains =
+        let one : Has (map pos items) (pos n) = has_map pos items n (contains_has items n contains) in
+        let q = map_has (number old.now held.broker p b) _ (pos n) (subst (λ xs. Has xs (pos n)) ints one) in
+        let among : Has (pairs old.now held.broker p b) q.0 = contains_has _ q.0 (sorted_has (by_number old.now held.broker p b) (total old.now held.broker p b) (pairs old.now held.broker p b) q.0 (has_contains _ q.0 q.1)) in
+        let stand = from_rows old.now held.broker p b q.0 among in
+        let agree = agrees old.now held.broker p b q.0.0 q.0.1 stand.0 stand.1 stand.2 in
+        let v = version (text 2 q.0.0) (text 3 q.0.0) in
+        let numbered : option_map pos (number_of s.versions v) ≡ Some (pos n) =
+        sym (version_row (old.now.trees 6) s.versions (text 2 q.0.0) (text 3 q.0.0) held.versions) ∙ has_find pairs_total exact_pair (λ r. (text 2 r, text 3 r)) (whole_at 0) (old.now.trees 6) q.0.0 (of_versions.keys old.now held.broker) stand.0 ∙ ap Some (sym q.2) in
+        let number_is : number_of s.versions v ≡ Some n = exact_number (number_of s.versions v) n numbered in
+        let stands : stands_at (by_both int_cmp text_cmp) key (old.now.trees 8) (pos n, b) ≡ true =
+        any_of (λ r. eq_by_cmp (by_both int_cmp text_cmp) (pos n, b) (key r)) (old.now.trees 8) q.0.1 stand.1
+        (ap (eq_by_cmp (by_both int_cmp text_cmp) (pos n, b)) (λ i. ((agree.0 ∙ sym q.2) i, agree.2 i)) ∙ (eq_by_cmp_equiv marked_total).refl (pos n, b)) in
+        let on_it : s.branches (v, b) ≡ true =
+        sym (held.branches v b) ∙ ap (λ o. option_map_or (λ k. stands_at (by_both int_cmp text_cmp) key (old.now.trees 8) (pos k, b)) o false) number_is ∙ stands in
+        (v, number_is, agree.1, on_it)
+
+    back : (n : ℕ) → IsBranchNumber s p b n → Contains items n
+    back n (v, is_number, owner, on_it) =
+        let row = find_has pairs_total exact_pair (λ r. (text 2 r, text 3 r)) (whole_at 0) (v.pacticipant, v.name) (pos n) (old.now.trees 6)
+        (version_row (old.now.trees 6) s.versions v.pacticipant v.name held.versions ∙ ap (option_map pos) is_number) in
+        let stands : stands_at (by_both int_cmp text_cmp) key (old.now.trees 8) (pos n, b) ≡ true =
+        sym (ap (λ o. option_map_or (λ k. stands_at (by_both int_cmp text_cmp) key (old.now.trees 8) (pos k, b)) o false) is_number) ∙ held.branches v b ∙ on_it in
+        let other = any_has (λ r. eq_by_cmp (by_both int_cmp text_cmp) (pos n, b) (key r)) (old.now.trees 8) stands in
+        let same : (pos n, b) ≡ key other.0 = exact_marked (pos n, b) (key other.0) ((Equal-is (by_both int_cmp text_cmp (pos n, b) (key other.0))).0 other.2) in
+        let kept = both_kept old.now held.broker p b row.0 other.0 row.1 other.1 (sym (ap (λ (k : ℤ × List ℕ). k.0) same) ∙ sym row.3) (sym (ap (λ (k : List ℕ × List ℕ). k.0) row.2) ∙ owner) (sym (ap (λ (k : ℤ × List ℕ). k.1) same)) in
+        let among : Has (pairs old.now held.broker p b) (row.0, other.0) = has_pair (keeps_both terms (Text p ∷ Text b ∷ [])) (old.now.trees 8) (old.now.trees 6) row.0 other.0 row.1 other.1 kept in
+        let listed : Has (sort_by (by_number old.now held.broker p b) (pairs old.now held.broker p b)) (row.0, other.0) =
+        contains_has _ (row.0, other.0) (has_sorted (by_number old.now held.broker p b) (total old.now held.broker p b) (pairs old.now held.broker p b) (row.0, other.0) (has_contains _ (row.0, other.0) among)) in
+        let whole : Has (map pos items) (pos n) = subst (λ xs. Has xs (pos n)) (sym ints) (subst (Has _) row.3 (has_map (number old.now held.broker p b) _ (row.0, other.0) listed)) in
+        let item = map_has pos items (pos n) whole in
+        let nat : n ≡ item.0 = exact_pos n item.0 item.2 in
+        has_contains items n (subst (Has items) (sym nat) item.1)

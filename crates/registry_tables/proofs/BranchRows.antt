@@ -1,0 +1,128 @@
+-- The statements on branches.
+use Rattle.std.proofs.Common.{◌≡◌, ℕ, ℤ, pos, codes, List, [], ◌∷◌, Bool, true, false, cond, ◌&&◌, ◌||◌, refl, sym, ap, ◌∙◌, slice_get, Some, None, Option, Ok}
+use Rattle.std.specs.Prelude.{option_map, is_some}
+use Rattle.std.specs.Option.{option_map_or}
+use Rattle.std.specs.Ordering.{eq_by_cmp, int_cmp}
+use Rattle.std.specs.Cmp.{int_cmp_total}
+use Rattle.std.specs.Cmp.Lexicographic.{nat_list_cmp_total, texts_ties}
+use Rattle.sqlite.specs.Tree.{IsAscending}
+use Rattle.sqlite.specs.Edit.{next_rowid, with_rowid}
+use Rattle.sqlite.specs.Rowids.TheVariants.{Chosen}
+use Rattle.sqlite.specs.declared.types.Value.TheVariants.{Null, Int, Text}
+use Rattle.sqlite.specs.Order.{Row}
+use Rattle.sqlite.specs.Cast.{cast}
+use Rattle.sqlite.specs.Kind.TheVariants.{Integer}
+use Rattle.sqlite.specs.Term.{col, lit}
+use Rattle.sqlite.specs.Source.TheVariants.{Values}
+use Rattle.sqlite.specs.Command.{Command}
+use Rattle.sqlite.specs.Command.TheVariants.{Insert, Select}
+use Rattle.sqlite.specs.Schema.{Schema}
+use Rattle.sqlite.specs.Effect.{Database}
+use Rattle.sqlite.specs.State.{State, Shown, Executes}
+use Rattle.sqlite.specs.Listing.{understood}
+use Rattle.sqlite_rules.specs.Lists.{Has}
+use Rattle.sqlite_tied.specs.Compute.{everything}
+use Rattle.table_access.specs.Columns.{text, text_cmp, whole_at, by_both}
+use Rattle.table_access.specs.Statements.{from_table, by_two, keeps}
+use Rattle.table_access.proofs.Values.{cast_null, cast_int}
+use Rattle.table_access.proofs.Steps.{Means, selects, inserts}
+use Rattle.table_access.proofs.Maps.{looks_up_at}
+use Rattle.table_access.proofs.Keys.{apart_by}
+use Rattle.table_access.proofs.Parts.{Part, text_part, whole_part, is_param, where_last, where_and, all_where, agree_last, agree_and, once}
+use Rattle.table_access.proofs.SoundLemmas.{text_at, whole_in, has_place}
+use Rattle.broker_core.specs.declared.command.Version.{Version}
+use Rattle.broker_core.specs.Text.{put_at, same_text, same_version, same_pair}
+use Rattle.broker_core.specs.State.{State as Broker}
+use Rattle.broker_tables.specs.Schema.{broker_schema}
+use Rattle.broker_tables.specs.Rows.{stands_at}
+use Rattle.broker_tables.specs.Numbers.{number_of}
+use Rattle.broker_tables.specs.Holds.{Holds, IsBroker}
+use Rattle.broker_tables.proofs.Frames.{meant, frame_of, branches_change}
+use Rattle.broker_tables.proofs.Orders.{marked_total, exact_marked}
+use Rattle.broker_tables.proofs.Ties.{both_eq, two_tests}
+use Rattle.broker_tables.proofs.NumberLemmas.{number_ties, version_unknown}
+use Rattle.broker_tables.proofs.Standing.{stands_found, stands_put}
+use Rattle.broker_tables.proofs.Placed.{branches, branches_there}
+
+abbrev pub key : Row → ℤ × List ℕ
+key r = (whole_at 1 r, text 2 r)
+
+module _ (db : Database) (broker : IsBroker db) where
+  pub numbers : Part int_cmp Int (db.trees 8) 1 (whole_at 1)
+  numbers = whole_part (db.trees 8) 1 (λ r has. whole_in db broker.kept.sound branches (has_place _ 4 branches (branches_there db broker)) r has 0 _ refl refl refl refl refl)
+
+  pub names : Part text_cmp Text (db.trees 8) 2 (text 2)
+  names = text_part (db.trees 8) 2 (λ r has. text_at db broker.kept.sound branches (has_place _ 4 branches (branches_there db broker)) r has 1 _ refl refl refl refl refl)
+
+  pub keys : IsAscending (λ a b. eq_by_cmp (by_both int_cmp text_cmp) (key a) (key b) ≡ false) (db.trees 8)
+  keys = once (by_both int_cmp text_cmp) (db.trees 8) (1 ∷ 2 ∷ []) key
+      (λ a b ha hb. agree_and int_cmp_total (db.trees 8) 1 (whole_at 1) numbers text_cmp (text 2) (2 ∷ []) a b ha hb (agree_last nat_list_cmp_total (db.trees 8) 2 (text 2) names a b ha hb))
+      (apart_by db broker.kept branches 4 (branches_there db broker) _ 4 (ap (λ (s : Schema). slice_get s.indexes 4) broker.schema) refl)
+
+  by_key : (n : ℕ) (b : List ℕ) → (r : Row) → Has (db.trees 8) r → keeps (by_two 1 2) (Int (pos n) ∷ Text b ∷ []) r ≡ eq_by_cmp (by_both int_cmp text_cmp) (pos n, b) (key r)
+  by_key n b r has =
+      where_and int_cmp_total (db.trees 8) 1 (whole_at 1) numbers text_cmp (text 2) b (is_param 2 1 ∷ []) (Int (pos n) ∷ Text b ∷ []) 0 (pos n) refl r has
+      (where_last nat_list_cmp_total (db.trees 8) 2 (text 2) names (Int (pos n) ∷ Text b ∷ []) 1 b refl r has)
+
+-- ---- whether a version is on a branch
+
+abbrev pub on_sql : List ℕ
+on_sql = codes "SELECT branch FROM branches WHERE version_number = ?1 AND branch = ?2"
+
+abbrev pub on_command : Command
+on_command = Select (record { lets = []; body = from_table 8 (by_two 1 2) (col 1 2 ∷ []) [] }) (codes "branch" ∷ [])
+
+on_text : Means broker_schema on_sql on_command
+unfolding understood everything
+on_text = record { is = refl; plain = (refl, refl); unlisted = refl }
+
+pub on_means : (db : Database) → IsBroker db → Means db.schema on_sql on_command
+on_means db broker = meant db broker on_sql on_text
+
+pub branch_found : (n : ℕ) (b : List ℕ) (old new : State) (rows : List Row) (s : Broker) (v : Version) → Holds old.now s → number_of s.versions v ≡ Some n → Shown on_sql (Int (pos n) ∷ Text b ∷ []) old new rows
+    → is_some (option_map (text 0) (slice_get rows 0)) ≡ s.branches (v, b)
+branch_found n b old new rows s v held is h =
+    ap is_some (looks_up_at marked_total exact_marked key (text 2) _ (text 0) (λ r. refl) (pos n, b) _ (old.now.trees 8) rows
+    (all_where (by_both int_cmp text_cmp) (old.now.trees 8) key (pos n, b) (by_two 1 2) (Int (pos n) ∷ Text b ∷ []) (by_key old.now held.broker n b)) (keys old.now held.broker)
+    (selects on_sql (Int (pos n) ∷ Text b ∷ []) old new 8 _ _ _ _ (on_means old.now held.broker) rows h))
+    ∙ stands_found (by_both int_cmp text_cmp) key (text 2) (old.now.trees 8) (pos n, b)
+    ∙ sym (ap (λ o. option_map_or (λ k. stands_at (by_both int_cmp text_cmp) key (old.now.trees 8) (pos k, b)) o false) is) ∙ held.branches v b
+
+-- ---- a version is put on a branch
+
+abbrev pub add_sql : List ℕ
+add_sql = codes "INSERT INTO branches (version_number, branch) VALUES (?1, ?2)"
+
+abbrev add_command : Command
+add_command = Insert 4 (Values (lit Null ∷ col 0 0 ∷ col 0 1 ∷ []) 3)
+
+add_text : Means broker_schema add_sql add_command
+unfolding understood everything
+add_text = record { is = refl; plain = (refl, refl); unlisted = refl }
+
+either : (b old : Bool) → (b || old) ≡ cond b true old
+either true old = refl
+either false old = refl
+
+pub branch_added : (n : ℕ) (b : List ℕ) (old new : State) (count : ℕ) (s : Broker) (v : Version) → Holds old.now s → number_of s.versions v ≡ Some n → Executes add_sql (Int (pos n) ∷ Text b ∷ []) old new (Ok count)
+    → Holds new.now (record s { branches = put_at (same_pair same_version same_text) s.branches (v, b) true })
+branch_added n b old new count s v held is h =
+    let made = Int (next_rowid (old.now.trees 8)) ∷ Int (pos n) ∷ Text b ∷ [] in
+    let it = inserts (codes "branches") 8 branches.columns None (1 ∷ 2 ∷ []) branches.uniques branches.orders [] branches.references add_sql (Int (pos n) ∷ Text b ∷ []) old new 4 (branches_there old.now held.broker)
+    _ _ (Null ∷ Int (pos n) ∷ Text b ∷ []) made refl (ap (λ u. with_rowid Chosen (old.now.trees 8) (cast Integer Null ∷ u ∷ Text b ∷ [])) (cast_int (pos n)) ∙ ap (λ u. with_rowid Chosen (old.now.trees 8) (u ∷ Int (pos n) ∷ Text b ∷ [])) cast_null) (meant old.now held.broker add_sql add_text) count h in
+    branches_change old.now new.now s _ held (frame_of (codes "branches" ∷ []) 8 refl old new held.broker it.0) (λ w c. each w c (number_of s.versions w) refl
+    (λ k. stands_put (by_both int_cmp text_cmp) key (old.now.trees 8) (new.now.trees 8) made it.1 (pos k, c)))
+  where
+    each : (w : Version) (c : List ℕ) (o : Option ℕ) → number_of s.versions w ≡ o
+        → ((k : ℕ) → stands_at (by_both int_cmp text_cmp) key (new.now.trees 8) (pos k, c) ≡ (eq_by_cmp (by_both int_cmp text_cmp) (pos k, c) (pos n, b) || stands_at (by_both int_cmp text_cmp) key (old.now.trees 8) (pos k, c)))
+        → option_map_or (λ k. stands_at (by_both int_cmp text_cmp) key (new.now.trees 8) (pos k, c)) (number_of s.versions w) false ≡ put_at (same_pair same_version same_text) s.branches (v, b) true (w, c)
+    each w c None e put =
+        let was : s.branches (w, c) ≡ false = sym (held.branches w c) ∙ ap (λ o. option_map_or (λ k. stands_at (by_both int_cmp text_cmp) key (old.now.trees 8) (pos k, c)) o false) e in
+        ap (λ o. option_map_or (λ k. stands_at (by_both int_cmp text_cmp) key (new.now.trees 8) (pos k, c)) o false) e
+        ∙ sym (ap (λ t. cond (t && same_text c b) true (s.branches (w, c))) (version_unknown s.versions w v n e is) ∙ was)
+    each w c (Some k) e put =
+        let was : stands_at (by_both int_cmp text_cmp) key (old.now.trees 8) (pos k, c) ≡ s.branches (w, c) = sym (ap (λ o. option_map_or (λ m. stands_at (by_both int_cmp text_cmp) key (old.now.trees 8) (pos m, c)) o false) e) ∙ held.branches w c in
+        let same : (same_version w v && same_text c b) ≡ eq_by_cmp (by_both int_cmp text_cmp) (pos k, c) (pos n, b) =
+        two_tests (same_version w v) (same_text c b) (eq_by_cmp int_cmp (pos k) (pos n)) (eq_by_cmp text_cmp c b) (number_ties s.versions w v k n e is) (texts_ties c b) ∙ both_eq (int_cmp (pos k) (pos n)) (text_cmp c b) in
+        ap (λ o. option_map_or (λ m. stands_at (by_both int_cmp text_cmp) key (new.now.trees 8) (pos m, c)) o false) e ∙ put k
+        ∙ either (eq_by_cmp (by_both int_cmp text_cmp) (pos k, c) (pos n, b)) (stands_at (by_both int_cmp text_cmp) key (old.now.trees 8) (pos k, c)) ∙ (λ i. cond (sym same i) true (was i))

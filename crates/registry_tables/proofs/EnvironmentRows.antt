@@ -1,0 +1,222 @@
+-- The statements on environments and their marks.
+use Rattle.std.proofs.Common.{◌≡◌, ◌==◌, ℕ, pos, codes, List, [], ◌∷◌, Bool, true, false, cond, ◌||◌, refl, sym, ap, ◌∙◌, slice_get, Some, None, Option, Ok}
+use Rattle.std.specs.Prelude.{option_map, is_some}
+use Rattle.std.specs.Ordering.{eq_by_cmp}
+use Rattle.std.specs.Cmp.{Equal-is, eq_by_cmp_equiv}
+use Rattle.std.specs.Cmp.Lexicographic.{nat_list_cmp_total, texts_ties}
+use Rattle.sqlite.specs.Tree.{IsAscending}
+use Rattle.sqlite.specs.Edit.{next_rowid, with_rowid}
+use Rattle.sqlite.specs.Rowids.TheVariants.{Chosen}
+use Rattle.sqlite.specs.declared.types.Value.TheVariants.{Null, Int, Text}
+use Rattle.sqlite.specs.Order.{Row, column}
+use Rattle.sqlite.specs.Cast.{cast}
+use Rattle.sqlite.specs.Kind.TheVariants.{Integer}
+use Rattle.sqlite.specs.Term.{col, op2, lit}
+use Rattle.sqlite.specs.Collation.TheVariants.{Binary}
+use Rattle.sqlite_sql.specs.declared.ops.BinaryOp.TheVariants.{Compare}
+use Rattle.sqlite_sql.specs.declared.ops.CompareOp.TheVariants.{Eq}
+use Rattle.sqlite.specs.Source.TheVariants.{Values}
+use Rattle.sqlite.specs.Command.{Command}
+use Rattle.sqlite.specs.Command.TheVariants.{Insert, Select}
+use Rattle.sqlite.specs.Schema.{Schema}
+use Rattle.sqlite.specs.Effect.{Database}
+use Rattle.sqlite.specs.State.{State, Shown, Executes}
+use Rattle.sqlite.specs.Listing.{understood}
+use Rattle.sqlite_rules.specs.Lists.{Has}
+use Rattle.sqlite_tied.specs.Compute.{everything}
+use Rattle.table_access.specs.Columns.{text, text_cmp}
+use Rattle.table_access.specs.Statements.{from_table}
+use Rattle.table_access.proofs.Values.{cast_null, cast_int}
+use Rattle.table_access.proofs.Steps.{Means, selects, inserts}
+use Rattle.table_access.proofs.Maps.{looks_up_at, puts_at, find_has, none_has}
+use Rattle.table_access.proofs.Keys.{apart_by, text_keys, by_text}
+use Rattle.table_access.proofs.SoundLemmas.{text_at, has_place}
+use Rattle.broker_core.specs.declared.command.Marks.{Marks}
+use Rattle.broker_core.specs.Text.{put_at, same_text}
+use Rattle.broker_core.specs.State.{State as Broker}
+use Rattle.broker_tables.specs.Schema.{broker_schema}
+use Rattle.broker_tables.specs.Rows.{truth, truth_in, value_at, stands_at}
+use Rattle.broker_tables.specs.Holds.{Holds, IsBroker, marks_in}
+use Rattle.broker_tables.proofs.Frames.{meant, frame_of, Frame, environments_change}
+use Rattle.broker_tables.proofs.Orders.{exact_texts}
+use Rattle.broker_tables.proofs.Growth.{none_stands}
+use Rattle.broker_tables.proofs.References.{refers_environment}
+use Rattle.broker_tables.proofs.Standing.{stands_found, stands_put, value_map}
+use Rattle.broker_tables.proofs.Placed.{environments, environments_there, strict_environments, strict_environments_there}
+use Rattle.registry_tables.specs.Registry.{marks}
+use Rattle.std.proofs.Common.{inl}
+
+module _ (db : Database) (broker : IsBroker db) where
+  names : (r : Row) → Has (db.trees 10) r → column r 1 ≡ Text (text 1 r)
+  names r has = text_at db broker.kept.sound environments (has_place _ 5 environments (environments_there db broker)) r has 0 _ refl refl refl refl refl
+
+  keys : IsAscending (λ a b. eq_by_cmp text_cmp (text 1 a) (text 1 b) ≡ false) (db.trees 10)
+  keys = text_keys (db.trees 10) 1 names (apart_by db broker.kept environments 5 (environments_there db broker) _ 5 (ap (λ (s : Schema). slice_get s.indexes 5) broker.schema) refl)
+
+  strict_names : (r : Row) → Has (db.trees 26) r → column r 1 ≡ Text (text 1 r)
+  strict_names r has = text_at db broker.kept.sound strict_environments (has_place _ 14 strict_environments (strict_environments_there db broker)) r has 0 _ refl refl refl refl refl
+
+  strict_keys : IsAscending (λ a b. eq_by_cmp text_cmp (text 1 a) (text 1 b) ≡ false) (db.trees 26)
+  strict_keys = text_keys (db.trees 26) 1 strict_names (apart_by db broker.kept strict_environments 14 (strict_environments_there db broker) _ 12 (ap (λ (s : Schema). slice_get s.indexes 12) broker.schema) refl)
+
+-- ---- the mark gated
+
+abbrev pub gated_sql : List ℕ
+gated_sql = codes "SELECT gated FROM environments WHERE name = ?1"
+
+abbrev pub gated_command : Command
+gated_command = Select (record { lets = []; body = from_table 10 (op2 (Compare Eq Binary) (col 1 1) (col 0 0) ∷ []) (col 1 2 ∷ []) [] }) (codes "gated" ∷ [])
+
+gated_text : Means broker_schema gated_sql gated_command
+unfolding understood everything
+gated_text = record { is = refl; plain = (refl, refl); unlisted = refl }
+
+pub gated_means : (db : Database) → IsBroker db → Means db.schema gated_sql gated_command
+gated_means db broker = meant db broker gated_sql gated_text
+
+pub gated_found : (e : List ℕ) (old new : State) (rows : List Row) (s : Broker) (found : Option ℕ) → Holds old.now s → Shown gated_sql (Text e ∷ []) old new rows
+    → option_map (λ n. Int (pos n)) found ≡ option_map (λ row. column row 0) (slice_get rows 0) → option_map (λ n. n == 1) found ≡ option_map (λ (m : Marks). m.gated) (s.environments e)
+gated_found e old new rows s found held h read =
+    let looked = looks_up_at nat_list_cmp_total exact_texts (text 1) (truth 2) _ (truth 0) (λ r. refl) e _ (old.now.trees 10) rows (by_text (old.now.trees 10) 1 e (names old.now held.broker)) (keys old.now held.broker)
+    (selects gated_sql (Text e ∷ []) old new 10 _ _ _ _ (gated_means old.now held.broker) rows h) in
+    one found ∙ ap (option_map truth_in) read ∙ two (slice_get rows 0) ∙ looked ∙ sym (value_map text_cmp (text 1) (λ (m : Marks). m.gated) (marks_in (old.now.trees 26)) (old.now.trees 10) e)
+    ∙ ap (option_map (λ (m : Marks). m.gated)) (held.environments e)
+  where
+    one : (o : Option ℕ) → option_map (λ n. n == 1) o ≡ option_map truth_in (option_map (λ n. Int (pos n)) o)
+    one None = refl
+    one (Some n) = refl
+
+    two : (o : Option Row) → option_map truth_in (option_map (λ row. column row 0) o) ≡ option_map (truth 0) o
+    two None = refl
+    two (Some r) = refl
+
+-- ---- the mark strict
+
+abbrev pub strict_sql : List ℕ
+strict_sql = codes "SELECT environment FROM strict_environments WHERE environment = ?1"
+
+abbrev pub strict_command : Command
+strict_command = Select (record { lets = []; body = from_table 26 (op2 (Compare Eq Binary) (col 1 1) (col 0 0) ∷ []) (col 1 1 ∷ []) [] }) (codes "environment" ∷ [])
+
+strict_text : Means broker_schema strict_sql strict_command
+unfolding understood everything
+strict_text = record { is = refl; plain = (refl, refl); unlisted = refl }
+
+pub strict_means : (db : Database) → IsBroker db → Means db.schema strict_sql strict_command
+strict_means db broker = meant db broker strict_sql strict_text
+
+pub strict_found : (e : List ℕ) (old new : State) (rows : List Row) (s : Broker) (m : Marks) → Holds old.now s → s.environments e ≡ Some m → Shown strict_sql (Text e ∷ []) old new rows → is_some (option_map (text 0) (slice_get rows 0)) ≡ m.strict
+strict_found e old new rows s m held is h =
+    let row = find_has nat_list_cmp_total exact_texts (text 1) (marks_in (old.now.trees 26)) e m (old.now.trees 10) (held.environments e ∙ is) in
+    ap is_some (looks_up_at nat_list_cmp_total exact_texts (text 1) (text 1) _ (text 0) (λ r. refl) e _ (old.now.trees 26) rows (by_text (old.now.trees 26) 1 e (strict_names old.now held.broker)) (strict_keys old.now held.broker)
+    (selects strict_sql (Text e ∷ []) old new 26 _ _ _ _ (strict_means old.now held.broker) rows h))
+    ∙ stands_found text_cmp (text 1) (text 1) (old.now.trees 26) e ∙ ap (stands_at text_cmp (text 1) (old.now.trees 26)) row.2 ∙ ap (λ (x : Marks). x.strict) row.3
+
+-- ---- a new environment
+
+abbrev pub put_sql : List ℕ
+put_sql = codes "INSERT INTO environments (name, gated) VALUES (?1, ?2)"
+
+abbrev put_command : Command
+put_command = Insert 5 (Values (lit Null ∷ col 0 0 ∷ col 0 1 ∷ []) 3)
+
+put_text : Means broker_schema put_sql put_command
+unfolding understood everything
+put_text = record { is = refl; plain = (refl, refl); unlisted = refl }
+
+-- an environment that isn't there isn't strict
+not_strict : (db : Database) (s : Broker) (e : List ℕ) → Holds db s → s.environments e ≡ None → stands_at text_cmp (text 1) (db.trees 26) e ≡ false
+not_strict db s e held free =
+    none_stands text_cmp (text 1) (text 1) e (db.trees 26) (λ r has.
+    let listed = has_place _ 14 strict_environments (strict_environments_there db held.broker) in
+    let named = refers_environment db held.broker strict_environments listed 1 (inl refl) r has (strict_names db held.broker r has) in
+    ap (eq_by_cmp text_cmp e) (sym named.2) ∙ none_has nat_list_cmp_total exact_texts (text 1) (marks_in (db.trees 26)) e (db.trees 10) named.0 (held.environments e ∙ free) named.1)
+
+pub environment_put : (e : List ℕ) (n : ℕ) (old new : State) (count : ℕ) (s : Broker) → Holds old.now s → s.environments e ≡ None → Executes put_sql (Text e ∷ Int (pos n) ∷ []) old new (Ok count)
+    → Holds new.now (record s { environments = put_at same_text s.environments e (Some (marks (n == 1) false)) })
+environment_put e n old new count s held free h =
+    let made = Int (next_rowid (old.now.trees 10)) ∷ Text e ∷ Int (pos n) ∷ [] in
+    let it = inserts (codes "environments") 10 environments.columns None (1 ∷ []) environments.uniques environments.orders environments.checks [] put_sql (Text e ∷ Int (pos n) ∷ []) old new 5 (environments_there old.now held.broker)
+    _ _ (Null ∷ Text e ∷ Int (pos n) ∷ []) made refl (ap (λ v. with_rowid Chosen (old.now.trees 10) (cast Integer Null ∷ Text e ∷ v ∷ [])) (cast_int (pos n)) ∙ ap (λ v. with_rowid Chosen (old.now.trees 10) (v ∷ Text e ∷ Int (pos n) ∷ [])) cast_null) (meant old.now held.broker put_sql put_text) count h in
+    let one : Frame (codes "environments" ∷ []) old.now new.now = frame_of (codes "environments" ∷ []) 10 refl old new held.broker it.0 in
+    let strict : new.now.trees 26 ≡ old.now.trees 26 = one.others.1.1.1.1.1.1.1.1.1.1.1.1.1.1.0 refl in
+    let row : marks_in (old.now.trees 26) made ≡ marks (n == 1) false = ap (marks (n == 1)) (not_strict old.now s e held free) in
+    environments_change old.now new.now s _ held (frame_of (codes "environments" ∷ codes "strict_environments" ∷ []) 10 refl old new held.broker it.0) (λ q.
+    ap (λ rows. value_at text_cmp (text 1) (marks_in rows) (new.now.trees 10) q) strict
+    ∙ puts_at nat_list_cmp_total exact_texts (text 1) (marks_in (old.now.trees 26)) (old.now.trees 10) (new.now.trees 10) made it.1 (held.environments e ∙ free) q
+    ∙ (λ i. cond (sym (texts_ties q e) i) (Some (row i)) (held.environments q i)))
+
+-- ---- an environment becomes strict
+
+abbrev pub make_sql : List ℕ
+make_sql = codes "INSERT INTO strict_environments (environment) VALUES (?1)"
+
+abbrev make_command : Command
+make_command = Insert 14 (Values (lit Null ∷ col 0 0 ∷ []) 2)
+
+make_text : Means broker_schema make_sql make_command
+unfolding understood everything
+make_text = record { is = refl; plain = (refl, refl); unlisted = refl }
+
+-- the marks of each row, once one more name is strict
+module _ (old new : List Row) (e : List ℕ) (m : Marks) (put : (q : List ℕ) → stands_at text_cmp (text 1) new q ≡ (eq_by_cmp text_cmp q e || stands_at text_cmp (text 1) old q)) where
+  marks_same : (r : Row) → eq_by_cmp text_cmp (text 1 r) e ≡ false → marks_in new r ≡ marks_in old r
+  marks_same r apart = ap (marks (truth 2 r)) (put (text 1 r) ∙ ap (λ b. b || stands_at text_cmp (text 1) old (text 1 r)) apart)
+
+  marks_strict : (r : Row) → eq_by_cmp text_cmp (text 1 r) e ≡ true → marks_in old r ≡ m → marks_in new r ≡ marks m.gated true
+  marks_strict r same was =
+      ap (marks (truth 2 r)) (put (text 1 r) ∙ ap (λ b. b || stands_at text_cmp (text 1) old (text 1 r)) same) ∙ ap (λ (x : Marks). marks x.gated true) was
+
+  all_marks : (q : List ℕ) (rows : List Row) → (eq_by_cmp text_cmp q e ≡ true → value_at text_cmp (text 1) (marks_in old) rows q ≡ Some m)
+      → value_at text_cmp (text 1) (marks_in new) rows q ≡ cond (eq_by_cmp text_cmp q e) (Some (marks m.gated true)) (value_at text_cmp (text 1) (marks_in old) rows q)
+  all_marks q rows there = go (value_at text_cmp (text 1) (λ r. r) rows q) refl (eq_by_cmp text_cmp q e) refl
+    where
+      mapped : (strict : List Row) (o : Option Row) → value_at text_cmp (text 1) (λ r. r) rows q ≡ o → value_at text_cmp (text 1) (marks_in strict) rows q ≡ option_map (marks_in strict) o
+      mapped strict o is = sym (value_map text_cmp (text 1) (marks_in strict) (λ r. r) rows q) ∙ ap (option_map (marks_in strict)) is
+
+      go : (o : Option Row) → value_at text_cmp (text 1) (λ r. r) rows q ≡ o → (b : Bool) → eq_by_cmp text_cmp q e ≡ b
+          → value_at text_cmp (text 1) (marks_in new) rows q ≡ cond (eq_by_cmp text_cmp q e) (Some (marks m.gated true)) (value_at text_cmp (text 1) (marks_in old) rows q)
+      go None is true t = absurd (let some = there t in let none = mapped old None is in let e2 : None ≡ Some m = sym none ∙ some in cc)
+      go None is false t = mapped new None is ∙ sym (ap (λ b. cond b (Some (marks m.gated true)) (value_at text_cmp (text 1) (marks_in old) rows q)) t ∙ mapped old None is)
+      go (Some r) is true t =
+          let row = find_has nat_list_cmp_total exact_texts (text 1) (λ x. x) q r rows is in
+          let name : q ≡ text 1 r = row.2 ∙ ap (text 1) row.3 in
+          let was : Some (marks_in old r) ≡ Some m = sym (mapped old (Some r) is) ∙ there t in
+          let marks_was : marks_in old r ≡ m = cc in
+          mapped new (Some r) is ∙ ap Some (marks_strict r (ap (λ x. eq_by_cmp text_cmp x e) (sym name) ∙ t) marks_was) ∙ sym (ap (λ b. cond b (Some (marks m.gated true)) (value_at text_cmp (text 1) (marks_in old) rows q)) t)
+      go (Some r) is false t =
+          let row = find_has nat_list_cmp_total exact_texts (text 1) (λ x. x) q r rows is in
+          let name : q ≡ text 1 r = row.2 ∙ ap (text 1) row.3 in
+          mapped new (Some r) is ∙ ap Some (marks_same r (ap (λ x. eq_by_cmp text_cmp x e) (sym name) ∙ t))
+          ∙ sym (ap (λ b. cond b (Some (marks m.gated true)) (value_at text_cmp (text 1) (marks_in old) rows q)) t ∙ mapped old (Some r) is)
+
+pub strict_put : (e : List ℕ) (old new : State) (count : ℕ) (s : Broker) (m : Marks) → Holds old.now s → s.environments e ≡ Some m → Executes make_sql (Text e ∷ []) old new (Ok count)
+    → Holds new.now (record s { environments = put_at same_text s.environments e (Some (marks m.gated true)) })
+strict_put e old new count s m held is h =
+    let made = Int (next_rowid (old.now.trees 26)) ∷ Text e ∷ [] in
+    let it = inserts (codes "strict_environments") 26 strict_environments.columns None (1 ∷ []) strict_environments.uniques strict_environments.orders [] strict_environments.references make_sql (Text e ∷ []) old new 14 (strict_environments_there old.now held.broker)
+    _ _ (Null ∷ Text e ∷ []) made refl (ap (λ v. with_rowid Chosen (old.now.trees 26) (v ∷ Text e ∷ [])) cast_null) (meant old.now held.broker make_sql make_text) count h in
+    let one : Frame (codes "strict_environments" ∷ []) old.now new.now = frame_of (codes "strict_environments" ∷ []) 26 refl old new held.broker it.0 in
+    let same : new.now.trees 10 ≡ old.now.trees 10 = one.others.1.1.1.1.1.0 refl in
+    environments_change old.now new.now s _ held (frame_of (codes "environments" ∷ codes "strict_environments" ∷ []) 26 refl old new held.broker it.0) (λ q.
+    ap (λ rows. value_at text_cmp (text 1) (marks_in (new.now.trees 26)) rows q) same
+    ∙ all_marks (old.now.trees 26) (new.now.trees 26) e m (λ k. stands_put text_cmp (text 1) (old.now.trees 26) (new.now.trees 26) made it.1 k) q (old.now.trees 10)
+    (λ t. held.environments q ∙ ap s.environments (exact_texts q e ((Equal-is (text_cmp q e)).0 t)) ∙ is)
+    ∙ (λ i. cond (sym (texts_ties q e) i) (Some (marks m.gated true)) (held.environments q i)))
+
+-- ---- both marks
+
+put_twice : {X : Type 0} (f : List ℕ → X) (e : List ℕ) (a b : X) → put_at same_text (put_at same_text f e a) e b ≡ put_at same_text f e b
+put_twice f e a b = λ i q. twice (same_text q e) a b (f q) i
+  where
+    twice : {X : Type 0} (t : Bool) (x y z : X) → cond t y (cond t x z) ≡ cond t y z
+    twice true x y z = refl
+    twice false x y z = refl
+
+pub there_now : {X : Type 0} (f : List ℕ → Option X) (e : List ℕ) (a : X) → put_at same_text f e (Some a) e ≡ Some a
+there_now f e a = ap (λ t. cond t (Some a) (f e)) (texts_ties e e ∙ (eq_by_cmp_equiv nat_list_cmp_total).refl e)
+
+-- a new environment that then becomes strict
+pub put_both : (s : Broker) (e : List ℕ) (a b : Marks) → record (record s { environments = put_at same_text s.environments e (Some a) }) { environments = put_at same_text (put_at same_text s.environments e (Some a)) e (Some b) }
+    ≡ record s { environments = put_at same_text s.environments e (Some b) }
+put_both s e a b = ap (λ (f : List ℕ → Option Marks). record s { environments = f }) (put_twice s.environments e (Some a) (Some b))

@@ -1,0 +1,116 @@
+-- The statements on grants.
+use Rattle.std.proofs.Common.{◌≡◌, ℕ, codes, List, [], ◌∷◌, true, false, Bool, refl, sym, ap, ◌∙◌, cond, ◌||◌, slice_get, None, Ok}
+use Rattle.std.specs.Prelude.{option_map, is_some}
+use Rattle.std.specs.Ordering.{eq_by_cmp}
+use Rattle.sqlite.specs.Tree.{IsAscending}
+use Rattle.sqlite.specs.Edit.{next_rowid, with_rowid}
+use Rattle.sqlite.specs.Rowids.TheVariants.{Chosen}
+use Rattle.sqlite.specs.declared.types.Value.TheVariants.{Null, Int, Text}
+use Rattle.sqlite.specs.Order.{Row, column}
+use Rattle.sqlite.specs.Term.{col, lit}
+use Rattle.sqlite.specs.Source.TheVariants.{Values}
+use Rattle.sqlite.specs.Command.{Command}
+use Rattle.sqlite.specs.Command.TheVariants.{Insert, Select, Delete}
+use Rattle.sqlite.specs.Schema.{Schema}
+use Rattle.sqlite.specs.Effect.{Database}
+use Rattle.sqlite.specs.State.{State, Shown, Executes}
+use Rattle.sqlite.specs.Listing.{understood}
+use Rattle.sqlite_rules.specs.Lists.{Has}
+use Rattle.sqlite_tied.specs.Compute.{everything}
+use Rattle.table_access.specs.Columns.{text, pair_cmp}
+use Rattle.table_access.specs.Statements.{from_table, by_two, keeps}
+use Rattle.table_access.proofs.Values.{cast_null}
+use Rattle.table_access.proofs.Steps.{Means, selects, inserts, deletes}
+use Rattle.table_access.proofs.Maps.{looks_up_at}
+use Rattle.table_access.proofs.Keys.{apart_by, pair_keys, by_pair}
+use Rattle.table_access.proofs.SoundLemmas.{text_at, has_place, at_has}
+use Rattle.broker_core.specs.Text.{put_at, same_text, same_pair}
+use Rattle.broker_core.specs.State.{State as Broker}
+use Rattle.broker_tables.specs.Schema.{broker_schema}
+use Rattle.broker_tables.specs.Holds.{Holds, IsBroker}
+use Rattle.broker_tables.proofs.Frames.{meant, frame_of, grants_change}
+use Rattle.broker_tables.proofs.Orders.{pairs_total, exact_pair}
+use Rattle.broker_tables.proofs.Ties.{grant_ties}
+use Rattle.broker_tables.proofs.Standing.{stands_found, stands_put, stands_out}
+use Rattle.broker_tables.proofs.Placed.{grants, grants_there, calm}
+
+module _ (db : Database) (broker : IsBroker db) where
+  names : (r : Row) → Has (db.trees 12) r → column r 1 ≡ Text (text 1 r)
+  names r has = text_at db broker.kept.sound grants (has_place _ 6 grants (grants_there db broker)) r has 0 _ refl refl refl refl refl
+
+  places : (r : Row) → Has (db.trees 12) r → column r 2 ≡ Text (text 2 r)
+  places r has = text_at db broker.kept.sound grants (has_place _ 6 grants (grants_there db broker)) r has 1 _ refl refl refl refl refl
+
+  keys : IsAscending (λ a b. eq_by_cmp pair_cmp (text 1 a, text 2 a) (text 1 b, text 2 b) ≡ false) (db.trees 12)
+  keys = pair_keys (db.trees 12) 1 2 names places (apart_by db broker.kept grants 6 (grants_there db broker) _ 6 (ap (λ (s : Schema). slice_get s.indexes 6) broker.schema) refl)
+
+-- ---- whether a grant stands
+
+abbrev pub granted_sql : List ℕ
+granted_sql = codes "SELECT team FROM grants WHERE team = ?1 AND environment = ?2"
+
+abbrev pub granted_command : Command
+granted_command = Select (record { lets = []; body = from_table 12 (by_two 1 2) (col 1 1 ∷ []) [] }) (codes "team" ∷ [])
+
+granted_text : Means broker_schema granted_sql granted_command
+unfolding understood everything
+granted_text = record { is = refl; plain = (refl, refl); unlisted = refl }
+
+pub granted_means : (db : Database) → IsBroker db → Means db.schema granted_sql granted_command
+granted_means db broker = meant db broker granted_sql granted_text
+
+pub grant_found : (team e : List ℕ) (old new : State) (rows : List Row) (s : Broker) → Holds old.now s → Shown granted_sql (Text team ∷ Text e ∷ []) old new rows → is_some (option_map (text 0) (slice_get rows 0)) ≡ s.grants (team, e)
+grant_found team e old new rows s held h =
+    ap is_some (looks_up_at pairs_total exact_pair (λ r. (text 1 r, text 2 r)) (text 1) _ (text 0) (λ r. refl) (team, e) _ (old.now.trees 12) rows
+    (by_pair (old.now.trees 12) 1 2 team e (names old.now held.broker) (places old.now held.broker)) (keys old.now held.broker)
+    (selects granted_sql (Text team ∷ Text e ∷ []) old new 12 _ _ _ _ (granted_means old.now held.broker) rows h))
+    ∙ stands_found pair_cmp (λ r. (text 1 r, text 2 r)) (text 1) (old.now.trees 12) (team, e) ∙ held.grants team e
+
+-- ---- a new grant
+
+abbrev pub add_sql : List ℕ
+add_sql = codes "INSERT INTO grants (team, environment) VALUES (?1, ?2)"
+
+abbrev add_command : Command
+add_command = Insert 6 (Values (lit Null ∷ col 0 0 ∷ col 0 1 ∷ []) 3)
+
+add_text : Means broker_schema add_sql add_command
+unfolding understood everything
+add_text = record { is = refl; plain = (refl, refl); unlisted = refl }
+
+either : (b : Bool) (old : Bool) → (b || old) ≡ cond b true old
+either true old = refl
+either false old = refl
+
+pub grant_added : (team e : List ℕ) (old new : State) (count : ℕ) (s : Broker) → Holds old.now s → Executes add_sql (Text team ∷ Text e ∷ []) old new (Ok count)
+    → Holds new.now (record s { grants = put_at (same_pair same_text same_text) s.grants (team, e) true })
+grant_added team e old new count s held h =
+    let made = Int (next_rowid (old.now.trees 12)) ∷ Text team ∷ Text e ∷ [] in
+    let it = inserts (codes "grants") 12 grants.columns None (1 ∷ 2 ∷ []) grants.uniques grants.orders [] grants.references add_sql (Text team ∷ Text e ∷ []) old new 6 (grants_there old.now held.broker)
+    _ _ (Null ∷ Text team ∷ Text e ∷ []) made refl (ap (λ v. with_rowid Chosen (old.now.trees 12) (v ∷ Text team ∷ Text e ∷ [])) cast_null) (meant old.now held.broker add_sql add_text) count h in
+    grants_change old.now new.now s _ held (frame_of (codes "grants" ∷ []) 12 refl old new held.broker it.0) (λ t f.
+    stands_put pair_cmp (λ r. (text 1 r, text 2 r)) (old.now.trees 12) (new.now.trees 12) made it.1 (t, f) ∙ either (eq_by_cmp pair_cmp (t, f) (team, e)) _
+    ∙ (λ i. cond (sym (grant_ties (t, f) (team, e)) i) true (held.grants t f i)))
+
+-- ---- a grant is taken back
+
+abbrev pub remove_sql : List ℕ
+remove_sql = codes "DELETE FROM grants WHERE team = ?1 AND environment = ?2"
+
+abbrev remove_command : Command
+remove_command = Delete 6 (record { lets = []; body = from_table 12 (by_two 1 2) (col 1 0 ∷ []) [] })
+
+remove_text : Means broker_schema remove_sql remove_command
+unfolding understood everything
+remove_text = record { is = refl; plain = (refl, refl); unlisted = refl }
+
+pub grant_removed : (team e : List ℕ) (old new : State) (count : ℕ) (s : Broker) → Holds old.now s → Executes remove_sql (Text team ∷ Text e ∷ []) old new (Ok count)
+    → Holds new.now (record s { grants = put_at (same_pair same_text same_text) s.grants (team, e) false })
+grant_removed team e old new count s held h =
+    let numbered = at_has _ old.now.schema.tables grants held.broker.kept.numbered (has_place _ 6 grants (grants_there old.now held.broker)) in
+    let it = deletes (codes "grants") 12 grants.columns None (1 ∷ 2 ∷ []) grants.uniques grants.orders [] grants.references remove_sql (Text team ∷ Text e ∷ []) old new 6 (grants_there old.now held.broker)
+    (by_two 1 2) (meant old.now held.broker remove_sql remove_text) (calm old.now held.broker) numbered count h in
+    grants_change old.now new.now s _ held (frame_of (codes "grants" ∷ []) 12 refl old new held.broker it.0) (λ t f.
+    stands_out pairs_total exact_pair (λ r. (text 1 r, text 2 r)) (team, e) (keeps (by_two 1 2) (Text team ∷ Text e ∷ [])) (old.now.trees 12) (new.now.trees 12)
+    (by_pair (old.now.trees 12) 1 2 team e (names old.now held.broker) (places old.now held.broker)) it.1 (t, f)
+    ∙ (λ i. cond (sym (grant_ties (t, f) (team, e)) i) false (held.grants t f i)))

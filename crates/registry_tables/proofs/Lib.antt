@@ -1,0 +1,11 @@
+pub mod OfficeRows
+pub mod TeamRows
+pub mod PacticipantRows
+pub mod GrantRows
+pub mod VersionRows
+pub mod BranchRows
+pub mod EnvironmentRows
+pub mod TableTexts
+pub mod MetaRow
+pub mod FormatRow
+pub mod BranchNumbers

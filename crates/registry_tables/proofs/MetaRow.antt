@@ -1,0 +1,91 @@
+-- The one row of meta.
+use Rattle.std.proofs.Common.{◌≡◌, ◌≢◌, ℕ, pos, codes, List, [], ◌∷◌, ◌++◌, fold, refl, sym, ap, subst, ◌∙◌, slice_get, Some, Ok, arith}
+use Rattle.std.specs.List.{AllByRecursion}
+use Rattle.sqlite.specs.Edit.{with_rowid}
+use Rattle.sqlite.specs.Rowids.TheVariants.{Chosen}
+use Rattle.sqlite.specs.Cast.{cast, cast_all}
+use Rattle.sqlite.specs.Kind.TheVariants.{Integer}
+use Rattle.sqlite.specs.Change.{created}
+use Rattle.sqlite.specs.declared.types.Value.TheVariants.{Null, Int, Text}
+use Rattle.sqlite.specs.Order.{Row}
+use Rattle.sqlite.specs.Term.{col, lit}
+use Rattle.sqlite.specs.Source.TheVariants.{Values}
+use Rattle.sqlite.specs.Command.{Command}
+use Rattle.sqlite.specs.Command.TheVariants.{Insert}
+use Rattle.sqlite.specs.Schema.{Schema}
+use Rattle.sqlite.specs.Effect.{Database}
+use Rattle.sqlite.specs.State.{State, Executes}
+use Rattle.sqlite.specs.Listing.{understood}
+use Rattle.sqlite_tied.specs.Compute.{everything}
+use Rattle.table_access.specs.Statements.{Makes, IsAdded, new_trees}
+use Rattle.table_access.proofs.Creation.{made_schema, made_empty, made_kept}
+use Rattle.table_access.proofs.Values.{cast_null, cast_int}
+use Rattle.table_access.proofs.Steps.{Means, inserts}
+use Rattle.broker_tables.specs.Schema.{schema_of, registry_part}
+use Rattle.broker_tables.specs.Making.{IsBlank, HasTables}
+use Rattle.broker_tables.specs.Holds.{IsMeta}
+use Rattle.broker_tables.proofs.Opening.{blank_kept}
+use Rattle.broker_tables.proofs.Placed.{meta}
+use Rattle.registry_tables.specs.Registry.{PutsMeta}
+
+abbrev pub put_sql : List ℕ
+put_sql = codes "INSERT INTO meta (one, format, office_digest) VALUES (1, ?1, ?2)"
+
+abbrev put_command : Command
+put_command = Insert 0 (Values (lit (Int (pos 1)) ∷ lit Null ∷ col 0 0 ∷ col 0 1 ∷ []) 4)
+
+put_text : Means (schema_of registry_part) put_sql put_command
+unfolding understood everything
+put_text = record { is = refl; plain = (refl, refl); unlisted = refl }
+
+alone : (old new : List Row) (row : Row) → IsAdded old new row → old ≡ [] → new ≡ row ∷ []
+alone old new row it none = go it.front it.back (sym none ∙ it.was) it.is
+  where
+    go : (front back : List Row) → [] ≡ front ++ back → new ≡ front ++ row ∷ back → new ≡ row ∷ []
+    go [] [] e is = is
+    go [] (b ∷ back) e is = absurd cc
+    go (f ∷ front) back e is = absurd cc
+
+pub meta_put : (n : ℕ) (digest : List ℕ) (old new : State) (count : ℕ) → Executes put_sql (Int (pos n) ∷ Text digest ∷ []) old new (Ok count) → PutsMeta n digest old.now new.now
+meta_put n digest old new count h is kept none =
+    let there : slice_get old.now.schema.tables 0 ≡ Some meta = ap (λ (s : Schema). slice_get s.tables 0) is in
+    let made = Int (pos 1) ∷ Null ∷ Int (pos n) ∷ Text digest ∷ [] in
+    let as_stored = ap (λ v. with_rowid Chosen (old.now.trees 0) (v ∷ cast_all meta.columns (Null ∷ Int (pos n) ∷ Text digest ∷ []))) (cast_int (pos 1))
+    ∙ ap (λ v. Int (pos 1) ∷ v ∷ cast Integer (Int (pos n)) ∷ Text digest ∷ []) cast_null ∙ ap (λ v. Int (pos 1) ∷ Null ∷ v ∷ Text digest ∷ []) (cast_int (pos n)) in
+    let it = inserts (codes "meta") 0 meta.columns (Some 0) (0 ∷ []) meta.uniques meta.orders meta.checks [] put_sql (Int (pos n) ∷ Text digest ∷ []) old new 0 there
+    _ _ made made refl as_stored (subst (λ s. Means s put_sql put_command) (sym is) put_text) count h in
+    let row : new.now.trees 0 ≡ made ∷ [] = alone (old.now.trees 0) (new.now.trees 0) made it.1 none in
+    let all = subst (λ (s : Schema). AllByRecursion (λ t. t.tree ≢ 0 → new.now.trees t.tree ≡ old.now.trees t.tree) s.tables) is it.0.others in (
+      it.0.schema,
+      it.0.kept kept,
+      subst (IsMeta n digest) (sym row) refl,
+      ((λ other. absurd (let e = other in cc)), ((λ _. all.1.0 (omega arith)), ((λ _. all.1.1.0 (omega arith)), ((λ _. all.1.1.1.0 (omega arith)), ((λ _. all.1.1.1.1.0 (omega arith)), ((λ _. all.1.1.1.1.1.0 (omega arith)), ((λ _. all.1.1.1.1.1.1.0 (omega arith)), tt))))))),
+    )
+
+pub has_registry : (n : ℕ) (digest : List ℕ) (old mid new : Database) → IsBlank old → Makes registry_part old mid → PutsMeta n digest mid new → HasTables registry_part n digest new
+has_registry n digest old mid new blank makes puts =
+    let schema : mid.schema ≡ schema_of registry_part = made_schema registry_part old mid makes ∙ ap (λ s. fold created s registry_part) blank.schema in
+    let none = subst (λ s. AllByRecursion (λ tree. mid.trees tree ≡ []) (new_trees s registry_part)) blank.schema (made_empty registry_part old mid makes) in
+    let put = puts schema (made_kept registry_part old mid makes (blank_kept old blank)) none.0 in
+    let same = put.3 in
+    record {
+      schema = put.0 ∙ schema;
+      kept = put.1;
+      meta = put.2;
+      empty = (
+        (λ other. absurd (let e = other in cc)),
+        (
+          (λ o. same.1.0 o ∙ none.1.0),
+          (
+            (λ o. same.1.1.0 o ∙ none.1.1.0),
+            (
+              (λ o. same.1.1.1.0 o ∙ none.1.1.1.0),
+              (
+                (λ o. same.1.1.1.1.0 o ∙ none.1.1.1.1.0),
+                ((λ o. same.1.1.1.1.1.0 o ∙ none.1.1.1.1.1.0), ((λ o. same.1.1.1.1.1.1.0 o ∙ none.1.1.1.1.1.1.0), tt)),
+              ),
+            ),
+          ),
+        ),
+      );
+    }

@@ -1,0 +1,43 @@
+-- The query on meta.
+use Rattle.std.proofs.Common.{◌≡◌, ℕ, codes, List, [], ◌∷◌, refl, ap, ◌∙◌, slice_get, Some, filter, map}
+use Rattle.std.specs.Prelude.{option_map}
+use Rattle.std.specs.List.Sorted.{IsPermutation}
+use Rattle.sqlite.proofs.Callers.{one_permutation}
+use Rattle.sqlite.specs.Order.{Row}
+use Rattle.sqlite.specs.Term.{col}
+use Rattle.sqlite.specs.Command.{Command}
+use Rattle.sqlite.specs.Command.TheVariants.{Select}
+use Rattle.sqlite.specs.Effect.{Database}
+use Rattle.sqlite.specs.State.{State, Shown}
+use Rattle.sqlite.specs.Listing.{understood}
+use Rattle.sqlite_tied.specs.Compute.{everything}
+use Rattle.table_access.specs.Columns.{text}
+use Rattle.table_access.specs.Statements.{from_table, keeps, shows}
+use Rattle.table_access.proofs.Steps.{Means, selects}
+use Rattle.broker_core.specs.State.{State as Broker}
+use Rattle.broker_tables.specs.Schema.{broker_schema}
+use Rattle.broker_tables.specs.Holds.{Holds, IsBroker, IsMeta, format}
+use Rattle.std.proofs.Common.{ℤ}
+use Rattle.broker_tables.proofs.Frames.{meant}
+
+abbrev pub office_sql : List ℕ
+office_sql = codes "SELECT office_digest FROM meta"
+
+abbrev pub office_command : Command
+office_command = Select (record { lets = []; body = from_table 0 [] (col 1 3 ∷ []) [] }) (codes "office_digest" ∷ [])
+
+office_text : Means broker_schema office_sql office_command
+unfolding understood everything
+office_text = record { is = refl; plain = (refl, refl); unlisted = refl }
+
+pub office_means : (db : Database) → IsBroker db → Means db.schema office_sql office_command
+office_means db broker = meant db broker office_sql office_text
+
+one_row : (n : ℕ) (rows out : List Row) (x : List ℕ) → IsMeta n x rows → IsPermutation (map (shows (col 1 3 ∷ []) []) (filter (keeps [] []) rows)) out → option_map (text 0) (slice_get out 0) ≡ Some x
+one_row n [] out x one same = absurd cc
+one_row n (r ∷ []) out x one same =
+    ap (λ rows. option_map (text 0) (slice_get rows 0)) (one_permutation _ out same) ∙ ap (λ (xs : List (ℤ × ℤ × List ℕ)). option_map (λ m. m.2) (slice_get xs 0)) one
+one_row n (r ∷ q ∷ rows) out x one same = absurd cc
+
+pub office_found : (old new : State) (rows : List Row) (s : Broker) → Holds old.now s → Shown office_sql [] old new rows → option_map (text 0) (slice_get rows 0) ≡ Some s.office
+office_found old new rows s held h = one_row format (old.now.trees 0) rows s.office held.meta (selects office_sql [] old new 0 _ _ _ _ (office_means old.now held.broker) rows h)

@@ -1,0 +1,80 @@
+-- The statements on pacticipants.
+use Rattle.std.proofs.Common.{◌≡◌, ℕ, codes, List, [], ◌∷◌, false, refl, sym, ap, ◌∙◌, cond, slice_get, Some, None, Ok}
+use Rattle.std.specs.Prelude.{option_map}
+use Rattle.std.specs.Cmp.Lexicographic.{nat_list_cmp_total, texts_ties}
+use Rattle.std.specs.Ordering.{eq_by_cmp}
+use Rattle.sqlite.specs.Tree.{IsAscending}
+use Rattle.sqlite.specs.Edit.{next_rowid, with_rowid}
+use Rattle.sqlite.specs.Rowids.TheVariants.{Chosen}
+use Rattle.sqlite.specs.declared.types.Value.TheVariants.{Null, Int, Text}
+use Rattle.sqlite.specs.Order.{Row, column}
+use Rattle.sqlite.specs.Term.{col, op2, lit}
+use Rattle.sqlite.specs.Collation.TheVariants.{Binary}
+use Rattle.sqlite_sql.specs.declared.ops.BinaryOp.TheVariants.{Compare}
+use Rattle.sqlite_sql.specs.declared.ops.CompareOp.TheVariants.{Eq}
+use Rattle.sqlite.specs.Source.TheVariants.{Values}
+use Rattle.sqlite.specs.Command.{Command}
+use Rattle.sqlite.specs.Command.TheVariants.{Insert, Select}
+use Rattle.sqlite.specs.Schema.{Schema}
+use Rattle.sqlite.specs.Effect.{Database}
+use Rattle.sqlite.specs.State.{State, Shown, Executes}
+use Rattle.sqlite.specs.Listing.{understood}
+use Rattle.sqlite_rules.specs.Lists.{Has}
+use Rattle.sqlite_tied.specs.Compute.{everything}
+use Rattle.table_access.specs.Columns.{text, text_cmp}
+use Rattle.table_access.specs.Statements.{from_table}
+use Rattle.table_access.proofs.Values.{cast_null}
+use Rattle.table_access.proofs.Steps.{Means, selects, inserts}
+use Rattle.table_access.proofs.Maps.{looks_up_at, puts_at}
+use Rattle.table_access.proofs.Keys.{apart_by, text_keys, by_text}
+use Rattle.table_access.proofs.SoundLemmas.{text_at, has_place}
+use Rattle.broker_core.specs.Text.{put_at, same_text}
+use Rattle.broker_core.specs.State.{State as Broker}
+use Rattle.broker_tables.specs.Schema.{broker_schema}
+use Rattle.broker_tables.specs.Holds.{Holds, IsBroker}
+use Rattle.broker_tables.proofs.Frames.{meant, frame_of, pacticipants_change}
+use Rattle.broker_tables.proofs.Orders.{exact_texts}
+use Rattle.broker_tables.proofs.Placed.{pacticipants, pacticipants_there}
+
+module _ (db : Database) (broker : IsBroker db) where
+  names : (r : Row) → Has (db.trees 4) r → column r 1 ≡ Text (text 1 r)
+  names r has = text_at db broker.kept.sound pacticipants (has_place _ 2 pacticipants (pacticipants_there db broker)) r has 0 _ refl refl refl refl refl
+
+  keys : IsAscending (λ a b. eq_by_cmp text_cmp (text 1 a) (text 1 b) ≡ false) (db.trees 4)
+  keys = text_keys (db.trees 4) 1 names (apart_by db broker.kept pacticipants 2 (pacticipants_there db broker) _ 2 (ap (λ (s : Schema). slice_get s.indexes 2) broker.schema) refl)
+
+abbrev pub owner_sql : List ℕ
+owner_sql = codes "SELECT team FROM pacticipants WHERE name = ?1"
+
+abbrev pub owner_command : Command
+owner_command = Select (record { lets = []; body = from_table 4 (op2 (Compare Eq Binary) (col 1 1) (col 0 0) ∷ []) (col 1 2 ∷ []) [] }) (codes "team" ∷ [])
+
+owner_text : Means broker_schema owner_sql owner_command
+unfolding understood everything
+owner_text = record { is = refl; plain = (refl, refl); unlisted = refl }
+
+pub owner_means : (db : Database) → IsBroker db → Means db.schema owner_sql owner_command
+owner_means db broker = meant db broker owner_sql owner_text
+
+pub owner_found : (p : List ℕ) (old new : State) (rows : List Row) (s : Broker) → Holds old.now s → Shown owner_sql (Text p ∷ []) old new rows → option_map (text 0) (slice_get rows 0) ≡ s.pacticipants p
+owner_found p old new rows s held h =
+    looks_up_at nat_list_cmp_total exact_texts (text 1) (text 2) _ (text 0) (λ r. refl) p _ (old.now.trees 4) rows (by_text (old.now.trees 4) 1 p (names old.now held.broker)) (keys old.now held.broker)
+    (selects owner_sql (Text p ∷ []) old new 4 _ _ _ _ (owner_means old.now held.broker) rows h) ∙ held.pacticipants p
+
+abbrev pub add_sql : List ℕ
+add_sql = codes "INSERT INTO pacticipants (name, team) VALUES (?1, ?2)"
+
+abbrev add_command : Command
+add_command = Insert 2 (Values (lit Null ∷ col 0 0 ∷ col 0 1 ∷ []) 3)
+
+add_text : Means broker_schema add_sql add_command
+unfolding understood everything
+add_text = record { is = refl; plain = (refl, refl); unlisted = refl }
+
+pub pacticipant_added : (p team : List ℕ) (old new : State) (count : ℕ) (s : Broker) → Holds old.now s → s.pacticipants p ≡ None → Executes add_sql (Text p ∷ Text team ∷ []) old new (Ok count) → Holds new.now (record s { pacticipants = put_at same_text s.pacticipants p (Some team) })
+pacticipant_added p team old new count s held free h =
+    let made = Int (next_rowid (old.now.trees 4)) ∷ Text p ∷ Text team ∷ [] in
+    let it = inserts (codes "pacticipants") 4 pacticipants.columns None (1 ∷ []) pacticipants.uniques pacticipants.orders [] pacticipants.references add_sql (Text p ∷ Text team ∷ []) old new 2 (pacticipants_there old.now held.broker)
+    _ _ (Null ∷ Text p ∷ Text team ∷ []) made refl (ap (λ v. with_rowid Chosen (old.now.trees 4) (v ∷ Text p ∷ Text team ∷ [])) cast_null) (meant old.now held.broker add_sql add_text) count h in
+    pacticipants_change old.now new.now s _ held (frame_of (codes "pacticipants" ∷ []) 4 refl old new held.broker it.0) (λ t.
+    puts_at nat_list_cmp_total exact_texts (text 1) (text 2) (old.now.trees 4) (new.now.trees 4) made it.1 (held.pacticipants p ∙ free) t ∙ (λ i. cond (sym (texts_ties t p) i) (Some team) (held.pacticipants t i)))

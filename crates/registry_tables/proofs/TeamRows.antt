@@ -1,0 +1,126 @@
+-- The statements on teams.
+use Rattle.std.proofs.Common.{◌≡◌, ℕ, codes, List, [], ◌∷◌, false, refl, sym, subst, ap, ◌∙◌, cond, slice_get, Some, None, Ok, MatchOption, Option}
+use Rattle.std.specs.Prelude.{option_map}
+use Rattle.std.specs.Cmp.Lexicographic.{nat_list_cmp_total, texts_ties}
+use Rattle.std.specs.Ordering.{eq_by_cmp}
+use Rattle.sqlite.specs.Tree.{IsAscending}
+use Rattle.sqlite.specs.Edit.{next_rowid, with_rowid}
+use Rattle.sqlite.specs.Rowids.TheVariants.{Chosen}
+use Rattle.sqlite.specs.declared.types.Value.TheVariants.{Null, Int, Text}
+use Rattle.sqlite.specs.Order.{Row, column}
+use Rattle.sqlite.specs.Term.{col, op2, lit}
+use Rattle.sqlite.specs.Collation.TheVariants.{Binary}
+use Rattle.sqlite_sql.specs.declared.ops.BinaryOp.TheVariants.{Compare}
+use Rattle.sqlite_sql.specs.declared.ops.CompareOp.TheVariants.{Eq}
+use Rattle.sqlite.specs.Source.TheVariants.{Values}
+use Rattle.sqlite.specs.Command.{Command}
+use Rattle.sqlite.specs.Command.TheVariants.{Insert, Select}
+use Rattle.sqlite.specs.Schema.{Schema}
+use Rattle.sqlite.specs.Effect.{Database}
+use Rattle.sqlite.specs.State.{State, Shown, Executes}
+use Rattle.sqlite.specs.Listing.{understood}
+use Rattle.sqlite_rules.specs.Lists.{Has}
+use Rattle.sqlite_tied.specs.Compute.{everything}
+use Rattle.table_access.specs.Columns.{text, text_cmp}
+use Rattle.table_access.specs.Statements.{from_table}
+use Rattle.table_access.proofs.Values.{cast_null}
+use Rattle.table_access.proofs.Steps.{Means, selects, inserts}
+use Rattle.table_access.proofs.Maps.{looks_up_at, puts_at, other_way, no_other_way}
+use Rattle.table_access.proofs.Keys.{apart_by, text_keys, by_text}
+use Rattle.table_access.proofs.SoundLemmas.{text_at, has_place}
+use Rattle.broker_core.specs.Text.{put_at, same_text}
+use Rattle.broker_core.specs.State.{State as Broker}
+use Rattle.broker_tables.specs.Schema.{broker_schema}
+use Rattle.broker_tables.specs.Rows.{value_at}
+use Rattle.broker_tables.specs.Holds.{Holds, IsBroker}
+use Rattle.broker_tables.proofs.Frames.{meant, frame_of, teams_change}
+use Rattle.broker_tables.proofs.Orders.{exact_texts}
+use Rattle.broker_tables.proofs.Placed.{teams, teams_there}
+
+module _ (db : Database) (broker : IsBroker db) where
+  names : (r : Row) → Has (db.trees 1) r → column r 1 ≡ Text (text 1 r)
+  names r has = text_at db broker.kept.sound teams (has_place _ 1 teams (teams_there db broker)) r has 0 _ refl refl refl refl refl
+
+  digests : (r : Row) → Has (db.trees 1) r → column r 2 ≡ Text (text 2 r)
+  digests r has = text_at db broker.kept.sound teams (has_place _ 1 teams (teams_there db broker)) r has 1 _ refl refl refl refl refl
+
+  team_keys : IsAscending (λ a b. eq_by_cmp text_cmp (text 1 a) (text 1 b) ≡ false) (db.trees 1)
+  team_keys = text_keys (db.trees 1) 1 names (apart_by db broker.kept teams 1 (teams_there db broker) _ 0 (ap (λ (s : Schema). slice_get s.indexes 0) broker.schema) refl)
+
+  digest_keys : IsAscending (λ a b. eq_by_cmp text_cmp (text 2 a) (text 2 b) ≡ false) (db.trees 1)
+  digest_keys = text_keys (db.trees 1) 2 digests (apart_by db broker.kept teams 1 (teams_there db broker) _ 1 (ap (λ (s : Schema). slice_get s.indexes 1) broker.schema) refl)
+
+-- ---- the digest of a team
+
+abbrev pub digest_sql : List ℕ
+digest_sql = codes "SELECT token_digest FROM teams WHERE name = ?1"
+
+abbrev pub digest_command : Command
+digest_command = Select (record { lets = []; body = from_table 1 (op2 (Compare Eq Binary) (col 1 1) (col 0 0) ∷ []) (col 1 2 ∷ []) [] }) (codes "token_digest" ∷ [])
+
+digest_text : Means broker_schema digest_sql digest_command
+unfolding understood everything
+digest_text = record { is = refl; plain = (refl, refl); unlisted = refl }
+
+pub digest_means : (db : Database) → IsBroker db → Means db.schema digest_sql digest_command
+digest_means db broker = meant db broker digest_sql digest_text
+
+pub digest_found : (team : List ℕ) (old new : State) (rows : List Row) (s : Broker) → Holds old.now s → Shown digest_sql (Text team ∷ []) old new rows → option_map (text 0) (slice_get rows 0) ≡ s.teams team
+digest_found team old new rows s held h =
+    looks_up_at nat_list_cmp_total exact_texts (text 1) (text 2) _ (text 0) (λ r. refl) team _ (old.now.trees 1) rows (by_text (old.now.trees 1) 1 team (names old.now held.broker)) (team_keys old.now held.broker)
+    (selects digest_sql (Text team ∷ []) old new 1 _ _ _ _ (digest_means old.now held.broker) rows h) ∙ held.teams team
+
+-- ---- the team of a digest
+
+abbrev pub team_sql : List ℕ
+team_sql = codes "SELECT name FROM teams WHERE token_digest = ?1"
+
+abbrev pub team_command : Command
+team_command = Select (record { lets = []; body = from_table 1 (op2 (Compare Eq Binary) (col 1 2) (col 0 0) ∷ []) (col 1 1 ∷ []) [] }) (codes "name" ∷ [])
+
+team_text : Means broker_schema team_sql team_command
+unfolding understood everything
+team_text = record { is = refl; plain = (refl, refl); unlisted = refl }
+
+pub team_means : (db : Database) → IsBroker db → Means db.schema team_sql team_command
+team_means db broker = meant db broker team_sql team_text
+
+found_by_digest : (digest : List ℕ) (old new : State) (rows : List Row) (s : Broker) → Holds old.now s → Shown team_sql (Text digest ∷ []) old new rows → option_map (text 0) (slice_get rows 0) ≡ value_at text_cmp (text 2) (text 1) (old.now.trees 1) digest
+found_by_digest digest old new rows s held h =
+    looks_up_at nat_list_cmp_total exact_texts (text 2) (text 1) _ (text 0) (λ r. refl) digest _ (old.now.trees 1) rows (by_text (old.now.trees 1) 2 digest (digests old.now held.broker)) (digest_keys old.now held.broker)
+    (selects team_sql (Text digest ∷ []) old new 1 _ _ _ _ (team_means old.now held.broker) rows h)
+
+-- that team has it, or no team has it
+abbrev pub IsTeamOf : Broker → List ℕ → Option (List ℕ) → Type 0
+IsTeamOf s digest found = MatchOption found ((t : List ℕ) → ¬ (s.teams t ≡ Some digest)) (λ name. s.teams name ≡ Some digest)
+
+pub team_found : (digest : List ℕ) (old new : State) (rows : List Row) (s : Broker) → Holds old.now s → Shown team_sql (Text digest ∷ []) old new rows → IsTeamOf s digest (option_map (text 0) (slice_get rows 0))
+team_found digest old new rows s held h = subst (IsTeamOf s digest) (sym (found_by_digest digest old new rows s held h)) (go (value_at text_cmp (text 2) (text 1) (old.now.trees 1) digest) refl)
+  where
+    go : (o : Option (List ℕ)) → value_at text_cmp (text 2) (text 1) (old.now.trees 1) digest ≡ o → IsTeamOf s digest o
+    go None e = λ t has. no_other_way nat_list_cmp_total exact_texts nat_list_cmp_total exact_texts (text 1) (text 2) (old.now.trees 1) t digest e (held.teams t ∙ has)
+    go (Some name) e = sym (held.teams name) ∙ other_way nat_list_cmp_total exact_texts nat_list_cmp_total exact_texts (text 1) (text 2) (old.now.trees 1) name digest (team_keys old.now held.broker) e
+
+pub by_view : {X : Type 0} (view : X → List ℕ) (s : Broker) (digest : List ℕ) (found : Option X) → IsTeamOf s digest (option_map view found) → MatchOption found ((t : List ℕ) → ¬ (s.teams t ≡ Some digest)) (λ name. s.teams (view name) ≡ Some digest)
+by_view view s digest None h = h
+by_view view s digest (Some name) h = h
+
+-- ---- a new team
+
+abbrev pub add_sql : List ℕ
+add_sql = codes "INSERT INTO teams (name, token_digest) VALUES (?1, ?2)"
+
+abbrev add_command : Command
+add_command = Insert 1 (Values (lit Null ∷ col 0 0 ∷ col 0 1 ∷ []) 3)
+
+add_text : Means broker_schema add_sql add_command
+unfolding understood everything
+add_text = record { is = refl; plain = (refl, refl); unlisted = refl }
+
+pub team_added : (team digest : List ℕ) (old new : State) (count : ℕ) (s : Broker) → Holds old.now s → s.teams team ≡ None → Executes add_sql (Text team ∷ Text digest ∷ []) old new (Ok count) → Holds new.now (record s { teams = put_at same_text s.teams team (Some digest) })
+team_added team digest old new count s held free h =
+    let made = Int (next_rowid (old.now.trees 1)) ∷ Text team ∷ Text digest ∷ [] in
+    let it = inserts (codes "teams") 1 teams.columns None (1 ∷ []) teams.uniques teams.orders [] [] add_sql (Text team ∷ Text digest ∷ []) old new 1 (teams_there old.now held.broker)
+    _ _ (Null ∷ Text team ∷ Text digest ∷ []) made refl (ap (λ v. with_rowid Chosen (old.now.trees 1) (v ∷ Text team ∷ Text digest ∷ [])) cast_null) (meant old.now held.broker add_sql add_text) count h in
+    teams_change old.now new.now s _ held (frame_of (codes "teams" ∷ []) 1 refl old new held.broker it.0) (λ t.
+    puts_at nat_list_cmp_total exact_texts (text 1) (text 2) (old.now.trees 1) (new.now.trees 1) made it.1 (held.teams team ∙ free) t ∙ (λ i. cond (sym (texts_ties t team) i) (Some digest) (held.teams t i)))

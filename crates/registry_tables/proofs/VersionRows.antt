@@ -1,0 +1,213 @@
+-- The statements on versions.
+use Rattle.std.proofs.Common.{◌≡◌, inl, inr, ℕ, ℤ, pos, ◌+◌, ◌<◌, nat_lt, cond, codes, List, [], ◌∷◌, ◌++◌, map, filter, length, true, false, Bool, refl, sym, ap, subst, ◌∙◌, slice_get, Some, None, Option, Ok, arith, append-nil, Less, Equal, Greater}
+use Rattle.std.specs.Prelude.{option_map, is_some}
+use Rattle.std.specs.List.{enumerate_from}
+use Rattle.std.proofs.lemmas.List.Sorted.{length_permutation}
+use Rattle.std.proofs.lemmas.List.{length-map, map-append}
+use Rattle.std.proofs.lemmas.List.FromFn.{length-enumerate_from}
+use Rattle.std.specs.Ordering.{eq_by_cmp, int_cmp}
+use Rattle.sqlite.specs.Tree.{IsAscending, rowid}
+use Rattle.sqlite.specs.Edit.{with_rowid}
+use Rattle.sqlite.specs.Rowids.TheVariants.{Chosen}
+use Rattle.sqlite.specs.Cast.{cast_all}
+use Rattle.sqlite.specs.declared.types.Value.{Value}
+use Rattle.sqlite.specs.declared.types.Value.TheVariants.{Null, Int, Text}
+use Rattle.sqlite.specs.Order.{Row, column, value_cmp}
+use Rattle.sqlite.specs.Term.{col, lit}
+use Rattle.sqlite.specs.Source.TheVariants.{Values}
+use Rattle.sqlite.specs.Command.{Command}
+use Rattle.sqlite.specs.Command.TheVariants.{Insert, Select}
+use Rattle.sqlite.specs.Schema.{Schema}
+use Rattle.sqlite.specs.Effect.{Database}
+use Rattle.sqlite.specs.State.{State, Shown, Executes}
+use Rattle.sqlite.specs.Listing.{understood}
+use Rattle.sqlite_rules.specs.Lists.{Has}
+use Rattle.sqlite_rules.proofs.TableLemmas.{int_is}
+use Rattle.sqlite_value.proofs.OrderLemmas.{value_cmp-Int}
+use Rattle.sqlite_tied.specs.Compute.{everything}
+use Rattle.table_access.specs.Columns.{text, text_cmp, pair_cmp, whole_at, by_both}
+use Rattle.table_access.specs.Statements.{from_table, by_two, keeps}
+use Rattle.table_access.specs.Sound.{IsNumbered}
+use Rattle.table_access.proofs.Values.{cast_null, cast_int}
+use Rattle.table_access.proofs.Steps.{Means, selects, inserts}
+use Rattle.table_access.proofs.Maps.{looks_up_at}
+use Rattle.table_access.proofs.Keys.{apart_by, pair_keys, by_pair}
+use Rattle.table_access.proofs.SoundLemmas.{text_at, has_place, at_has}
+use Rattle.broker_core.specs.declared.command.Version.{Version}
+use Rattle.broker_core.specs.Text.{version}
+use Rattle.broker_core.specs.State.{State as Broker}
+use Rattle.broker_core.specs.Request.{is_known}
+use Rattle.std.specs.Option.{option_map_or}
+use Rattle.registry_tables.specs.Registry.{AddsVersion}
+use Rattle.broker_tables.specs.Schema.{broker_schema}
+use Rattle.broker_tables.specs.Rows.{stands_at}
+use Rattle.broker_tables.specs.Numbers.{numbered, number_of}
+use Rattle.broker_tables.specs.Holds.{Holds, IsBroker, AreVersions}
+use Rattle.broker_tables.proofs.Frames.{meant, frame_of, Frame}
+use Rattle.broker_tables.proofs.Growth.{versions_grow}
+use Rattle.broker_tables.proofs.NumberLemmas.{version_row, known_numbered, newly_numbered, none_numbered}
+use Rattle.broker_tables.proofs.References.{row_number}
+use Rattle.std.proofs.lemmas.Bool.{ltb-true}
+use Rattle.broker_tables.proofs.Orders.{pairs_total, exact_pair}
+use Rattle.broker_tables.proofs.Placed.{versions, versions_there}
+
+module _ (db : Database) (broker : IsBroker db) where
+  pub owners : (r : Row) → Has (db.trees 6) r → column r 2 ≡ Text (text 2 r)
+  owners r has = text_at db broker.kept.sound versions (has_place _ 3 versions (versions_there db broker)) r has 1 _ refl refl refl refl refl
+
+  names : (r : Row) → Has (db.trees 6) r → column r 3 ≡ Text (text 3 r)
+  names r has = text_at db broker.kept.sound versions (has_place _ 3 versions (versions_there db broker)) r has 2 _ refl refl refl refl refl
+
+  pub keys : IsAscending (λ a b. eq_by_cmp pair_cmp (text 2 a, text 3 a) (text 2 b, text 3 b) ≡ false) (db.trees 6)
+  keys = pair_keys (db.trees 6) 2 3 owners names (apart_by db broker.kept versions 3 (versions_there db broker) _ 3 (ap (λ (s : Schema). slice_get s.indexes 3) broker.schema) refl)
+
+  pub numbered_rows : IsNumbered (db.trees 6)
+  numbered_rows = at_has _ db.schema.tables versions broker.kept.numbered (has_place _ 3 versions (versions_there db broker))
+
+-- ---- the number of a version
+
+abbrev pub version_sql : List ℕ
+version_sql = codes "SELECT number FROM versions WHERE pacticipant = ?1 AND version = ?2"
+
+abbrev pub version_command : Command
+version_command = Select (record { lets = []; body = from_table 6 (by_two 2 3) (col 1 0 ∷ []) [] }) (codes "number" ∷ [])
+
+version_text : Means broker_schema version_sql version_command
+unfolding understood everything
+version_text = record { is = refl; plain = (refl, refl); unlisted = refl }
+
+pub version_means : (db : Database) → IsBroker db → Means db.schema version_sql version_command
+version_means db broker = meant db broker version_sql version_text
+
+read_number : (found n : Option ℕ) → option_map (λ k. whole_at 0 (Int (pos k) ∷ [])) found ≡ option_map pos n → found ≡ n
+read_number None None e = refl
+read_number None (Some k) e = absurd cc
+read_number (Some k) None e = absurd cc
+read_number (Some k) (Some n) e = let same : k ≡ n = cc in ap Some same
+
+pub version_found : (p name : List ℕ) (old new : State) (rows : List Row) (s : Broker) (found : Option ℕ) → Holds old.now s → Shown version_sql (Text p ∷ Text name ∷ []) old new rows
+    → option_map (λ n. Int (pos n)) found ≡ option_map (λ row. column row 0) (slice_get rows 0) → (found ≡ number_of s.versions (version p name)) × (is_some found ≡ is_known s (version p name))
+version_found p name old new rows s found held h read =
+    let looked = looks_up_at pairs_total exact_pair (λ r. (text 2 r, text 3 r)) (whole_at 0) _ (whole_at 0) (λ r. refl) (p, name) _ (old.now.trees 6) rows
+    (by_pair (old.now.trees 6) 2 3 p name (owners old.now held.broker) (names old.now held.broker)) (keys old.now held.broker)
+    (selects version_sql (Text p ∷ Text name ∷ []) old new 6 _ _ _ _ (version_means old.now held.broker) rows h) in
+    let here : option_map (λ k. whole_at 0 (Int (pos k) ∷ [])) found ≡ option_map pos (number_of s.versions (version p name)) =
+    sym (twice found) ∙ ap (option_map (λ (v : Value). whole_at 0 (v ∷ []))) read ∙ shown (slice_get rows 0) ∙ looked ∙ version_row (old.now.trees 6) s.versions p name held.versions in
+    let same = read_number found (number_of s.versions (version p name)) here in
+    (same, ap is_some same ∙ known_numbered s (version p name))
+  where
+    twice : (o : Option ℕ) → option_map (λ (v : Value). whole_at 0 (v ∷ [])) (option_map (λ n. Int (pos n)) o) ≡ option_map (λ k. whole_at 0 (Int (pos k) ∷ [])) o
+    twice None = refl
+    twice (Some n) = refl
+
+    shown : (o : Option Row) → option_map (λ (v : Value). whole_at 0 (v ∷ [])) (option_map (λ row. column row 0) o) ≡ option_map (whole_at 0) o
+    shown None = refl
+    shown (Some r) = refl
+
+-- ---- how many versions there are
+
+abbrev pub count_sql : List ℕ
+count_sql = codes "SELECT number FROM versions"
+
+abbrev pub count_command : Command
+count_command = Select (record { lets = []; body = from_table 6 [] (col 1 0 ∷ []) [] }) (codes "number" ∷ [])
+
+count_text : Means broker_schema count_sql count_command
+unfolding understood everything
+count_text = record { is = refl; plain = (refl, refl); unlisted = refl }
+
+pub count_means : (db : Database) → IsBroker db → Means db.schema count_sql count_command
+count_means db broker = meant db broker count_sql count_text
+
+all_kept : (rows : List Row) → filter (keeps [] []) rows ≡ rows
+all_kept [] = refl
+all_kept (r ∷ rows) = ap (λ rs. r ∷ rs) (all_kept rows)
+
+as_many : (rows : List Row) (vs : List Version) → AreVersions vs rows → length rows ≡ length vs
+as_many rows vs is = sym (length-map rows (λ r. (whole_at 0 r, version (text 2 r) (text 3 r)))) ∙ ap length is ∙ length-map (enumerate_from 1 vs) (λ e. (pos e.0, e.1)) ∙ length-enumerate_from 1 vs
+
+pub versions_counted : (old new : State) (rows : List Row) (s : Broker) → Holds old.now s → Shown count_sql [] old new rows → length rows ≡ length s.versions
+versions_counted old new rows s held h =
+    length_permutation _ rows (selects count_sql [] old new 6 _ _ _ _ (count_means old.now held.broker) rows h) ∙ length-map (filter (keeps [] []) (old.now.trees 6)) _ ∙ ap length (all_kept (old.now.trees 6))
+    ∙ as_many (old.now.trees 6) s.versions held.versions
+
+-- ---- a new version
+
+abbrev pub put_sql : List ℕ
+put_sql = codes "INSERT INTO versions (number, pacticipant, version) VALUES (?1, ?2, ?3)"
+
+abbrev put_command : Command
+put_command = Insert 3 (Values (col 0 0 ∷ lit Null ∷ col 0 1 ∷ col 0 2 ∷ []) 4)
+
+put_text : Means broker_schema put_sql put_command
+unfolding understood everything
+put_text = record { is = refl; plain = (refl, refl); unlisted = refl }
+
+ascending_middle : (R : Row → Row → Type 0) (front back : List Row) (a b : Row) → IsAscending R (front ++ a ∷ b ∷ back) → R a b
+ascending_middle R [] back a b up = up.0.0
+ascending_middle R (f ∷ front) back a b up = ascending_middle R front back a b up.1
+
+has_middle : (front back : List Row) (b : Row) → Has (front ++ b ∷ back) b
+has_middle [] back b = inl refl
+has_middle (f ∷ front) back b = inr (has_middle front back b)
+
+not_past : (n k : ℕ) → k < 1 + n → int_cmp (pos (n + 1)) (pos k) ≡ Less → ⊥
+not_past n k low less = go (nat_lt (n + 1) k) refl (nat_lt k (n + 1)) less
+  where
+    go : (b : Bool) → nat_lt (n + 1) k ≡ b → (c : Bool) → cond b Less (cond c Greater Equal) ≡ Less → ⊥
+    go true e c h = absurd (let past = ltb-true (n + 1) k e in omega (arith, low, past))
+    go false e true h = absurd cc
+    go false e false h = absurd cc
+
+-- the row with the next number stands last
+module _ (vs : List Version) (old new : List Row) (made : Row) (are : AreVersions vs old) (numbered : IsNumbered new) (is : whole_at 0 made ≡ pos (length vs + 1)) where
+  id_of : (r : Row) → Has new r → rowid r ≡ Int (whole_at 0 r)
+  id_of r has = int_is (rowid r) (at_has _ new r numbered.1 has)
+
+  stands_last : (front back : List Row) → old ≡ front ++ back → new ≡ front ++ made ∷ back → new ≡ old ++ made ∷ []
+  stands_last front [] was now = now ∙ ap (λ rows. rows ++ made ∷ []) (sym (was ∙ append-nil front))
+  stands_last front (b ∷ back) was now =
+      let among : Has old b = subst (λ rows. Has rows b) (sym was) (has_middle front back b) in
+      let low = row_number _ old vs 1 are b among in
+      let less : value_cmp (rowid made) (rowid b) ≡ Less = ascending_middle _ front back made b (subst (IsAscending (λ x y. value_cmp (rowid x) (rowid y) ≡ Less)) now numbered.0) in
+      let one : rowid made ≡ Int (whole_at 0 made) = id_of made (subst (λ rows. Has rows made) (sym now) (has_middle front (b ∷ back) made)) in
+      let two : rowid b ≡ Int (whole_at 0 b) = id_of b (subst (λ rows. Has rows b) (sym now) (later front)) in
+      let ordered : int_cmp (pos (length vs + 1)) (pos low.0) ≡ Less =
+      ap (λ k. int_cmp k (pos low.0)) (sym is) ∙ ap (int_cmp (whole_at 0 made)) (sym low.1) ∙ sym (value_cmp-Int (whole_at 0 made) (whole_at 0 b))
+      ∙ sym (ap (λ v. value_cmp v (rowid b)) one ∙ ap (value_cmp (Int (whole_at 0 made))) two) ∙ less in
+      absurd (not_past (length vs) low.0 low.2 ordered)
+    where
+      later : (fs : List Row) → Has (fs ++ made ∷ b ∷ back) b
+      later [] = inr (inl refl)
+      later (f ∷ fs) = inr (later fs)
+
+entries_grow : (n : ℕ) (vs : List Version) (v : Version) → map {B = ℤ × Version} (λ e. (pos e.0, e.1)) (enumerate_from n (vs ++ v ∷ [])) ≡ map (λ e. (pos e.0, e.1)) (enumerate_from n vs) ++ (pos (n + length vs), v) ∷ []
+entries_grow n [] v = ap (λ k. (pos k, v) ∷ []) (let e : n ≡ n + 0 = omega arith in e)
+entries_grow n (w ∷ vs) v = ap (λ more. (pos n, w) ∷ more) (entries_grow (n + 1) vs v ∙ ap (λ k. map (λ e. (pos e.0, e.1)) (enumerate_from (n + 1) vs) ++ (pos k, v) ∷ []) (let e : n + 1 + length vs ≡ n + length (w ∷ vs) = omega arith in e))
+
+pub version_put : (number : ℕ) (p name : List ℕ) (old new : State) (count : ℕ) (s : Broker) → Holds old.now s → is_known s (version p name) ≡ false → number ≡ length s.versions + 1
+    → Executes put_sql (Int (pos number) ∷ Text p ∷ Text name ∷ []) old new (Ok count) → Holds new.now (record s { versions = s.versions ++ version p name ∷ [] })
+version_put number p name old new count s held free is h =
+    let made = Int (pos number) ∷ Null ∷ Text p ∷ Text name ∷ [] in
+    let as_stored = ap (λ v. with_rowid Chosen (old.now.trees 6) (v ∷ cast_all versions.columns (Null ∷ Text p ∷ Text name ∷ []))) (cast_int (pos number)) ∙ ap (λ v. Int (pos number) ∷ v ∷ Text p ∷ Text name ∷ []) cast_null in
+    let it = inserts (codes "versions") 6 versions.columns (Some 0) (0 ∷ []) versions.uniques versions.orders [] versions.references put_sql (Int (pos number) ∷ Text p ∷ Text name ∷ []) old new 3 (versions_there old.now held.broker)
+    _ _ made made refl as_stored (meant old.now held.broker put_sql put_text) count h in
+    let frame : Frame (codes "versions" ∷ []) old.now new.now = frame_of (codes "versions" ∷ []) 6 refl old new held.broker it.0 in
+    let now_broker : IsBroker new.now = record { schema = frame.schema ∙ held.broker.schema; kept = frame.kept held.broker.kept } in
+    let rows : new.now.trees 6 ≡ old.now.trees 6 ++ made ∷ [] = stands_last s.versions (old.now.trees 6) (new.now.trees 6) made held.versions (numbered_rows new.now now_broker) (ap pos is) it.1.front it.1.back it.1.was it.1.is in
+    let entry : Row → ℤ × Version = λ r. (whole_at 0 r, version (text 2 r) (text 3 r)) in
+    versions_grow old.now new.now s (version p name) held free frame (
+    ap (map entry) rows ∙ map-append entry (old.now.trees 6) (made ∷ []) ∙ ap (λ es. es ++ (pos number, version p name) ∷ []) held.versions
+    ∙ ap (λ k. numbered s.versions ++ (pos k, version p name) ∷ []) (let e : number ≡ 1 + length s.versions = omega (arith, is) in e) ∙ sym (entries_grow 1 s.versions (version p name)))
+
+-- a version that isn't there is on no branch
+pub no_branch : (db : Database) (s : Broker) (v : Version) → Holds db s → is_known s v ≡ false → (branch : List ℕ) → s.branches (v, branch) ≡ false
+no_branch db s v held free branch =
+    sym (held.branches v branch) ∙ ap (λ o. option_map_or (λ n. stands_at (by_both int_cmp text_cmp) (λ r. (whole_at 1 r, text 2 r)) (db.trees 8) (pos n, branch)) o false) (none_numbered s.versions v free)
+
+-- what add_version promises, of the state after it
+pub version_added : (s : Broker) (v : Version) (number : ℕ) (new : Database) → is_known s v ≡ false → ((branch : List ℕ) → s.branches (v, branch) ≡ false) → number ≡ length s.versions + 1 → Holds new (record s { versions = s.versions ++ v ∷ [] })
+    → (t : Broker) × AddsVersion v number s t × Holds new t
+version_added s v number new free off is held =
+    let t = record s { versions = s.versions ++ v ∷ [] } in
+    (t, (refl, is, newly_numbered s.versions v free ∙ ap Some (sym is), off), held)

@@ -1,0 +1,89 @@
+//! The branches that versions are on.
+ghost use Rattle.std.specs.Prelude.{◌≡◌, Some, pos};
+ghost use Rattle.std.specs.Ordering.{nat_cmp, flip_args};
+ghost use Rattle.sqlite.specs.Order.{column};
+ghost use Rattle.sqlite.specs.declared.types.Value.TheVariants.{Int};
+ghost use Rattle.broker_core.specs.Listing.{Lists};
+ghost use Rattle.sqlite.specs.Held.{state};
+ghost use Rattle.broker_core.specs.declared.command.Version.{Version as VersionModel};
+ghost use Rattle.broker_tables.specs.Numbers.{number_of as number_in};
+ghost use Rattle.broker_tables.specs.Holds.{Reads, Changes};
+ghost use Rattle.registry_tables.specs.Registry.{AddsBranch, IsBranchNumber};
+
+use sqlite::{Alter, Connection, Row, params};
+use std::alloc::Global;
+use table_access::{Fault, ReadRow, change, list_of, text_of};
+
+/// Whether the version with this number is on the branch.
+///
+/// # Errors
+/// `Fault::Memory` for want of memory; `Fault::Store` where the database refused the query.
+pub fn on_branch<S: Alter>(
+    conn: &mut Connection<S>,
+    number: u32,
+    branch: &str,
+) -> Result<bool, Fault>
+    ensures { Reads (state S.Store conn.old) (state S.Store conn.new) result (λ has s. (v : VersionModel) → number_in s.versions v ≡ Some number → has ≡ s.branches (v, branch.now)) }
+{
+    match text_of(
+        conn,
+        "SELECT branch FROM branches WHERE version_number = ?1 AND branch = ?2",
+        params![number, branch],
+    ) {
+        Ok(found) => Ok(found.is_some()),
+        Err(fault) => Err(fault),
+    }
+}
+
+/// Puts the version with this number on a branch that it isn't on.
+///
+/// # Errors
+/// `Fault::Memory` for want of memory; `Fault::Store` where the database refused the row.
+pub fn add_branch<S: Alter>(
+    conn: &mut Connection<S>,
+    number: u32,
+    branch: &str,
+) -> Result<(), Fault>
+    ensures { Changes (state S.Store conn.old) (state S.Store conn.new) result (AddsBranch number branch.now) }
+{
+    change(
+        conn,
+        "INSERT INTO branches (version_number, branch) VALUES (?1, ?2)",
+        params![number, branch],
+    )
+}
+
+/// A row that shows a number.
+struct NumberRow;
+
+impl ReadRow for NumberRow {
+    type Item = u32;
+
+    ghost reads_as = { λ row number. column row 0 ≡ Int (pos number) };
+
+    ghost is_readable = { λ row. ⊥ };
+
+    fn read(_alloc: Global, row: &Row) -> Result<u32, Fault> {
+        Ok(row.get(0)?)
+    }
+}
+
+/// The numbers of the pacticipant's versions that are on the branch, each once, the greatest first.
+///
+/// # Errors
+/// `Fault::Memory` for want of memory; `Fault::Store` where the database refused the query or holds no number there.
+pub fn branch_numbers<S: Alter>(
+    alloc: Global,
+    conn: &mut Connection<S>,
+    pacticipant: &str,
+    branch: &str,
+) -> Result<Vec<u32>, Fault>
+    ensures { Reads (state S.Store conn.old) (state S.Store conn.new) result (λ numbers s. Lists (flip_args nat_cmp) (IsBranchNumber s pacticipant.now branch.now) numbers.items) }
+{
+    list_of::<NumberRow, S>(
+        alloc,
+        conn,
+        "SELECT v.number FROM versions v JOIN branches b ON b.version_number = v.number WHERE v.pacticipant = ?1 AND b.branch = ?2 ORDER BY v.number DESC",
+        params![pacticipant, branch],
+    )
+}

@@ -1,0 +1,128 @@
+//! Environments and their two marks: whether the gate judges what comes in, and whether it trusts checked results alone.
+ghost use Rattle.std.specs.Prelude.{◌≡◌, ◌==◌, ◌<◌, false, IfOk, IfErr, IsSomeAnd, Some, option_map};
+ghost use Rattle.sqlite.specs.Held.{state};
+ghost use Rattle.broker_core.specs.declared.command.Marks.{Marks as MarksModel};
+ghost use Rattle.broker_tables.specs.Holds.{Reads, Changes};
+ghost use Rattle.registry_tables.specs.Registry.{AddsEnvironment, marks, MakesStrict};
+
+use sqlite::{Alter, Connection, params};
+use table_access::{Fault, change, number_of, text_of};
+
+/// The truth value that a number stands for: 0 is false, and 1 true.
+fn truth_of(found: Option<u32>) -> Result<Option<bool>, Fault>
+    ensures ok { IfOk result (λ truth. truth ≡ option_map (λ n. n == 1) found) }
+    ensures told { IfErr result (λ fault. (fault ≡ Fault.Store) × IsSomeAnd found (λ n. 1 < n)) }
+{
+    match found {
+        None => Ok(None),
+        Some(0) => Ok(Some(false)),
+        Some(1) => Ok(Some(true)),
+        Some(_) => Err(Fault::Store),
+    }
+}
+
+/// Whether the environment is gated, or `None` where there is no such environment.
+///
+/// # Errors
+/// `Fault::Memory` for want of memory; `Fault::Store` where the database refused the query or holds no truth value there.
+pub fn gated<S: Alter>(conn: &mut Connection<S>, environment: &str) -> Result<Option<bool>, Fault>
+    ensures { Reads (state S.Store conn.old) (state S.Store conn.new) result (λ found s. found ≡ option_map (λ m. m.gated) (s.environments environment.now)) }
+{
+    match number_of(
+        conn,
+        "SELECT gated FROM environments WHERE name = ?1",
+        params![environment],
+    ) {
+        Ok(found) => truth_of(found),
+        Err(fault) => Err(fault),
+    }
+}
+
+/// Whether an environment that is there is strict.
+fn is_strict<S: Alter>(conn: &mut Connection<S>, environment: &str) -> Result<bool, Fault>
+    ensures { Reads (state S.Store conn.old) (state S.Store conn.new) result (λ strict s. (m : MarksModel) → s.environments environment.now ≡ Some m → strict ≡ m.strict) }
+{
+    match text_of(
+        conn,
+        "SELECT environment FROM strict_environments WHERE environment = ?1",
+        params![environment],
+    ) {
+        Ok(found) => Ok(found.is_some()),
+        Err(fault) => Err(fault),
+    }
+}
+
+/// Whether the environment is strict, or `None` where there is no such environment.
+///
+/// # Errors
+/// `Fault::Memory` for want of memory; `Fault::Store` where the database refused a query or holds no truth value there.
+pub fn strict_of<S: Alter>(
+    conn: &mut Connection<S>,
+    environment: &str,
+) -> Result<Option<bool>, Fault>
+    ensures { Reads (state S.Store conn.old) (state S.Store conn.new) result (λ found s. found ≡ option_map (λ m. m.strict) (s.environments environment.now)) }
+{
+    match gated(conn, environment) {
+        Ok(Some(_)) => match is_strict(conn, environment) {
+            Ok(strict) => Ok(Some(strict)),
+            Err(fault) => Err(fault),
+        },
+        Ok(None) => Ok(None),
+        Err(fault) => Err(fault),
+    }
+}
+
+/// The number that stands for a truth value.
+fn number_for(truth: bool) -> u32
+    ensures { (result == 1) ≡ truth }
+{
+    if truth { 1 } else { 0 }
+}
+
+/// Puts in an environment that isn't strict.
+fn put_environment<S: Alter>(
+    conn: &mut Connection<S>,
+    environment: &str,
+    mark: u32,
+) -> Result<(), Fault>
+    ensures { Changes (state S.Store conn.old) (state S.Store conn.new) result (AddsEnvironment environment.now (marks (mark == 1) false)) }
+{
+    change(
+        conn,
+        "INSERT INTO environments (name, gated) VALUES (?1, ?2)",
+        params![environment, mark],
+    )
+}
+
+/// Makes an environment strict.
+fn put_strict<S: Alter>(conn: &mut Connection<S>, environment: &str) -> Result<(), Fault>
+    ensures { Changes (state S.Store conn.old) (state S.Store conn.new) result (MakesStrict environment.now) }
+{
+    change(
+        conn,
+        "INSERT INTO strict_environments (environment) VALUES (?1)",
+        params![environment],
+    )
+}
+
+/// Adds an environment of a new name with its two marks.
+///
+/// # Errors
+/// `Fault::Memory` for want of memory; `Fault::Store` where the database refused a row.
+pub fn add_environment<S: Alter>(
+    conn: &mut Connection<S>,
+    environment: &str,
+    gated: bool,
+    strict: bool,
+) -> Result<(), Fault>
+    ensures { Changes (state S.Store conn.old) (state S.Store conn.new) result (AddsEnvironment environment.now (marks gated strict)) }
+{
+    match put_environment(conn, environment, number_for(gated)) {
+        Ok(()) => if strict {
+            put_strict(conn, environment)
+        } else {
+            Ok(())
+        },
+        Err(fault) => Err(fault),
+    }
+}

@@ -1,0 +1,65 @@
+//! Grants: the teams that may change what stands in an environment.
+ghost use Rattle.std.specs.Prelude.{◌≡◌};
+ghost use Rattle.sqlite.specs.Held.{state};
+ghost use Rattle.broker_tables.specs.Holds.{Reads, Changes};
+ghost use Rattle.registry_tables.specs.Registry.{AddsGrant, RemovesGrant};
+
+use sqlite::{Alter, Connection, params};
+use table_access::{Fault, change, text_of};
+
+/// Whether the team has a grant for the environment.
+///
+/// # Errors
+/// `Fault::Memory` for want of memory; `Fault::Store` where the database refused the query.
+pub fn granted<S: Alter>(
+    conn: &mut Connection<S>,
+    team: &str,
+    environment: &str,
+) -> Result<bool, Fault>
+    ensures { Reads (state S.Store conn.old) (state S.Store conn.new) result (λ has s. has ≡ s.grants (team.now, environment.now)) }
+{
+    match text_of(
+        conn,
+        "SELECT team FROM grants WHERE team = ?1 AND environment = ?2",
+        params![team, environment],
+    ) {
+        Ok(found) => Ok(found.is_some()),
+        Err(fault) => Err(fault),
+    }
+}
+
+/// Grants a team the change of an environment, both of which are there; it has no such grant yet.
+///
+/// # Errors
+/// `Fault::Memory` for want of memory; `Fault::Store` where the database refused the row.
+pub fn add_grant<S: Alter>(
+    conn: &mut Connection<S>,
+    team: &str,
+    environment: &str,
+) -> Result<(), Fault>
+    ensures { Changes (state S.Store conn.old) (state S.Store conn.new) result (AddsGrant team.now environment.now) }
+{
+    change(
+        conn,
+        "INSERT INTO grants (team, environment) VALUES (?1, ?2)",
+        params![team, environment],
+    )
+}
+
+/// Takes back a grant that stands. All other grants stay.
+///
+/// # Errors
+/// `Fault::Memory` for want of memory; `Fault::Store` where the database refused the statement.
+pub fn remove_grant<S: Alter>(
+    conn: &mut Connection<S>,
+    team: &str,
+    environment: &str,
+) -> Result<(), Fault>
+    ensures { Changes (state S.Store conn.old) (state S.Store conn.new) result (RemovesGrant team.now environment.now) }
+{
+    change(
+        conn,
+        "DELETE FROM grants WHERE team = ?1 AND environment = ?2",
+        params![team, environment],
+    )
+}

@@ -1,0 +1,43 @@
+//! Pacticipants, and the teams that own them.
+ghost use Rattle.std.specs.Prelude.{◌≡◌, option_map, string_bytes};
+ghost use Rattle.sqlite.specs.Held.{state};
+ghost use Rattle.broker_tables.specs.Holds.{Reads, Changes};
+ghost use Rattle.registry_tables.specs.Registry.{AddsPacticipant};
+
+use sqlite::{Alter, Connection, params};
+use table_access::{Fault, change, text_of};
+
+/// The team that owns a pacticipant, or `None` where there is no such pacticipant.
+///
+/// # Errors
+/// `Fault::Memory` for want of memory; `Fault::Store` where the database refused the query.
+pub fn owner_of<S: Alter>(
+    conn: &mut Connection<S>,
+    pacticipant: &str,
+) -> Result<Option<String>, Fault>
+    ensures { Reads (state S.Store conn.old) (state S.Store conn.new) result (λ owner s. option_map string_bytes owner ≡ s.pacticipants pacticipant.now) }
+{
+    text_of(
+        conn,
+        "SELECT team FROM pacticipants WHERE name = ?1",
+        params![pacticipant],
+    )
+}
+
+/// Adds a pacticipant of a new name, owned by a team that is there.
+///
+/// # Errors
+/// `Fault::Memory` for want of memory; `Fault::Store` where the database refused the row.
+pub fn add_pacticipant<S: Alter>(
+    conn: &mut Connection<S>,
+    pacticipant: &str,
+    team: &str,
+) -> Result<(), Fault>
+    ensures { Changes (state S.Store conn.old) (state S.Store conn.new) result (AddsPacticipant pacticipant.now team.now) }
+{
+    change(
+        conn,
+        "INSERT INTO pacticipants (name, team) VALUES (?1, ?2)",
+        params![pacticipant, team],
+    )
+}

@@ -1,0 +1,66 @@
+//! Teams, and the digests of their tokens.
+ghost use Rattle.std.specs.Prelude.{◌≡◌, ℕ, List, Some, None, MatchOption, option_map, string_bytes, is_some};
+ghost use Rattle.sqlite.specs.Held.{state};
+ghost use Rattle.broker_tables.specs.Holds.{Reads, Changes};
+ghost use Rattle.registry_tables.specs.Registry.{AddsTeam};
+
+use sqlite::{Alter, Connection, params};
+use table_access::{Fault, change, text_of};
+
+/// The digest of a team's token, or `None` where there is no such team.
+///
+/// # Errors
+/// `Fault::Memory` for want of memory; `Fault::Store` where the database refused the query.
+pub fn digest_of<S: Alter>(conn: &mut Connection<S>, team: &str) -> Result<Option<String>, Fault>
+    ensures { Reads (state S.Store conn.old) (state S.Store conn.new) result (λ digest s. option_map string_bytes digest ≡ s.teams team.now) }
+{
+    text_of(
+        conn,
+        "SELECT token_digest FROM teams WHERE name = ?1",
+        params![team],
+    )
+}
+
+/// Whether there is such a team.
+///
+/// # Errors
+/// `Fault::Memory` for want of memory; `Fault::Store` where the database refused the query.
+pub fn has_team<S: Alter>(conn: &mut Connection<S>, team: &str) -> Result<bool, Fault>
+    ensures { Reads (state S.Store conn.old) (state S.Store conn.new) result (λ has s. has ≡ is_some (s.teams team.now)) }
+{
+    match digest_of(conn, team) {
+        Ok(digest) => Ok(digest.is_some()),
+        Err(fault) => Err(fault),
+    }
+}
+
+/// The team whose token has this digest, or `None` where no team's has.
+///
+/// # Errors
+/// `Fault::Memory` for want of memory; `Fault::Store` where the database refused the query.
+pub fn team_of_digest<S: Alter>(
+    conn: &mut Connection<S>,
+    digest: &str,
+) -> Result<Option<String>, Fault>
+    ensures { Reads (state S.Store conn.old) (state S.Store conn.new) result (λ team s. MatchOption team ((t : List ℕ) → ¬ (s.teams t ≡ Some digest.now)) (λ name. s.teams (string_bytes name) ≡ Some digest.now)) }
+{
+    text_of(
+        conn,
+        "SELECT name FROM teams WHERE token_digest = ?1",
+        params![digest],
+    )
+}
+
+/// Adds a team of a new name, whose token's digest no other team has.
+///
+/// # Errors
+/// `Fault::Memory` for want of memory; `Fault::Store` where the database refused the row.
+pub fn add_team<S: Alter>(conn: &mut Connection<S>, team: &str, digest: &str) -> Result<(), Fault>
+    ensures { Changes (state S.Store conn.old) (state S.Store conn.new) result (AddsTeam team.now digest.now) }
+{
+    change(
+        conn,
+        "INSERT INTO teams (name, token_digest) VALUES (?1, ?2)",
+        params![team, digest],
+    )
+}

@@ -1,0 +1,93 @@
+//! Versions of pacticipants, and their numbers.
+ghost use Rattle.std.specs.Prelude.{◌≡◌, ◌+◌, ◌<◌, ◌≤◌, IfSome, IfNone, length, is_some};
+ghost use Rattle.sqlite.specs.Held.{state};
+ghost use Rattle.broker_core.specs.Text.{version as version_named};
+ghost use Rattle.broker_core.specs.Request.{is_known};
+ghost use Rattle.broker_tables.specs.Numbers.{number_of as number_in};
+ghost use Rattle.broker_tables.specs.Holds.{Reads, Changes, Gives};
+ghost use Rattle.registry_tables.specs.Registry.{AllowsVersion, AddsVersion, PutsVersion};
+
+use sqlite::{Alter, Connection, params};
+use table_access::{Fault, change, count_of, number_of};
+
+/// The number of a version, by its pacticipant and its name, or `None` where there is no such version.
+///
+/// # Errors
+/// `Fault::Memory` for want of memory; `Fault::Store` where the database refused the query or holds no number there.
+pub fn version_of<S: Alter>(
+    conn: &mut Connection<S>,
+    pacticipant: &str,
+    version: &str,
+) -> Result<Option<u32>, Fault>
+    ensures { Reads (state S.Store conn.old) (state S.Store conn.new) result (λ found s. (found ≡ number_in s.versions (version_named pacticipant.now version.now)) × (is_some found ≡ is_known s (version_named pacticipant.now version.now))) }
+{
+    number_of(
+        conn,
+        "SELECT number FROM versions WHERE pacticipant = ?1 AND version = ?2",
+        params![pacticipant, version],
+    )
+}
+
+/// How many versions there are.
+///
+/// # Errors
+/// `Fault::Memory` for want of memory; `Fault::Store` where the database refused the query.
+pub fn version_count<S: Alter>(conn: &mut Connection<S>) -> Result<u64, Fault>
+    ensures { Reads (state S.Store conn.old) (state S.Store conn.new) result (λ count s. count ≡ length s.versions) }
+{
+    match count_of(conn, "SELECT number FROM versions", &[]) {
+        Ok(count) => Ok(count as u64),
+        Err(fault) => Err(fault),
+    }
+}
+
+/// The number after so many, if there is one.
+fn next_number(count: u64) -> Option<u32>
+    ensures some { IfSome result (λ n. n ≡ count + 1) }
+    ensures none { IfNone result (4294967295 ≤ count) }
+{
+    if count < 4_294_967_295 {
+        Some(count as u32 + 1)
+    } else {
+        None
+    }
+}
+
+/// Puts in a version under a number.
+fn put_version<S: Alter>(
+    conn: &mut Connection<S>,
+    number: u32,
+    pacticipant: &str,
+    version: &str,
+) -> Result<(), Fault>
+    ensures { Changes (state S.Store conn.old) (state S.Store conn.new) result (PutsVersion number (version_named pacticipant.now version.now)) }
+{
+    change(
+        conn,
+        "INSERT INTO versions (number, pacticipant, version) VALUES (?1, ?2, ?3)",
+        params![number, pacticipant, version],
+    )
+}
+
+/// Adds a version of a pacticipant that is there, under a new name, and answers its number, which is the next one.
+///
+/// # Errors
+/// `Fault::Memory` for want of memory; `Fault::Store` where the database refused the query or the row.
+pub fn add_version<S: Alter>(
+    conn: &mut Connection<S>,
+    pacticipant: &str,
+    version: &str,
+) -> Result<u32, Fault>
+    ensures { Gives (state S.Store conn.old) (state S.Store conn.new) result (AllowsVersion (version_named pacticipant.now version.now)) (AddsVersion (version_named pacticipant.now version.now)) }
+{
+    match version_count(conn) {
+        Ok(count) => match next_number(count) {
+            Some(number) => match put_version(conn, number, pacticipant, version) {
+                Ok(()) => Ok(number),
+                Err(fault) => Err(fault),
+            },
+            None => Err(Fault::Store),
+        },
+        Err(fault) => Err(fault),
+    }
+}

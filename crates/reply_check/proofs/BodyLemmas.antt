@@ -1,0 +1,75 @@
+-- Bodies that meet the expected one.
+use Rattle.std.proofs.Common.{◌≡◌, ◌⊎◌, ◌↔◌, inl, inr, ℕ, Bool, true, false, List, [], Option, Some, None, IsTrue, refl, sym, ap, ◌∙◌, subst, true≢false}
+use Rattle.std.proofs.lemmas.Slice.Eq.{bytes_eq-Decides}
+use Rattle.std.proofs.lemmas.Option.{same_Some}
+use Rattle.pact_rules.specs.Trees.{Node, null, truth, whole, text, list, object}
+use Rattle.pact_rules.specs.Rules.{Rules}
+use Rattle.reply_check.specs.Fitting.{Fits, are_alike}
+use Rattle.reply_check.specs.Bodies.{is_empty, MeetsBy, MeetsBody}
+
+never : {A : Type 0} → false ≡ true → A
+never h = absurd (true≢false (sym h))
+
+alike_null : (y : Node) → are_alike null y ≡ true → y ≡ null
+alike_null null h = refl
+alike_null (truth b) h = never h
+alike_null (whole n) h = never h
+alike_null (text s) h = never h
+alike_null (list ts) h = never h
+alike_null (object fs) h = never h
+
+alike_text : (s : List ℕ) (y : Node) → are_alike (text s) y ≡ true → y ≡ text s
+alike_text s null h = never h
+alike_text s (truth b) h = never h
+alike_text s (whole n) h = never h
+alike_text s (text t) h = ap text (sym ((bytes_eq-Decides s t).0 h))
+alike_text s (list ts) h = never h
+alike_text s (object fs) h = never h
+
+alike_empty : (x y : Node) → is_empty x ≡ true → are_alike x y ≡ true → y ≡ x
+alike_empty null y e h = alike_null y h
+alike_empty (truth b) y e h = never e
+alike_empty (whole n) y e h = never e
+alike_empty (text s) y e h = alike_text s y h
+alike_empty (list ts) y e h = never e
+alike_empty (object fs) y e h = never e
+
+empty_alike : (x : Node) → is_empty x ≡ true → are_alike x x ≡ true
+empty_alike null e = refl
+empty_alike (truth b) e = never e
+empty_alike (whole n) e = never e
+empty_alike (text s) e = (bytes_eq-Decides s s).1 refl
+empty_alike (list ts) e = never e
+empty_alike (object fs) e = never e
+
+none_by : (b : Bool) (rules : Rules) (x : Node) → IsTrue b ↔ MeetsBy b rules x None
+none_by true rules x = (λ h. inl refl, λ s. refl)
+none_by false rules x = (λ h. never h, λ s. absurd s)
+
+-- nothing is expected
+pub meets_any : (rules : Rules) (actual : Option Node) → IsTrue true ↔ MeetsBody rules None actual
+meets_any rules actual = (λ h. tt, λ s. refl)
+
+-- no body
+pub meets_none : (b : Bool) (rules : Rules) (x : Node) → b ≡ is_empty x → IsTrue b ↔ MeetsBody rules (Some x) None
+meets_none b rules x is = subst (λ c. IsTrue b ↔ MeetsBy c rules x None) is (none_by b rules x)
+
+same_of : (x y : Node) → (Some y ≡ None) ⊎ (Some y ≡ Some x) → y ≡ x
+same_of x y (inl h) = absurd (cc-none h)
+  where
+    cc-none : Some y ≡ None → ⊥
+    cc-none h = absurd cc
+same_of x y (inr h) = same_Some y x h
+
+-- an empty one
+pub meets_empty : (b e : Bool) (rules : Rules) (x y : Node) → e ≡ is_empty x → e ≡ true → b ≡ are_alike x y → IsTrue b ↔ MeetsBody rules (Some x) (Some y)
+meets_empty b e rules x y is so same =
+    let empty : is_empty x ≡ true = sym is ∙ so in
+    subst (λ c. IsTrue b ↔ MeetsBy c rules x (Some y)) (sym empty) (
+      λ h. inr (ap (λ n. Some n) (alike_empty x y empty (sym same ∙ h))),
+      λ s. same ∙ ap (are_alike x) (same_of x y s) ∙ empty_alike x empty,
+    )
+
+-- any other
+pub meets_full : (b e : Bool) (rules : Rules) (x y : Node) → e ≡ is_empty x → e ≡ false → IsTrue b ↔ Fits rules [] x y → IsTrue b ↔ MeetsBody rules (Some x) (Some y)
+meets_full b e rules x y is so h = subst (λ c. IsTrue b ↔ MeetsBy c rules x (Some y)) (sym (sym is ∙ so)) h

@@ -1,0 +1,232 @@
+-- The computed form says just what the relation says.
+use Rattle.std.proofs.Common.{◌≡◌, ◌⊎◌, inl, inr, ◌↔◌, ℕ, zero, suc, ◌+◌, Bool, true, false, ◌&&◌, List, [], ◌∷◌, ◌++◌, Option, Some, None, is_some, IsTrue, refl, sym, ap, ◌∙◌, subst, arith, bytes_eq}
+use Rattle.std.proofs.lemmas.Bool.{and_from, and_parts, false≢true}
+use Rattle.std.proofs.lemmas.Slice.Eq.{bytes_eq-Decides}
+use Rattle.std.proofs.lemmas.Option.{none-some}
+use Rattle.pact_paths.specs.Paths.{Location, key, item}
+use Rattle.pact_rules.specs.Trees.{Node, null, truth, whole, text, list, object, Nodes, no_nodes, node, Fields, no_fields, field}
+use Rattle.pact_rules.specs.Rules.{Rules, BodyRule}
+use Rattle.pact_rules.specs.Holding.{get_field, has_keys_of}
+use Rattle.reply_check.specs.Fitting.{rule_for, get_node, HasItem, HasField, HasMember, Expects, IsObject, IsExample, MeetsBy, Meets, Fits, fitting}
+use Rattle.reply_check.specs.Computed.{meets_by, meets, first_or, example, expected_items, expected_fields, if_there, fits, items_fit, members_fit}
+
+-- ---- at a location itself
+
+meets_so : (o : Option BodyRule) (at : Location) (x y : Node) → meets_by o at x y ≡ true → MeetsBy o at x y
+meets_so None at x y h = h
+meets_so (Some rule) at x y h = h
+
+so_meets : (o : Option BodyRule) (at : Location) (x y : Node) → MeetsBy o at x y → meets_by o at x y ≡ true
+so_meets None at x y h = h
+so_meets (Some rule) at x y h = h
+
+-- ---- members
+
+same_key : (k l : List ℕ) → bytes_eq k l ≡ true → k ≡ l
+same_key k l h = (bytes_eq-Decides k l).0 h
+
+key_itself : (k : List ℕ) → bytes_eq k k ≡ true
+key_itself k = (bytes_eq-Decides k k).1 refl
+
+value_or : Node → Option Node → Node
+value_or d None = d
+value_or d (Some t) = t
+
+some_alike : (u t : Node) → Some u ≡ Some t → u ≡ t
+unfolding value_or
+some_alike u t h = ap (value_or u) h
+
+by_test : {B : Type 0} (b : Bool) → (b ≡ true → B) → (b ≡ false → B) → B
+by_test true is isnt = is refl
+by_test false is isnt = isnt refl
+
+here : (k l : List ℕ) (u : Node) (fs : Fields) → bytes_eq k l ≡ true → get_field k (field l u fs) ≡ Some u
+here k l u fs is = rw is refl
+
+there : (k l : List ℕ) (u : Node) (fs : Fields) → bytes_eq k l ≡ false → get_field k (field l u fs) ≡ get_field k fs
+there k l u fs isnt = rw isnt refl
+
+-- what is looked up is a member
+found_member : (k : List ℕ) (fs : Fields) (t : Node) → get_field k fs ≡ Some t → HasField fs k t
+found_member k no_fields t h = absurd (none-some t h)
+found_member k (field l u fs) t h = by_test (bytes_eq k l)
+    (λ is. inl (sym (same_key k l is), some_alike u t (sym (here k l u fs is) ∙ h)))
+    (λ isnt. inr (found_member k fs t (sym (there k l u fs isnt) ∙ h)))
+
+-- a member is looked up
+member_found : (k : List ℕ) (fs : Fields) (t : Node) → HasField fs k t → is_some (get_field k fs) ≡ true
+member_found k no_fields t h = absurd h
+member_found k (field l u fs) t (inl h) = ap is_some (here k l u fs (ap (bytes_eq k) h.0 ∙ key_itself k))
+member_found k (field l u fs) t (inr h) = by_test (bytes_eq k l)
+    (λ is. ap is_some (here k l u fs is))
+    (λ isnt. ap is_some (there k l u fs isnt) ∙ member_found k fs t h)
+
+value_of : (o : Option Node) → is_some o ≡ true → (t : Node) × (o ≡ Some t)
+value_of None h = absurd (false≢true h)
+value_of (Some t) h = (t, refl)
+
+-- each expected key is there
+keys_so : (fs gs : Fields) → has_keys_of fs gs ≡ true → (k : List ℕ) (e : Node) → get_field k fs ≡ Some e → is_some (get_field k gs) ≡ true
+keys_so no_fields gs h k e is_there = absurd (none-some e is_there)
+keys_so (field l u fs) gs h k e is_there = let both = and_parts (is_some (get_field l gs)) (has_keys_of fs gs) h in by_test (bytes_eq k l)
+    (λ is. ap (λ m. is_some (get_field m gs)) (same_key k l is) ∙ both.0)
+    (λ isnt. keys_so fs gs both.1 k e (sym (there k l u fs isnt) ∙ is_there))
+
+so_keys : (all fs gs : Fields) → ((k : List ℕ) (t : Node) → HasField fs k t → is_some (get_field k all) ≡ true) → ((k : List ℕ) (e : Node) → get_field k all ≡ Some e → is_some (get_field k gs) ≡ true) → has_keys_of fs gs ≡ true
+so_keys all no_fields gs members keys = refl
+so_keys all (field l u fs) gs members keys =
+    let expected = value_of (get_field l all) (members l u (inl (refl, refl))) in
+    and_from (is_some (get_field l gs)) (has_keys_of fs gs) (keys l expected.0 expected.1) (so_keys all fs gs (λ k t h. members k t (inr h)) keys)
+
+-- ---- items
+
+expects_so : (x : Node) (k : List ℕ) (e : Node) → Expects x k e → get_field k (expected_fields x) ≡ Some e
+expects_so (object fs) k e h = h
+expects_so null k e h = absurd h
+expects_so (truth b) k e h = absurd h
+expects_so (whole n) k e h = absurd h
+expects_so (text s) k e h = absurd h
+expects_so (list ts) k e h = absurd h
+
+none_of : (o : Option Node) → ((t : Node) → ¬ (o ≡ Some t)) → o ≡ None
+none_of None h = refl
+none_of (Some t) h = absurd (h t refl)
+
+no_example : {A : Type 0} → ⊥ ⊎ (A × ⊥) → ⊥
+no_example (inl h) = h
+no_example (inr h) = h.1
+
+-- the example of an item, in a list
+example_in : (xs : Nodes) (i : ℕ) (e : Node) → IsExample (list xs) i e → example xs i ≡ Some e
+example_in xs i e (inl h) = ap (first_or xs) h
+example_in xs i e (inr h) = ap (first_or xs) (none_of (get_node xs i) h.0) ∙ h.1
+
+in_example : (xs : Nodes) (i : ℕ) (e : Node) → example xs i ≡ Some e → IsExample (list xs) i e
+in_example xs i e = go (get_node xs i) refl
+  where
+    go : (o : Option Node) → get_node xs i ≡ o → first_or xs o ≡ Some e → IsExample (list xs) i e
+    go (Some t) at h = inl (at ∙ h)
+    go None at h = inr (λ t found. none-some t (sym at ∙ found), h)
+
+example_so : (x : Node) (i : ℕ) (e : Node) → IsExample x i e → example (expected_items x) i ≡ Some e
+example_so (list xs) i e h = example_in xs i e h
+example_so null i e h = absurd (no_example h)
+example_so (truth b) i e h = absurd (no_example h)
+example_so (whole n) i e h = absurd (no_example h)
+example_so (text s) i e h = absurd (no_example h)
+example_so (object fs) i e h = absurd (no_example h)
+
+so_example : (x : Node) (i : ℕ) (e : Node) → example (expected_items x) i ≡ Some e → IsExample x i e
+so_example (list xs) i e h = in_example xs i e h
+so_example null i e h = absurd (none-some e h)
+so_example (truth b) i e h = absurd (none-some e h)
+so_example (whole n) i e h = absurd (none-some e h)
+so_example (text s) i e h = absurd (none-some e h)
+so_example (object fs) i e h = absurd (none-some e h)
+
+-- ---- the whole
+
+mutual
+  pub fits_so : (rules : Rules) (at : Location) (x y : Node) → fits rules at x y ≡ true → Fits rules at x y
+  fits_so rules at x null h = fitting at x null (meets_so (rule_for rules at) at x null h) (λ i e t is found. absurd found) (λ k e is found. absurd found) (λ k e t is found. absurd found)
+  fits_so rules at x (truth b) h = fitting at x (truth b) (meets_so (rule_for rules at) at x (truth b) h) (λ i e t is found. absurd found) (λ k e is found. absurd found) (λ k e t is found. absurd found)
+  fits_so rules at x (whole n) h = fitting at x (whole n) (meets_so (rule_for rules at) at x (whole n) h) (λ i e t is found. absurd found) (λ k e is found. absurd found) (λ k e t is found. absurd found)
+  fits_so rules at x (text s) h = fitting at x (text s) (meets_so (rule_for rules at) at x (text s) h) (λ i e t is found. absurd found) (λ k e is found. absurd found) (λ k e t is found. absurd found)
+  fits_so rules at x (list ys) h =
+      let both = and_parts (meets rules at x (list ys)) (items_fit rules at (expected_items x) 0 ys) h in
+      fitting at x (list ys) (meets_so (rule_for rules at) at x (list ys) both.0)
+      (λ i e t is found. items_so rules at (expected_items x) 0 ys both.1 i i e t (omega arith) (example_so x i e is) found)
+      (λ k e is found. absurd found) (λ k e t is found. absurd found)
+  fits_so rules at x (object gs) h =
+      let both = and_parts (meets rules at x (object gs)) (has_keys_of (expected_fields x) gs && members_fit rules at (expected_fields x) gs) h in
+      let members = and_parts (has_keys_of (expected_fields x) gs) (members_fit rules at (expected_fields x) gs) both.1 in
+      fitting at x (object gs) (meets_so (rule_for rules at) at x (object gs) both.0)
+      (λ i e t is found. absurd found)
+      (λ k e is found. let t = value_of (get_field k gs) (keys_so (expected_fields x) gs members.0 k e (expects_so x k e is)) in (t.0, found_member k gs t.0 t.1))
+      (λ k e t is found. members_so rules at (expected_fields x) gs members.1 k e t (expects_so x k e is) found)
+
+  items_so : (rules : Rules) (at : Location) (xs : Nodes) (i : ℕ) (ys : Nodes) → items_fit rules at xs i ys ≡ true
+      → (j p : ℕ) (e t : Node) → p ≡ i + j → example xs p ≡ Some e → get_node ys j ≡ Some t → Fits rules (at ++ item p ∷ []) e t
+  items_so rules at xs i no_nodes h j p e t sum is found = absurd (none-some t found)
+  items_so rules at xs i (node y ys) h zero p e t sum is found =
+      let here_is : i ≡ p = omega arith in
+      let both = and_parts (if_there (example xs i) (λ x. fits rules (at ++ item i ∷ []) x y)) (items_fit rules at xs (suc i) ys) h in
+      subst (λ p. Fits rules (at ++ item p ∷ []) e t) here_is
+      (subst (λ t. Fits rules (at ++ item i ∷ []) e t) (some_alike y t found)
+      (fits_so rules (at ++ item i ∷ []) e y (sym (ap (λ o. if_there o (λ x. fits rules (at ++ item i ∷ []) x y)) (ap (example xs) here_is ∙ is)) ∙ both.0)))
+  items_so rules at xs i (node y ys) h (suc j) p e t sum is found =
+      let both = and_parts (if_there (example xs i) (λ x. fits rules (at ++ item i ∷ []) x y)) (items_fit rules at xs (suc i) ys) h in
+      items_so rules at xs (suc i) ys both.1 j p e t (omega arith) is found
+
+  members_so : (rules : Rules) (at : Location) (fs gs : Fields) → members_fit rules at fs gs ≡ true
+      → (k : List ℕ) (e t : Node) → get_field k fs ≡ Some e → HasField gs k t → Fits rules (at ++ key k ∷ []) e t
+  members_so rules at fs no_fields h k e t is found = absurd found
+  members_so rules at fs (field l y gs) h k e t is (inl found) =
+      let both = and_parts (if_there (get_field l fs) (λ x. fits rules (at ++ key l ∷ []) x y)) (members_fit rules at fs gs) h in
+      subst (λ k. Fits rules (at ++ key k ∷ []) e t) found.0
+      (subst (λ t. Fits rules (at ++ key l ∷ []) e t) found.1
+      (fits_so rules (at ++ key l ∷ []) e y (sym (ap (λ o. if_there o (λ x. fits rules (at ++ key l ∷ []) x y)) (ap (λ m. get_field m fs) found.0 ∙ is)) ∙ both.0)))
+  members_so rules at fs (field l y gs) h k e t is (inr found) =
+      let both = and_parts (if_there (get_field l fs) (λ x. fits rules (at ++ key l ∷ []) x y)) (members_fit rules at fs gs) h in
+      members_so rules at fs gs both.1 k e t is found
+
+-- what fitting says of one location
+record Parts (rules : Rules) (at : Location) (x y : Node) : Type 0 where
+  meeting : Meets rules at x y
+  items : (i : ℕ) (e t : Node) → IsExample x i e → HasItem y i t → Fits rules (at ++ item i ∷ []) e t
+  keys : (k : List ℕ) (e : Node) → Expects x k e → IsObject y → (t : Node) × HasMember y k t
+  members : (k : List ℕ) (e t : Node) → Expects x k e → HasMember y k t → Fits rules (at ++ key k ∷ []) e t
+
+parts_of : (rules : Rules) (at : Location) (x y : Node) → Fits rules at x y → Parts rules at x y
+parts_of rules _ _ _ (fitting at x y m i k f) = record { meeting = m; items = i; keys = k; members = f }
+
+so_expects : (x : Node) (k : List ℕ) (e : Node) → get_field k (expected_fields x) ≡ Some e → Expects x k e
+so_expects (object fs) k e h = h
+so_expects null k e h = none-some e h
+so_expects (truth b) k e h = none-some e h
+so_expects (whole n) k e h = none-some e h
+so_expects (text s) k e h = none-some e h
+so_expects (list ts) k e h = none-some e h
+
+there_so : (o : Option Node) (test : Node → Bool) → ((e : Node) → o ≡ Some e → test e ≡ true) → if_there o test ≡ true
+there_so None test h = refl
+there_so (Some e) test h = h e refl
+
+mutual
+  pub so_fits : (rules : Rules) (at : Location) (x y : Node) → Fits rules at x y → fits rules at x y ≡ true
+  so_fits rules at x null h = so_meets (rule_for rules at) at x null (parts_of rules at x null h).meeting
+  so_fits rules at x (truth b) h = so_meets (rule_for rules at) at x (truth b) (parts_of rules at x (truth b) h).meeting
+  so_fits rules at x (whole n) h = so_meets (rule_for rules at) at x (whole n) (parts_of rules at x (whole n) h).meeting
+  so_fits rules at x (text s) h = so_meets (rule_for rules at) at x (text s) (parts_of rules at x (text s) h).meeting
+  so_fits rules at x (list ys) h =
+      let p = parts_of rules at x (list ys) h in
+      and_from (meets rules at x (list ys)) (items_fit rules at (expected_items x) 0 ys) (so_meets (rule_for rules at) at x (list ys) p.meeting)
+      (so_items rules at (expected_items x) 0 ys (λ j q e t sum is found. let same : j ≡ q = omega arith in
+      p.items q e t (so_example x q e is) (subst (λ n. get_node ys n ≡ Some t) same found)))
+  so_fits rules at x (object gs) h =
+      let p = parts_of rules at x (object gs) h in
+      and_from (meets rules at x (object gs)) (has_keys_of (expected_fields x) gs && members_fit rules at (expected_fields x) gs) (so_meets (rule_for rules at) at x (object gs) p.meeting)
+      (and_from (has_keys_of (expected_fields x) gs) (members_fit rules at (expected_fields x) gs)
+      (so_keys (expected_fields x) (expected_fields x) gs (λ k t found. member_found k (expected_fields x) t found)
+      (λ k e is. let t = p.keys k e (so_expects x k e is) tt in member_found k gs t.0 t.1))
+      (so_members rules at (expected_fields x) gs (λ k e t is found. p.members k e t (so_expects x k e is) found)))
+
+  so_items : (rules : Rules) (at : Location) (xs : Nodes) (i : ℕ) (ys : Nodes)
+      → ((j p : ℕ) (e t : Node) → p ≡ i + j → example xs p ≡ Some e → get_node ys j ≡ Some t → Fits rules (at ++ item p ∷ []) e t) → items_fit rules at xs i ys ≡ true
+  so_items rules at xs i no_nodes all = refl
+  so_items rules at xs i (node y ys) all =
+      and_from (if_there (example xs i) (λ x. fits rules (at ++ item i ∷ []) x y)) (items_fit rules at xs (suc i) ys)
+      (there_so (example xs i) (λ x. fits rules (at ++ item i ∷ []) x y) (λ e is. so_fits rules (at ++ item i ∷ []) e y (all 0 i e y (omega arith) is refl)))
+      (so_items rules at xs (suc i) ys (λ j p e t sum is found. all (suc j) p e t (omega arith) is found))
+
+  so_members : (rules : Rules) (at : Location) (fs gs : Fields)
+      → ((k : List ℕ) (e t : Node) → get_field k fs ≡ Some e → HasField gs k t → Fits rules (at ++ key k ∷ []) e t) → members_fit rules at fs gs ≡ true
+  so_members rules at fs no_fields all = refl
+  so_members rules at fs (field l y gs) all =
+      and_from (if_there (get_field l fs) (λ x. fits rules (at ++ key l ∷ []) x y)) (members_fit rules at fs gs)
+      (there_so (get_field l fs) (λ x. fits rules (at ++ key l ∷ []) x y) (λ e is. so_fits rules (at ++ key l ∷ []) e y (all l e y is (inl (refl, refl)))))
+      (so_members rules at fs gs (λ k e t is found. all k e t is (inr found)))
+
+-- the computed form decides the relation
+pub fits_decides : (rules : Rules) (at : Location) (x y : Node) → IsTrue (fits rules at x y) ↔ Fits rules at x y
+fits_decides rules at x y = (fits_so rules at x y, so_fits rules at x y)

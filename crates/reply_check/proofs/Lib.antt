@@ -1,0 +1,4 @@
+pub mod BodyLemmas
+mod FitLemmas
+pub mod FittingLemmas
+mod WalkLemmas

@@ -1,0 +1,13 @@
+use Rattle.std.proofs.Common.{rules, ◌≡◌, true, map, arith}
+use Rattle.std.specs.List.{list_any}
+use Rattle.pact_rules.specs.Rules.{is_regex}
+use Rattle.pact_rules.specs.RuleViews.{matcher_view}
+use Rattle.pact_rules.specs.declared.holding.MatchFault.TheVariants.{Pattern}
+use Rattle.reply_check.proofs.WalkLemmas.{regex_among}
+use Rattle.reply_check.proofs.fit.all_hold.Goals as goal
+
+pub returns-in_err-holds-clause-pattern : goal.returns-in_err-holds-clause-pattern
+returns-in_err-holds-clause-pattern c =
+    let among : c.in_err-holds.field-0.0 ≡ Pattern → list_any is_regex (map matcher_view c.args.matchers.now) ≡ true
+    = λ e. regex_among c.args.matchers.now c.loop-matcher.matcher-index c.matcher-item.result (grind arith) (grind arith) (c.in_err-holds.ensures.pattern e) in
+    search (rules, among)

@@ -1,0 +1,151 @@
+-- One call on the tables, and one after another.
+use Rattle.std.proofs.Common.{inl, inr, ◌≡◌, ◌∙◌, true, false, IsTrue, refl, ap, arith, Ok, Err, Result, IfOk, IfErr, OnOk, ℕ, List, Option, Some, None, ◌≤◌}
+use Rattle.std.specs.Prelude.{⊤}
+use Rattle.std.proofs.lemmas.Bool.{cases_Bool}
+use Rattle.sqlite.specs.Order.{Row}
+use Rattle.sqlite.specs.Tree.{Trees}
+use Rattle.sqlite_schema.specs.declared.command.Returning.{Returning}
+use Rattle.sqlite_resolve.specs.declared.compiled.Compiled.{Compiled}
+use Rattle.sqlite.specs.declared.error.Error.{Error}
+use Rattle.sqlite.specs.State.{State, HasCleanDisk, Shows, Shown, ShowsRows, FailsToQuery, FailsToShow, IsNotRun, CommitsShowing, HasCause}
+use Rattle.sqlite.proofs.StateLemmas.{survives_then}
+use Rattle.sqlite_trees.specs.declared.error.StoreError.{StoreError}
+use Rattle.sqlite_trees.specs.declared.error.StoreError.TheVariants.{OutOfMemory, Io, Corrupt, Full, Broken, Unstorable}
+use Rattle.table_access.specs.Unit.{IsLeft}
+use Rattle.table_access.specs.declared.Fault.{Fault}
+use Rattle.table_access.specs.Calls.{LeavesCommit, Call, GoesOn, FailsAs, fault_of}
+use Rattle.table_access.proofs.Texts.{IsRefused, caused}
+
+pub left_commit : (a b : State) → IsLeft a b → LeavesCommit a b
+left_commit a b (inl same) = record { was_open = λ _. same.0.was_open; committed = λ _. same.0.committed_is }
+left_commit a b (inr back) = record { was_open = back.was_open; committed = λ now. (back.undone now).1 }
+
+pub shows_commit : (a b : State) → Shows a b b.now a.committed true → LeavesCommit a b
+shows_commit a b same = record { was_open = λ _. same.was_open; committed = λ _. same.committed_is }
+
+rows_inside : (old new : State) (sql : List ℕ) (c : Compiled) (params : Row) (rows : List Row) (returning : Option Returning) → ShowsRows old new sql c params rows returning → IsTrue old.in_transaction → Shows old new new.now old.committed true
+rows_inside old new sql c params rows None h inside =
+    let same = h.3.0 in record { was_open = same.was_open; is_open = same.is_open; now_is = refl; committed_is = same.committed_is; mode = same.mode ∙ inside }
+rows_inside old new sql c params rows (Some what) h inside =
+    let same = h.1.shown in record { was_open = same.was_open; is_open = same.is_open; now_is = refl; committed_is = rw inside at same.committed_is; mode = same.mode ∙ inside }
+
+pub shown_inside : (sql : List ℕ) (params : Row) (old new : State) (rows : List Row) → Shown sql params old new rows → IsTrue old.in_transaction → Shows old new new.now old.committed true
+unfolding Shown
+shown_inside sql params old new rows h inside = rows_inside old new sql h.0 _ rows h.0.returning h.2 inside
+
+-- how a query fails
+fails_by : (old new : State) (sql : List ℕ) (c : Compiled) (params : Row) (e : Error) (returning : Option Returning) → FailsToShow old new sql c params e returning → IsRefused old new e
+fails_by old new sql c params e None h = inl h.3
+fails_by old new sql c params e (Some what) (inl same) = inl same.1
+fails_by old new sql c params e (Some what) (inr fails) = inr (fails.0, fails.1, caused old new _ fails.0 fails.2, fails.3, fails.4)
+
+pub query_by : (sql : List ℕ) (params : Row) (old new : State) (e : Error) → FailsToQuery sql params old new e → IsRefused old new e
+unfolding FailsToQuery IsNotRun
+query_by sql params old new e (inl (inl h)) = inl h.1
+query_by sql params old new e (inl (inr h)) = inr (h.0, h.1, caused old new _ h.0 h.2, h.3, h.4)
+query_by sql params old new e (inr h) = fails_by old new sql h.0 _ e h.0.returning h.2
+
+pub refused_left : (old new : State) (e : Error) → IsRefused old new e → IsLeft old new
+refused_left old new e (inl same) = inl same
+refused_left old new e (inr fails) = inr fails.3
+
+-- a statement that is refused leaves the transaction, or the store failed
+pub refused_fails : (old new : State) (e : Error) (fault : Fault) → fault ≡ fault_of e → IsRefused old new e → IsTrue old.in_transaction → FailsAs old new fault
+refused_fails old new e fault is (inl same) inside = inl (same.0.mode ∙ inside, λ _. same.0.is_open)
+refused_fails old new e fault is (inr fails) inside = inr (record { cause = fails.0; told = is ∙ ap fault_of fails.1; has = fails.2; over = fails.3.autocommit; blamed = fails.4 })
+
+pub shows_outside : (sql : List ℕ) (params : Row) (old : State) (db : Trees) → CommitsShowing sql params old db → old.in_transaction ≡ false
+unfolding CommitsShowing
+shows_outside sql params old db h = h.3.0
+
+-- ---- calls
+
+pub call_with : {A : Type 0} (old new : State) (r : Result A Fault) (P Q : A → Type 0) → ((a : A) → P a → Q a) → Call old new r P → Call old new r Q
+call_with old new (Ok a) P Q more it = record { ok = λ clean. more a (it.ok clean); goes_on = it.goes_on; fails = it.fails; commits = it.commits; survives = it.survives }
+call_with old new (Err e) P Q more it = record { ok = it.ok; goes_on = it.goes_on; fails = it.fails; commits = it.commits; survives = it.survives }
+
+-- another answer, computed from the first
+pub then_ok : {A B : Type 0} (old new : State) (a : A) (b : B) (P : A → Type 0) (Q : B → Type 0) → (P a → Q b) → Call old new (Ok a) P → Call old new (Ok b) Q
+then_ok old new a b P Q more it = record { ok = λ clean. more (it.ok clean); goes_on = it.goes_on; fails = it.fails; commits = it.commits; survives = it.survives }
+
+-- the failure of a call, handed on
+pub then_err : {A B : Type 0} (old new : State) (e : Fault) (P : A → Type 0) (Q : B → Type 0) → Call old new (Err e) P → Call old new (Err e) Q
+then_err old new e P Q it = record { ok = it.ok; goes_on = it.goes_on; fails = it.fails; commits = it.commits; survives = it.survives }
+
+-- a row that breaks the rules, or a growth that is refused, after a call
+pub then_stop : {A B : Type 0} (old new : State) (a : A) (e : Fault) (P : A → Type 0) (Q : B → Type 0) → Call old new (Ok a) P → Call old new (Err e) Q
+then_stop old new a e P Q it = record { ok = λ _. tt; goes_on = λ _ _. tt; fails = λ clean inside. inl (it.goes_on clean inside); commits = it.commits; survives = it.survives }
+
+-- a computation that may fail, after a call
+pub then_result : {A B : Type 0} (old new : State) (a : A) (r : Result B Fault) (P : A → Type 0) (Q : B → Type 0) → IfOk r (λ b. P a → Q b) → Call old new (Ok a) P → Call old new r Q
+then_result old new a (Ok b) P Q more it = then_ok old new a b P Q more it
+then_result old new a (Err e) P Q more it = then_stop old new a e P Q it
+
+-- nothing is called
+pub idle : {A : Type 0} (c : State) (r : Result A Fault) (P : A → Type 0) → IfOk r P → Call c c r P
+idle {A} c r P h = record {
+  ok = λ _. h;
+  goes_on = λ _ inside. goes r inside;
+  fails = λ _ inside. stops r inside;
+  commits = λ _ _. record { was_open = λ h. h; committed = λ _. refl };
+  survives = record { clean = omega arith; shield = λ h. h; counts = omega arith; limit = refl; closes = λ _ h. inl h; crash = λ _ db h. inl h };
+}
+  where
+    goes : (x : Result A Fault) → IsTrue c.in_transaction → OnOk x (GoesOn c c)
+    goes (Ok a) inside = (inside, λ h. h)
+    goes (Err e) inside = tt
+
+    stops : (x : Result A Fault) → IsTrue c.in_transaction → IfErr x (FailsAs c c)
+    stops (Ok a) inside = tt
+    stops (Err e) inside = inl (inside, λ h. h)
+
+was_outside : (a b : State) → (IsTrue a.in_transaction → b.in_transaction ≡ true) → b.in_transaction ≡ false → a.in_transaction ≡ false
+was_outside a b stays outside = elim (cases_Bool a.in_transaction) [ inl in_one ↦ absurd (let e = stays in_one in cc) | inr none ↦ none ]
+
+was_shut : (a b : State) → (IsTrue a.is_open → IsTrue b.is_open) → b.is_open ≡ false → a.is_open ≡ false
+was_shut a b stays shut = elim (cases_Bool a.is_open) [ inl is_open ↦ absurd (let e = stays is_open in cc) | inr none ↦ none ]
+
+commits_then : (a b c : State) → LeavesCommit a b → LeavesCommit b c → LeavesCommit a c
+commits_then a b c one two = record { was_open = λ now. one.was_open (two.was_open now); committed = λ now. two.committed now ∙ one.committed (two.was_open now) }
+
+-- a cause of a later call is one of both
+has_since : (a b c : State) (cause : StoreError) → (IsTrue a.is_open → IsTrue b.is_open) → a.faults ≤ b.faults → HasCause b c ⊤ cause → HasCause a c ⊤ cause
+has_since a b c OutOfMemory stays up h = tt
+has_since a b c Io stays up h = omega (arith, up, h)
+has_since a b c Corrupt stays up h = omega (arith, up, h)
+has_since a b c Full stays up h = omega (arith, up, h)
+has_since a b c Broken stays up h = was_shut a b stays h
+has_since a b c Unstorable stays up h = tt
+
+fails_since : (a b c : State) (e : Fault) → GoesOn a b → a.faults ≤ b.faults → FailsAs b c e → FailsAs a c e
+fails_since a b c e on up (inl goes) = inl (goes.0, λ h. goes.1 (on.1 h))
+fails_since a b c e on up (inr ended) = inr (record { cause = ended.cause; told = ended.told; has = has_since a b c ended.cause on.1 up ended.has; over = ended.over; blamed = ended.blamed })
+
+-- one call after another: Q of the last answer is had from P of the first
+pub seq : {A B : Type 0} (old mid new : State) (a : A) (r : Result B Fault) (P : A → Type 0) (Q R : B → Type 0) → (P a → (b : B) → Q b → R b) → Call old mid (Ok a) P → Call mid new r Q → Call old new r R
+seq {A} {B} old mid new a r P Q R more one two = record {
+  ok = λ clean. both r (one.ok (mid_clean clean)) (two.ok clean);
+  goes_on = λ clean inside. let first = one.goes_on (mid_clean clean) inside in goes r first (two.goes_on clean first.0);
+  fails = λ clean inside. let first = one.goes_on (mid_clean clean) inside in stops r first (two.fails clean first.0);
+  commits = λ clean inside. commits_then old mid new (one.commits (mid_clean clean) inside) (two.commits clean (one.goes_on (mid_clean clean) inside).0);
+  survives = survives_then old mid new _ _ _ (λ _ db h. h) (λ clean db h. was_outside old mid (λ inside. (one.goes_on (mid_clean clean) inside).0) h) one.survives two.survives;
+}
+  where
+    mid_clean : HasCleanDisk new → HasCleanDisk mid
+    mid_clean clean = omega (arith, two.survives.clean, clean)
+
+    goes : (x : Result B Fault) → GoesOn old mid → OnOk x (GoesOn mid new) → OnOk x (GoesOn old new)
+    goes (Ok b) first second = (second.0, λ h. second.1 (first.1 h))
+    goes (Err e) first second = tt
+
+    stops : (x : Result B Fault) → GoesOn old mid → IfErr x (FailsAs mid new) → IfErr x (FailsAs old new)
+    stops (Ok b) first second = tt
+    stops (Err e) first second = fails_since old mid new e first one.survives.counts second
+
+    both : (x : Result B Fault) → P a → IfOk x Q → IfOk x R
+    both (Ok b) p q = more p b q
+    both (Err e) p q = tt
+
+-- a call that failed after another
+pub failed_then : {A B C : Type 0} (old mid new : State) (a : A) (e : Fault) (P : A → Type 0) (Q : B → Type 0) (R : C → Type 0) → Call old mid (Ok a) P → Call mid new (Err e) Q → Call old new (Err e) R
+failed_then {A} {B} {C} old mid new a e P Q R one two = then_err old new e Q R (seq old mid new a (Err e) P Q Q (λ p b q. q) one two)

@@ -1,0 +1,101 @@
+-- What CREATE TABLE leaves.
+use Rattle.std.proofs.Common.{◌≡◌, ℕ, List, [], ◌∷◌, ◌++◌, fold, false, Ok, None, refl, sym, ap, subst, ◌∙◌}
+use Rattle.std.specs.List.{AllByRecursion}
+use Rattle.sqlite.specs.Table.{Table}
+use Rattle.sqlite.specs.Schema.{Schema}
+use Rattle.sqlite.specs.Tree.{Trees}
+use Rattle.sqlite.specs.Command.TheVariants.{CreateTable}
+use Rattle.sqlite.specs.Compile.{table_defined_by}
+use Rattle.sqlite.specs.Change.{created, next_tree, KeepsRows}
+use Rattle.sqlite.specs.Effect.{Database}
+use Rattle.sqlite.specs.Does.{Tally, lacks_sequence}
+use Rattle.sqlite.specs.State.{State, Executes, Writes}
+use Rattle.sqlite.specs.Listing.{understood}
+use Rattle.sqlite.proofs.Callers.{statement_of, runs_as}
+use Rattle.table_access.specs.Statements.{Creates, Makes, new_trees}
+use Rattle.table_access.specs.Sound.{IsNumbered, IsKept}
+use Rattle.table_access.proofs.Steps.{Means, went, same_value}
+
+pub creates : (sql : List ℕ) (old new : State) (table : Table) (count : ℕ) → Means old.now.schema sql CreateTable → statement_of sql (understood old.now.schema sql) ≡ sql → table_defined_by sql ≡ Ok table
+    → lacks_sequence (created old.now.schema table) ≡ false → Executes sql [] old new (Ok count) → Creates old.now new.now table
+creates sql old new table count means whole defined uncounted h =
+    let w = subst (λ t. Writes old new None CreateTable t [] count) whole (runs_as sql [] old new old.now.schema refl CreateTable means.is means.plain count h) in
+    let all = went w.changed in
+    let first = went all.1 in
+    let made = first.1 in
+    let both : Ok made.table ≡ Ok table = sym made.defined ∙ defined in
+    let same : made.table ≡ table = cc in
+    let schema : first.0.schema ≡ created old.now.schema table = made.is ∙ ap (created old.now.schema) same in
+    let plain : lacks_sequence first.0.schema ≡ false = ap lacks_sequence schema ∙ uncounted in
+    let now : new.now ≡ first.0 = ap (λ (p : Tally × Database). p.1) (same_value all.2) ∙ same_value (rw plain at first.2) in
+    record {
+      schema = ap (λ (d : Database). d.schema) now ∙ schema;
+      empty = ap (λ (d : Database). d.trees (next_tree old.now.schema)) now ∙ made.empty;
+      others = subst (λ (d : Database). KeepsRows old.now.schema.tables old.now.trees d.trees) (sym now) made.others;
+      sound = w.sound;
+    }
+
+-- ---- what tables that are made leave
+
+all_append : {X : Type 0} (P : X → Type 0) (xs ys : List X) → AllByRecursion P xs → AllByRecursion P ys → AllByRecursion P (xs ++ ys)
+all_append P [] ys one two = two
+all_append P (x ∷ xs) ys one two = (one.0, all_append P xs ys one.1 two)
+
+all_front : {X : Type 0} (P : X → Type 0) (xs ys : List X) → AllByRecursion P (xs ++ ys) → AllByRecursion P xs
+all_front P [] ys all = tt
+all_front P (x ∷ xs) ys all = (all.0, all_front P xs ys all.1)
+
+all_back : {X : Type 0} (P : X → Type 0) (xs ys : List X) → AllByRecursion P (xs ++ ys) → AllByRecursion P ys
+all_back P [] ys all = all
+all_back P (x ∷ xs) ys all = all_back P xs ys all.1
+
+pub keeps_then : (tables : List Table) (a b c : Trees) → KeepsRows tables a b → KeepsRows tables b c → KeepsRows tables a c
+keeps_then [] a b c one two = tt
+keeps_then (t ∷ tables) a b c one two = (two.0 ∙ one.0, keeps_then tables a b c one.1 two.1)
+
+-- one after another
+pub makes_then : (front back : List Table) (old mid new : Database) → Makes front old mid → Makes back mid new → Makes (front ++ back) old new
+makes_then [] back old mid new one two = subst (λ db. Makes back db new) one two
+makes_then (table ∷ front) back old mid new one two = (one.0, one.1, makes_then front back one.0 mid new one.2 two)
+
+pub made_schema : (tables : List Table) (old new : Database) → Makes tables old new → new.schema ≡ fold created old.schema tables
+made_schema [] old new h = ap (λ (db : Database). db.schema) h
+made_schema (table ∷ tables) old new h = made_schema tables h.0 new h.2 ∙ ap (λ schema. fold created schema tables) h.1.schema
+
+-- the tables that were there keep their rows
+pub made_keeps : (tables : List Table) (old new : Database) → Makes tables old new → KeepsRows old.schema.tables old.trees new.trees
+made_keeps [] old new h = same old.schema.tables
+  where
+    same : (ts : List Table) → KeepsRows ts old.trees new.trees
+    same [] = tt
+    same (t ∷ ts) = (ap (λ (db : Database). db.trees t.tree) h, same ts)
+made_keeps (table ∷ tables) old new h =
+    let later : KeepsRows h.0.schema.tables h.0.trees new.trees = made_keeps tables h.0 new h.2 in
+    let front = all_front _ old.schema.tables (record table { tree = next_tree old.schema } ∷ []) (subst (λ (s : Schema). KeepsRows s.tables h.0.trees new.trees) h.1.schema later) in
+    keeps_then old.schema.tables old.trees h.0.trees new.trees h.1.others front
+
+-- and the new ones have none
+pub made_empty : (tables : List Table) (old new : Database) → Makes tables old new → AllByRecursion (λ tree. new.trees tree ≡ []) (new_trees old.schema tables)
+made_empty [] old new h = tt
+made_empty (table ∷ tables) old new h =
+    let later : KeepsRows h.0.schema.tables h.0.trees new.trees = made_keeps tables h.0 new h.2 in
+    let back = all_back _ old.schema.tables (record table { tree = next_tree old.schema } ∷ []) (subst (λ (s : Schema). KeepsRows s.tables h.0.trees new.trees) h.1.schema later) in
+    (back.0 ∙ h.1.empty, subst (λ schema. AllByRecursion (λ tree. new.trees tree ≡ []) (new_trees schema tables)) h.1.schema (made_empty tables h.0 new h.2))
+
+still_numbered : (tables : List Table) (a b : Trees) → KeepsRows tables a b → AllByRecursion (λ t. IsNumbered (a t.tree)) tables → AllByRecursion (λ t. IsNumbered (b t.tree)) tables
+still_numbered [] a b same all = tt
+still_numbered (t ∷ tables) a b same all = (subst IsNumbered (sym same.0) all.0, still_numbered tables a b same.1 all.1)
+
+-- all tables obey the schema, and their rows are in the order of their numbers
+pub made_kept : (tables : List Table) (old new : Database) → Makes tables old new → IsKept old → IsKept new
+made_kept [] old new h kept = subst IsKept (sym h) kept
+made_kept (table ∷ tables) old new h kept = made_kept tables h.0 new h.2 (record { sound = h.1.sound; numbered = subst (λ (s : Schema). AllByRecursion (λ t. IsNumbered (h.0.trees t.tree)) s.tables) (sym h.1.schema) rows })
+  where
+    rows : AllByRecursion (λ t. IsNumbered (h.0.trees t.tree)) (old.schema.tables ++ record table { tree = next_tree old.schema } ∷ [])
+    rows = all_append _ old.schema.tables (record table { tree = next_tree old.schema } ∷ []) (still_numbered old.schema.tables old.trees h.0.trees h.1.others kept.numbered) (subst IsNumbered (sym h.1.empty) (tt, tt), tt)
+
+-- one table by its text, over a schema that is written out: each premise but the last two is `refl`
+pub makes_one : (sql : List ℕ) (schema : Schema) (table : Table) → Means schema sql CreateTable → statement_of sql (understood schema sql) ≡ sql → table_defined_by sql ≡ Ok table → lacks_sequence (created schema table) ≡ false
+    → (old new : State) (count : ℕ) → old.now.schema ≡ schema → Executes sql [] old new (Ok count) → Creates old.now new.now table
+makes_one sql schema table means whole defined uncounted old new count is h =
+    creates sql old new table count (subst (λ s. Means s sql CreateTable) (sym is) means) (subst (λ s. statement_of sql (understood s sql) ≡ sql) (sym is) whole) defined (subst (λ s. lacks_sequence (created s table) ≡ false) (sym is) uncounted) h

@@ -1,0 +1,70 @@
+-- How a transaction ends.
+use Rattle.std.proofs.Common.{◌≡◌, inl, inr, false, IsTrue, Result, sym, subst, ◌∙◌, arith, ap}
+use Rattle.sqlite.specs.Tree.{Trees}
+use Rattle.sqlite.specs.Effect.{Database, IsDatabase}
+use Rattle.sqlite.specs.State.{State, HasCleanDisk, Survives, Commits, IsLive}
+use Rattle.table_access.specs.Unit.{Begins}
+use Rattle.table_access.specs.declared.Fault.{Fault}
+use Rattle.table_access.specs.Calls.{Call, LeavesCommit}
+use Rattle.table_access.specs.Keeps.{Keeps, Stored, IsUnsure}
+
+stored : (P : Database → Type 0) (db : Database) (trees : Trees) → IsDatabase db → P db → trees ≡ db.trees → Stored P trees
+stored P db trees sound has is = record {
+  schema = db.schema;
+  sound = subst (λ t. IsDatabase (record { schema = db.schema; trees = t })) (sym is) sound;
+  has = subst (λ t. P (record { schema = db.schema; trees = t })) (sym is) has;
+}
+
+-- what was held is seen as the transaction begins
+pub begins : (P : Database → Type 0) (old mid : State) → Begins old mid → Keeps P old → P mid.now
+begins P old mid begun keeps = let was = keeps.held begun.1.was_open in subst P (sym (begun.1.now_is ∙ was.same)) was.has
+
+-- it is committed
+pub commits : (Q : Database → Type 0) (done new : State) → Commits done new → IsLive done → ((db : Trees) → IsTrue new.is_open → new.may_leave db → db ≡ new.committed.trees) → Q done.now → Keeps Q new
+commits Q done new it live law has =
+    let sound : IsDatabase new.committed = subst IsDatabase (sym it.0.committed_is) (live it.0.was_open).0 in
+    let now : Q new.committed = subst Q (sym it.0.committed_is) has in
+    record {
+      held = λ _. record { autocommit = it.0.mode; same = it.0.now_is ∙ sym it.0.committed_is; sound = sound; has = now };
+      left = λ trees may. stored Q new.committed trees sound now (law trees it.0.is_open may);
+    }
+
+module _ {A : Type 0} (P : Database → Type 0) (old mid done : State) (r : Result A Fault) (X : A → Type 0) (keeps : Keeps P old) (begun : Begins old mid) (s : Survives old mid (λ _. ⊥)) (work : Call mid done r X) (clean : HasCleanDisk done) where
+  -- what a crash leaves before the end, it left before the transaction
+  left_before : (trees : Trees) → done.may_leave trees → Stored P trees
+  left_before trees may = elim (work.survives.crash clean trees may) [
+    | inl mids ↦ elim (s.crash (omega (arith, work.survives.clean, clean)) trees mids) [ inl olds ↦ keeps.left trees olds | inr never ↦ absurd never ]
+    | inr outside ↦ absurd (let inside = begun.1.mode in cc)
+  ]
+
+  -- nothing is committed in the transaction
+  before : LeavesCommit mid done
+  before = work.commits clean begun.1.mode
+
+  -- the commit is refused
+  pub refused : (new : State) (Q : Database → Type 0) → IsTrue done.is_open → IsLive done → ((db : Trees) → IsTrue new.is_open → new.may_leave db → db ≡ new.committed.trees) → LeavesCommit done new → HasCleanDisk new
+      → Survives done new (λ db. db ≡ done.now.trees) → Q done.now → IsUnsure P Q new
+  refused new Q is_open live law it now_clean t has =
+      let same : IsTrue new.is_open → new.committed ≡ old.committed = λ now. it.committed now ∙ before.committed (it.was_open now) ∙ begun.1.committed_is in
+      let was = keeps.held begun.1.was_open in
+      record {
+        committed = λ now. subst P (sym (same now)) was.has;
+        left_open = λ now trees may. stored P old.committed trees was.sound was.has (law trees now may ∙ ap (λ (d : Database). d.trees) (same now));
+        left = λ trees may. elim (t.crash now_clean trees may) [
+          | inl dones ↦ inl (left_before trees dones)
+          | inr is ↦ inr (stored Q done.now trees (live is_open).0 has is)
+        ];
+      }
+
+  -- it is rolled back
+  pub undone : (new : State) → (IsTrue new.is_open → (new.in_transaction ≡ false) × (new.now ≡ new.committed)) → LeavesCommit done new → HasCleanDisk new → Survives done new (λ _. ⊥) → Keeps P new
+  undone new ended it now_clean t = record {
+    held = λ now.
+        let same = it.committed now ∙ before.committed (it.was_open now) ∙ begun.1.committed_is in
+        let was = keeps.held begun.1.was_open in
+        record { autocommit = (ended now).0; same = (ended now).1; sound = subst IsDatabase (sym same) was.sound; has = subst P (sym same) was.has };
+    left = λ trees may. elim (t.crash now_clean trees may) [ inl dones ↦ left_before trees dones | inr never ↦ absurd never ];
+  }
+
+pub keeps_unsure : (P Q : Database → Type 0) (c : State) → Keeps P c → IsUnsure P Q c
+keeps_unsure P Q c keeps = record { committed = λ now. (keeps.held now).has; left_open = λ _. keeps.left; left = λ trees may. inl (keeps.left trees may) }

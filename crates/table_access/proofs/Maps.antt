@@ -1,0 +1,196 @@
+-- Rows as a finite map.
+use Rattle.std.proofs.Common.{inl, inr, subst, ◌≡◌, ◌+◌, List, [], ◌∷◌, ◌++◌, Bool, true, false, cond, not, refl, ap, ◌∙◌, sym, slice_get, Some, None, arith, length, filter, map, ◌≤◌, Ordering}
+use Rattle.std.specs.List.{AllByRecursion}
+use Rattle.std.specs.Prelude.{option_map, is_some}
+use Rattle.std.specs.Ordering.{eq_by_cmp, is_eq}
+use Rattle.std.specs.declared.cmp.Ordering.TheVariants.{Less, Equal, Greater}
+use Rattle.std.specs.Cmp.{IsTotalOrder, eq_by_cmp_equiv}
+use Rattle.std.specs.List.Sorted.{IsPermutation}
+use Rattle.std.proofs.lemmas.List.Sorted.{length_permutation}
+use Rattle.std.proofs.lemmas.List.{map-append, length-map}
+use Rattle.std.specs.FinMap.{find, get, insert, remove, from_entries, same_map, get-from_entries, get-insert, get-remove, IsAntisymmetric, len, len-empty, len-insert}
+use Rattle.sqlite.proofs.Callers.{one_permutation}
+use Rattle.sqlite.specs.Order.{Row}
+use Rattle.sqlite.specs.Tree.{IsAscending}
+use Rattle.sqlite_rules.specs.Lists.{Has}
+use Rattle.table_access.proofs.SoundLemmas.{at_has}
+use Rattle.table_access.specs.Statements.{IsAdded}
+
+tied_cmp : (x : Ordering) → is_eq x ≡ true → x ≡ Equal
+tied_cmp Less e = absurd cc
+tied_cmp Equal e = refl
+tied_cmp Greater e = absurd cc
+
+is_nothing : {X : Type 0} (ys : List X) → length ys ≡ 0 → ys ≡ []
+is_nothing [] e = refl
+is_nothing (y ∷ ys) e = absurd (omega arith)
+
+-- lists of at most one element that are permutations are equal
+pub few_permuted : {X : Type 0} (xs ys : List X) → length xs ≤ 1 → IsPermutation xs ys → ys ≡ xs
+few_permuted [] ys few same = is_nothing ys (length_permutation [] ys same)
+few_permuted (x ∷ []) ys few same = one_permutation x ys same
+few_permuted (x ∷ y ∷ xs) ys few same = absurd (omega arith)
+
+module _ {K V : Type 0} {R : K → K → Ordering} (o : IsTotalOrder R) (exact : IsAntisymmetric R) (key : Row → K) (value : Row → V) where
+  abbrev pub entries : List Row → List (K × V)
+  entries = map (λ r. (key r, value r))
+
+  pub found : (k : K) (p : Row → Bool) (rows : List Row) → AllByRecursion (λ r. p r ≡ eq_by_cmp R k (key r)) rows → find R k (entries rows) ≡ option_map value (slice_get (filter p rows) 0)
+  found k p [] same = refl
+  found k p (r ∷ rows) same =
+      elim (p r) as (λ b. p r ≡ b → cond (eq_by_cmp R k (key r)) (Some (value r)) (find R k (entries rows)) ≡ option_map value (slice_get (cond b (r ∷ filter p rows) (filter p rows)) 0)) [
+        | true ↦ λ t. ap (λ b. cond b (Some (value r)) (find R k (entries rows))) (sym same.0 ∙ t)
+        | false ↦ λ t. ap (λ b. cond b (Some (value r)) (find R k (entries rows))) (sym same.0 ∙ t) ∙ found k p rows same.1
+      ] refl
+
+  joined : (q k x : K) → eq_by_cmp R q k ≡ true → eq_by_cmp R q x ≡ true → eq_by_cmp R k x ≡ true
+  joined q k x a b = sym ((eq_by_cmp_equiv o).congr q k x a) ∙ b
+
+  find-middle : (front back : List (K × V)) (k : K) (v : V) (q : K) → find R k (front ++ back) ≡ None → find R q (front ++ (k, v) ∷ back) ≡ cond (eq_by_cmp R q k) (Some v) (find R q (front ++ back))
+  find-middle [] back k v q none = refl
+  find-middle (e ∷ front) back k v q none =
+      go (eq_by_cmp R k e.0) refl none (eq_by_cmp R q e.0) refl (eq_by_cmp R q k) refl (λ h. find-middle front back k v q h)
+    where
+      rest : Type 0
+      rest = (find R k (front ++ back) ≡ None → find R q (front ++ (k, v) ∷ back) ≡ cond (eq_by_cmp R q k) (Some v) (find R q (front ++ back)))
+
+      go : (a : Bool) → eq_by_cmp R k e.0 ≡ a → cond a (Some e.1) (find R k (front ++ back)) ≡ None → (b : Bool) → eq_by_cmp R q e.0 ≡ b → (c : Bool) → eq_by_cmp R q k ≡ c
+          → (find R k (front ++ back) ≡ None → find R q (front ++ (k, v) ∷ back) ≡ cond (eq_by_cmp R q k) (Some v) (find R q (front ++ back)))
+          → cond b (Some e.1) (find R q (front ++ (k, v) ∷ back)) ≡ cond c (Some v) (cond b (Some e.1) (find R q (front ++ back)))
+      go true ea h b eb c ec later = absurd cc
+      go false ea h true eb true ec later = absurd (let both = joined q k e.0 ec eb in cc)
+      go false ea h true eb false ec later = refl
+      go false ea h false eb c ec later = later h ∙ ap (λ t. cond t (Some v) (find R q (front ++ back))) ec
+
+  -- a row whose key is new
+  pub put : (old new : List Row) (row : Row) → IsAdded old new row → get (from_entries {R = R} (entries old)) (key row) ≡ None → from_entries {R = R} (entries new) ≡ insert (from_entries (entries old)) (key row) (value row)
+  put old new row it none = same_map o exact _ _ (λ q.
+      let fresh : find R (key row) (entries it.front ++ entries it.back) ≡ None = sym (ap (find R (key row)) (ap entries it.was ∙ map-append _ it.front it.back)) ∙ sym (get-from_entries o (entries old) (key row)) ∙ none in
+      get-from_entries o (entries new) q ∙ ap (find R q) (ap entries it.is ∙ map-append _ it.front (row ∷ it.back)) ∙ find-middle (entries it.front) (entries it.back) (key row) (value row) q fresh
+      ∙ sym (get-insert o (from_entries (entries old)) (key row) (value row) q ∙ ap (cond (eq_by_cmp R q (key row)) (Some (value row))) (get-from_entries o (entries old) q ∙ ap (find R q) (ap entries it.was ∙ map-append _ it.front it.back))))
+
+  -- keys that stand once
+  abbrev pub AreKeys : List Row → Type 0
+  AreKeys = IsAscending (λ a b. eq_by_cmp R (key a) (key b) ≡ false)
+
+  nothing_after : (k : K) (p : Row → Bool) (r : Row) (rows : List Row) → eq_by_cmp R k (key r) ≡ true → AllByRecursion (λ x. p x ≡ eq_by_cmp R k (key x)) rows → AllByRecursion (λ b. eq_by_cmp R (key r) (key b) ≡ false) rows → filter p rows ≡ []
+  nothing_after k p r [] here same apart = refl
+  nothing_after k p r (x ∷ rows) here same apart =
+      let test : p x ≡ false = same.0 ∙ (eq_by_cmp_equiv o).congr k (key r) (key x) here ∙ apart.0 in
+      rw test (nothing_after k p r rows here same.1 apart.1)
+
+  pub at_most_one : (k : K) (p : Row → Bool) (rows : List Row) → AllByRecursion (λ r. p r ≡ eq_by_cmp R k (key r)) rows → AreKeys rows → length (filter p rows) ≤ 1
+  at_most_one k p [] same apart = omega arith
+  at_most_one k p (r ∷ rows) same apart =
+      elim (p r) as (λ b. p r ≡ b → length (cond b (r ∷ filter p rows) (filter p rows)) ≤ 1) [
+        | true ↦ λ t. let none = nothing_after k p r rows (sym same.0 ∙ t) same.1 apart.0 in rw none (omega arith)
+        | false ↦ λ t. at_most_one k p rows same.1 apart.1
+      ] refl
+
+  -- what a query by the whole key finds
+  pub looked_up : {S : Type 0} (show : Row → S) (k : K) (p : Row → Bool) (rows : List Row) (out : List S) → AllByRecursion (λ r. p r ≡ eq_by_cmp R k (key r)) rows → AreKeys rows → IsPermutation (map show (filter p rows)) out
+      → (out ≡ map show (filter p rows)) × (get (from_entries {R = R} (entries rows)) k ≡ option_map value (slice_get (filter p rows) 0))
+  looked_up show k p rows out same apart some =
+      (few_permuted (map show (filter p rows)) out (omega (arith, length-map (filter p rows) show, at_most_one k p rows same apart)) some, get-from_entries o (entries rows) k ∙ found k p rows same)
+
+  -- what the first row shows, where the query is by the whole key
+  pub looks_up : {S : Type 0} (show : Row → S) (read : S → V) → ((r : Row) → read (show r) ≡ value r) → (k : K) (p : Row → Bool) (rows : List Row) (out : List S) → AllByRecursion (λ r. p r ≡ eq_by_cmp R k (key r)) rows → AreKeys rows → IsPermutation (map show (filter p rows)) out
+      → option_map read (slice_get out 0) ≡ get (from_entries {R = R} (entries rows)) k
+  looks_up show read reads k p rows out same apart some =
+      let it = looked_up show k p rows out same apart some in
+      ap (λ xs. option_map read (slice_get xs 0)) it.0 ∙ first (filter p rows) ∙ sym it.1
+    where
+      first : (rs : List Row) → option_map read (slice_get (map show rs) 0) ≡ option_map value (slice_get rs 0)
+      first [] = refl
+      first (r ∷ rs) = ap Some (reads r)
+
+  tied : (q k x : K) → eq_by_cmp R q x ≡ true → eq_by_cmp R k x ≡ true → eq_by_cmp R q k ≡ true
+  tied q k x a b = (eq_by_cmp_equiv o).congr q x k a ∙ (eq_by_cmp_equiv o).symm x k ∙ b
+
+  pub find_without : (k q : K) (p : Row → Bool) (rows : List Row) → AllByRecursion (λ r. p r ≡ eq_by_cmp R k (key r)) rows → find R q (entries (filter (λ r. not (p r)) rows)) ≡ cond (eq_by_cmp R q k) None (find R q (entries rows))
+  find_without k q p [] same = sym (both (eq_by_cmp R q k))
+    where
+      both : (b : Bool) → cond b None (find R q (entries [])) ≡ None
+      both true = refl
+      both false = refl
+  find_without k q p (r ∷ rows) same = go (p r) refl (eq_by_cmp R q (key r)) refl (eq_by_cmp R q k) refl (find_without k q p rows same.1)
+    where
+      go : (a : Bool) → p r ≡ a → (b : Bool) → eq_by_cmp R q (key r) ≡ b → (c : Bool) → eq_by_cmp R q k ≡ c → find R q (entries (filter (λ x. not (p x)) rows)) ≡ cond (eq_by_cmp R q k) None (find R q (entries rows))
+          → find R q (entries (cond (not a) (r ∷ filter (λ x. not (p x)) rows) (filter (λ x. not (p x)) rows))) ≡ cond c None (cond b (Some (value r)) (find R q (entries rows)))
+      go true ea true eb true ec later = later ∙ ap (λ t. cond t None (find R q (entries rows))) ec
+      go true ea true eb false ec later = absurd (let same_key = tied q k (key r) eb (sym same.0 ∙ ea) in cc)
+      go true ea false eb c ec later = later ∙ ap (λ t. cond t None (find R q (entries rows))) ec
+      go false ea true eb true ec later = absurd (let hit = joined q k (key r) ec eb in let e = sym same.0 ∙ ea in cc)
+      go false ea true eb false ec later = ap (λ t. cond t (Some (value r)) (find R q (entries (filter (λ x. not (p x)) rows)))) eb
+      go false ea false eb c ec later = ap (λ t. cond t (Some (value r)) (find R q (entries (filter (λ x. not (p x)) rows)))) eb ∙ later ∙ ap (λ t. cond t None (find R q (entries rows))) ec
+
+  -- the rows of one key are taken out
+  pub take_out : (k : K) (p : Row → Bool) (old new : List Row) → AllByRecursion (λ r. p r ≡ eq_by_cmp R k (key r)) old → new ≡ filter (λ r. not (p r)) old → from_entries {R = R} (entries new) ≡ remove (from_entries (entries old)) k
+  take_out k p old new same is = same_map o exact _ _ (λ q.
+      get-from_entries o (entries new) q ∙ ap (λ rows. find R q (entries rows)) is ∙ find_without k q p old same ∙ sym (get-remove o (from_entries (entries old)) k q ∙ ap (cond (eq_by_cmp R q k) None) (get-from_entries o (entries old) q)))
+
+  absent : (k : K) (rows : List Row) → AllByRecursion (λ r. eq_by_cmp R k (key r) ≡ false) rows → find R k (entries rows) ≡ None
+  absent k [] apart = refl
+  absent k (r ∷ rows) apart = ap (λ b. cond b (Some (value r)) (find R k (entries rows))) apart.0 ∙ absent k rows apart.1
+
+  -- as many keys as rows
+  pub count : (rows : List Row) → AreKeys rows → len (from_entries {R = R} (entries rows)) ≡ length rows
+  count [] apart = len-empty R V
+  count (r ∷ rows) apart =
+      len-insert o (from_entries (entries rows)) (key r) (value r) ∙ ap (λ x. cond (is_some x) (len (from_entries {R = R} (entries rows))) (len (from_entries {R = R} (entries rows)) + 1)) (get-from_entries o (entries rows) (key r) ∙ absent (key r) rows apart.0)
+      ∙ omega (arith, count rows apart.1)
+
+  -- ---- a table as the function that finds the value of a key
+
+  pub looks_up_at : {S : Type 0} (show : Row → S) (read : S → V) → ((r : Row) → read (show r) ≡ value r) → (k : K) (p : Row → Bool) (rows : List Row) (out : List S) → AllByRecursion (λ r. p r ≡ eq_by_cmp R k (key r)) rows → AreKeys rows → IsPermutation (map show (filter p rows)) out
+      → option_map read (slice_get out 0) ≡ find R k (entries rows)
+  looks_up_at show read reads k p rows out same apart some = looks_up show read reads k p rows out same apart some ∙ get-from_entries o (entries rows) k
+
+  -- a row whose key is new
+  pub puts_at : (old new : List Row) (row : Row) → IsAdded old new row → find R (key row) (entries old) ≡ None → (q : K) → find R q (entries new) ≡ cond (eq_by_cmp R q (key row)) (Some (value row)) (find R q (entries old))
+  puts_at old new row it none q =
+      let was = ap entries it.was ∙ map-append _ it.front it.back in
+      ap (find R q) (ap entries it.is ∙ map-append _ it.front (row ∷ it.back)) ∙ find-middle (entries it.front) (entries it.back) (key row) (value row) q (sym (ap (find R (key row)) was) ∙ none)
+      ∙ ap (cond (eq_by_cmp R q (key row)) (Some (value row))) (sym (ap (find R q) was))
+
+  -- what is found stands in a row
+  pub find_has : (k : K) (v : V) (rows : List Row) → find R k (entries rows) ≡ Some v → (r : Row) × Has rows r × (k ≡ key r) × (value r ≡ v)
+  find_has k v [] h = absurd cc
+  find_has k v (r ∷ rows) h = go (eq_by_cmp R k (key r)) refl h (λ later. find_has k v rows later)
+    where
+      go : (b : Bool) → eq_by_cmp R k (key r) ≡ b → cond b (Some (value r)) (find R k (entries rows)) ≡ Some v → (find R k (entries rows) ≡ Some v → (x : Row) × Has rows x × (k ≡ key x) × (value x ≡ v))
+          → (x : Row) × Has (r ∷ rows) x × (k ≡ key x) × (value x ≡ v)
+      go true e h more = (r, inl refl, exact k (key r) (tied_cmp (R k (key r)) e), cc)
+      go false e h more = let it = more h in (it.0, inr it.1, it.2, it.3)
+
+  pub none_has : (k : K) (rows : List Row) (r : Row) → find R k (entries rows) ≡ None → Has rows r → eq_by_cmp R k (key r) ≡ false
+  none_has k [] r h has = absurd has
+  none_has k (x ∷ rows) r h has = go (eq_by_cmp R k (key x)) refl h (λ e later. none_has k rows r e later) has
+    where
+      go : (b : Bool) → eq_by_cmp R k (key x) ≡ b → cond b (Some (value x)) (find R k (entries rows)) ≡ None → (find R k (entries rows) ≡ None → Has rows r → eq_by_cmp R k (key r) ≡ false) → Has (x ∷ rows) r → eq_by_cmp R k (key r) ≡ false
+      go true e h more has = absurd cc
+      go false e h more (inl same) = subst (λ y. eq_by_cmp R k (key y) ≡ false) (sym same) e
+      go false e h more (inr later) = more h later
+
+  -- a row is found by its key
+  pub has_find : (rows : List Row) (r : Row) → AreKeys rows → Has rows r → find R (key r) (entries rows) ≡ Some (value r)
+  has_find [] r apart has = absurd has
+  has_find (x ∷ rows) r apart (inl same) = subst (λ y. find R (key y) (entries (x ∷ rows)) ≡ Some (value y)) (sym same) (ap (λ b. cond b (Some (value x)) (find R (key x) (entries rows))) ((eq_by_cmp_equiv o).refl (key x)))
+  has_find (x ∷ rows) r apart (inr later) =
+      let other : eq_by_cmp R (key r) (key x) ≡ false = (eq_by_cmp_equiv o).symm (key r) (key x) ∙ at_has _ rows r apart.0 later in
+      ap (λ b. cond b (Some (value x)) (find R (key r) (entries rows))) other ∙ has_find rows r apart.1 later
+
+-- ---- a table with two keys
+
+module _ {K V : Type 0} {R : K → K → Ordering} {S : V → V → Ordering} (o : IsTotalOrder R) (exact : IsAntisymmetric R) (p : IsTotalOrder S) (exact_too : IsAntisymmetric S) (key : Row → K) (value : Row → V) (rows : List Row) where
+  pub other_way : (k : K) (v : V) → AreKeys o exact key value rows → find S v (map (λ r. (value r, key r)) rows) ≡ Some k → find R k (map (λ r. (key r, value r)) rows) ≡ Some v
+  other_way k v keys h =
+      let it = find_has p exact_too value key v k rows h in
+      ap (λ x. find R x (map (λ r. (key r, value r)) rows)) (sym it.3) ∙ has_find o exact key value rows it.0 keys it.1 ∙ ap Some (sym it.2)
+
+  pub no_other_way : (k : K) (v : V) → find S v (map (λ r. (value r, key r)) rows) ≡ None → find R k (map (λ r. (key r, value r)) rows) ≡ Some v → ⊥
+  no_other_way k v none h =
+      let it = find_has o exact key value k v rows h in
+      let apart = none_has p exact_too value key v rows it.0 none it.1 in
+      let same : eq_by_cmp S v (value it.0) ≡ true = ap (eq_by_cmp S v) it.3 ∙ (eq_by_cmp_equiv p).refl v in
+      cc

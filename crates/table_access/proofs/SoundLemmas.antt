@@ -1,0 +1,156 @@
+-- What the schema says of each row.
+use Rattle.std.proofs.Common.{◌≡◌, inl, inr, ℕ, zero, suc, ◌+◌, List, [], ◌∷◌, Bool, true, false, cond, not, ◌&&◌, ◌||◌, refl, ap, ◌∙◌, sym, subst, slice_get, Option, Some, drop, add-one, arith, Less}
+use Rattle.std.specs.List.{AllByRecursion, list_any}
+use Rattle.std.specs.Prelude.{slice_index_or}
+use Rattle.sqlite.specs.declared.types.Value.{Value}
+use Rattle.sqlite.specs.declared.types.Value.TheVariants.{Null, Int, Real, Text, Blob}
+use Rattle.sqlite.specs.Order.{Row, column, value_cmp}
+use Rattle.sqlite.specs.Table.{Table}
+use Rattle.sqlite_schema.specs.declared.schema.Column.{Column}
+use Rattle.sqlite.specs.Kind.TheVariants as kind
+use Rattle.sqlite_schema.specs.declared.schema.Constraint.TheVariants.{Datatype, NotNull}
+use Rattle.sqlite_schema.specs.Names.{is_key}
+use Rattle.sqlite_schema.specs.Rules.{are_typed, are_present, is_of, suits, has_affinity, agree, clashes, differ}
+use Rattle.sqlite_value.specs.declared.keys.Order.{Order}
+use Rattle.sqlite_sql.specs.Ops.{is_null, binary, is_true, from_truth}
+use Rattle.sqlite.specs.View.{is_int}
+use Rattle.sqlite.specs.Edit.{id_in}
+use Rattle.std.specs.Ordering.{is_ne}
+use Rattle.sqlite_rules.proofs.TableLemmas.{int_is}
+use Rattle.sqlite.specs.Tree.{IsTable, IsAscending, rowid}
+use Rattle.sqlite.specs.Effect.{Database, IsDatabase}
+use Rattle.sqlite_rules.specs.Lists.{Has}
+use Rattle.sqlite_rules.proofs.RuleLemmas.{keeps_at}
+use Rattle.sqlite_keyed.proofs.RuleLemmas.{first_of_both, second_of_both}
+use Rattle.table_access.specs.Sound.{text_in}
+
+pub at_has : {X : Type 0} (P : X → Type 0) (xs : List X) (x : X) → AllByRecursion P xs → Has xs x → P x
+at_has P [] x all has = absurd has
+at_has P (y ∷ ys) x all (inl same) = subst P (sym same) all.0
+at_has P (y ∷ ys) x all (inr later) = at_has P ys x all.1 later
+
+pub all_of : {X : Type 0} (P : X → Type 0) (xs : List X) → ((x : X) → Has xs x → P x) → AllByRecursion P xs
+all_of P [] each = tt
+all_of P (y ∷ ys) each = (each y (inl refl), all_of P ys (λ x has. each x (inr has)))
+
+pub has_place : {X : Type 0} (xs : List X) (at : ℕ) (x : X) → slice_get xs at ≡ Some x → Has xs x
+has_place [] at x e = absurd cc
+has_place (y ∷ ys) zero x e = inl (let same : y ≡ x = cc in sym same)
+has_place (y ∷ ys) (suc at) x e = inr (has_place ys at x e)
+
+-- ---- the columns of a row
+
+shifted : (from at : ℕ) → from + suc at ≡ from + 1 + at
+shifted from at = omega arith
+
+-- a row that lacks the last columns reads as NULL there
+short : (key : Option ℕ) (from : ℕ) (cs : List Column) (at : ℕ) (c : Column) → is_of c.kind (slice_index_or [] at Null) ≡ true
+short key from cs zero c = refl
+short key from cs (suc at) c = refl
+
+typed_at : (key : Option ℕ) (from : ℕ) (cs : List Column) (vs : Row) (at : ℕ) (c : Column) → are_typed key from cs vs ≡ true → slice_get cs at ≡ Some c → is_key key (from + at) ≡ false → c.is_strict ≡ true
+    → is_of c.kind (slice_index_or vs at Null) ≡ true
+typed_at key from [] vs at c typed there free strict = absurd cc
+typed_at key from (d ∷ cs) [] at c typed there free strict = short key from cs at c
+typed_at key from (d ∷ cs) (v ∷ vs) zero c typed there free strict =
+    let same : d ≡ c = cc in
+    let here : is_key key from ≡ false = subst (λ n. is_key key n ≡ false) (omega arith) free in
+    let suit : suits d v ≡ true = subst (λ b. cond b (is_null v) (suits d v) ≡ true) here (first_of_both _ _ typed) in
+    subst (λ b. cond b (is_of c.kind v) (has_affinity c.kind v) ≡ true) strict (subst (λ e. suits e v ≡ true) same suit)
+typed_at key from (d ∷ cs) (v ∷ vs) (suc at) c typed there free strict =
+    typed_at key (from + 1) cs vs at c (second_of_both _ _ typed) there (subst (λ n. is_key key n ≡ false) (shifted from at) free) strict
+
+present_at : (key : Option ℕ) (from : ℕ) (cs : List Column) (row : Row) (at : ℕ) (c : Column) → are_present key from cs row ≡ true → slice_get cs at ≡ Some c → is_key key (from + at) ≡ false → c.not_null ≡ true
+    → is_null (column row (from + at + 1)) ≡ false
+present_at key from [] row at c present there free needed = absurd cc
+present_at key from (d ∷ cs) row zero c present there free needed =
+    let same : d ≡ c = cc in
+    let here : is_key key from ≡ false = subst (λ n. is_key key n ≡ false) (omega arith) free in
+    let test = first_of_both _ _ present in
+    let one = subst (λ b. (b || not d.not_null || not (is_null (column row (from + 1)))) ≡ true) here test in
+    let two = subst (λ b. (not b || not (is_null (column row (from + 1)))) ≡ true) (ap (λ (e : Column). e.not_null) same ∙ needed) one in
+    subst (λ n. is_null (column row n) ≡ false) (omega arith) (flipped _ two)
+  where
+    flipped : (b : Bool) → not b ≡ true → b ≡ false
+    flipped true e = absurd cc
+    flipped false e = refl
+present_at key from (d ∷ cs) row (suc at) c present there free needed =
+    subst (λ n. is_null (column row (n + 1)) ≡ false) (sym (shifted from at)) (present_at key (from + 1) cs row at c (second_of_both _ _ present) there (subst (λ n. is_key key n ≡ false) (shifted from at) free) needed)
+
+dropped : (row : Row) (at : ℕ) → slice_index_or (drop 1 row) at Null ≡ column row (at + 1)
+dropped [] at = none at ∙ sym (none (at + 1))
+  where
+    none : (n : ℕ) → slice_index_or [] n Null ≡ Null
+    none zero = refl
+    none (suc n) = refl
+dropped (v ∷ vs) at = ap (λ n. slice_index_or (v ∷ vs) n Null) (sym (add-one at))
+
+text_is : (v : Value) → is_of kind.Text v ≡ true → is_null v ≡ false → v ≡ Text (text_in v)
+text_is Null t n = absurd cc
+text_is (Int x) t n = absurd cc
+text_is (Real x) t n = absurd cc
+text_is (Text x) t n = refl
+text_is (Blob x) t n = absurd cc
+
+integer_is : (v : Value) → is_of kind.Integer v ≡ true → is_null v ≡ false → v ≡ Int (id_in v)
+integer_is Null t n = absurd cc
+integer_is (Int x) t n = refl
+integer_is (Real x) t n = absurd cc
+integer_is (Text x) t n = absurd cc
+integer_is (Blob x) t n = absurd cc
+
+module _ (db : Database) (sound : IsDatabase db) (t : Table) (listed : Has db.schema.tables t) (row : Row) (has : Has (db.trees t.tree) row) (at : ℕ) (c : Column) (there : slice_get t.columns at ≡ Some c)
+    (free : is_key t.key at ≡ false) (strict : c.is_strict ≡ true) (needed : c.not_null ≡ true) where
+  -- the column has its type
+  of_kind : (is_of c.kind (column row (at + 1)) ≡ true) × (is_null (column row (at + 1)) ≡ false)
+  of_kind =
+      let typed = keeps_at Datatype db.schema db.trees t row (sound.obeys.rules Datatype) listed has in
+      let present = keeps_at NotNull db.schema db.trees t row (sound.obeys.rules NotNull) listed has in
+      let open_at : is_key t.key (0 + at) ≡ false = subst (λ n. is_key t.key n ≡ false) (omega arith) free in (
+        subst (λ v. is_of c.kind v ≡ true) (dropped row at) (typed_at t.key 0 t.columns (drop 1 row) at c (first_of_both _ _ typed) there open_at strict),
+        subst (λ n. is_null (column row n) ≡ false) (omega arith) (present_at t.key 0 t.columns row at c present there open_at needed),
+      )
+
+  pub text_at : c.kind ≡ kind.Text → column row (at + 1) ≡ Text (text_in (column row (at + 1)))
+  text_at is = text_is _ (subst (λ k. is_of k (column row (at + 1)) ≡ true) is of_kind.0) of_kind.1
+
+  pub whole_in : c.kind ≡ kind.Integer → column row (at + 1) ≡ Int (id_in (column row (at + 1)))
+  whole_in is = integer_is _ (subst (λ k. is_of k (column row (at + 1)) ≡ true) is of_kind.0) of_kind.1
+
+-- ---- a UNIQUE key stands once
+
+pub any_of : {X : Type 0} (p : X → Bool) (xs : List X) (x : X) → Has xs x → p x ≡ true → list_any p xs ≡ true
+any_of p [] x has t = absurd has
+any_of p (y ∷ ys) x (inl same) t = rw (← same, t)
+any_of p (y ∷ ys) x (inr later) t = rw (any_of p ys x later t) (right (p y))
+  where
+    right : (b : Bool) → (b || true) ≡ true
+    right true = refl
+    right false = refl
+
+told : (b : Bool) → is_true (from_truth (Some b)) ≡ b
+told true = refl
+told false = refl
+
+differs : (a b : Row) → is_int (rowid a) ≡ true → is_int (rowid b) ≡ true → value_cmp (rowid a) (rowid b) ≡ Less → differ (rowid a) (rowid b) ≡ true
+unfolding binary
+differs a b p q less =
+    let e = int_is (rowid a) p in
+    let f = int_is (rowid b) q in
+    rw (e, f) (told _ ∙ ap is_ne (sym (ap (λ v. value_cmp v (rowid b)) e ∙ ap (value_cmp (Int (id_in (rowid a)))) f) ∙ less))
+
+false_or : (b : Bool) → (b ≡ true → ⊥) → b ≡ false
+false_or true h = absurd (h refl)
+false_or false h = refl
+
+module _ (o : Order) (places : List ℕ) (rows : List Row) (ints : (r : Row) → Has rows r → is_int (rowid r) ≡ true) (unique : (r : Row) → Has rows r → clashes o places rows r ≡ false) where
+  no_two : (a b : Row) → Has rows a → Has rows b → value_cmp (rowid a) (rowid b) ≡ Less → agree o places a places b ≡ false
+  no_two a b hasa hasb less = false_or _ (λ same.
+      let two = any_of (λ other. agree o places other places b && differ (rowid other) (rowid b)) rows a hasa (rw (same, differs a b (ints a hasa) (ints b hasb) less)) in
+      let one = unique b hasb in
+      absurd cc)
+
+  pub apart : (rest : List Row) → IsTable rest → ((r : Row) → Has rest r → Has rows r) → IsAscending (λ a b. agree o places a places b ≡ false) rest
+  apart [] up part = tt
+  apart (a ∷ rest) up part =
+      (all_of _ rest (λ b later. no_two a b (part a (inl refl)) (part b (inr later)) (at_has _ rest b up.0 later)), apart rest up.1 (λ r later. part r (inr later)))

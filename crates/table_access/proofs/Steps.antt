@@ -1,0 +1,284 @@
+-- What the statements do, over any schema.
+use Rattle.std.proofs.Common.{◌≡◌, ◌⊎◌, inl, inr, ℕ, List, [], ◌∷◌, ◌++◌, map, filter, length, slice_get, Bool, true, false, cond, Some, None, Option, Ok, Err, Result, refl, sym, ap, subst, subst₂, ◌∙◌, append-nil, nat_le, ◌^◌, unwrap_or, ◌==◌, ◌&&◌, ◌||◌, not, Ordering, Less, Equal, Greater, ◌/◌, ◌≢◌}
+use Rattle.std.specs.List.{flat_map}
+use Rattle.std.specs.List.Sorted.{IsPermutation}
+use Rattle.std.proofs.lemmas.List.Sorted.{IsPermutation-map}
+use Rattle.sqlite_keyed.proofs.ListLemmas.{map-map}
+use Rattle.sqlite.specs.declared.types.Value.TheVariants.{Null}
+use Rattle.sqlite.specs.Order.{Row}
+use Rattle.sqlite.specs.Term.{Term}
+use Rattle.sqlite.specs.Tree.{Trees}
+use Rattle.sqlite.specs.Schema.{Schema}
+use Rattle.sqlite.specs.Command.{Command}
+use Rattle.sqlite.specs.Command.TheVariants.{Select}
+use Rattle.sqlite.specs.Query.{IsAnswer, output, Output}
+use Rattle.sqlite.specs.Program.{overlay}
+use Rattle.sqlite_value.specs.declared.keys.Key.{Key}
+use Rattle.sqlite.specs.Listing.{understood, reads_listing}
+use Rattle.sqlite.specs.State.{State, Shown, ShowsRows, IsUnchanged}
+use Rattle.sqlite.specs.Clock.{timed}
+use Rattle.sqlite.proofs.Callers.{IsPlain, command_of, statement_of, runs_as, reads_as}
+use Rattle.table_access.specs.Statements.{from_table, keeps, shows, IsAdded, ChangesOnly, plain_table}
+use Rattle.std.specs.List.{filter_map, AllByRecursion}
+use Rattle.std.specs.Ordering.{is_eq, match_ordering}
+use Rattle.sqlite_keyed.proofs.ListLemmas.{flat_map_none, IsPermutation-same}
+use Rattle.sqlite.specs.Order.{value_cmp, column}
+use Rattle.sqlite.specs.Tree.{put_row, rowid}
+use Rattle.sqlite.specs.View.{is_int}
+use Rattle.sqlite.specs.Table.{Table}
+use Rattle.sqlite_schema.specs.declared.schema.Reference.{Reference}
+use Rattle.sqlite_schema.specs.declared.schema.Keys.{Keys}
+use Rattle.sqlite_schema.specs.Rules.{ParentKey}
+use Rattle.sqlite_rules.specs.declared.action.Deed.{Deed}
+use Rattle.sqlite_rules.specs.Action.{works, work_by}
+use Rattle.sqlite.specs.Source.TheVariants.{Values}
+use Rattle.sqlite.specs.Command.TheVariants.{Insert, Delete, Update}
+use Rattle.sqlite.specs.Rowids.TheVariants.{Given}
+use Rattle.sqlite_rules.specs.Edit.{taken_by}
+use Rattle.sqlite_rules.specs.Calls.{ids_of}
+use Rattle.sqlite_schema.specs.declared.program.Program.{Program}
+use Rattle.sqlite.specs.Term.{col}
+use Rattle.table_access.specs.Statements.{IsCalm}
+use Rattle.table_access.proofs.Removal.{calm_works, left, numbered_filter}
+use Rattle.sqlite.specs.Edit.{is_taken, with_rowid, edit_of, without_all}
+use Rattle.sqlite.specs.Cast.{cast_row}
+use Rattle.sqlite.specs.Rowids.{Rowids}
+use Rattle.sqlite.specs.Rowids.TheVariants.{Chosen}
+use Rattle.sqlite.specs.Effect.{Database, value_rows, Answers}
+use Rattle.sqlite.specs.Does.{Tally, OnTable, OnRows, AtPlace, WritesRows, Concludes}
+use Rattle.sqlite.specs.Rows.{Written, Task, Inserts, Edited}
+use Rattle.sqlite.specs.declared.run.Mode.{Mode}
+use Rattle.sqlite_schema.specs.declared.schema.Column.{Column}
+use Rattle.sqlite_value.specs.declared.keys.Order.{Order}
+use Rattle.sqlite.specs.State.{Executes, Writes, mode_of}
+use Rattle.table_access.specs.Sound.{IsNumbered}
+use Rattle.sqlite_trees.proofs.TreeLemmas.{IsTable-put_row, all-put_row}
+use Rattle.sqlite_keyed.proofs.RuleLemmas.{first_of_both}
+use Rattle.std.proofs.lemmas.Bool.{cases_eq}
+use Rattle.sqlite.proofs.Callers.{one_step, through, one_permutation}
+
+-- what a text means over a schema: each field is found by refl, under `unfolding understood everything`
+pub record Means (schema : Schema) (sql : List ℕ) (command : Command) : Type 0 where
+  pub is : command_of (understood schema sql) ≡ command
+  pub plain : IsPlain (understood schema sql)
+  pub unlisted : reads_listing schema sql ≡ false
+
+pub shown_unchanged : (sql : List ℕ) (params : Row) (old new : State) (rows : List Row) → IsPlain (understood old.now.schema sql) → Shown sql params old new rows → IsUnchanged old new
+unfolding Shown
+shown_unchanged sql params old new rows plain h =
+    let none = (subst IsPlain h.1.is plain).0 in
+    (subst (ShowsRows old new sql h.0 (timed params h.0.formats h.1.now) rows) none h.2).3
+
+module _ (params : Row) (terms : List Term) where
+  pub one_table : (rows : List Row) → flat_map (λ r. cond (keeps terms params r) ((params ∷ r ∷ []) ∷ []) []) rows ≡ map (λ r. params ∷ r ∷ []) (filter (keeps terms params) rows)
+  one_table [] = refl
+  one_table (r ∷ rows) =
+      elim (keeps terms params r) as (λ b. cond b ((params ∷ r ∷ []) ∷ []) [] ++ flat_map (λ x. cond (keeps terms params x) ((params ∷ x ∷ []) ∷ []) []) rows ≡ map (λ x. params ∷ x ∷ []) (cond b (r ∷ filter (keeps terms params) rows) (filter (keeps terms params) rows))) [
+        | true ↦ ap (λ more. (params ∷ r ∷ []) ∷ more) (one_table rows)
+        | false ↦ one_table rows
+      ]
+
+either : {X : Type 0} (b : Bool) (x : X) → cond b x x ≡ x
+either true x = refl
+either false x = refl
+
+pub bare : (db : Trees) (t : ℕ) → overlay db [] t ≡ db t
+bare db t = ap (λ o. unwrap_or o (db t)) (either (nat_le (2 ^ 31) t) None)
+
+module _ (db : Database) (params : Row) (t : ℕ) (terms project : List Term) (order : List (Term × Key)) (rows : List Row)
+    (h : Answers db (record { lets = []; body = from_table t terms project order }) params rows) where
+  answer : IsAnswer (from_table t terms project order) (overlay db.trees []) params rows
+  answer = h.answer Null
+
+  outputs : answer.kept ≡ map (λ r. output (from_table t terms project order) (params ∷ r ∷ [])) (filter (keeps terms params) (db.trees t))
+  outputs =
+      let q = from_table t terms project order in
+      answer.distinct ∙ ap (map (output q)) (answer.grouped ∙ ap (flat_map (λ r. cond (keeps terms params r) ((params ∷ r ∷ []) ∷ []) [])) (bare db.trees t) ∙ one_table params terms (db.trees t)) ∙ map-map _ _ _
+
+  -- the rows that WHERE keeps are shown, in some order
+  pub answered : IsPermutation (map (shows project params) (filter (keeps terms params) (db.trees t))) rows
+  answered =
+      let kept = ap (map (λ (o : Output). o.1)) outputs ∙ map-map _ _ _ in
+      subst₂ IsPermutation kept (sym answer.shown) (IsPermutation-map (λ (o : Output). o.1) answer.kept answer.ordered answer.same)
+
+module _ (sql : List ℕ) (params : Row) (old new : State) (t : ℕ) (terms project : List Term) (order : List (Term × Key)) (names : List (List ℕ))
+    (means : Means old.now.schema sql (Select (record { lets = []; body = from_table t terms project order }) names)) (rows : List Row) (h : Shown sql params old new rows) where
+  pub selects : IsPermutation (map (shows project params) (filter (keeps terms params) (old.now.trees t))) rows
+  selects = answered old.now params t terms project order rows (reads_as sql params old new old.now.schema refl _ means.is means.plain means.unlisted rows h)
+
+-- a query that was shown is answered
+pub shown_answers : (sql : List ℕ) (params : Row) (old new : State) (program : Program) (names : List (List ℕ)) → Means old.now.schema sql (Select program names) → (rows : List Row) → Shown sql params old new rows → Answers old.now program params rows
+shown_answers sql params old new program names means rows h = reads_as sql params old new old.now.schema refl _ means.is means.plain means.unlisted rows h
+
+-- ---- INSERT
+
+-- a part that gave a value did not stop on the way
+pub went : {B E R : Type 0} {b : B} {Stops : E → Type 0} → ((stop : E) × Stops stop × (Ok b ≡ Err stop)) ⊎ R → R
+went (inl stopped) = absurd (let e = stopped.2 in cc)
+went (inr on) = on
+
+pub same_value : {B E : Type 0} {a b : B} → ◌≡◌ {A = Result B E} (Ok a) (Ok b) → a ≡ b
+same_value e = cc
+
+never : (b : Bool) → (b && false) ≡ false
+never true = refl
+never false = refl
+
+idle : (depth tree : ℕ) (child : Table) (ref : Reference) (deed : Option Deed) (key : Option ParentKey) → work_by depth tree [] child ref deed key ≡ None
+idle depth tree child ref None key = refl
+idle depth tree child ref (Some deed) None = refl
+idle depth tree child ref (Some deed) (Some key) = rw (never (key.0 == tree))
+
+filter_map_none : {A B : Type 0} (f : A → Option B) → ((x : A) → f x ≡ None) → (xs : List A) → filter_map f xs ≡ []
+filter_map_none f none [] = refl
+filter_map_none f none (x ∷ xs) = rw (none x, filter_map_none f none xs)
+
+-- where no row is taken out, no foreign key acts
+pub no_works : (schema : Schema) (keys : Keys) (depth tree : ℕ) (news : List Row) → works schema keys depth tree [] news ≡ []
+no_works schema keys depth tree news = flat_map_none _ (λ child. filter_map_none _ (λ ref. idle depth tree child ref _ _) child.references) schema.tables
+
+pub put_splits : (new : Row) (rows : List Row) → is_taken rows new ≡ false → IsAdded rows (put_row new rows) new
+put_splits new [] fresh = record { front = []; back = []; was = refl; is = refl }
+put_splits new (r ∷ rows) fresh = go (value_cmp (rowid r) (rowid new)) refl fresh (put_splits new rows)
+  where
+    go : (o : Ordering) → value_cmp (rowid r) (rowid new) ≡ o → (is_eq o || is_taken rows new) ≡ false → (is_taken rows new ≡ false → IsAdded rows (put_row new rows) new)
+        → IsAdded (r ∷ rows) (match_ordering o (r ∷ put_row new rows) (new ∷ rows) (new ∷ r ∷ rows)) new
+    go Less e h later = let more = later h in record { front = r ∷ more.front; back = more.back; was = ap (λ rs. r ∷ rs) more.was; is = ap (λ rs. r ∷ rs) more.is }
+    go Equal e h later = absurd cc
+    go Greater e h later = record { front = []; back = r ∷ rows; was = refl; is = refl }
+
+pub put_numbered : (new : Row) (rows : List Row) → is_int (rowid new) ≡ true → IsNumbered rows → IsNumbered (put_row new rows)
+put_numbered new rows int numbered = (IsTable-put_row new rows numbered.0, all-put_row _ new rows int numbered.1)
+
+pub not_taken : (b c : Bool) → (not b && c) ≡ true → b ≡ false
+not_taken true c h = absurd cc
+not_taken false c h = refl
+
+-- what a statement on rows leaves
+pub concludes : (task : Task) (mode : Mode) (command : Command) (db : Trees) (tally : Tally) (after : Database) → OnRows task mode None command db (Ok (tally, after))
+    → (w : Written) × WritesRows task db command (Ok w) × (after ≡ record { schema = task.schema; trees = w.trees })
+concludes task mode command db tally after h =
+    let done = through (WritesRows task db command) (Concludes task mode None) (tally, after) h in
+    (done.0, done.1, ap (λ (p : Tally × Database). p.1) (same_value (went (went done.2).2).2))
+
+-- the rows of each table are numbered, where those of one are that changed
+still_numbered : (schema : Schema) (tree : ℕ) (db next : Trees) → (IsNumbered (db tree) → IsNumbered (next tree)) → AllByRecursion (λ t. t.tree ≢ tree → next t.tree ≡ db t.tree) schema.tables
+    → AllByRecursion (λ t. IsNumbered (db t.tree)) schema.tables → AllByRecursion (λ t. IsNumbered (next t.tree)) schema.tables
+still_numbered schema tree db next here others all = go schema.tables others all
+  where
+    one : (t : Table) → (t.tree ≢ tree → next t.tree ≡ db t.tree) → IsNumbered (db t.tree) → IsNumbered (next t.tree)
+    one t other was = elim (cases_eq t.tree tree) [ inl same ↦ subst (λ n. IsNumbered (next n)) (sym same) (here (subst (λ n. IsNumbered (db n)) same was)) | inr apart ↦ subst IsNumbered (sym (other apart)) was ]
+
+    go : (ts : List Table) → AllByRecursion (λ t. t.tree ≢ tree → next t.tree ≡ db t.tree) ts → AllByRecursion (λ t. IsNumbered (db t.tree)) ts → AllByRecursion (λ t. IsNumbered (next t.tree)) ts
+    go [] o a = tt
+    go (t ∷ ts) o a = (one t o.0 a.0, go ts o.1 a.1)
+
+-- the parts of what a write says
+pub changes_only : (old new : State) (tree : ℕ) (command : Command) (text : List ℕ) (params : Row) (count : ℕ) (w : Writes old new None command text params count) → new.now.schema ≡ old.now.schema
+    → (IsNumbered (old.now.trees tree) → IsNumbered (new.now.trees tree)) → AllByRecursion (λ t. t.tree ≢ tree → new.now.trees t.tree ≡ old.now.trees t.tree) old.now.schema.tables → ChangesOnly tree old new
+changes_only old new tree command text params count w schema here others = record {
+  schema = schema;
+  kept = λ kept. record { sound = w.sound; numbered = subst (λ (s : Schema). AllByRecursion (λ t. IsNumbered (new.now.trees t.tree)) s.tables) (sym schema) (still_numbered old.now.schema tree old.now.trees new.now.trees here others kept.numbered) };
+  others = others;
+  inside = λ inside. (w.shown.mode ∙ inside, w.shown.committed_is ∙ ap (λ b. cond b old.committed new.now) inside);
+  marks = w.marks;
+}
+
+module _ (name : List ℕ) (tree : ℕ) (columns : List Column) (key : Option ℕ) (primary : List ℕ) (uniques : List (List ℕ)) (orders : List Order) (checks : List Term) (references : List Reference) where
+  abbrev here : Table
+  here = plain_table name tree columns key primary uniques orders checks references
+
+  inserted : (limit : Option ℕ) (keys : Keys) (schema : Schema) (params : Row) (terms : List Term) (width : ℕ) (db : Trees) (w : Written)
+      → Inserts (record { limit = limit; keys = keys; schema = schema; table = here; params = params }) (Values terms width) db (Ok w)
+      → Edited schema keys db (edit_of db here [] Chosen 0 (value_rows params width (length terms / width) terms)) (Ok w.trees)
+  inserted limit keys schema params terms width db w h =
+      let given = went h in
+      let counter = went given.2 in
+      let written = went counter.2 in
+      let counted = went written.2 in
+      let trees : w.trees ≡ written.0 = ap (λ (it : Written). it.trees) (same_value counted.2) ∙ same_value counted.1 in
+      subst₂ (λ rows t. Edited schema keys db (edit_of db here [] Chosen 0 rows) (Ok t)) (given.1.1 ∙ ap (λ ps. value_rows ps width (length terms / width) terms) (append-nil params)) (sym trees) written.1
+
+  -- the edit that puts in one row
+  pub put_one : (rowids : Rowids) (schema : Schema) (keys : Keys) (db next : Trees) (row made : Row) → with_rowid rowids (db tree) (cast_row here row) ≡ made → Edited schema keys db (edit_of db here [] rowids 0 (row ∷ [])) (Ok next)
+      → IsAdded (db tree) (next tree) made × (IsNumbered (db tree) → IsNumbered (next tree)) × AllByRecursion (λ t. t.tree ≢ tree → next t.tree ≡ db t.tree) schema.tables
+  put_one rowids schema keys db next row made cast h =
+      let edit = edit_of db here [] rowids 0 (row ∷ []) in
+      let one = one_step schema keys db next edit (no_works schema keys 0 tree edit.news) h in
+      let put = put_splits (with_rowid rowids (db tree) (cast_row here row)) (db tree) (not_taken (is_taken (db tree) (with_rowid rowids (db tree) (cast_row here row))) true one.fresh) in (
+        record { front = put.front; back = put.back; was = put.was; is = one.rows ∙ put.is ∙ ap (λ r. put.front ++ r ∷ put.back) cast },
+        λ numbered. subst IsNumbered (sym one.rows) (IsTable-put_row _ (db tree) numbered.0, all-put_row _ _ (db tree) (first_of_both _ true one.keyed) numbered.1),
+        one.tables,
+      )
+
+  module _ (sql : List ℕ) (params : Row) (old new : State) (at : ℕ) (found : slice_get old.now.schema.tables at ≡ Some here) where
+    abbrev task : Task
+    task = record { limit = old.step_limit; keys = (mode_of old).keys; schema = old.now.schema; table = here; params = params }
+
+    on_table : (command : Command) (tally : Tally) → OnTable old.step_limit (mode_of old) params old.now at (λ task. OnRows task (mode_of old) None command old.now.trees) (Ok (tally, new.now))
+        → OnRows task (mode_of old) None command old.now.trees (Ok (tally, new.now))
+    on_table command tally h =
+        subst (λ o. AtPlace (λ table. OnRows (record task { table = table }) (mode_of old) None command old.now.trees) o (Ok (tally, new.now))) found h
+
+    pub inserts : (terms : List Term) (width : ℕ) (row made : Row) → value_rows params width (length terms / width) terms ≡ row ∷ [] → with_rowid Chosen (old.now.trees tree) (cast_row here row) ≡ made
+        → Means old.now.schema sql (Insert at (Values terms width)) → (count : ℕ) → Executes sql params old new (Ok count)
+        → ChangesOnly tree old new × IsAdded (old.now.trees tree) (new.now.trees tree) made
+    inserts terms width row made one cast means count h =
+        let command = Insert at (Values terms width) in
+        let w = runs_as sql params old new old.now.schema refl command means.is means.plain count h in
+        let done = concludes task (mode_of old) command old.now.trees w.tally new.now (on_table command w.tally w.changed) in
+        let put = inserted old.step_limit (mode_of old).keys old.now.schema params terms width old.now.trees done.0 done.1 in
+        let edit = put_one Chosen old.now.schema (mode_of old).keys old.now.trees done.0.trees row made cast (subst (λ rows. Edited old.now.schema (mode_of old).keys old.now.trees (edit_of old.now.trees here [] Chosen 0 rows) (Ok done.0.trees)) one put) in
+        let now : done.0.trees ≡ new.now.trees = sym (ap (λ (d : Database). d.trees) done.2) in (
+          changes_only old new tree command (statement_of sql (understood old.now.schema sql)) params count w (ap (λ (d : Database). d.schema) done.2) (subst (λ (next : Trees). IsNumbered (old.now.trees tree) → IsNumbered (next tree)) now edit.1)
+              (subst (λ next. AllByRecursion (λ t. t.tree ≢ tree → next t.tree ≡ old.now.trees t.tree) old.now.schema.tables) now edit.2),
+          subst (λ (next : Trees). IsAdded (old.now.trees tree) (next tree) made) now edit.0,
+        )
+
+    pub deletes : (terms : List Term) → Means old.now.schema sql (Delete at (record { lets = []; body = from_table tree terms (col 1 0 ∷ []) [] })) → IsCalm old.now.schema.tables → IsNumbered (old.now.trees tree) → (count : ℕ) → Executes sql params old new (Ok count)
+        → ChangesOnly tree old new × (new.now.trees tree ≡ filter (λ r. not (keeps terms params r)) (old.now.trees tree))
+    deletes terms means calm numbered count h =
+        let q : Program = record { lets = []; body = from_table tree terms (col 1 0 ∷ []) [] } in
+        let command = Delete at q in
+        let w = runs_as sql params old new old.now.schema refl command means.is means.plain count h in
+        let done = concludes task (mode_of old) command old.now.trees w.tally new.now (on_table command w.tally w.changed) in
+        let ids = went done.1 in
+        let gone = went ids.2 in
+        let edit = edit_of old.now.trees here (ids_of ids.0) Given 0 [] in
+        let one = one_step old.now.schema (mode_of old).keys old.now.trees gone.0 edit (calm_works old.now.schema (mode_of old).keys 0 tree (taken_by old.now.trees edit) [] calm) gone.1 in
+        let now : gone.0 ≡ new.now.trees = sym (ap (λ (d : Database). d.trees) done.2 ∙ ap (λ (it : Written). it.trees) (same_value gone.2)) in
+        let rest : gone.0 tree ≡ filter (λ r. not (keeps terms params r)) (old.now.trees tree) =
+        one.rows ∙ left (old.now.trees tree) numbered (keeps terms params) ids.0 (answered old.now params tree terms (col 1 0 ∷ []) [] ids.0 ids.1) in (
+          changes_only old new tree command (statement_of sql (understood old.now.schema sql)) params count w (ap (λ (d : Database). d.schema) done.2)
+              (λ was. subst (λ (next : Trees). IsNumbered (next tree)) now (subst IsNumbered (sym rest) (numbered_filter (λ r. not (keeps terms params r)) (old.now.trees tree) was)))
+              (subst (λ next. AllByRecursion (λ t. t.tree ≢ tree → next t.tree ≡ old.now.trees t.tree) old.now.schema.tables) now one.tables),
+          ap (λ (next : Trees). next tree) (sym now) ∙ rest,
+        )
+
+    -- an UPDATE of one row takes it out and puts in what SET makes of it
+    pub updates : (terms project : List Term) → Means old.now.schema sql (Update at (record { lets = []; body = from_table tree terms (col 1 0 ∷ project) [] })) → IsCalm old.now.schema.tables → IsNumbered (old.now.trees tree)
+        → (r made : Row) → filter (keeps terms params) (old.now.trees tree) ≡ r ∷ [] → cast_row here (shows project params r) ≡ made → (count : ℕ) → Executes sql params old new (Ok count)
+        → ChangesOnly tree old new × IsAdded (filter (λ x. not (keeps terms params x)) (old.now.trees tree)) (new.now.trees tree) made
+    updates terms project means calm numbered r made found cast count h =
+        let q : Program = record { lets = []; body = from_table tree terms (col 1 0 ∷ project) [] } in
+        let command = Update at q in
+        let rows = old.now.trees tree in
+        let keep = keeps terms params in
+        let w = runs_as sql params old new old.now.schema refl command means.is means.plain count h in
+        let done = concludes task (mode_of old) command old.now.trees w.tally new.now (on_table command w.tally w.changed) in
+        let shown = went done.1 in
+        let put = went shown.2 in
+        let one : shown.0 ≡ shows (col 1 0 ∷ project) params r ∷ [] =
+        one_permutation _ shown.0 (subst (λ xs. IsPermutation xs shown.0) (ap (map (shows (col 1 0 ∷ project) params)) found) (answered old.now params tree terms (col 1 0 ∷ project) [] shown.0 shown.1)) in
+        let edit = edit_of old.now.trees here (ids_of (shows (col 1 0 ∷ project) params r ∷ [])) Given 1 (shows (col 1 0 ∷ project) params r ∷ []) in
+        let edited : Edited old.now.schema (mode_of old).keys old.now.trees edit (Ok put.0) = subst (λ xs. Edited old.now.schema (mode_of old).keys old.now.trees (edit_of old.now.trees here (ids_of xs) Given 1 xs) (Ok put.0)) one put.1 in
+        let step = one_step old.now.schema (mode_of old).keys old.now.trees put.0 edit (calm_works old.now.schema (mode_of old).keys 0 tree (taken_by old.now.trees edit) edit.news calm) edited in
+        let now : put.0 ≡ new.now.trees = sym (ap (λ (d : Database). d.trees) done.2 ∙ ap (λ (it : Written). it.trees) (same_value put.2)) in
+        let rest : without_all rows (ids_of ((column r 0 ∷ []) ∷ [])) ≡ filter (λ x. not (keep x)) rows = left rows numbered keep ((column r 0 ∷ []) ∷ []) (IsPermutation-same _ _ (ap (map (λ x. column x 0 ∷ [])) found)) in
+        let there = put_splits (cast_row here (shows project params r)) (without_all rows (ids_of ((column r 0 ∷ []) ∷ []))) (not_taken _ true step.fresh) in
+        let added : IsAdded (filter (λ x. not (keep x)) rows) (put.0 tree) made = record { front = there.front; back = there.back; was = sym rest ∙ there.was; is = step.rows ∙ there.is ∙ ap (λ x. there.front ++ x ∷ there.back) cast } in (
+          changes_only old new tree command (statement_of sql (understood old.now.schema sql)) params count w (ap (λ (d : Database). d.schema) done.2)
+              (λ was. subst (λ (next : Trees). IsNumbered (next tree)) now (subst IsNumbered (sym step.rows) (put_numbered _ _ (first_of_both _ true step.keyed) (subst IsNumbered (sym rest) (numbered_filter (λ x. not (keep x)) rows was)))))
+              (subst (λ next. AllByRecursion (λ t. t.tree ≢ tree → next t.tree ≡ old.now.trees t.tree) old.now.schema.tables) now step.tables),
+          subst (λ (next : Trees). IsAdded (filter (λ x. not (keep x)) rows) (next tree) made) now added,
+        )

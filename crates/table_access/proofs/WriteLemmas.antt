@@ -1,0 +1,201 @@
+-- A text that writes rows or makes a table commits nothing inside a transaction, whatever the schema is.
+use Rattle.std.proofs.Common.{inl, inr, ◌≡◌, ◌∙◌, ◌==◌, ◌+◌, Option, ℕ, length, Bool, true, false, cond, List, [], Ok, Err, IsTrue, refl, subst}
+use Rattle.std.proofs.lemmas.Bool.{cases_Bool}
+use Rattle.sqlite_ast.specs.declared.Expr.{Expr}
+use Rattle.sqlite_ast.specs.declared.Rows.{Rows}
+use Rattle.sqlite_ast.specs.declared.Upsert.{Upsert}
+use Rattle.sqlite_ast.specs.declared.Conflict.TheVariants as conflict
+use Rattle.sqlite_ast.specs.declared.Statement.{Statement}
+use Rattle.sqlite_ast.specs.declared.CreateTable.{CreateTable as NewTable}
+use Rattle.std.specs.Option.{option_or}
+use Rattle.std.proofs.Common.{not, ◌&&◌}
+use Rattle.sqlite_schema.specs.Names.{table_named, view_named, index_named}
+use Rattle.sqlite_resolve.specs.declared.error.CompileError.TheVariants.{Unsupported}
+use Rattle.sqlite_resolve.specs.Define as define
+use Rattle.sqlite_ast.specs.declared.Statement.TheVariants as written
+use Rattle.sqlite_syntax.specs.declared.statement.Parsed.{Parsed}
+use Rattle.sqlite_schema.specs.declared.schema.Schema.{Schema}
+use Rattle.sqlite_schema.specs.declared.command.Command.{Command}
+use Rattle.sqlite_schema.specs.declared.command.Command.TheVariants.{Insert, InsertOr, Update, Delete, CreateTable, Nothing}
+use Rattle.sqlite_schema.specs.declared.command.Conflict.{Conflict}
+use Rattle.sqlite_schema.specs.declared.command.Source.{Source}
+use Rattle.sqlite_schema.specs.declared.command.Upsert.{Upsert as Clause}
+use Rattle.sqlite_schema.specs.declared.program.Program.{Program}
+use Rattle.sqlite_resolve.specs.declared.compiled.Compiled.{Compiled}
+use Rattle.sqlite_resolve.specs.Lowering.{Checked, and_then}
+use Rattle.sqlite_resolve.specs.Scope.{Name}
+use Rattle.sqlite_resolve.specs.Compile.{first, compiled, planned, meaning, command, command_by, insert, insert_or, insert_or_abort, update, delete, create_table, creates, is_attached, with_command, on_table, target, new_rows, small}
+use Rattle.sqlite_resolve.specs.Compile
+use Rattle.sqlite_resolve.specs.Body.{table_at}
+use Rattle.sqlite_resolve.specs.Program.{program}
+use Rattle.sqlite_resolve.specs.Write.{updated, deleted}
+use Rattle.sqlite_resolve.specs.Given.{upserts}
+use Rattle.sqlite_schema.specs.declared.schema.Table.{Table}
+use Rattle.sqlite_schema.specs.declared.command.Returning.{Returning}
+use Rattle.sqlite_schema.specs.declared.command.Conflict.TheVariants as how
+use Rattle.table_access.specs.Writes.{writes, IsWriteText}
+use Rattle.sqlite.specs.Order.{Row}
+use Rattle.sqlite.specs.Tree.{Trees}
+use Rattle.sqlite.specs.Listing.{understood, reads_listing, if_select, listing_schema, is_select}
+use Rattle.sqlite.specs.State.{State, CommitsBy, Executes, ExecutesIn, Runs, Shows, shows_rows}
+
+abbrev is_write : Command → Bool
+is_write (Insert at s) = true
+is_write (InsertOr at way s found) = true
+is_write (Update at p) = true
+is_write (Delete at p) = true
+is_write CreateTable = true
+is_write Nothing = true
+is_write _ = false
+
+-- so it ends no transaction
+abbrev EndsNothing : Command → Type 0
+EndsNothing c = is_write c ≡ true
+
+abbrev Yields : {A : Type 0} → (A → Type 0) → Checked A → Type 0
+Yields P (Ok a) = P a
+Yields P (Err e) = Unit {0}
+
+then_yields : {A B : Type 0} (r : Checked A) (f : A → Checked B) (P : A → Type 0) (Q : B → Type 0) → Yields P r → ((a : A) → P a → Yields Q (f a)) → Yields Q (and_then r f)
+then_yields (Ok a) f P Q h go = go a h
+then_yields (Err e) f P Q h go = tt
+
+any : {A : Type 0} (r : Checked A) → Yields (λ _. Unit {0}) r
+any (Ok a) = tt
+any (Err e) = tt
+
+on_any : {A B : Type 0} (r : Checked A) (f : A → Checked B) (Q : B → Type 0) → ((a : A) → Yields Q (f a)) → Yields Q (and_then r f)
+on_any r f Q go = then_yields r f (λ _. Unit {0}) Q (any r) (λ a _. go a)
+
+none_insert : (at : ℕ) (s : Source) → Yields EndsNothing (Ok (Insert at s))
+none_insert at s = refl
+
+none_insert_or : (at : ℕ) (way : Conflict) (s : Source) (found : List Clause) → Yields EndsNothing (Ok (InsertOr at way s found))
+none_insert_or at way s found = refl
+
+none_update : (at : ℕ) (p : Program) → Yields EndsNothing (Ok (Update at p))
+none_update at p = refl
+
+none_delete : (at : ℕ) (p : Program) → Yields EndsNothing (Ok (Delete at p))
+none_delete at p = refl
+
+on_table_ends : (schema : Schema) (name : Name) (f : ℕ → Table → Checked Command) → ((at : ℕ) (table : Table) → Yields EndsNothing (f at table)) → Yields EndsNothing (on_table schema name f)
+on_table_ends schema name f go = on_any (target schema name) (λ at. and_then (table_at schema at) (f at)) EndsNothing (λ at. on_any (table_at schema at) (f at) EndsNothing (go at))
+
+insert_ends : (schema : Schema) (base : ℕ) (name : Name) (columns : List Name) (rows : Rows) → Yields EndsNothing (insert schema base name columns rows)
+unfolding insert
+insert_ends schema base name columns rows = on_table_ends schema name (λ at table. and_then (new_rows schema table base columns rows) (λ s. Ok (Insert at s)))
+    (λ at table. on_any (new_rows schema table base columns rows) (λ s. Ok (Insert at s)) EndsNothing (λ s. none_insert at s))
+
+insert_or_ends : (schema : Schema) (base : ℕ) (way : Conflict) (name : Name) (columns : List Name) (rows : Rows) (clauses : List Upsert) → Yields EndsNothing (insert_or schema base way name columns rows clauses)
+unfolding insert_or
+insert_or_ends schema base way name columns rows clauses = on_table_ends schema name
+    (λ at table. and_then (new_rows schema table base columns rows) (λ s. and_then (upserts schema at table base clauses) (λ found. Ok (InsertOr at way s found))))
+    (λ at table. on_any (new_rows schema table base columns rows) (λ s. and_then (upserts schema at table base clauses) (λ found. Ok (InsertOr at way s found))) EndsNothing
+    (λ s. on_any (upserts schema at table base clauses) (λ found. Ok (InsertOr at way s found)) EndsNothing (λ found. none_insert_or at way s found)))
+
+insert_or_abort_ends : (schema : Schema) (base : ℕ) (name : Name) (columns : List Name) (rows : Rows) (clauses : List Upsert) → Yields EndsNothing (insert_or_abort schema base name columns rows clauses)
+unfolding insert_or_abort
+insert_or_abort_ends schema base name columns rows clauses = elim (cases_Bool (length clauses == 0)) [
+  | inl none ↦ rw none (insert_ends schema base name columns rows)
+  | inr some ↦ rw some (insert_or_ends schema base how.Abort name columns rows clauses)
+]
+
+update_ends : (schema : Schema) (name : Name) (sets : List (Name × Expr)) (test : Option Expr) → Yields EndsNothing (update schema name sets test)
+unfolding update
+update_ends schema name sets test = on_table_ends schema name (λ at table. and_then (updated schema at table sets test) (λ d. and_then (program schema [] d) (λ p. Ok (Update at p))))
+    (λ at table. on_any (updated schema at table sets test) (λ d. and_then (program schema [] d) (λ p. Ok (Update at p))) EndsNothing
+    (λ d. on_any (program schema [] d) (λ p. Ok (Update at p)) EndsNothing (λ p. none_update at p)))
+
+delete_ends : (schema : Schema) (name : Name) (test : Option Expr) → Yields EndsNothing (delete schema name test)
+unfolding delete
+delete_ends schema name test = on_table_ends schema name (λ at table. and_then (deleted schema at table test) (λ d. and_then (program schema [] d) (λ p. Ok (Delete at p))))
+    (λ at table. on_any (deleted schema at table test) (λ d. and_then (program schema [] d) (λ p. Ok (Delete at p))) EndsNothing
+    (λ d. on_any (program schema [] d) (λ p. Ok (Delete at p)) EndsNothing (λ p. none_delete at p)))
+
+created_ends : (b : Bool) → Yields EndsNothing (cond b (Ok CreateTable) (Err Unsupported))
+created_ends true = refl
+created_ends false = tt
+
+new_ends : (formats : List Name) (def : NewTable) (is_new : Bool)
+    → Yields EndsNothing (cond is_new (and_then (define.table formats def) (λ t. cond (length t.computed == length t.stamps.places && not def.resolves) (Ok CreateTable) (Err Unsupported))) (Ok Nothing))
+new_ends formats def true =
+    on_any (define.table formats def) (λ t. cond (length t.computed == length t.stamps.places && not def.resolves) (Ok CreateTable) (Err Unsupported)) EndsNothing (λ t. created_ends (length t.computed == length t.stamps.places && not def.resolves))
+new_ends formats def false = refl
+
+create_ends : (schema : Schema) (formats : List Name) (def : NewTable) → Yields EndsNothing (create_table schema formats def)
+unfolding create_table
+create_ends schema formats def = elim (cases_Bool (is_attached schema def.name)) [
+  | inl attached ↦ rw attached tt
+  | inr free ↦ rw free (on_any (creates def.if_missing def.name (option_or (table_named schema def.name) (view_named schema def.name)) (index_named schema def.name))
+      (λ is_new. cond is_new (and_then (define.table formats def) (λ t. cond (length t.computed == length t.stamps.places && not def.resolves) (Ok CreateTable) (Err Unsupported))) (Ok Nothing)) EndsNothing (λ is_new. new_ends formats def is_new))
+]
+
+command_ends : (schema : Schema) (formats : List Name) (base : ℕ) (statement : Statement) → writes statement ≡ true → Yields EndsNothing (command schema formats base statement)
+unfolding command
+command_ends schema formats base (written.Insert conflict.Abort name columns rows clauses shown) w = insert_or_abort_ends schema base name columns rows clauses
+command_ends schema formats base (written.Insert conflict.Ignore name columns rows clauses shown) w = insert_or_ends schema base how.Ignore name columns rows clauses
+command_ends schema formats base (written.Insert conflict.Replace name columns rows clauses shown) w = insert_or_ends schema base how.Replace name columns rows clauses
+command_ends schema formats base (written.Update name sets test shown) w = update_ends schema name sets test
+command_ends schema formats base (written.Delete name test shown) w = delete_ends schema name test
+command_ends schema formats base (written.CreateTable def) w = create_ends schema formats def
+command_ends schema formats base _ w = absurd (cc)
+
+compiled_ends : (schema : Schema) (p : Parsed) → writes p.statement ≡ true → Yields (λ (c : Compiled). EndsNothing c.command) (and_then (planned schema p) (λ plan. Ok (with_command p plan)))
+unfolding planned meaning
+compiled_ends schema p w =
+    let formats = Compile.timed schema p.formats p.statement in
+    let base = small p.names + small formats in
+    let first = on_any (Compile.returning schema base p.statement) (λ shown. and_then (command schema p.formats base p.statement) (λ c. Ok (c, shown))) (λ (found : Command × Option Returning). EndsNothing found.0)
+    (λ shown. then_yields (command schema p.formats base p.statement) (λ c. Ok (c, shown)) EndsNothing (λ (found : Command × Option Returning). EndsNothing found.0) (command_ends schema p.formats base p.statement w) (λ c h. h)) in
+    let second = then_yields (meaning schema p base) (λ found. Ok (formats, found)) (λ (found : Command × Option Returning). EndsNothing found.0) (λ (plan : List Name × (Command × Option Returning)). EndsNothing plan.1.0) first (λ found h. h) in
+    then_yields (planned schema p) (λ plan. Ok (with_command p plan)) (λ (plan : List Name × (Command × Option Returning)). EndsNothing plan.1.0) (λ (c : Compiled). EndsNothing c.command) second (λ plan h. h)
+
+text_ends : (schema : Schema) (sql : List ℕ) (r : Checked Parsed) → first sql ≡ r → IsWriteText r → Yields (λ (c : Compiled). EndsNothing c.command) (compiled schema sql)
+unfolding compiled
+text_ends schema sql (Ok p) is w = rw is (compiled_ends schema p w)
+text_ends schema sql (Err e) is w = absurd w
+
+selected : (r : Checked Compiled) → Yields (λ (c : Compiled). EndsNothing c.command) r → Yields (λ (c : Compiled). EndsNothing c.command) (if_select r)
+selected (Ok c) h = elim (cases_Bool (is_select c.command)) [ inl s ↦ rw s h | inr n ↦ rw n tt ]
+selected (Err e) h = tt
+
+understood_ends : (schema : Schema) (sql : List ℕ) → IsWriteText (first sql) → Yields (λ (c : Compiled). EndsNothing c.command) (understood schema sql)
+unfolding understood
+understood_ends schema sql w = elim (cases_Bool (reads_listing schema sql)) [
+  | inl listing ↦ rw listing (selected _ (text_ends listing_schema sql _ refl w))
+  | inr plain ↦ rw plain (text_ends schema sql _ refl w)
+]
+
+-- So it commits only where no transaction is open. `refl` finds the premise of a text that is written out, under `unfolding everything`.
+pub commits_outside : (sql : List ℕ) (params : Row) (old : State) (db : Trees) → IsWriteText (first sql) → CommitsBy sql params old db → old.in_transaction ≡ false
+unfolding CommitsBy
+commits_outside sql params old db w h =
+    let ends : EndsNothing h.0.command = subst (Yields (λ (c : Compiled). EndsNothing c.command)) h.1.is (understood_ends old.now.schema sql w) in
+    elim h.2 [
+      | inl end ↦ elim end.0 [ inl c ↦ absurd (let e = rw c at ends in cc) | inr r ↦ absurd (let e = rw r.2 at ends in cc) ]
+      | inr may ↦ may.0
+    ]
+
+shown_inside : (old new : State) (now : _) → Shows old new new.now (cond old.in_transaction old.committed now) old.in_transaction → IsTrue old.in_transaction → Shows old new new.now old.committed true
+shown_inside old new now h inside = record { was_open = h.was_open; is_open = h.is_open; now_is = refl; committed_is = rw inside at h.committed_is; mode = h.mode ∙ inside }
+
+runs_inside : (old new : State) (returning : _) (command : Command) (text : List ℕ) (params : Row) (count : ℕ) → EndsNothing command → Runs old new returning command text params count → IsTrue old.in_transaction
+    → Shows old new new.now old.committed true
+runs_inside old new returning (Insert at s) text params count w h inside = shown_inside old new new.now h.shown inside
+runs_inside old new returning (InsertOr at way s found) text params count w h inside = shown_inside old new new.now h.shown inside
+runs_inside old new returning (Update at p) text params count w h inside = shown_inside old new new.now h.shown inside
+runs_inside old new returning (Delete at p) text params count w h inside = shown_inside old new new.now h.shown inside
+runs_inside old new returning CreateTable text params count w h inside = shown_inside old new new.now h.shown inside
+runs_inside old new returning Nothing text params count w h inside =
+    let same = h.0.0 in record { was_open = same.was_open; is_open = same.is_open; now_is = refl; committed_is = same.committed_is; mode = same.mode ∙ inside }
+runs_inside old new returning _ text params count w h inside = absurd (cc)
+
+pub executes_inside : (sql : List ℕ) (params : Row) (old new : State) (count : ℕ) → IsWriteText (first sql) → Executes sql params old new (Ok count) → IsTrue old.in_transaction → Shows old new new.now old.committed true
+unfolding ExecutesIn
+executes_inside sql params old new count w h inside =
+    let ends : EndsNothing h.0.command = subst (Yields (λ (c : Compiled). EndsNothing c.command)) h.1.is (understood_ends old.now.schema sql w) in
+    elim (cases_Bool (shows_rows false h.0)) [
+      | inl shows ↦ absurd (let e = (rw shows at h.2).0 in cc)
+      | inr runs ↦ runs_inside old new h.0.returning h.0.command _ _ count ends (rw runs at h.2) inside
+    ]

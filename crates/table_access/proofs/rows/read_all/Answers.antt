@@ -1,0 +1,13 @@
+use Rattle.std.proofs.Common.{subst, sym, ◌+◌, take}
+use Rattle.sqlite_rules.specs.Lists.{Has}
+use Rattle.table_access.specs.Reading.{AreRead}
+use Rattle.table_access.proofs.ReadLemmas.{has_get, read_turn}
+use Rattle.table_access.proofs.rows.read_all.Goals as goal
+
+pub returns-in-Err-clause-told : goal.returns-in-Err-clause-told
+returns-in-Err-clause-told g c = λ is. (c.row-item.result, subst (Has c.args.rows.now) (sym c.row-item.is) (has_get c.args.rows.now c.loop-row.row-index c.row-item.result c.loop-row-test.true), c.in-Err.ensures.told is)
+
+pub loop-row-preserved : goal.loop-row-preserved
+loop-row-preserved g c =
+    subst (AreRead g.R.ReadRow.reads_as (take (c.loop-row.row-index + 1) c.args.rows.now)) (sym c.in-Ok-push.ensures.items)
+    (read_turn g.R.ReadRow.reads_as c.args.rows.now c.loop-row.items.items c.loop-row.row-index c.row-item.result c.in-Ok.item c.loop-row-test.true c.row-item.is c.loop-row.invariant c.in-Ok.ensures.ok)

@@ -1,0 +1,44 @@
+-- What a call on the tables leaves of a connection.
+use Rattle.std.specs.Prelude.{◌≡◌, ◌⊎◌, false, IsTrue, ⊤, Result, IfOk, IfErr, OnOk}
+use Rattle.sqlite.specs.declared.error.ErrorCode.TheVariants as code
+use Rattle.sqlite.specs.declared.error.Error.{Error}
+use Rattle.sqlite.specs.declared.error.Error.TheVariants.{SqliteFailure}
+use Rattle.sqlite.specs.State.{State, HasCleanDisk, Survives, HasCause, store_error}
+use Rattle.sqlite_trees.specs.declared.error.StoreError.{StoreError}
+use Rattle.sqlite_trees.specs.View.{Tells}
+use Rattle.table_access.specs.declared.Fault.{Fault}
+use Rattle.table_access.specs.declared.Fault.TheVariants.{Memory, Store}
+
+-- an error of the database, as it is told
+abbrev pub fault_of : Error → Fault
+fault_of (SqliteFailure code.OutOfMemory) = Memory
+fault_of _ = Store
+
+-- nothing is committed
+pub record LeavesCommit (old new : State) : Type 0 where
+  pub was_open : IsTrue new.is_open → IsTrue old.is_open
+  pub committed : IsTrue new.is_open → new.committed ≡ old.committed
+
+-- the transaction is still open
+abbrev pub GoesOn : State → State → Type 0
+GoesOn old new = IsTrue new.in_transaction × (IsTrue old.is_open → IsTrue new.is_open)
+
+-- the store failed, which ended the transaction, and the fault tells its cause
+pub record IsEnded (old new : State) (fault : Fault) : Type 0 where
+  pub cause : StoreError
+  pub told : fault ≡ fault_of (store_error cause)
+  pub has : HasCause old new ⊤ cause
+  pub over : new.in_transaction ≡ false
+  pub blamed : Tells new.blamed cause
+
+-- A statement was refused, a row broke the rules or a growth was refused, and the transaction is still open; or the store failed.
+abbrev pub FailsAs : State → State → Fault → Type 0
+FailsAs old new fault = GoesOn old new ⊎ IsEnded old new fault
+
+-- P of the answer, in a transaction that goes on, or a failure. Nothing is committed, and a crash leaves what it left before.
+pub record Call {A : Type 0} (old new : State) (r : Result A Fault) (P : A → Type 0) : Type 0 where
+  pub ok : HasCleanDisk new → IfOk r P
+  pub goes_on : HasCleanDisk new → IsTrue old.in_transaction → OnOk r (GoesOn old new)
+  pub fails : HasCleanDisk new → IsTrue old.in_transaction → IfErr r (FailsAs old new)
+  pub commits : HasCleanDisk new → IsTrue old.in_transaction → LeavesCommit old new
+  pub survives : Survives old new (λ _. old.in_transaction ≡ false)

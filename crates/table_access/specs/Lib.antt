@@ -1,0 +1,8 @@
+pub mod Sound
+pub mod Columns
+pub mod Statements
+pub mod Unit
+pub mod Writes
+pub mod Calls
+pub mod Keeps
+pub mod Reading

@@ -1,0 +1,31 @@
+-- How the rows of an answer are read.
+use Rattle.std.specs.Prelude.{◌≡◌, ◌⊎◌, ℕ, List, [], ◌∷◌, ⊤, length, pos, ◌<◌, ◌^◌, IsUtf8}
+use Rattle.sqlite.specs.Order.{Row, column}
+use Rattle.sqlite.specs.declared.types.Value.TheVariants.{Int, Text}
+use Rattle.sqlite.specs.State.{State, Shown, FailsToQuery}
+use Rattle.sqlite.specs.declared.error.Error.{Error}
+use Rattle.sqlite_rules.specs.Lists.{Has}
+use Rattle.table_access.specs.declared.Fault.{Fault}
+use Rattle.table_access.specs.declared.Fault.TheVariants.{Store}
+use Rattle.table_access.specs.Calls.{fault_of}
+
+-- each row is read into the item at its place, and there are no others
+abbrev pub AreRead : {A B : Type 0} → (A → B → Type 0) → List A → List B → Type 0
+AreRead reads [] [] = ⊤
+AreRead reads [] (x ∷ items) = ⊥
+AreRead reads (r ∷ rows) [] = ⊥
+AreRead reads (r ∷ rows) (x ∷ items) = reads r x × AreRead reads rows items
+
+-- Why reading fails: the query was refused, or its rows were shown and one of them doesn't read, or its memory was refused.
+abbrev pub FailsToRead : (Row → Type 0) → List ℕ → Row → State → State → Fault → Type 0
+FailsToRead is_readable sql params old new fault =
+    ((e : Error) × (fault ≡ fault_of e) × FailsToQuery sql params old new e)
+    ⊎ ((rows : List Row) × Shown sql params old new rows × (fault ≡ Store → (row : Row) × Has rows row × (¬ is_readable row)))
+
+-- the first column is a text in UTF-8
+abbrev pub IsTextRow : Row → Type 0
+IsTextRow row = (0 < length row) × ((text : List ℕ) × (column row 0 ≡ Text text) × IsUtf8 text)
+
+-- the first column is a number from 0 to 2^32 - 1
+abbrev pub IsNumberRow : Row → Type 0
+IsNumberRow row = (0 < length row) × ((n : ℕ) × (column row 0 ≡ Int (pos n)) × (n < 2 ^ 32))

@@ -1,0 +1,152 @@
+//! Statements on the tables of a database, and the transaction round them.
+//!
+//! The crate knows SQL and no table: a caller gives the text, and its contract says what the text does under the schema that is there.
+//! Each call on tables leaves the same promise, `Call`: what it answers, that it commits nothing, how it fails, and that a crash leaves what it left before.
+#![tactic(auto)]
+
+ghost use Rattle.std.specs.Prelude.{◌≡◌, ℕ, Ok, Err, false, [], List, IsTrue, IfOk, IfErr, OnOk, OnErr, codes};
+ghost use Rattle.sqlite.specs.State.{HasCleanDisk, Shows, KeepsCounts, Commits, IsUnchanged, IsRolledBack, Survives, IsLive, Executes, Shown, FailsToQuery};
+ghost use Rattle.sqlite.specs.declared.error.Error.{Error as SqlError};
+ghost use Rattle.sqlite.specs.Held.{state};
+ghost use Rattle.sqlite.specs.Values.{bound};
+ghost use Rattle.sqlite_resolve.specs.Compile.{first};
+ghost use Rattle.table_access.specs.Unit.{Begins, IsLeft};
+ghost use Rattle.table_access.specs.Calls.{LeavesCommit, Call};
+ghost use Rattle.table_access.specs.Calls as spec;
+ghost use Rattle.table_access.specs.Writes.{IsWriteText};
+
+use sqlite::types::ValueRef;
+use sqlite::{Alter, Connection, Error, ErrorCode, Row};
+
+mod rows;
+#[cfg(test)]
+mod tests;
+
+pub use rows::{ReadRow, count_of, list_of, number_of, text_of};
+
+/// Why a call on the tables failed.
+#[derive(Clone, Copy, Debug, PartialEq, Eq)]
+pub enum Fault {
+    /// The database answered that it has no memory, or a growth was refused.
+    Memory,
+    /// The database refused for any other cause, or a row was met that breaks the rules of its table.
+    Store,
+}
+
+/// How an error of the database is told: want of memory as `Memory`, each other as `Store`.
+fn fault_of(error: Error) -> Fault
+    ensures { result ≡ spec.fault_of error }
+{
+    match error {
+        Error::SqliteFailure(ErrorCode::OutOfMemory) => Fault::Memory,
+        _ => Fault::Store,
+    }
+}
+
+impl From<Error> for Fault {
+    ghost from_gives = { λ e f. f ≡ spec.fault_of e };
+
+    fn from(error: Error) -> Fault {
+        fault_of(error)
+    }
+}
+
+/// Runs BEGIN.
+fn begin<S: Alter>(conn: &mut Connection<S>) -> Result<usize, Error>
+    ensures begun { HasCleanDisk (state S.Store conn.new) → OnOk result (Begins (state S.Store conn.old) (state S.Store conn.new)) }
+    ensures refused { HasCleanDisk (state S.Store conn.new) → OnErr result (IsLeft (state S.Store conn.old) (state S.Store conn.new)) }
+    ensures told { HasCleanDisk (state S.Store conn.new) → IfErr result (λ e. Executes (codes "BEGIN") [] (state S.Store conn.old) (state S.Store conn.new) (Err e)) }
+    ensures survives { Survives (state S.Store conn.old) (state S.Store conn.new) (λ _. ⊥) }
+{
+    conn.execute("BEGIN", &[])
+}
+
+/// Runs COMMIT. Where it is refused, the transaction is rolled back, or there was none.
+fn commit_text<S: Alter>(conn: &mut Connection<S>) -> Result<usize, Error>
+    ensures done { HasCleanDisk (state S.Store conn.new) → OnOk result (IsTrue (state S.Store conn.old).in_transaction × Commits (state S.Store conn.old) (state S.Store conn.new)) }
+    ensures refused { HasCleanDisk (state S.Store conn.new) → OnErr result (IsLeft (state S.Store conn.old) (state S.Store conn.new)) }
+    ensures survives { Survives (state S.Store conn.old) (state S.Store conn.new) (λ db. db ≡ (state S.Store conn.old).now.trees) }
+{
+    conn.execute("COMMIT", &[])
+}
+
+/// Runs ROLLBACK.
+fn rollback<S: Alter>(conn: &mut Connection<S>) -> Result<usize, Error>
+    ensures undone { HasCleanDisk (state S.Store conn.new) → OnOk result (IsRolledBack (state S.Store conn.old) (state S.Store conn.new)) }
+    ensures refused { HasCleanDisk (state S.Store conn.new) → OnErr result (IsLeft (state S.Store conn.old) (state S.Store conn.new)) }
+    ensures survives { Survives (state S.Store conn.old) (state S.Store conn.new) (λ _. ⊥) }
+{
+    conn.execute("ROLLBACK", &[])
+}
+
+/// Begins a transaction, where none is open. After an error none is begun, and what is committed is as it was.
+pub fn enter<S: Alter>(conn: &mut Connection<S>) -> Result<(), Fault>
+    ensures begun { HasCleanDisk (state S.Store conn.new) → OnOk result (Begins (state S.Store conn.old) (state S.Store conn.new)) }
+    ensures refused { HasCleanDisk (state S.Store conn.new) → OnErr result (IsLeft (state S.Store conn.old) (state S.Store conn.new)) }
+    ensures told { HasCleanDisk (state S.Store conn.new) → IfErr result (λ f. (e : SqlError) × (f ≡ spec.fault_of e) × Executes (codes "BEGIN") [] (state S.Store conn.old) (state S.Store conn.new) (Err e)) }
+    ensures survives { Survives (state S.Store conn.old) (state S.Store conn.new) (λ _. ⊥) }
+{
+    match begin(conn) {
+        Ok(_) => Ok(()),
+        Err(error) => Err(fault_of(error)),
+    }
+}
+
+/// Ends the transaction without committing, and says whether none is open any more.
+/// A statement that failed for memory or the disk may have ended it already. What is committed stays as it was.
+pub fn leave<S: Alter>(conn: &mut Connection<S>) -> bool
+    ensures left { HasCleanDisk (state S.Store conn.new) → IsTrue result → IsTrue (state S.Store conn.new).is_open
+        → ((state S.Store conn.new).in_transaction ≡ false) × ((state S.Store conn.new).now ≡ (state S.Store conn.new).committed) }
+    ensures commit { HasCleanDisk (state S.Store conn.new) → LeavesCommit (state S.Store conn.old) (state S.Store conn.new) }
+    ensures survives { Survives (state S.Store conn.old) (state S.Store conn.new) (λ _. ⊥) }
+{
+    conn.is_autocommit() || rollback(conn).is_ok()
+}
+
+/// Commits the transaction, and says whether it did. Where the commit was refused, the transaction is rolled back, and
+/// what was committed before stays while the connection is open; where a fault of the disk shut it, a crash may leave either.
+pub fn commit<S: Alter>(conn: &mut Connection<S>) -> bool
+    ensures live { IsLive (state S.Store conn.old) }
+    ensures done { HasCleanDisk (state S.Store conn.new) → IsTrue result → Commits (state S.Store conn.old) (state S.Store conn.new) }
+    ensures refused { HasCleanDisk (state S.Store conn.new) → result ≡ false → LeavesCommit (state S.Store conn.old) (state S.Store conn.new) }
+    ensures survives { Survives (state S.Store conn.old) (state S.Store conn.new) (λ db. db ≡ (state S.Store conn.old).now.trees) }
+{
+    let _schema = conn.schema();
+    if commit_text(conn).is_ok() {
+        return true;
+    }
+    let _ = leave(conn);
+    false
+}
+
+/// Runs a statement that writes rows or makes a table, in a transaction.
+/// After an error the caller ends the transaction: a failure for memory or the disk has ended it already.
+pub fn change<S: Alter>(
+    conn: &mut Connection<S>,
+    sql: &str,
+    params: &[ValueRef<'_>],
+) -> Result<(), Fault>
+    requires { IsWriteText (first sql.now) }
+    ensures leaves { Call (state S.Store conn.old) (state S.Store conn.new) result (λ _. (count : ℕ) × Executes sql.now (bound params.now) (state S.Store conn.old) (state S.Store conn.new) (Ok count)) }
+    ensures told { HasCleanDisk (state S.Store conn.new) → IfErr result (λ f. (e : SqlError) × (f ≡ spec.fault_of e) × Executes sql.now (bound params.now) (state S.Store conn.old) (state S.Store conn.new) (Err e)) }
+{
+    match conn.execute(sql, params) {
+        Ok(_) => Ok(()),
+        Err(error) => Err(fault_of(error)),
+    }
+}
+
+/// The rows that a query shows, in its order.
+pub fn select<S: Alter>(
+    conn: &mut Connection<S>,
+    sql: &str,
+    params: &[ValueRef<'_>],
+) -> Result<Vec<Row>, Fault>
+    ensures leaves { Call (state S.Store conn.old) (state S.Store conn.new) result (λ rows. Shown sql.now (bound params.now) (state S.Store conn.old) (state S.Store conn.new) rows.items) }
+    ensures told { HasCleanDisk (state S.Store conn.new) → IfErr result (λ f. (e : SqlError) × (f ≡ spec.fault_of e) × FailsToQuery sql.now (bound params.now) (state S.Store conn.old) (state S.Store conn.new) e) }
+{
+    match conn.query_all(sql, params) {
+        Ok(rows) => Ok(rows),
+        Err(error) => Err(fault_of(error)),
+    }
+}

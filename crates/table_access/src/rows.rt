@@ -1,0 +1,143 @@
+//! Answers of queries, read into values.
+
+ghost use Rattle.std.specs.Prelude.{◌≡◌, pos, List, [], IfOk, IfErr, length, option_map, string_bytes, slice_get};
+ghost use Rattle.sqlite.specs.State.{HasCleanDisk, Shown, FailsToQuery};
+ghost use Rattle.sqlite.specs.Held.{state};
+ghost use Rattle.sqlite.specs.Values.{bound};
+ghost use Rattle.sqlite.specs.Order.{Row as SqlRow, column};
+ghost use Rattle.sqlite_rules.specs.Lists.{Has};
+ghost use Rattle.sqlite.specs.declared.types.Value.TheVariants.{Int};
+ghost use Rattle.sqlite.specs.declared.error.Error.{Error as SqlError};
+ghost use Rattle.table_access.specs.Calls.{Call};
+ghost use Rattle.table_access.specs.Calls as spec;
+ghost use Rattle.table_access.specs.Columns.{text};
+ghost use Rattle.table_access.specs.Reading.{AreRead, FailsToRead, IsTextRow, IsNumberRow};
+
+use crate::{Fault, fault_of, select};
+use sqlite::types::ValueRef;
+use sqlite::{Alter, Connection, Row};
+use std::alloc::Global;
+
+/// How a row of an answer is read into a value.
+pub trait ReadRow {
+    type Item: Drop;
+
+    // Whether the row reads as this value, and whether it reads as any.
+    ghost reads_as: { SqlRow → Self.Item → Type 0 };
+
+    ghost is_readable: { SqlRow → Type 0 };
+
+    /// Reads a row. `Fault::Store` is answered only where the row doesn't read, `Fault::Memory` only where memory was refused.
+    fn read(alloc: Global, row: &Row) -> Result<Self::Item, Fault>
+        ensures ok { IfOk result (reads_as row.now) }
+        ensures told { IfErr result (λ f. f ≡ Fault.Store → ¬ is_readable row.now) };
+}
+
+/// Reads each row.
+fn read_all<R: ReadRow>(alloc: Global, rows: &[Row]) -> Result<Vec<R::Item>, Fault>
+    ensures ok { IfOk result (λ items. AreRead R.reads_as rows.now items.items) }
+    ensures told { IfErr result (λ f. f ≡ Fault.Store → (row : SqlRow) × Has rows.now row × (¬ R.is_readable row)) }
+{
+    let mut items = Vec::new(alloc);
+    for row in rows {
+        match R::read(alloc, row) {
+            Ok(item) => match items.push(item) {
+                Ok(()) => {}
+                Err(_) => return Err(Fault::Memory),
+            },
+            Err(fault) => return Err(fault),
+        }
+    }
+    Ok(items)
+}
+
+/// The rows that a query shows, in its order, each read into a value.
+pub fn list_of<R: ReadRow, S: Alter>(
+    alloc: Global,
+    conn: &mut Connection<S>,
+    sql: &str,
+    params: &[ValueRef<'_>],
+) -> Result<Vec<R::Item>, Fault>
+    ensures leaves { Call (state S.Store conn.old) (state S.Store conn.new) result (λ items. (rows : List SqlRow) × Shown sql.now (bound params.now) (state S.Store conn.old) (state S.Store conn.new) rows × AreRead R.reads_as rows items.items) }
+    ensures told { HasCleanDisk (state S.Store conn.new) → IfErr result (FailsToRead R.is_readable sql.now (bound params.now) (state S.Store conn.old) (state S.Store conn.new)) }
+{
+    match select(conn, sql, params) {
+        Ok(rows) => read_all::<R>(alloc, &rows),
+        Err(fault) => Err(fault),
+    }
+}
+
+/// How many rows a query shows.
+pub fn count_of<S: Alter>(
+    conn: &mut Connection<S>,
+    sql: &str,
+    params: &[ValueRef<'_>],
+) -> Result<usize, Fault>
+    ensures leaves { Call (state S.Store conn.old) (state S.Store conn.new) result (λ count. (rows : List SqlRow) × Shown sql.now (bound params.now) (state S.Store conn.old) (state S.Store conn.new) rows × (count ≡ length rows)) }
+    ensures told { HasCleanDisk (state S.Store conn.new) → IfErr result (λ f. (e : SqlError) × (f ≡ spec.fault_of e) × FailsToQuery sql.now (bound params.now) (state S.Store conn.old) (state S.Store conn.new) e) }
+{
+    match select(conn, sql, params) {
+        Ok(rows) => Ok(rows.len()),
+        Err(fault) => Err(fault),
+    }
+}
+
+/// The text in the first column of the first row, if there is a row.
+fn first_text(rows: &[Row]) -> Result<Option<String>, Fault>
+    ensures ok { IfOk result (λ found. option_map string_bytes found ≡ option_map (text 0) (slice_get rows.now 0)) }
+    ensures told { IfErr result (λ f. f ≡ Fault.Store → (row : SqlRow) × Has rows.now row × (¬ IsTextRow row)) }
+{
+    match rows.first() {
+        None => Ok(None),
+        Some(row) => match row.get(0) {
+            Ok(text) => Ok(Some(text)),
+            Err(error) => Err(fault_of(error)),
+        },
+    }
+}
+
+/// The whole number in the first column of the first row, if there is a row.
+fn first_number(rows: &[Row]) -> Result<Option<u32>, Fault>
+    ensures ok { IfOk result (λ found. option_map (λ n. Int (pos n)) found ≡ option_map (λ row. column row 0) (slice_get rows.now 0)) }
+    ensures told { IfErr result (λ f. f ≡ Fault.Store → (row : SqlRow) × Has rows.now row × (¬ IsNumberRow row)) }
+{
+    match rows.first() {
+        None => Ok(None),
+        Some(row) => match row.get(0) {
+            Ok(number) => Ok(Some(number)),
+            Err(error) => Err(fault_of(error)),
+        },
+    }
+}
+
+/// The text in the first column of the first row that a query shows. None where it shows no row.
+pub fn text_of<S: Alter>(
+    conn: &mut Connection<S>,
+    sql: &str,
+    params: &[ValueRef<'_>],
+) -> Result<Option<String>, Fault>
+    ensures leaves { Call (state S.Store conn.old) (state S.Store conn.new) result (λ found.
+        (rows : List SqlRow) × Shown sql.now (bound params.now) (state S.Store conn.old) (state S.Store conn.new) rows × (option_map string_bytes found ≡ option_map (text 0) (slice_get rows 0))) }
+    ensures told { HasCleanDisk (state S.Store conn.new) → IfErr result (FailsToRead IsTextRow sql.now (bound params.now) (state S.Store conn.old) (state S.Store conn.new)) }
+{
+    match select(conn, sql, params) {
+        Ok(rows) => first_text(&rows),
+        Err(fault) => Err(fault),
+    }
+}
+
+/// The whole number in the first column of the first row that a query shows. None where it shows no row; `Fault::Store` where there is no number from 0 to 2^32 - 1.
+pub fn number_of<S: Alter>(
+    conn: &mut Connection<S>,
+    sql: &str,
+    params: &[ValueRef<'_>],
+) -> Result<Option<u32>, Fault>
+    ensures leaves { Call (state S.Store conn.old) (state S.Store conn.new) result (λ found.
+        (rows : List SqlRow) × Shown sql.now (bound params.now) (state S.Store conn.old) (state S.Store conn.new) rows × (option_map (λ n. Int (pos n)) found ≡ option_map (λ row. column row 0) (slice_get rows 0))) }
+    ensures told { HasCleanDisk (state S.Store conn.new) → IfErr result (FailsToRead IsNumberRow sql.now (bound params.now) (state S.Store conn.old) (state S.Store conn.new)) }
+{
+    match select(conn, sql, params) {
+        Ok(rows) => first_number(&rows),
+        Err(fault) => Err(fault),
+    }
+}

@@ -1,0 +1,190 @@
+use super::*;
+use sqlite::{FileStore, Files, Options, params};
+use sqlite_disk::{Fuse, Memory};
+use std::alloc::Global;
+use std::test::Fail;
+
+fn make<S: Alter>(conn: &mut Connection<S>) -> Result<(), Fault> {
+    change(
+        conn,
+        "CREATE TABLE word (number INTEGER PRIMARY KEY, text TEXT NOT NULL UNIQUE) STRICT",
+        &[],
+    )
+}
+
+fn put<S: Alter>(conn: &mut Connection<S>, number: u32, text: &str) -> Result<(), Fault> {
+    change(
+        conn,
+        "INSERT INTO word (number, text) VALUES (?1, ?2)",
+        params![number, text],
+    )
+}
+
+struct Word;
+
+impl ReadRow for Word {
+    type Item = (u32, String);
+
+    ghost reads_as = { λ row word. Unit {0} };
+
+    ghost is_readable = { λ row. ⊥ };
+
+    fn read(_: Global, row: &Row) -> Result<(u32, String), Fault> {
+        let number = row.get(0)?;
+        let text = row.get(1)?;
+        Ok((number, text))
+    }
+}
+
+fn told(fault: Fault) -> Fail {
+    match fault {
+        Fault::Memory => Fail::from("memory"),
+        Fault::Store => Fail::from("store"),
+    }
+}
+
+fn texts<S: Alter>(alloc: Global, conn: &mut Connection<S>) -> Result<String, Fail> {
+    let words = list_of::<Word, S>(
+        alloc,
+        conn,
+        "SELECT number, text FROM word ORDER BY text DESC",
+        &[],
+    )
+    .map_err(told)?;
+    let mut all = String::new(alloc);
+    for (_, text) in words {
+        all.push_str(&text)?;
+        all.push_str(" ")?;
+    }
+    Ok(all)
+}
+
+/// What a transaction reads and writes, one that is left, and one that is committed.
+#[test]
+fn reads_and_writes(rt: HostRuntime) -> Result<(), Fail> {
+    let alloc = rt.alloc();
+    let mut conn = Connection::open_in_memory(alloc)?;
+    enter(&mut conn).map_err(told)?;
+    make(&mut conn).map_err(told)?;
+    put(&mut conn, 4294967295, "it's \"x\" é").map_err(told)?;
+    put(&mut conn, 1, "").map_err(told)?;
+    assert_eq!(rt;
+        text_of(
+            &mut conn,
+            "SELECT text FROM word WHERE number = ?1",
+            params![4294967295u32]
+        )
+        .map_err(told)?
+        .as_deref(),
+        Some("it's \"x\" é")
+    );
+    assert_eq!(rt;
+        number_of(
+            &mut conn,
+            "SELECT number FROM word WHERE text = ?1",
+            params!["it's \"x\" é"]
+        )
+        .map_err(told)?,
+        Some(4294967295)
+    );
+    assert_eq!(rt;
+        number_of(
+            &mut conn,
+            "SELECT number FROM word WHERE text = 'none'",
+            &[]
+        )
+        .map_err(told)?,
+        None
+    );
+    assert_eq!(rt;
+        count_of(&mut conn, "SELECT number FROM word", &[]).map_err(told)?,
+        2
+    );
+    assert!(rt; commit(&mut conn));
+    assert!(rt; !commit(&mut conn));
+    enter(&mut conn).map_err(told)?;
+    put(&mut conn, 2, "b").map_err(told)?;
+    assert_eq!(rt; texts(alloc, &mut conn)?.as_str(), "it's \"x\" é b  ");
+    assert!(rt; leave(&mut conn));
+    assert!(rt; leave(&mut conn));
+    assert_eq!(rt; texts(alloc, &mut conn)?.as_str(), "it's \"x\" é  ");
+    Ok(())
+}
+
+/// What the database refuses is told as Store, and the transaction goes on; so is a row that doesn't read.
+#[test]
+fn tells_store(rt: HostRuntime) -> Result<(), Fail> {
+    let alloc = rt.alloc();
+    let mut conn = Connection::open_in_memory(alloc)?;
+    assert_eq!(rt; put(&mut conn, 1, "a"), Err(Fault::Store));
+    enter(&mut conn).map_err(told)?;
+    assert_eq!(rt; enter(&mut conn), Err(Fault::Store));
+    make(&mut conn).map_err(told)?;
+    assert_eq!(rt; make(&mut conn), Err(Fault::Store));
+    put(&mut conn, 1, "a").map_err(told)?;
+    assert_eq!(rt; put(&mut conn, 2, "a"), Err(Fault::Store));
+    assert_eq!(rt; put(&mut conn, 1, "b"), Err(Fault::Store));
+    assert_eq!(rt;
+        number_of(&mut conn, "SELECT text FROM word", &[]),
+        Err(Fault::Store)
+    );
+    assert_eq!(rt;
+        number_of(&mut conn, "SELECT number - 2 FROM word", &[]),
+        Err(Fault::Store)
+    );
+    assert_eq!(rt;
+        number_of(&mut conn, "SELECT 4294967296", &[]),
+        Err(Fault::Store)
+    );
+    assert_eq!(rt;
+        text_of(&mut conn, "SELECT number FROM word", &[]).map(|_| ()),
+        Err(Fault::Store)
+    );
+    assert_eq!(rt;
+        count_of(&mut conn, "SELECT number FROM words", &[]),
+        Err(Fault::Store)
+    );
+    assert!(rt; !conn.is_autocommit());
+    assert!(rt; commit(&mut conn));
+    assert_eq!(rt; texts(alloc, &mut conn)?.as_str(), "a ");
+    Ok(())
+}
+
+/// Makes the table in a transaction. False where the commit was refused.
+fn attempt<S: Alter>(conn: &mut Connection<S>) -> Result<bool, Fault> {
+    enter(conn)?;
+    make(conn)?;
+    Ok(commit(conn))
+}
+
+/// What is told on a disk that breaks at a call on its log: how often Store, how often a refused commit, and how often Memory.
+fn broken(alloc: Global) -> Result<(u64, u64, u64), Fail> {
+    let mut counts = (0u64, 0u64, 0u64);
+    for calls in 22..32 {
+        let files = Files {
+            log: Fuse::new(Memory::new(alloc), calls),
+            db: Fuse::new(Memory::new(alloc), 1000000),
+        };
+        if let Ok(mut conn) = Connection::open_files(alloc, files, Options::new(7)) {
+            for _ in 0..3 {
+                match attempt(&mut conn) {
+                    Err(Fault::Store) => counts.0 = counts.0.saturating_add(1),
+                    Ok(false) => counts.1 = counts.1.saturating_add(1),
+                    Err(Fault::Memory) => counts.2 = counts.2.saturating_add(1),
+                    Ok(true) => {}
+                }
+            }
+        }
+    }
+    Ok(counts)
+}
+
+/// A disk that fails is never told as want of memory.
+#[test]
+fn tells_a_broken_disk(rt: HostRuntime) -> Result<(), Fail> {
+    let counts = broken(rt.alloc())?;
+    assert!(rt; counts.0 > 0, "{} {} {}", counts.0, counts.1, counts.2);
+    assert!(rt; counts.1 > 0, "{} {} {}", counts.0, counts.1, counts.2);
+    assert_eq!(rt; counts.2, 0);
+    Ok(())
+}
