@@ -13,12 +13,13 @@ use Rattle.serde_json.proofs.OnLiterals.{serde_json_on_literals}
 use Rattle.pact_file.specs.File.{most_bytes, most_interactions, json_of, file_of, is_version_3, has_no_messages, is_name, side_of, sides_of, items_of as items_at}
 use Rattle.pact_file.specs.Laws.{NormalAgain, OnePact}
 use Rattle.pact_file.specs.Normal.{InteractionRead, InOrder, InteractionsRead, if_short, Normal, IsRefusal}
-use Rattle.pact_file.specs.Outcome.{guard}
+use Rattle.pact_rules.specs.Outcome.{guard}
 use Rattle.pact_file.specs.Pact.{Interaction, Pact, interaction_data, key_cmp, pact_data, normal_text}
 use Rattle.pact_file.specs.Parts.{text_at, object_at, listed}
 use Rattle.pact_file.specs.Placing.{placed, placed_all, same_text}
 use Rattle.pact_file.specs.Reading.{just, EachRead}
-use Rattle.pact_file.specs.Sets.{IsIn, IsRising, HasClash}
+use Rattle.pact_rules.specs.Lists.{IsIn}
+use Rattle.pact_file.specs.Sets.{IsRising, HasClash}
 use Rattle.pact_file.specs.Sound.{IsSound}
 use Rattle.pact_file.specs.declared.fault.PactFault.{PactFault}
 use Rattle.pact_file.specs.declared.fault.PactFault.TheVariants.{SameInteraction, Shape, Version, Messages, SelfContract, TooMany, TooLong}

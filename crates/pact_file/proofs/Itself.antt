@@ -11,7 +11,7 @@ use Rattle.pact_rules.specs.Rules.{Rules as Table}
 use Rattle.pact_rules.specs.declared.rule_fault.RuleFault.{RuleFault}
 use Rattle.pact_file.specs.Interactions.{at, parts_at}
 use Rattle.pact_file.specs.Normal.{HeadersRead, InteractionRead}
-use Rattle.pact_file.specs.Outcome.{guard}
+use Rattle.pact_rules.specs.Outcome.{guard}
 use Rattle.pact_file.specs.Pact.{State, Interaction, params_data, state_data, interaction_data}
 use Rattle.pact_file.specs.Parts.{unless_null, given, text_at, if_object, object_at, listed, all_of, state_in, one_state, states_from, states_in, status_in}
 use Rattle.pact_file.specs.Reading.{just}

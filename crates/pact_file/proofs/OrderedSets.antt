@@ -10,7 +10,7 @@ use Rattle.serde_json.specs.Written.{compact_text}
 use Rattle.pact_file.specs.Normal.{InOrder}
 use Rattle.pact_file.specs.Pact.{State, Interaction, params_data, state_data, states_data, interaction_data, key_cmp}
 use Rattle.pact_file.specs.Placing.{placed_all, same_text}
-use Rattle.pact_file.specs.Sets.{IsIn}
+use Rattle.pact_rules.specs.Lists.{IsIn}
 use Rattle.pact_file.specs.Sound.{IsSound}
 use Rattle.pact_file.specs.declared.fault.PactFault.{PactFault}
 use Rattle.pact_file.specs.declared.fault.PactFault.TheVariants.{SameInteraction}

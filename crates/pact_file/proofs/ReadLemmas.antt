@@ -23,12 +23,12 @@ use Rattle.pact_rules.specs.declared.tree.TreeFault.TheVariants.{TooDeep}
 use Rattle.pact_file.specs.File.{most_bytes, most_interactions, json_of, tree_told, file_of, items_of as items_at}
 use Rattle.pact_file.specs.Interactions.{at, parts_at}
 use Rattle.pact_file.specs.Normal.{InteractionRead, HeadersRead, InteractionsRead, if_short}
-use Rattle.pact_file.specs.Outcome.{guard, Gives}
+use Rattle.pact_rules.specs.Outcome.{guard, Gives}
 use Rattle.pact_file.specs.Pact.{Interaction, Pact, interaction_data, normal_text}
 use Rattle.pact_file.specs.Parts.{text_at, object_at, states_in, status_in, listed, given}
 use Rattle.pact_file.specs.Reading.{◌>>=◌, Follows, just, EachRead, GivesOne}
 use Rattle.pact_file.specs.Rules.{TableRead, rules_told, RulesRead, IsRulesOf}
-use Rattle.pact_file.specs.Sets.{IsIn}
+use Rattle.pact_rules.specs.Lists.{IsIn}
 use Rattle.pact_file.specs.Sound.{IsSound, AreSound, MembersAreSound}
 use Rattle.pact_file.specs.Told.{rule_told}
 use Rattle.pact_file.specs.declared.fault.PactFault.{PactFault}

@@ -5,7 +5,8 @@ use Rattle.std.specs.Ordering.{match_ordering, ordering_reverse}
 use Rattle.std.specs.Cmp.{IsTotalOrder}
 use Rattle.std.proofs.lemmas.Option.{same_Some}
 use Rattle.pact_file.specs.Placing.{placed, placed_all}
-use Rattle.pact_file.specs.Sets.{OneOf, IsIn, IsRising, IsSetInOrder, HasClash}
+use Rattle.pact_rules.specs.Lists.{OneOf, IsIn}
+use Rattle.pact_file.specs.Sets.{IsRising, IsSetInOrder, HasClash}
 
 -- ---- one of them
 

@@ -9,7 +9,7 @@ use Rattle.serde_json.specs.Find.{get, as_array, as_object}
 use Rattle.serde_json.specs.Read.{read}
 use Rattle.pact_rules.specs.TreeReading.{tree_in}
 use Rattle.pact_rules.specs.declared.tree.TreeFault.{TreeFault}
-use Rattle.pact_file.specs.Outcome.{◌>>=◌, guard}
+use Rattle.pact_rules.specs.Outcome.{◌>>=◌, guard}
 use Rattle.pact_file.specs.Parts.{text_at, object_at, listed}
 use Rattle.pact_file.specs.declared.fault.PactFault.{PactFault}
 use Rattle.pact_file.specs.declared.fault.PactFault.TheVariants.{TooLong, NotJson, Shape, Version, Messages, Tree, TooMany, SelfContract}

@@ -3,7 +3,7 @@ use Rattle.std.specs.Prelude.{ℕ, is_some, Result, Ok, codes}
 use Rattle.std.specs.Option.{ok_or}
 use Rattle.serde_json.specs.Data.{Data}
 use Rattle.serde_json.specs.Find.{as_object}
-use Rattle.pact_file.specs.Outcome.{◌>>=◌, guard}
+use Rattle.pact_rules.specs.Outcome.{◌>>=◌, guard}
 use Rattle.pact_file.specs.Pact.{Interaction}
 use Rattle.pact_file.specs.Parts.{text_at, object_at, states_in, status_in}
 use Rattle.pact_file.specs.declared.fault.PactFault.{PactFault}

@@ -1,5 +1,4 @@
 pub mod DataCode
-pub mod Outcome
 pub mod Pact
 pub mod Sets
 pub mod Parts

@@ -3,14 +3,7 @@ use Rattle.std.specs.Prelude.{◌≡◌, ◌⊎◌, List, [], ◌∷◌, ⊤}
 use Rattle.std.specs.declared.cmp.Ordering.{Ordering}
 use Rattle.std.specs.declared.cmp.Ordering.TheVariants.{Less, Equal}
 use Rattle.std.specs.List.{AllByRecursion}
-
--- P holds of one of them
-abbrev pub OneOf : {A : Type 0} → (A → Type 0) → List A → Type 0
-OneOf P [] = ⊥
-OneOf P (x ∷ xs) = P x ⊎ OneOf P xs
-
-abbrev pub IsIn : {A : Type 0} → A → List A → Type 0
-IsIn x xs = OneOf (λ y. x ≡ y) xs
+use Rattle.pact_rules.specs.Lists.{OneOf, IsIn}
 
 -- each is below all those behind it
 abbrev pub IsRising : {A : Type 0} → (A → A → Ordering) → List A → Type 0

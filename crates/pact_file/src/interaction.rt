@@ -9,7 +9,7 @@ ghost use Rattle.pact_file.specs.declared.fault.PactFault.TheVariants.{Memory, S
 ghost use Rattle.pact_file.specs.Headers.{HasHeaders};
 ghost use Rattle.pact_file.specs.Interactions.{at, parts_at};
 ghost use Rattle.pact_file.specs.Normal.{InteractionRead};
-ghost use Rattle.pact_file.specs.Outcome.{Gives};
+ghost use Rattle.pact_rules.specs.Outcome.{Gives};
 ghost use Rattle.pact_file.specs.Pact.{interaction_data};
 ghost use Rattle.pact_file.specs.Parts.{text_at, object_at, states_in as states_at, status_in as status_found, body_in};
 ghost use Rattle.pact_file.specs.Reading.{GivesOne};

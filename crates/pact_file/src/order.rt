@@ -3,7 +3,7 @@
 ghost use Rattle.std.specs.Prelude.{◌≡◌, ◌≤◌, ◌++◌, ◌∷◌, [], length, take, drop, IfOk, IfErr, MatchOption, Some, None};
 ghost use Rattle.std.specs.Option.{ok_or};
 ghost use Rattle.pact_file.specs.declared.fault.PactFault.TheVariants.{Memory, SameInteraction};
-ghost use Rattle.pact_file.specs.Outcome.{Gives};
+ghost use Rattle.pact_rules.specs.Outcome.{Gives};
 ghost use Rattle.pact_file.specs.Pact.{key_cmp};
 ghost use Rattle.pact_file.specs.Placing.{placed, placed_all, same_text};
 

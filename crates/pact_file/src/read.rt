@@ -9,7 +9,7 @@ ghost use Rattle.pact_rules.specs.TreeReading.{tree_in};
 ghost use Rattle.pact_file.specs.declared.fault.PactFault.TheVariants.{Memory, Shape};
 ghost use Rattle.pact_file.specs.File.{most_interactions, json_of, tree_told, file_of, is_3, version_under, is_version_3, holds_nothing, has_no_messages, are_printable, is_name, side_of, sides_of, items_of};
 ghost use Rattle.pact_file.specs.Normal.{InteractionRead, InteractionsRead, Normal};
-ghost use Rattle.pact_file.specs.Outcome.{Gives};
+ghost use Rattle.pact_rules.specs.Outcome.{Gives};
 ghost use Rattle.pact_file.specs.Reading.{EachRead, GivesOne};
 ghost use Rattle.pact_file.specs.Sound.{IsSound, AreSound};
 

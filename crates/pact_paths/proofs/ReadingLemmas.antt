@@ -5,7 +5,8 @@ use Rattle.std.proofs.lemmas.Option.{none-some, some_pair_parts}
 use Rattle.std.proofs.lemmas.List.{nil_from_length}
 use Rattle.pact_paths.specs.Paths.{Token}
 use Rattle.pact_paths.specs.Spelling.{IsSpelled, AreSpelled, IsPath, token_text, path_text}
-use Rattle.pact_paths.specs.PathReading.{Read, behind, token_in, tokens_in, first_of_more, with_front, from_root, path_in, Gives}
+use Rattle.pact_paths.specs.PathReading.{Read, behind, token_in, tokens_in, first_of_more, with_front, from_root, path_in}
+use Rattle.pact_paths.specs.Outcome.{Gives}
 use Rattle.pact_paths.specs.Readings.{IsFront, IsLongestFront, IsReading, IsTheReading}
 use Rattle.pact_paths.specs.declared.path_reader.PathFault.{PathFault}
 use Rattle.pact_paths.specs.declared.path_reader.PathFault.TheVariants.{NoRoot, BadToken, TooManyTokens, Memory}
@@ -295,11 +296,11 @@ one_reading text r s h k = reading_is text s k ∙ sym (reading_is text r h)
 pub path_in_is : (text : List ℕ) → IsTheReading text (path_in text)
 path_in_is text = (path_reads text, reading_is text)
 
-pub outcome : (text : List ℕ) (r : Result (List Token) PathFault) → Gives (λ p. p) r (path_in text) → (r ≡ Err Memory) ⊎ IsTheReading text r
+pub outcome : (text : List ℕ) (r : Result (List Token) PathFault) → Gives Memory (λ p. p) r (path_in text) → (r ≡ Err Memory) ⊎ IsTheReading text r
 outcome text (Ok ts) h = inr (let P : Result (List Token) PathFault → Type 0 = IsTheReading text in subst P h (path_in_is text))
-outcome text (Err NoRoot) h = inr (let P : Result (List Token) PathFault → Type 0 = IsTheReading text in subst P h (path_in_is text))
-outcome text (Err (BadToken place)) h = inr (let P : Result (List Token) PathFault → Type 0 = IsTheReading text in subst P h (path_in_is text))
-outcome text (Err TooManyTokens) h = inr (let P : Result (List Token) PathFault → Type 0 = IsTheReading text in subst P h (path_in_is text))
+outcome text (Err NoRoot) h = inr (let P : Result (List Token) PathFault → Type 0 = IsTheReading text in subst P (h (λ e. cc)) (path_in_is text))
+outcome text (Err (BadToken place)) h = inr (let P : Result (List Token) PathFault → Type 0 = IsTheReading text in subst P (h (λ e. cc)) (path_in_is text))
+outcome text (Err TooManyTokens) h = inr (let P : Result (List Token) PathFault → Type 0 = IsTheReading text in subst P (h (λ e. cc)) (path_in_is text))
 outcome text (Err Memory) h = inl refl
 
 -- ---- the canonical text

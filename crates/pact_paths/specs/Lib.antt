@@ -1,3 +1,4 @@
+pub mod Outcome
 pub mod Paths
 pub mod Locations
 pub mod TokenView

@@ -1,12 +1,12 @@
 -- The reading of a text, computed from left to right: each token takes what it can.
-use Rattle.std.specs.Prelude.{◌≡◌, ℕ, zero, suc, ◌-◌, List, [], ◌∷◌, ◌++◌, length, take, drop, ◌==◌, nat_lt, Option, Some, None, option_map, option_and_then, Result, Ok, Err, if◌then◌else◌}
+use Rattle.std.specs.Prelude.{ℕ, zero, suc, ◌-◌, List, [], ◌∷◌, ◌++◌, length, take, drop, ◌==◌, nat_lt, Option, Some, None, option_map, option_and_then, Result, Ok, Err, if◌then◌else◌}
 use Rattle.std.specs.Option.{option_or}
 use Rattle.std.specs.List.{position_or_len, before_first, after_first}
 use Rattle.std.specs.Str.Parse.{digits_value}
 use Rattle.pact_paths.specs.Paths.{Token, named, indexed, any}
 use Rattle.pact_paths.specs.Spelling.{is_special, is_index}
 use Rattle.pact_paths.specs.declared.path_reader.PathFault.{PathFault}
-use Rattle.pact_paths.specs.declared.path_reader.PathFault.TheVariants.{NoRoot, BadToken, TooManyTokens, Memory}
+use Rattle.pact_paths.specs.declared.path_reader.PathFault.TheVariants.{NoRoot, BadToken, TooManyTokens}
 
 -- a token, and the text that follows it
 abbrev pub Read : Type 0
@@ -81,14 +81,3 @@ from_root total (Some rest) = tokens_in total 60 rest
 
 abbrev pub path_in : List ℕ → Result (List Token) PathFault
 path_in text = from_root (length text) (behind 36 text)
-
--- What a function returned, seen by view, is what reading gives, unless memory ran out.
-abbrev pub Fails : {Y : Type 0} → PathFault → Result Y PathFault → Type 0
-Fails Memory read = Unit {0}
-Fails NoRoot read = read ≡ Err NoRoot
-Fails (BadToken n) read = read ≡ Err (BadToken n)
-Fails TooManyTokens read = read ≡ Err TooManyTokens
-
-abbrev pub Gives : {X Y : Type 0} → (X → Y) → Result X PathFault → Result Y PathFault → Type 0
-Gives view (Ok x) read = read ≡ Ok (view x)
-Gives view (Err e) read = Fails e read

@@ -2,9 +2,11 @@ ghost use Rattle.std.specs.Prelude.{◌≡◌, ◌⊎◌, ◌<◌, IsTrue, ◌�
 ghost use Rattle.std.specs.List.{position_or_len};
 ghost use Rattle.pact_paths.specs.TokenView.{token_view};
 ghost use Rattle.pact_paths.specs.Spelling.{is_special, is_index};
-ghost use Rattle.pact_paths.specs.PathReading.{token_in, dotted as dotted_in, bracketed as bracketed_in, plain as plain_in, quoted as quoted_in, index as index_in, behind as behind_of, cut as cut_of, closed_star as closed_star_in, tokens_in, path_in, with_all, Gives};
+ghost use Rattle.pact_paths.specs.PathReading.{token_in, dotted as dotted_in, bracketed as bracketed_in, plain as plain_in, quoted as quoted_in, index as index_in, behind as behind_of, cut as cut_of, closed_star as closed_star_in, tokens_in, path_in, with_all};
+ghost use Rattle.pact_paths.specs.Outcome.{Gives};
 ghost use Rattle.pact_paths.specs.Readings.{IsTheReading};
 ghost use Rattle.pact_paths.specs.Paths.{named, indexed, any};
+ghost use Rattle.pact_paths.specs.declared.path_reader.PathFault.TheVariants.{Memory};
 ghost use Rattle.std.specs.Str.Parse.{digits_value};
 ghost use Rattle.std.specs.Str.{all_ascii_digits};
 
@@ -30,8 +32,6 @@ pub enum PathFault {
 }
 
 impl From<AllocError> for PathFault {
-    ghost use Rattle.pact_paths.specs.declared.path_reader.PathFault.TheVariants.{Memory};
-
     ghost from_gives = { λ _ fault. fault ≡ Memory };
 
     fn from(_: AllocError) -> PathFault {
@@ -40,8 +40,6 @@ impl From<AllocError> for PathFault {
 }
 
 impl<T: Drop> From<AllocFailed<T>> for PathFault {
-    ghost use Rattle.pact_paths.specs.declared.path_reader.PathFault.TheVariants.{Memory};
-
     ghost from_gives = { λ _ fault. fault ≡ Memory };
 
     fn from(_: AllocFailed<T>) -> PathFault {
@@ -58,10 +56,10 @@ impl Path {
     /// Each token takes what it can, and the first fault from the left is told.
     pub fn read(alloc: Global, text: &str) -> Result<Path, PathFault>
         // The result is the one reading of the text, unless memory runs out.
-        ensures reading { (result ≡ Err PathFault.Memory) ⊎ IsTheReading text.now result }
+        ensures reading { (result ≡ Err Memory) ⊎ IsTheReading text.now result }
 
         // The same, computed.
-        ensures computed { Gives (λ p. p) result (path_in text.now) }
+        ensures computed { Gives Memory (λ p. p) result (path_in text.now) }
     {
         let Some(rest) = behind(text, '$') else {
             return Err(PathFault::NoRoot);
@@ -80,7 +78,7 @@ fn tokens_of(
     tokens: Vec<Token>,
 ) -> Result<Vec<Token>, PathFault>
     requires { length text.now ≤ total }
-    ensures { Gives (λ v. map token_view v.items) result (with_all (map token_view tokens.items) (tokens_in total limit text.now)) }
+    ensures { Gives Memory (λ v. map token_view v.items) result (with_all (map token_view tokens.items) (tokens_in total limit text.now)) }
 {
     if text.is_empty() {
         return Ok(tokens);

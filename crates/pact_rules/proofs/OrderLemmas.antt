@@ -8,7 +8,8 @@ use Rattle.std.specs.Map.{lookup, keys_of}
 use Rattle.std.specs.BTreeMap.{is_at, insert_entry}
 use Rattle.std.specs.List.{AllByRecursion, list_any, filter}
 use Rattle.std.specs.List.Sorted.{IsStrictlySortedBy}
-use Rattle.pact_rules.specs.Rules.{IsIn, IsBefore, IsOrderedBy}
+use Rattle.pact_rules.specs.Lists.{IsIn}
+use Rattle.pact_rules.specs.Rules.{IsBefore, IsOrderedBy}
 use Rattle.pact_rules.specs.OrderedReading.{IsKeyedBy, put}
 
 equal_texts : (a b : List ℕ) (o : Ordering) → slice_cmp nat_cmp a b ≡ o → o ≡ Equal → a ≡ b

@@ -6,15 +6,18 @@ use Rattle.std.proofs.lemmas.Map.Text.{is_eq-slice_cmp}
 use Rattle.std.specs.Ordering.{is_eq, match_ordering}
 use Rattle.std.specs.Cmp.Lexicographic.{slice_cmp}
 use Rattle.std.specs.List.{AllByRecursion, list_any, filter}
+use Rattle.std.specs.Option.{ok_or}
 use Rattle.std.specs.Str.{str_eq_ignore_ascii_case}
 use Rattle.pact_paths.specs.Spelling.{path_text}
 use Rattle.pact_rules.specs.Holding.{is_pattern}
 use Rattle.pact_rules.specs.Trees.{Node, Nodes, no_nodes, node, Fields, no_fields, field}
 use Rattle.pact_rules.specs.declared.rule_fault.RuleFault.{RuleFault}
 use Rattle.pact_rules.specs.declared.rule_fault.RuleFault.TheVariants.{Form, OldRules, BadPath, SamePathTwice, Unsupported, BadBound, Pattern, BadCombine, Memory}
-use Rattle.pact_rules.specs.Rules.{Entry, BodyRule, HeaderRule, Rules, no_rules, IsIn, IsBefore, IsOrderedBy, rule_text, name_key, has_effect}
+use Rattle.pact_rules.specs.Lists.{IsIn}
+use Rattle.pact_rules.specs.Rules.{Entry, BodyRule, HeaderRule, Rules, no_rules, IsBefore, IsOrderedBy, rule_text, name_key, has_effect}
 use Rattle.pact_rules.specs.Tables.{IsTable, IsTableOf, IsEffective, CanBeHeld}
-use Rattle.pact_rules.specs.RuleReading.{as_text, as_list, member, bound, in_order as bounds_in_order, pattern_at, same_type_at, named_matcher, matcher_by, matcher_at, matchers_at, combine_of, FailsAs, ◌>>=◌, guard, or_fault, as_object, is_null_node, has_old_key, path_at, entry_at, body_rule_at, body_at, header_rule_at, headers_at, body_in, headers_in, category_at, categories_at, found_in, no_pattern, IsReading}
+use Rattle.pact_rules.specs.Outcome.{◌>>=◌, guard}
+use Rattle.pact_rules.specs.RuleReading.{as_text, as_list, member, bound, in_order as bounds_in_order, pattern_at, same_type_at, named_matcher, matcher_by, matcher_at, matchers_at, combine_of, FailsAs, as_object, is_null_node, has_old_key, path_at, entry_at, body_rule_at, body_at, header_rule_at, headers_at, body_in, headers_in, category_at, categories_at, found_in, no_pattern, IsReading}
 use Rattle.pact_rules.specs.OrderedReading.{put, ordered_body, ordered_headers, ordered_body_in, ordered_headers_in, ordered_category, ordered_categories, ordered_found}
 use Rattle.pact_rules.proofs.ChoiceLemmas.{never_both}
 use Rattle.pact_rules.proofs.OrderLemmas.{all_kept, all_pass, in_kept, kept_in}
@@ -212,12 +215,12 @@ module _ (accepts : List ℕ → Bool) where
 
   same_body_in : (a b : Rules) (n : Node) → SameRules a b → Alike SameRules (body_in accepts a n) (ordered_body_in accepts b n)
   same_body_in a b n same =
-      alike_from SameRules (or_fault (as_object n) Form) _ _ (λ fs e.
+      alike_from SameRules (ok_or (as_object n) Form) _ _ (λ fs e.
       alike_bind AreSame SameRules (body_at accepts a.body fs) (ordered_body accepts b.body fs) _ _ (same_body a.body b.body fs same.0) (λ x y h. (h, same.1)))
 
   same_headers_in : (a b : Rules) (n : Node) → SameRules a b → Alike SameRules (headers_in accepts a n) (ordered_headers_in accepts b n)
   same_headers_in a b n same =
-      alike_from SameRules (or_fault (as_object n) Form) _ _ (λ fs e.
+      alike_from SameRules (ok_or (as_object n) Form) _ _ (λ fs e.
       alike_bind AreSame SameRules (headers_at accepts a.headers fs) (ordered_headers accepts b.headers fs) _ _ (same_headers a.headers b.headers fs same.1) (λ x y h. (same.0, h)))
 
   same_category : (a b : Rules) (k : List ℕ) (n : Node) → SameRules a b → Alike SameRules (category_at accepts a k n) (ordered_category accepts b k n)
@@ -233,7 +236,7 @@ module _ (accepts : List ℕ → Bool) where
 
   pub same_found : (tree : Node) → Alike SameRules (found_in accepts tree) (ordered_found accepts tree)
   same_found tree =
-      alike_from SameRules (or_fault (as_object tree) Form) _ _ (λ fs e.
+      alike_from SameRules (ok_or (as_object tree) Form) _ _ (λ fs e.
       alike_from SameRules (guard (not (has_old_key fs)) OldRules) _ _ (λ u k. same_categories no_rules no_rules fs (λ x. (λ h. h, λ h. h), λ x. (λ h. h, λ h. h))))
 
 -- ---- what was read can be held
@@ -255,7 +258,7 @@ if_ok_at P (Err f) x h e = cc
 
 pattern_held : (fs : Fields) → IfOk (pattern_at is_pattern fs) CanBeHeld
 pattern_held fs =
-    ok_bind CanBeHeld (or_fault (as_text (member fs (codes "regex"))) Pattern) _ (λ source e.
+    ok_bind CanBeHeld (ok_or (as_text (member fs (codes "regex"))) Pattern) _ (λ source e.
     ok_bind CanBeHeld (guard (is_pattern source) Pattern) _ (λ u k. guard_true (is_pattern source) Pattern u k))
 
 same_type_held : (fs : Fields) → IfOk (same_type_at is_pattern fs) CanBeHeld
@@ -269,7 +272,7 @@ named_held in_header fs name =
     ok_if CanBeHeld (bytes_eq name (codes "equality")) _ _ tt
     (ok_if CanBeHeld (bytes_eq name (codes "type")) _ _ (same_type_held fs)
     (ok_if CanBeHeld (bytes_eq name (codes "regex")) _ _ (pattern_held fs)
-    (ok_if CanBeHeld (bytes_eq name (codes "include")) _ _ (ok_bind CanBeHeld (or_fault (as_text (member fs (codes "value"))) Form) _ (λ part e. tt))
+    (ok_if CanBeHeld (bytes_eq name (codes "include")) _ _ (ok_bind CanBeHeld (ok_or (as_text (member fs (codes "value"))) Form) _ (λ part e. tt))
     (ok_if CanBeHeld (not in_header && (bytes_eq name (codes "integer") || bytes_eq name (codes "number"))) _ _ tt
     (ok_if CanBeHeld (not in_header && bytes_eq name (codes "null")) _ _ tt tt)))))
 
@@ -277,7 +280,7 @@ matcher_by_held : (in_header : Bool) (fs : Fields) (n : Option Node) → IfOk (m
 matcher_by_held in_header fs None =
     ok_if CanBeHeld (is_some (member fs (codes "regex"))) _ _ (pattern_held fs)
     (ok_if CanBeHeld (is_some (member fs (codes "min")) || is_some (member fs (codes "max"))) _ _ (same_type_held fs) tt)
-matcher_by_held in_header fs (Some n) = ok_bind CanBeHeld (or_fault (as_text (Some n)) Form) _ (λ name e. named_held in_header fs name)
+matcher_by_held in_header fs (Some n) = ok_bind CanBeHeld (ok_or (as_text (Some n)) Form) _ (λ name e. named_held in_header fs name)
 
 matchers_held : (in_header : Bool) (ns : Nodes) → IfOk (matchers_at is_pattern in_header ns) (AllByRecursion CanBeHeld)
 matchers_held in_header no_nodes = tt
@@ -285,14 +288,14 @@ matchers_held in_header (node n ns) =
     ok_bind (AllByRecursion CanBeHeld) (matcher_at is_pattern in_header n) _ (λ m e.
     ok_bind (AllByRecursion CanBeHeld) (matchers_at is_pattern in_header ns) _ (λ ms k. (
       if_ok_at CanBeHeld (matcher_at is_pattern in_header n) m
-          (ok_bind CanBeHeld (or_fault (as_object n) Form) _ (λ fs d. matcher_by_held in_header fs (member fs (codes "match")))) e,
+          (ok_bind CanBeHeld (ok_or (as_object n) Form) _ (λ fs d. matcher_by_held in_header fs (member fs (codes "match")))) e,
       if_ok_at (AllByRecursion CanBeHeld) (matchers_at is_pattern in_header ns) ms (matchers_held in_header ns) k,
     )))
 
 entry_held : (in_header : Bool) (n : Node) → IfOk (entry_at is_pattern in_header n) Held
 entry_held in_header n =
-    ok_bind Held (or_fault (as_object n) Form) _ (λ fs a.
-    ok_bind Held (or_fault (as_list (member fs (codes "matchers"))) Form) _ (λ ns b.
+    ok_bind Held (ok_or (as_object n) Form) _ (λ fs a.
+    ok_bind Held (ok_or (as_list (member fs (codes "matchers"))) Form) _ (λ ns b.
     ok_bind Held (combine_of is_pattern (member fs (codes "combine"))) _ (λ any c.
     ok_bind Held (matchers_at is_pattern in_header ns) _ (λ ms d. if_ok_at (AllByRecursion CanBeHeld) (matchers_at is_pattern in_header ns) ms (matchers_held in_header ns) d))))
 
@@ -331,10 +334,10 @@ RulesHeld rules = BodyHeld rules.body × HeadersHeld rules.headers
 category_held : (before : Rules) (k : List ℕ) (n : Node) → RulesHeld before → IfOk (ordered_category is_pattern before k n) RulesHeld
 category_held before k n all =
     ok_if RulesHeld (bytes_eq k (codes "body")) _ _ (ok_if RulesHeld (is_null_node n) _ _ all
-    (ok_bind RulesHeld (or_fault (as_object n) Form) _ (λ fs a.
+    (ok_bind RulesHeld (ok_or (as_object n) Form) _ (λ fs a.
     ok_bind RulesHeld (ordered_body is_pattern before.body fs) _ (λ b e. (if_ok_at BodyHeld (ordered_body is_pattern before.body fs) b (body_held before.body fs all.0) e, all.1)))))
     (ok_if RulesHeld (bytes_eq k (codes "header")) _ _ (ok_if RulesHeld (is_null_node n) _ _ all
-    (ok_bind RulesHeld (or_fault (as_object n) Form) _ (λ fs a.
+    (ok_bind RulesHeld (ok_or (as_object n) Form) _ (λ fs a.
     ok_bind RulesHeld (ordered_headers is_pattern before.headers fs) _ (λ h e. (all.0, if_ok_at HeadersHeld (ordered_headers is_pattern before.headers fs) h (headers_held before.headers fs all.1) e)))))
     (ok_if RulesHeld (bytes_eq k (codes "path") || bytes_eq k (codes "query")) _ _ all tt))
 
@@ -346,7 +349,7 @@ categories_held before (field k n fs) all =
 
 found_held : (tree : Node) → IfOk (ordered_found is_pattern tree) RulesHeld
 found_held tree =
-    ok_bind RulesHeld (or_fault (as_object tree) Form) _ (λ fs a.
+    ok_bind RulesHeld (ok_or (as_object tree) Form) _ (λ fs a.
     ok_bind RulesHeld (guard (not (has_old_key fs)) OldRules) _ (λ u b. categories_held no_rules fs (tt, tt)))
 
 -- ---- the table

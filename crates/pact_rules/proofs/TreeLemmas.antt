@@ -1,5 +1,5 @@
 -- Making a tree of a value, as the loops do.
-use Rattle.std.proofs.Common.{◌≡◌, ℕ, zero, suc, ◌<◌, List, [], ◌∷◌, ◌++◌, length, get_or, Option, Some, None, option_map, option_and_then, Ok, Err, String, Global, Ordering, Less, Equal, Greater, string_bytes, string_cmp, nat_cmp, refl, sym, ap, ◌∙◌, arith}
+use Rattle.std.proofs.Common.{◌≡◌, ℕ, zero, suc, ◌<◌, List, [], ◌∷◌, ◌++◌, length, get_or, Option, Some, None, option_map, option_and_then, Result, Ok, Err, String, Global, Ordering, Less, Equal, Greater, string_bytes, string_cmp, nat_cmp, refl, sym, ap, ◌∙◌, arith}
 use Rattle.std.proofs.lemmas.Cmp.{nat_list_cmp_total}
 use Rattle.std.proofs.lemmas.Option.{same_Some}
 use Rattle.std.specs.Cmp.Lexicographic.{slice_cmp}
@@ -13,7 +13,7 @@ use Rattle.serde_json.specs.declared.value.Value.{Value}
 use Rattle.serde_json.proofs.Views as values
 use Rattle.pact_rules.specs.Trees.{Node, no_nodes, node, Fields, no_fields, field}
 use Rattle.pact_rules.specs.TreeView.{tree_view, list_view, object_view}
-use Rattle.pact_rules.specs.TreeReading.{whole_or, whole_tree, whole_items, whole_members, Fails}
+use Rattle.pact_rules.specs.TreeReading.{whole_or, whole_tree, whole_items, whole_members}
 use Rattle.pact_rules.specs.declared.tree.Tree.{Tree}
 use Rattle.pact_rules.specs.declared.tree.TreeFault.{TreeFault}
 use Rattle.pact_rules.specs.declared.tree.TreeFault.TheVariants.{NotWhole, TooDeep, Memory}
@@ -30,6 +30,9 @@ not_whole (Some x) e = cc
 too_deep : {A B : Type 0} (o : Option A) → whole_or o ≡ Err TooDeep → B
 too_deep None e = cc
 too_deep (Some x) e = cc
+
+abbrev Fails : {A : Type 0} → TreeFault → Result A TreeFault → Type 0
+Fails e read = ¬ (e ≡ Memory) → read ≡ Err e
 
 -- what refuses a part refuses the whole
 pub part_refused : {A B : Type 0} (e : TreeFault) (part : Option A) (all : Option B) → (part ≡ None → all ≡ None) → Fails e (whole_or part) → Fails e (whole_or all)

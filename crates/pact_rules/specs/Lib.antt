@@ -1,3 +1,5 @@
+pub mod Outcome
+pub mod Lists
 pub mod Trees
 pub mod TreeView
 pub mod TreeReading

@@ -4,11 +4,13 @@ use Rattle.std.specs.declared.alloc.Global.{Global}
 use Rattle.std.specs.Ordering.{nat_cmp, match_ordering}
 use Rattle.std.specs.Cmp.Lexicographic.{slice_cmp}
 use Rattle.std.specs.List.{AllByRecursion}
+use Rattle.std.specs.Option.{ok_or}
 use Rattle.pact_rules.specs.Trees.{Node, Fields, no_fields, field}
 use Rattle.pact_rules.specs.declared.rule_fault.RuleFault.{RuleFault}
 use Rattle.pact_rules.specs.declared.rule_fault.RuleFault.TheVariants.{Form, OldRules, Unsupported}
 use Rattle.pact_rules.specs.Rules.{BodyRule, HeaderRule, Rules, no_rules, rule_text, name_key}
-use Rattle.pact_rules.specs.RuleReading.{◌>>=◌, guard, or_fault, as_object, is_null_node, has_old_key, body_rule_at, header_rule_at}
+use Rattle.pact_rules.specs.Outcome.{◌>>=◌, guard}
+use Rattle.pact_rules.specs.RuleReading.{as_object, is_null_node, has_old_key, body_rule_at, header_rule_at}
 
 -- each value of a map stands under its text
 abbrev pub IsKeyedBy : {X A : Type 0} → (X → A) → (A → List ℕ) → List (String Global × X) → Type 0
@@ -30,13 +32,13 @@ module _ (accepts : List ℕ → Bool) where
 
   abbrev pub ordered_body_in : Rules → Node → Result Rules RuleFault
   ordered_body_in before n = do
-    fs ← or_fault (as_object n) Form
+    fs ← ok_or (as_object n) Form
     body ← ordered_body before.body fs
     Ok (record { body = body; headers = before.headers })
 
   abbrev pub ordered_headers_in : Rules → Node → Result Rules RuleFault
   ordered_headers_in before n = do
-    fs ← or_fault (as_object n) Form
+    fs ← ok_or (as_object n) Form
     headers ← ordered_headers before.headers fs
     Ok (record { body = before.body; headers = headers })
 
@@ -53,6 +55,6 @@ module _ (accepts : List ℕ → Bool) where
 
   abbrev pub ordered_found : Node → Result Rules RuleFault
   ordered_found tree = do
-    fs ← or_fault (as_object tree) Form
+    fs ← ok_or (as_object tree) Form
     guarded ← guard (not (has_old_key fs)) OldRules
     ordered_categories no_rules fs

@@ -3,26 +3,19 @@
 -- of a matcher its form, its name, its bounds and its pattern. The names are those of the Pact Specification, version 3.
 use Rattle.std.specs.Prelude.{◌≡◌, ◌⊎◌, ℕ, pos, Bool, true, false, ◌&&◌, ◌||◌, not, List, [], ◌∷◌, ◌++◌, codes, Option, Some, None, Result, Ok, Err, bytes_eq, is_some, nat_le, nat_eq, if◌then◌else◌}
 use Rattle.std.specs.List.{list_any}
+use Rattle.std.specs.Option.{ok_or}
 use Rattle.std.specs.Str.{str_eq_ignore_ascii_case}
 use Rattle.pact_paths.specs.Paths.{Token}
 use Rattle.pact_paths.specs.Spelling.{path_text}
 use Rattle.pact_paths.specs.PathReading.{path_in}
 use Rattle.pact_paths.specs.declared.path_reader.PathFault.{PathFault}
+use Rattle.pact_rules.specs.Outcome.{◌>>=◌, guard}
 use Rattle.pact_rules.specs.Trees.{Node, whole, text, list, object, Nodes, no_nodes, node, Fields, no_fields, field}
 use Rattle.pact_rules.specs.Holding.{get_field, kind, begins, is_pattern}
 use Rattle.pact_rules.specs.declared.rule_fault.RuleFault.{RuleFault}
 use Rattle.pact_rules.specs.declared.rule_fault.RuleFault.TheVariants.{Form, OldRules, BadPath, SamePathTwice, Unsupported, BadBound, Pattern, BadCombine, Memory}
 use Rattle.pact_rules.specs.Rules.{Matcher, equality, same_type, regex, include, integer, is_null, Entry, BodyRule, HeaderRule, Rules, no_rules, rule_text}
 use Rattle.pact_rules.specs.Tables.{IsTableOf}
-
-infixl 10 ◌>>=◌
-abbrev pub ◌>>=◌ : {A B : Type 0} → Result A RuleFault → (A → Result B RuleFault) → Result B RuleFault
-(Ok x) >>= f = f x
-(Err e) >>= f = Err e
-
--- `Ok` where the test passes
-abbrev pub guard : Bool → RuleFault → Result (Unit {0}) RuleFault
-guard b e = if b then Ok tt else Err e
 
 -- an optional member: null counts as absent
 abbrev pub present : Option Node → Option Node
@@ -35,10 +28,6 @@ member fs name = present (get_field name fs)
 abbrev pub as_text : Option Node → Option (List ℕ)
 as_text (Some (text s)) = Some s
 as_text _ = None
-
-abbrev pub or_fault : {A : Type 0} → Option A → RuleFault → Result A RuleFault
-or_fault None e = Err e
-or_fault (Some x) e = Ok x
 
 abbrev pub as_object : Node → Option Fields
 as_object (object fs) = Some fs
@@ -75,12 +64,12 @@ abbrev pub path_at : List ℕ → Result (List Token) RuleFault
 path_at k = path_or_fault (path_in k)
 
 abbrev pub include_at : Fields → Result Matcher RuleFault
-include_at fs = or_fault (as_text (member fs (codes "value"))) Form >>= (λ part. Ok (include part))
+include_at fs = ok_or (as_text (member fs (codes "value"))) Form >>= (λ part. Ok (include part))
 
 module _ (accepts : List ℕ → Bool) where
   abbrev pub pattern_at : Fields → Result Matcher RuleFault
   pattern_at fs = do
-    source ← or_fault (as_text (member fs (codes "regex"))) Pattern
+    source ← ok_or (as_text (member fs (codes "regex"))) Pattern
     guarded ← guard (accepts source) Pattern
     Ok (regex source)
 
@@ -112,10 +101,10 @@ module _ (accepts : List ℕ → Bool) where
 
   abbrev pub matcher_by : Bool → Fields → Option Node → Result Matcher RuleFault
   matcher_by in_header fs None = nameless_matcher fs
-  matcher_by in_header fs (Some n) = or_fault (as_text (Some n)) Form >>= (λ name. named_matcher in_header fs name)
+  matcher_by in_header fs (Some n) = ok_or (as_text (Some n)) Form >>= (λ name. named_matcher in_header fs name)
 
   abbrev pub matcher_at : Bool → Node → Result Matcher RuleFault
-  matcher_at in_header n = or_fault (as_object n) Form >>= (λ fs. matcher_by in_header fs (member fs (codes "match")))
+  matcher_at in_header n = ok_or (as_object n) Form >>= (λ fs. matcher_by in_header fs (member fs (codes "match")))
 
   abbrev pub matchers_at : Bool → Nodes → Result (List Matcher) RuleFault
   matchers_at in_header no_nodes = Ok []
@@ -124,14 +113,14 @@ module _ (accepts : List ℕ → Bool) where
   abbrev pub combine_of : Option Node → Result Bool RuleFault
   combine_of None = Ok false
   combine_of (Some n) =
-      or_fault (as_text (Some n)) BadCombine >>= (λ word.
+      ok_or (as_text (Some n)) BadCombine >>= (λ word.
       if bytes_eq word (codes "AND") then Ok false else if bytes_eq word (codes "OR") then Ok true else Err BadCombine)
 
   -- an entry, behind its key
   abbrev pub entry_at : Bool → Node → Result Entry RuleFault
   entry_at in_header n = do
-    fs ← or_fault (as_object n) Form
-    ns ← or_fault (as_list (member fs (codes "matchers"))) Form
+    fs ← ok_or (as_object n) Form
+    ns ← ok_or (as_list (member fs (codes "matchers"))) Form
     any ← combine_of (member fs (codes "combine"))
     ms ← matchers_at in_header ns
     Ok (record { any = any; matchers = ms })
@@ -161,13 +150,13 @@ module _ (accepts : List ℕ → Bool) where
 
   abbrev pub body_in : Rules → Node → Result Rules RuleFault
   body_in before n = do
-    fs ← or_fault (as_object n) Form
+    fs ← ok_or (as_object n) Form
     body ← body_at before.body fs
     Ok (record { body = body; headers = before.headers })
 
   abbrev pub headers_in : Rules → Node → Result Rules RuleFault
   headers_in before n = do
-    fs ← or_fault (as_object n) Form
+    fs ← ok_or (as_object n) Form
     headers ← headers_at before.headers fs
     Ok (record { body = before.body; headers = headers })
 
@@ -186,7 +175,7 @@ module _ (accepts : List ℕ → Bool) where
   -- the entries of a table, those without effect among them, in the order of the keys
   abbrev pub found_in : Node → Result Rules RuleFault
   found_in tree = do
-    fs ← or_fault (as_object tree) Form
+    fs ← ok_or (as_object tree) Form
     guarded ← guard (not (has_old_key fs)) OldRules
     categories_at no_rules fs
 

@@ -1,5 +1,5 @@
 -- The matching rules of a response (Pact Specification, version 3).
-use Rattle.std.specs.Prelude.{◌≡◌, ◌⊎◌, ℕ, Bool, true, false, not, ◌||◌, ◌==◌, List, [], ◌∷◌, length, Option}
+use Rattle.std.specs.Prelude.{◌≡◌, ℕ, Bool, true, false, not, ◌||◌, ◌==◌, List, [], ◌∷◌, length, Option}
 use Rattle.std.specs.Ordering.{nat_cmp}
 use Rattle.std.specs.declared.cmp.Ordering.TheVariants.{Less}
 use Rattle.std.specs.Cmp.Lexicographic.{slice_cmp}
@@ -36,11 +36,6 @@ pub record Rules : Type 0 where
 
 abbrev pub no_rules : Rules
 no_rules = record { body = []; headers = [] }
-
--- it is one of them
-abbrev pub IsIn : {A : Type 0} → A → List A → Type 0
-IsIn x [] = ⊥
-IsIn x (y ∷ ys) = (x ≡ y) ⊎ IsIn x ys
 
 -- the one text is before the other, by bytes
 abbrev pub IsBefore : List ℕ → List ℕ → Type 0

@@ -2,7 +2,8 @@
 use Rattle.std.specs.Prelude.{◌≡◌, ◌↔◌, ℕ, true, List, Option, option_map}
 use Rattle.std.specs.List.{AllByRecursion, find}
 use Rattle.std.specs.Str.{str_eq_ignore_ascii_case}
-use Rattle.pact_rules.specs.Rules.{Matcher, equality, same_type, regex, include, integer, is_null, Entry, BodyRule, HeaderRule, Rules, IsIn, IsOrderedBy, IsInOrder, name_key, has_effect}
+use Rattle.pact_rules.specs.Lists.{IsIn}
+use Rattle.pact_rules.specs.Rules.{Matcher, equality, same_type, regex, include, integer, is_null, Entry, BodyRule, HeaderRule, Rules, IsOrderedBy, IsInOrder, name_key, has_effect}
 use Rattle.pact_rules.specs.Holding.{is_pattern}
 
 -- the grammar of patterns reads its pattern, where it has one

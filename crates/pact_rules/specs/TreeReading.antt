@@ -1,10 +1,10 @@
 -- Which values are trees, and the first fault of those that are none.
-use Rattle.std.specs.Prelude.{◌≡◌, nat_le, Option, Some, None, Result, Ok, Err, if◌then◌else◌, pos, option_map, option_and_then}
+use Rattle.std.specs.Prelude.{nat_le, Option, Some, None, Result, Ok, Err, if◌then◌else◌, pos, option_map, option_and_then}
 use Rattle.serde_json.specs.Data as json
 use Rattle.serde_json.specs.Find.{of_integer}
 use Rattle.pact_rules.specs.Trees.{Node, null, truth, whole, text, list, object, Nodes, no_nodes, node, Fields, no_fields, field}
 use Rattle.pact_rules.specs.declared.tree.TreeFault.{TreeFault}
-use Rattle.pact_rules.specs.declared.tree.TreeFault.TheVariants.{NotWhole, TooDeep, Memory}
+use Rattle.pact_rules.specs.declared.tree.TreeFault.TheVariants.{NotWhole, TooDeep}
 
 abbrev pub whole_number : json.Num → Option Node
 whole_number (json.unsigned n) = Some (whole (pos n))
@@ -36,14 +36,6 @@ whole_or (Some t) = Ok t
 -- depth is looked at first, for the whole value
 abbrev pub tree_in : json.Data → Result Node TreeFault
 tree_in d = if nat_le (json.depth d) 100 then whole_or (whole_tree d) else Err TooDeep
-
--- What a function returned, seen by view, is what reading gives, unless memory ran out.
-abbrev pub Fails : {Y : Type 0} → TreeFault → Result Y TreeFault → Type 0
-Fails fault read = ¬ (fault ≡ Memory) → read ≡ Err fault
-
-abbrev pub Gives : {X Y : Type 0} → (X → Y) → Result X TreeFault → Result Y TreeFault → Type 0
-Gives view (Ok x) read = read ≡ Ok (view x)
-Gives view (Err e) read = Fails e read
 
 -- ---- and back
 

@@ -3,7 +3,9 @@ ghost use Rattle.std.specs.Prelude.{nat_le};
 ghost use Rattle.serde_json.specs.Data.{depth, items_depth, members_depth};
 ghost use Rattle.serde_json.specs.View.{view, number_view, items_view, members_view};
 ghost use Rattle.pact_rules.specs.TreeView.{tree_view, list_view, object_view};
-ghost use Rattle.pact_rules.specs.TreeReading.{whole_or, whole_tree, whole_items, whole_members, whole_number, tree_in, Gives};
+ghost use Rattle.pact_rules.specs.TreeReading.{whole_or, whole_tree, whole_items, whole_members, whole_number, tree_in};
+ghost use Rattle.pact_rules.specs.Outcome.{Gives};
+ghost use Rattle.pact_rules.specs.declared.tree.TreeFault.TheVariants.{Memory};
 
 use serde_json::{Map, Number, Value};
 use std::alloc::{AllocError, AllocFailed, Global};
@@ -61,7 +63,7 @@ const MAX_DEPTH: usize = 100;
 /// The tree that a value is. `TooDeep` is looked at first, for the whole value, and then `NotWhole`; a scalar has depth 0, a list or
 /// object one more than its deepest member, 1 if empty. `Memory` comes for want of memory alone.
 pub fn tree_of(alloc: Global, value: &Value) -> Result<Tree, TreeFault>
-    ensures { Gives tree_view result (tree_in (view value.now)) }
+    ensures { Gives Memory tree_view result (tree_in (view value.now)) }
 {
     if !nests_within(value, MAX_DEPTH) {
         return Err(TreeFault::TooDeep);
@@ -107,7 +109,7 @@ fn members_nest_within(members: &Map<String, Value>, limit: usize) -> bool
 
 #[cycle(convert)]
 fn convert(alloc: Global, value: &Value) -> Result<Tree, TreeFault>
-    ensures { Gives tree_view result (whole_or (whole_tree (view value.now))) }
+    ensures { Gives Memory tree_view result (whole_or (whole_tree (view value.now))) }
 {
     match value {
         Value::Null => Ok(Tree::Null),
@@ -120,7 +122,7 @@ fn convert(alloc: Global, value: &Value) -> Result<Tree, TreeFault>
 }
 
 fn whole_number(number: Number) -> Result<Tree, TreeFault>
-    ensures { Gives tree_view result (whole_or (whole_number (number_view number))) }
+    ensures { Gives Memory tree_view result (whole_or (whole_number (number_view number))) }
 {
     match number.as_i128() {
         Some(n) => Ok(Tree::Whole(n)),
@@ -130,7 +132,7 @@ fn whole_number(number: Number) -> Result<Tree, TreeFault>
 
 #[cycle(convert)]
 fn convert_items(alloc: Global, items: &Vec<Value>) -> Result<Vec<Tree>, TreeFault>
-    ensures { Gives (λ v. list_view v.items) result (whole_or (whole_items (items_view items.now.items))) }
+    ensures { Gives Memory (λ v. list_view v.items) result (whole_or (whole_items (items_view items.now.items))) }
 {
     let mut trees = Vec::new(alloc);
     for item in items {
@@ -144,7 +146,7 @@ fn convert_members(
     alloc: Global,
     members: &Map<String, Value>,
 ) -> Result<BTreeMap<String, Tree>, TreeFault>
-    ensures { Gives (λ m. object_view m.entries) result (whole_or (whole_members (members_view members.now.entries))) }
+    ensures { Gives Memory (λ m. object_view m.entries) result (whole_or (whole_members (members_view members.now.entries))) }
 {
     let mut trees = BTreeMap::new(alloc);
     for (key, member) in members.iter() {

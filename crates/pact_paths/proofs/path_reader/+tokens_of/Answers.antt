@@ -1,7 +1,9 @@
 use Rattle.std.proofs.Common.{◌≡◌, ◌<◌, ◌∙◌, ◌-◌, map, length, option_map, Some, None, sym, ap, subst, arith}
 use Rattle.std.proofs.lemmas.List.{map_push}
 use Rattle.pact_paths.specs.TokenView.{token_view}
-use Rattle.pact_paths.specs.PathReading.{token_in, tokens_in, with_all, Gives}
+use Rattle.pact_paths.specs.PathReading.{token_in, tokens_in, with_all}
+use Rattle.pact_paths.specs.Outcome.{Gives}
+use Rattle.pact_paths.specs.declared.path_reader.PathFault.TheVariants.{Memory}
 use Rattle.pact_paths.proofs.PathLemmas.{tokens_end, tokens_too_many, tokens_bad, tokens_more, with_all-front, with_all-none}
 use Rattle.pact_paths.proofs.path_reader.+tokens_of.Goals as goal
 
@@ -13,7 +15,7 @@ returns-then-is_empty t c =
 pub returns-then-limit-eq0 : goal.returns-then-limit-eq0
 returns-then-limit-eq0 t c =
     let front = map token_view c.args.tokens.items in
-    ap (λ n. with_all front (tokens_in c.args.total n c.args.text.now)) c.if-limit-eq0.true
+    λ ne. ap (λ n. with_all front (tokens_in c.args.total n c.args.text.now)) c.if-limit-eq0.true
     ∙ ap (with_all front) (tokens_too_many c.args.total c.args.text.now (grind (arith, c.is_empty.ensures, c.if-is_empty.false)))
 
 pub returns-in_ok-push-in-Some : goal.returns-in_ok-push-in-Some
@@ -24,7 +26,7 @@ returns-in_ok-push-in-Some t c =
     let some : 0 < length c.args.text.now = grind (arith, c.is_empty.ensures, c.if-is_empty.false) in
     let found : token_in c.args.text.now ≡ Some (x, rest) = sym (ap (option_map (λ y. (token_view y.0, y.1.now))) (sym c.in-Some.is) ∙ c.in_ok-token.ensures.value) in
     let more = tokens_more c.args.total c.args.limit c.args.text.now x rest some (omega arith) found in
-    subst (Gives (λ v. map token_view v.items) c.tokens_of.result)
+    subst (Gives Memory (λ v. map token_view v.items) c.tokens_of.result)
     (ap (λ ts. with_all ts (tokens_in c.args.total (c.args.limit - 1) rest)) (ap (map token_view) c.in_ok-push-in-Some.ensures.items ∙ map_push token_view c.args.tokens.items c.in-Some.token)
     ∙ sym (with_all-front front x (tokens_in c.args.total (c.args.limit - 1) rest)) ∙ ap (with_all front) (sym more))
     c.tokens_of.ensures
@@ -34,4 +36,4 @@ returns-in-None t c =
     let front = map token_view c.args.tokens.items in
     let some : 0 < length c.args.text.now = grind (arith, c.is_empty.ensures, c.if-is_empty.false) in
     let none : token_in c.args.text.now ≡ None = sym (ap (option_map (λ y. (token_view y.0, y.1.now))) (sym c.in-None.is) ∙ c.in_ok-token.ensures.value) in
-    ap (with_all front) (tokens_bad c.args.total c.args.limit c.args.text.now some (omega arith) none)
+    λ ne. ap (with_all front) (tokens_bad c.args.total c.args.limit c.args.text.now some (omega arith) none)

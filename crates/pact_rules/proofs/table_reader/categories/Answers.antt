@@ -1,7 +1,8 @@
 use Rattle.std.proofs.Common.{◌∙◌, string_bytes, sym, ap}
 use Rattle.pact_rules.specs.Holding.{is_pattern}
 use Rattle.pact_rules.specs.TreeView.{tree_view, object_view}
-use Rattle.pact_rules.specs.RuleReading.{◌>>=◌, no_pattern}
+use Rattle.pact_rules.specs.Outcome.{◌>>=◌}
+use Rattle.pact_rules.specs.RuleReading.{no_pattern}
 use Rattle.pact_rules.specs.OrderedReading.{ordered_category, ordered_categories}
 use Rattle.pact_rules.proofs.PatternLemmas.{stops_on, category_goes}
 use Rattle.pact_rules.proofs.table_reader.categories.Goals as goal

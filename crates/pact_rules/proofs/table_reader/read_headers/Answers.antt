@@ -3,7 +3,8 @@ use Rattle.pact_rules.specs.Holding.{is_pattern}
 use Rattle.pact_rules.specs.TreeView.{tree_view, object_view}
 use Rattle.pact_rules.specs.Rules.{name_key}
 use Rattle.pact_rules.specs.RuleViews.{header_view, header_rules}
-use Rattle.pact_rules.specs.RuleReading.{◌>>=◌, no_pattern, header_rule_at}
+use Rattle.pact_rules.specs.Outcome.{◌>>=◌}
+use Rattle.pact_rules.specs.RuleReading.{no_pattern, header_rule_at}
 use Rattle.pact_rules.specs.OrderedReading.{IsKeyedBy, put, ordered_headers}
 use Rattle.pact_rules.proofs.OrderLemmas.{put_in_map, still_keyed}
 use Rattle.pact_rules.proofs.PatternLemmas.{stops_on, header_rule_goes}

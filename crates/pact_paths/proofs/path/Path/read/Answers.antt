@@ -1,6 +1,8 @@
 use Rattle.std.proofs.Common.{◌∙◌, ◌≡◌, map, length, sym, ap, Ok, rules}
 use Rattle.pact_paths.specs.TokenView.{token_view}
-use Rattle.pact_paths.specs.PathReading.{tokens_in, with_all, path_in, Gives}
+use Rattle.pact_paths.specs.PathReading.{tokens_in, with_all, path_in}
+use Rattle.pact_paths.specs.Outcome.{Gives}
+use Rattle.pact_paths.specs.declared.path_reader.PathFault.TheVariants.{Memory}
 use Rattle.pact_paths.proofs.PathLemmas.{with_no_front}
 use Rattle.pact_paths.proofs.ReadingLemmas.{tokens_are_path, outcome}
 use Rattle.pact_paths.proofs.path.Path.read.Goals as goal
@@ -14,7 +16,7 @@ invariant_of-result c =
 
 pub returns-in_err-tokens-clause-reading : goal.returns-in_err-tokens-clause-reading
 returns-in_err-tokens-clause-reading c =
-    let computed : Gives (λ p. p) c.from_residual.result (path_in c.args.text.now) = search rules in
+    let computed : Gives Memory (λ p. p) c.from_residual.result (path_in c.args.text.now) = search rules in
     outcome c.args.text.now c.from_residual.result computed
 
 pub returns-clause-reading : goal.returns-clause-reading

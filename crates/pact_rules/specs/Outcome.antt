@@ -1,5 +1,6 @@
 -- Reading part after part: the first fault is the answer. What a reader gives is what reading gives, unless memory ran out.
-use Rattle.std.specs.Prelude.{◌≡◌, Bool, true, false, Result, Ok, Err, ⊤}
+use Rattle.std.specs.Prelude.{Bool, true, false, Result, Ok, Err, ⊤}
+pub use Rattle.pact_paths.specs.Outcome.{Gives}
 
 infixl 10 ◌>>=◌
 abbrev pub ◌>>=◌ : {A B F : Type 0} → Result A F → (A → Result B F) → Result B F
@@ -10,8 +11,3 @@ abbrev pub ◌>>=◌ : {A B F : Type 0} → Result A F → (A → Result B F) �
 abbrev pub guard : {F : Type 0} → Bool → F → Result ⊤ F
 guard true fault = Ok tt
 guard false fault = Err fault
-
--- What a function returned, seen by view, is what reading gives, unless it is want of memory.
-abbrev pub Gives : {X Y F : Type 0} → F → (X → Y) → Result X F → Result Y F → Type 0
-Gives memory view (Ok x) read = read ≡ Ok (view x)
-Gives memory view (Err e) read = ¬ (e ≡ memory) → read ≡ Err e
