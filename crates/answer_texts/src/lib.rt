@@ -3,6 +3,8 @@
 
 mod answer;
 mod items;
+#[cfg(test)]
+mod tests;
 mod texts;
 
 pub use answer::Answer;
