@@ -11,4 +11,5 @@ pub mod Holding
 pub mod Tables
 pub mod RuleReading
 pub mod OrderedReading
+pub mod Refusals
 pub mod Walks

@@ -198,8 +198,3 @@ FailsAs fault read = read is_pattern ≡ Err fault
 abbrev pub Reads : {X Y : Type 0} → (X → Y) → Result X RuleFault → ((List ℕ → Bool) → Result Y RuleFault) → Type 0
 Reads view (Ok x) read = read is_pattern ≡ Ok (view x)
 Reads view (Err e) read = FailsAs e read
-
-abbrev pub IsRefusalOfPattern : RuleFault → Type 0
-IsRefusalOfPattern Memory = Unit {0}
-IsRefusalOfPattern Pattern = Unit {0}
-IsRefusalOfPattern _ = ⊥

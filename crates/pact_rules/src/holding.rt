@@ -3,6 +3,7 @@ ghost use Rattle.pact_rules.specs.TreeView.{tree_view, list_view, object_view};
 ghost use Rattle.pact_rules.specs.RuleViews.{matcher_view, entry_view};
 ghost use Rattle.pact_rules.specs.Holding.{holds as holds_of, entry_holds, equal_here, same_kind, text_form as text_form_of, within, at_least, at_most, contains, pattern_of, is_found as found_in, has_keys_of as has_keys};
 ghost use Rattle.pact_rules.specs.Rules.{IsRegex};
+ghost use Rattle.pact_rules.specs.Refusals.{Tells, CanFail, as_match_fault};
 ghost use Rattle.pact_rules.specs.declared.holding.MatchFault.TheVariants.{Memory, Pattern};
 
 use crate::table::{Entry, Matcher};
@@ -40,10 +41,15 @@ impl<T: Drop> From<AllocFailed<T>> for MatchFault {
 }
 
 impl From<regex::Error> for MatchFault {
+    ghost use Rattle.pact_rules.specs.Refusals.{as_match_fault};
+
+    ghost from_gives = { λ error fault. fault ≡ as_match_fault error };
+
     fn from(error: regex::Error) -> MatchFault {
         match error {
             regex::Error::OutOfMemory => MatchFault::Memory,
-            _ => MatchFault::Pattern,
+            regex::Error::Syntax(_) | regex::Error::CompiledTooBig | regex::Error::Internal =>
+                MatchFault::Pattern,
         }
     }
 }
@@ -60,6 +66,7 @@ pub fn holds(
 ) -> Result<bool, MatchFault>
     ensures value { IfOk result (λ b. b ≡ holds_of (matcher_view matcher.now) (tree_view expected.now) (tree_view actual.now) own_place) }
     ensures pattern { IfErr result (λ e. e ≡ Pattern → IsRegex (matcher_view matcher.now)) }
+    ensures fails { IfErr result (CanFail (matcher_view matcher.now)) }
 {
     match matcher {
         Matcher::Equality => Ok(are_equal_here(expected, actual)),
@@ -82,7 +89,8 @@ pub fn holds(
 
 /// Whether the pattern matches somewhere in the text.
 fn is_found(alloc: Global, source: &str, text: &str) -> Result<bool, MatchFault>
-    ensures { IfOk result (λ b. b ≡ found_in (pattern_of source.now) text.now) }
+    ensures found { IfOk result (λ b. b ≡ found_in (pattern_of source.now) text.now) }
+    ensures fails { IfErr result (Tells as_match_fault source.now) }
 {
     let regex = Regex::new(alloc, source)?;
     let mut matcher = regex.matcher(alloc)?;

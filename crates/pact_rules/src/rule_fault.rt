@@ -91,14 +91,15 @@ impl<T: Drop> From<AllocFailed<T>> for RuleFault {
 }
 
 impl From<regex::Error> for RuleFault {
-    ghost use Rattle.pact_rules.specs.RuleReading.{IsRefusalOfPattern};
+    ghost use Rattle.pact_rules.specs.Refusals.{as_rule_fault};
 
-    ghost from_gives = { λ _ fault. IsRefusalOfPattern fault };
+    ghost from_gives = { λ error fault. fault ≡ as_rule_fault error };
 
     fn from(error: regex::Error) -> RuleFault {
         match error {
             regex::Error::OutOfMemory => RuleFault::Memory,
-            _ => RuleFault::Pattern,
+            regex::Error::Syntax(_) | regex::Error::CompiledTooBig | regex::Error::Internal =>
+                RuleFault::Pattern,
         }
     }
 }

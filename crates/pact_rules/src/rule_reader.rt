@@ -1,8 +1,9 @@
-ghost use Rattle.std.specs.Prelude.{◌≡◌, map, Err, option_map, codes, MatchResult, true, nat_eq};
+ghost use Rattle.std.specs.Prelude.{◌≡◌, map, Err, option_map, codes, IfOk, IfErr, true, nat_eq};
 ghost use Rattle.pact_rules.specs.TreeView.{tree_view, list_view, object_view};
 ghost use Rattle.pact_rules.specs.Holding.{kind, get_field, is_pattern};
 ghost use Rattle.pact_rules.specs.RuleViews.{matcher_view, entry_view};
-ghost use Rattle.pact_rules.specs.RuleReading.{Reads, member as member_of, as_text, bound as bound_of, combine_of as combine_in, pattern_at, same_type_at, nameless_matcher, named_matcher, matcher_at, matchers_at, as_object, as_list, entry_at, include_at, IsRefusalOfPattern};
+ghost use Rattle.pact_rules.specs.RuleReading.{Reads, member as member_of, as_text, bound as bound_of, combine_of as combine_in, pattern_at, same_type_at, nameless_matcher, named_matcher, matcher_at, matchers_at, as_object, as_list, entry_at, include_at};
+ghost use Rattle.pact_rules.specs.Refusals.{Tells, as_rule_fault};
 ghost use Rattle.pact_rules.specs.declared.rule_fault.RuleFault.TheVariants.{Unsupported};
 
 use crate::rule_fault::{RuleFault, Word};
@@ -92,7 +93,8 @@ fn pattern_of(alloc: Global, members: &BTreeMap<String, Tree>) -> Result<Matcher
 
 /// Builds the pattern once, so that a refused one is told with the table.
 fn check_pattern(alloc: Global, source: &str) -> Result<(), RuleFault>
-    ensures { MatchResult result (λ _. is_pattern source.now ≡ true) (λ e. IsRefusalOfPattern e) }
+    ensures read { IfOk result (λ _. is_pattern source.now ≡ true) }
+    ensures fails { IfErr result (Tells as_rule_fault source.now) }
 {
     let _regex = Regex::new(alloc, source)?;
     Ok(())
