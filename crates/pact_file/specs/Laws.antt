@@ -12,3 +12,7 @@ NormalAgain = (bytes : List ℕ) (p : Pact) → Normal bytes (Ok p)
 -- Two pacts have one normal text only where they are equal.
 abbrev pub OnePact : Type 0
 OnePact = (a b : List ℕ) (p q : Pact) → Normal a (Ok p) → Normal b (Ok q) → normal_text p ≡ normal_text q → p ≡ q
+
+-- Two answers to one file are equal, unless one of them is that a pattern was refused.
+abbrev pub OneAnswer : Type 0
+OneAnswer = (bytes : List ℕ) (r s : Result Pact PactFault) → Normal bytes r → Normal bytes s → (r ≡ s) ⊎ (IsRefusal r ⊎ IsRefusal s)

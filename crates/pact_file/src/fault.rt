@@ -5,7 +5,7 @@ ghost use Rattle.pact_file.specs.Words.{rule_number as number_of, number_text};
 
 use pact_rules::{RuleFault, TreeFault};
 use std::alloc::{AllocError, AllocFailed, Global};
-use std::fmt;
+use std::{error, fmt};
 
 /// A part of an interaction.
 #[derive(Clone, Copy, Debug, PartialEq, Eq)]
@@ -178,6 +178,8 @@ impl fmt::Display for PactFault {
         }
     }
 }
+
+impl error::Error for PactFault {}
 
 impl PactFault {
     /// The fault's number and, where it helps, the place behind a space: what follows `pact ` in the fault's text. An error

@@ -19,8 +19,9 @@ ghost use Rattle.pact_file.specs.Told.{parts_view, rule_told as fault_told};
 
 use crate::fault::{PactFault, Part, Place};
 use crate::headers::read_headers;
-use crate::pact::{Header, Interaction, State};
+use crate::pact::{Header, Interaction};
 use crate::parts::{given_at, object_of, read_states, status_of, text_of};
+use crate::state::State;
 use crate::texts::{parts_text, states_text};
 use pact_rules::{RuleFault, RuleTable, Tree, TreeFault, tree_of};
 use serde_json::Value;

@@ -9,13 +9,15 @@ mod order;
 mod pact;
 mod parts;
 mod read;
+mod state;
 mod texts;
 
 pub use fault::{PactFault, Part, Place};
 pub use headers::read_headers;
-pub use pact::{Header, Interaction, Pact, State};
+pub use pact::{Header, Interaction, Pact};
 pub use parts::{read_states, read_status};
 pub use read::read_pact;
+pub use state::State;
 pub use texts::states_text;
 
 #[cfg(test)]

@@ -9,29 +9,11 @@ ghost use Rattle.pact_file.specs.Parts.{status_in, body_in};
 ghost use Rattle.pact_file.specs.Rules.{IsRulesOf};
 ghost use Rattle.serde_json.specs.Written.{compact_text};
 
+use crate::state::State;
 use pact_rules::{RuleTable, Tree};
 use serde_json::Value;
 use std::alloc::AllocError;
 use std::marker::Model;
-
-/// A state that the provider is in.
-#[derive(Drop)]
-pub struct State {
-    pub(crate) name: String,
-    pub(crate) params: Option<Value>,
-}
-
-impl Model for State {
-    ghost use Rattle.std.specs.Prelude.{string_bytes, option_map};
-    ghost use Rattle.serde_json.specs.View.{view as seen};
-    ghost use Rattle.pact_file.specs.Pact.{State as Stands, state_code};
-
-    ghost Value = { Stands };
-
-    ghost coded = { state_code };
-
-    ghost view = { λ a. record { name = string_bytes a.name; params = option_map seen a.params } };
-}
 
 /// A header that a response must have.
 #[derive(Drop)]

@@ -6,7 +6,7 @@ ghost use Rattle.serde_json.specs.View.{view, items_view};
 ghost use Rattle.pact_file.specs.Pact.{State as Stands};
 ghost use Rattle.pact_file.specs.Parts.{given, text_at, object_at, state_in, all_of, one_state, states_from, states_in, status_at, status_in};
 
-use crate::pact::State;
+use crate::state::State;
 use serde_json::Value;
 use std::alloc::{AllocError, Global};
 

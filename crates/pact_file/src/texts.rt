@@ -5,7 +5,8 @@ ghost use Rattle.serde_json.specs.View.{view, items_of};
 ghost use Rattle.serde_json.specs.Written.{has_float, compact_text, items_have_float};
 ghost use Rattle.pact_file.specs.Pact.{state_data, states_data, interaction_data, pact_data, normal_text};
 
-use crate::pact::{Interaction, State};
+use crate::pact::Interaction;
+use crate::state::State;
 use serde_json::{Value, json};
 use std::alloc::{AllocError, Global};
 
