@@ -1,12 +1,8 @@
-ghost use Rattle.std.specs.Prelude.{IsTrue, IfOk};
-ghost use Rattle.sqlite_disk.specs.Memory.{memory_is_usable};
-
 use super::*;
-use sqlite::{Alter, Connection, FileStore, Files, MemStore, Options};
-use sqlite_disk::{Disk, Memory};
+use sqlite::{Alter, Connection, MemStore};
 use std::alloc::Global;
 use std::test::Fail;
-use table_access::{Fault, commit, enter};
+use table_access::{Fault, enter};
 
 fn told(fault: Fault) -> Fail {
     match fault {
@@ -248,62 +244,5 @@ fn keeps_grants(rt: HostRuntime) -> Result<(), Fail> {
     assert_eq!(rt; granted(&mut conn, "red", "dev"), Ok(true));
     assert_eq!(rt; granted(&mut conn, "blue", "live"), Ok(true));
     assert_eq!(rt; add_grant(&mut conn, "green", "live"), Err(Fault::Store));
-    Ok(())
-}
-
-fn commit_all<S: Alter>(conn: &mut Connection<S>) -> Result<bool, Fault> {
-    make_all(conn)?;
-    fill(conn)?;
-    let _ = add_version(conn, "shop", "1")?;
-    Ok(commit(conn))
-}
-
-/// A second version, which is not committed.
-fn begin_another<S: Alter>(conn: &mut Connection<S>) -> Result<u32, Fault> {
-    enter(conn)?;
-    add_version(conn, "shop", "2")
-}
-
-/// The format, and the numbers of both versions.
-fn found<S: Alter>(
-    conn: &mut Connection<S>,
-) -> Result<(Option<u32>, Option<u32>, Option<u32>), Fault> {
-    Ok((
-        format_of(conn)?,
-        version_of(conn, "shop", "1")?,
-        version_of(conn, "shop", "2")?,
-    ))
-}
-
-fn open(alloc: Global, log: Memory, db: Memory) -> Result<Connection<FileStore<Memory>>, Fail>
-    requires { IsTrue (memory_is_usable log) × IsTrue (memory_is_usable db) }
-{
-    match Connection::open_files(alloc, Files { log, db }, Options::new(7)) {
-        Ok(conn) => Ok(conn),
-        Err(_) => Err(Fail::from("open")),
-    }
-}
-
-fn close<D: Disk + Drop>(conn: Connection<FileStore<D>>) -> Result<D, Fail>
-    ensures { IfOk result (λ db. IsTrue (D.Disk.is_usable db)) }
-{
-    match conn.close_files() {
-        Ok(files) => Ok(files.db),
-        Err((_, store)) => {
-            drop(store.close());
-            Err(Fail::from("close"))
-        }
-    }
-}
-
-/// What was committed to a file is there when it is opened again; what was not is not.
-#[test]
-fn reopens_a_file(rt: HostRuntime) -> Result<(), Fail> {
-    let mut conn = open(rt.alloc(), Memory::new(rt.alloc()), Memory::new(rt.alloc()))?;
-    assert_eq!(rt; commit_all(&mut conn), Ok(true));
-    assert_eq!(rt; begin_another(&mut conn), Ok(2));
-    let db = close(conn)?;
-    let mut again = open(rt.alloc(), Memory::new(rt.alloc()), db)?;
-    assert_eq!(rt; found(&mut again), Ok((Some(2), Some(1), None)));
     Ok(())
 }
