@@ -16,6 +16,7 @@ use broker_service::{Answer, Broker};
 use http_answers::HEAD_ROOM;
 use http_replies::{write_answered, write_no_method, write_no_route, write_refused};
 use http_requests::{Request, read_request};
+use http_routes::RouteTable;
 use http_stream::stream::ServeFault;
 use sqlite::Alter;
 use std::alloc::Global;
@@ -74,6 +75,7 @@ fn reply_to<S: Alter, W: Write>(
 /// `Memory` comes before anything is done; `Write` leaves a part of the reply out.
 pub(crate) fn answer<S: Alter, W: Write>(
     alloc: Global,
+    routes: &RouteTable,
     broker: &mut Broker<S>,
     head: &[u8],
     body: &[u8],
@@ -88,7 +90,7 @@ pub(crate) fn answer<S: Alter, W: Write>(
     let Ok(room) = Vec::with_capacity(alloc, HEAD_ROOM) else {
         return Err(ServeFault::Memory);
     };
-    let Ok(request) = read_request(alloc, head, body) else {
+    let Ok(request) = read_request(alloc, routes, head, body) else {
         return Err(ServeFault::Memory);
     };
     reply_to(alloc, broker, request, room, writer)

@@ -11,6 +11,7 @@ ghost use Rattle.broker_http.specs.Serving.{Applied, Mode, Turns, Holding};
 
 use crate::exchange::answer;
 use broker_service::Broker;
+use http_routes::RouteTable;
 use http_stream::stream::{Arrival, Ended, ServeFault, Served, arrive, drop_front};
 use sqlite::Alter;
 use std::alloc::Global;
@@ -19,6 +20,7 @@ use std::io::{Read, Write};
 /// Answers the message at the front of the bytes.
 fn answer_front<S: Alter, W: Write>(
     alloc: Global,
+    routes: &RouteTable,
     broker: &mut Broker<S>,
     bytes: &[u8],
     head: usize,
@@ -33,7 +35,7 @@ fn answer_front<S: Alter, W: Write>(
         (W.contents writer.old) (W.contents writer.new)) }
 {
     let (head, behind) = bytes.split_at(head);
-    answer(alloc, broker, head, &behind[..body], writer)
+    answer(alloc, routes, broker, head, &behind[..body], writer)
 }
 
 /// Answers the messages of a stream in turn, by what the broker promises of each command on any disk.
@@ -61,6 +63,9 @@ fn serve_all<R: Read, W: Write, S: Alter>(
         × Cut fault replies out
         × Appends (W.contents writer.old) (W.contents writer.new) out) }
 {
+    let Ok(routes) = RouteTable::new(alloc) else {
+        return Err(ServeFault::Memory);
+    };
     let mut buffer = Vec::new(alloc);
     for answered in 0..u64::MAX {
         let (head, body) = match arrive(reader, &mut buffer)? {
@@ -74,7 +79,15 @@ fn serve_all<R: Read, W: Write, S: Alter>(
                 return Ok(Served { answered, ended });
             }
         };
-        if answer_front(alloc, broker, buffer.as_slice(), head, body, writer)? {
+        if answer_front(
+            alloc,
+            &routes,
+            broker,
+            buffer.as_slice(),
+            head,
+            body,
+            writer,
+        )? {
             return Ok(Served {
                 answered: answered + 1,
                 ended: Ended::Closed,
@@ -93,7 +106,8 @@ fn serve_all<R: Read, W: Write, S: Alter>(
 ///
 /// `ServeFault::Read`: the reader failed, or 2^64-1 reads or answers were made; all answers are out.
 /// `ServeFault::Write`: the writer failed, or took none of the bytes that were left; the last answer is out in part.
-/// `ServeFault::Memory`: there was no memory for a message or its answer; nothing was done for it, and all answers before are out.
+/// `ServeFault::Memory`: there was no memory for the table of routes, before anything was read, or for a message or its
+/// answer; nothing was done for it, and all answers before are out.
 pub fn serve<R: Read, W: Write, S: Alter>(
     alloc: Global,
     broker: &mut Broker<S>,

@@ -1,7 +1,7 @@
 //! What a message asks: a command with its caller's token, or a refusal by HTTP.
 #![tactic(auto)]
 
-ghost use Rattle.std.specs.Prelude.{◌≡◌, codes, List, IfOk, Option};
+ghost use Rattle.std.specs.Prelude.{◌≡◌, codes, List, IfOk, Option, IsUtf8};
 ghost use Rattle.httparse.specs.Grammar.{RequestHead};
 ghost use Rattle.httparse.specs.Spans.{IsRequestAt, IsRequestWithin};
 ghost use Rattle.http_messages.specs.Heads.{is_last_head};
@@ -14,7 +14,7 @@ use http_commands::commands::command_of;
 use http_commands::tokens::caller_token;
 use http_messages::fields::field_of;
 use http_messages::head::{Head, Method, Refusal, method_of, read_head};
-use http_routes::{Place, Task, place_of, task_at};
+use http_routes::{Place, RouteTable, Task, task_at};
 use std::alloc::{AllocError, Global};
 
 /// What a message asks.
@@ -101,15 +101,31 @@ fn command_request(
     })
 }
 
+/// The place that a path names, if it is a text on a route.
+fn place_of(routes: &RouteTable, path: &[u8]) -> Option<Place>
+    ensures { IsUtf8 path.now → result ≡ place_of path.now }
+{
+    match str::from_utf8(path) {
+        Ok(path) => routes.place_of(path),
+        Err(_) => None,
+    }
+}
+
 /// What a message with this head asks.
-fn request_of(alloc: Global, text: &[u8], head: Head, body: &[u8]) -> Result<Request, AllocError>
+fn request_of(
+    alloc: Global,
+    routes: &RouteTable,
+    text: &[u8],
+    head: Head,
+    body: &[u8],
+) -> Result<Request, AllocError>
     requires { IsRequestWithin text.now head.spans head.parsed }
     ensures { (h : RequestHead) → IsRequestAt text.now head.spans head.parsed h → head.closes ≡ is_last_head h
         → IfOk result (ByPlace h body.now (place_of (path_of h.target))) }
 {
     let closes = head.closes;
     let (path, _) = split_target(head.parsed.path.of(text));
-    let Some(place) = place_of(path) else {
+    let Some(place) = place_of(routes, path) else {
         return Ok(Request::NoRoute { closes });
     };
     let method = method_of(head.parsed.method.of(text));
@@ -122,11 +138,16 @@ fn request_of(alloc: Global, text: &[u8], head: Head, body: &[u8]) -> Result<Req
 /// What a message asks, by its head and its body. An `Err` is want of memory.
 ///
 /// The checks are made in this order: those on the head, the route, the method, and then what the command reads.
-pub fn read_request(alloc: Global, text: &[u8], body: &[u8]) -> Result<Request, AllocError>
+pub fn read_request(
+    alloc: Global,
+    routes: &RouteTable,
+    text: &[u8],
+    body: &[u8],
+) -> Result<Request, AllocError>
     ensures { IfOk result (IsRequest (record { head = text.now; body = body.now })) }
 {
     match read_head(text) {
-        Ok(head) => request_of(alloc, text, head, body),
+        Ok(head) => request_of(alloc, routes, text, head, body),
         Err(refused) => Ok(Request::Refused {
             refusal: refused.refusal,
             is_bodiless: refused.is_bodiless,

@@ -1,1 +1,3 @@
-mod SegmentLemmas
+mod SplitLemmas
+mod TableLemmas
+mod WalkLemmas

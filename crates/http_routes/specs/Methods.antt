@@ -1,5 +1,5 @@
 -- What a method asks at a place (this project's own choice).
-use Rattle.std.specs.Prelude.{ℕ, Bool, List, [], ◌∷◌, ◌++◌, codes, filter, is_some, Option, Some, None}
+use Rattle.std.specs.Prelude.{ℕ, List, [], ◌∷◌, ◌++◌, codes, filter, is_some, Option, Some, None}
 use Rattle.http_messages.specs.declared.head.Method.{Method}
 use Rattle.http_messages.specs.declared.head.Method.TheVariants.{Get, Put, Post, Delete}
 use Rattle.http_routes.specs.declared.Place.{Place}

@@ -1,68 +1,58 @@
-use crate::{Place, Task, allow, place_of, segment, task_at};
+use crate::{Place, RouteTable, Task, allow, segment, task_at};
 use http_messages::head::Method;
 use std::test::Fail;
 
 #[test]
 fn each_route_is_found(rt: HostRuntime) -> Result<(), Fail> {
-    assert_eq!(rt; place_of(b"/teams/red"), Some(Place::Team));
-    assert_eq!(rt; place_of(b"/pacticipants/shop"), Some(Place::Pacticipant));
-    assert_eq!(rt; place_of(b"/environments/live"), Some(Place::Environment));
-    assert_eq!(rt;
-        place_of(b"/grants/team/red/environment/live"),
-        Some(Place::Grant)
-    );
-    assert_eq!(rt;
-        place_of(b"/pacticipants/shop/versions/feat%2F1"),
-        Some(Place::Version)
-    );
-    assert_eq!(rt;
-        place_of(b"/pacts/provider/stock/consumer/shop/version/1"),
-        Some(Place::Pact)
-    );
-    assert_eq!(rt;
-        place_of(b"/pacts/provider/stock/consumer/shop/branch/main"),
-        Some(Place::BranchPact)
-    );
-    assert_eq!(rt;
-        place_of(b"/pacts/provider/stock/consumer/shop/version/1/results"),
-        Some(Place::Results)
-    );
-    assert_eq!(rt;
-        place_of(b"/pacts/provider/stock/consumer/shop/version/1/replies"),
-        Some(Place::Replies)
-    );
-    assert_eq!(rt;
-        place_of(b"/environments/live/deployments"),
-        Some(Place::Deployments)
-    );
-    assert_eq!(rt;
-        place_of(b"/environments/live/undeployments"),
-        Some(Place::Undeployments)
-    );
-    assert_eq!(rt;
-        place_of(b"/environments/live/releases"),
-        Some(Place::Releases)
-    );
-    assert_eq!(rt;
-        place_of(b"/environments/live/support-ended"),
-        Some(Place::SupportEnded)
-    );
-    assert_eq!(rt; place_of(b"/can-i-deploy"), Some(Place::CanIDeploy));
-    assert_eq!(rt; place_of(b"/matrix"), Some(Place::Matrix));
+    let table = RouteTable::new(rt.alloc())?;
+    for (path, place) in [
+        ("/teams/red", Place::Team),
+        ("/pacticipants/shop", Place::Pacticipant),
+        ("/environments/live", Place::Environment),
+        ("/grants/team/red/environment/live", Place::Grant),
+        ("/pacticipants/shop/versions/feat%2F1", Place::Version),
+        ("/pacts/provider/stock/consumer/shop/version/1", Place::Pact),
+        (
+            "/pacts/provider/stock/consumer/shop/branch/main",
+            Place::BranchPact,
+        ),
+        (
+            "/pacts/provider/stock/consumer/shop/version/1/results",
+            Place::Results,
+        ),
+        (
+            "/pacts/provider/stock/consumer/shop/version/1/replies",
+            Place::Replies,
+        ),
+        ("/environments/live/deployments", Place::Deployments),
+        ("/environments/live/undeployments", Place::Undeployments),
+        ("/environments/live/releases", Place::Releases),
+        ("/environments/live/support-ended", Place::SupportEnded),
+        ("/can-i-deploy", Place::CanIDeploy),
+        ("/matrix", Place::Matrix),
+    ] {
+        assert_eq!(rt; table.place_of(path), Some(place), "at {path}");
+    }
     Ok(())
 }
 
 #[test]
 fn other_paths_have_no_route(rt: HostRuntime) -> Result<(), Fail> {
-    assert_eq!(rt; place_of(b"/nothing"), None);
-    assert_eq!(rt; place_of(b"/"), None);
-    assert_eq!(rt; place_of(b"/teams/"), None);
-    assert_eq!(rt; place_of(b"/teams/red/"), None);
-    assert_eq!(rt; place_of(b"/teams/a/b"), None);
-    assert_eq!(rt; place_of(b"/t%65ams/red"), None);
-    assert_eq!(rt; place_of(b"/pacticipants//versions/1"), None);
-    assert_eq!(rt; place_of(b"/environments/live/deployments/1"), None);
-    assert_eq!(rt; place_of(b"teams/red"), None);
+    let table = RouteTable::new(rt.alloc())?;
+    for path in [
+        "",
+        "/",
+        "/nothing",
+        "/teams/",
+        "/teams/red/",
+        "/teams/a/b",
+        "/t%65ams/red",
+        "/pacticipants//versions/1",
+        "/environments/live/deployments/1",
+        "teams/red",
+    ] {
+        assert_eq!(rt; table.place_of(path), None, "at {path}");
+    }
     Ok(())
 }
 

@@ -1,4 +1,4 @@
-use Rattle.std.proofs.Common.{◌≡◌, sym, ap, ◌∙◌}
+use Rattle.std.proofs.Common.{sym, ap, ◌∙◌}
 use Rattle.http_requests.specs.declared.Request.TheVariants.{Asks}
 use Rattle.http_requests.proofs.command_request.Goals as goal
 

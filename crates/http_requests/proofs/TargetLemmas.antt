@@ -1,0 +1,28 @@
+-- The path of a target that is a text is a text.
+use Rattle.std.proofs.Common.{◌≡◌, ℕ, ◌==◌, ◌<◌, ◌≤◌, List, length, get_or, take_all, Bool, true, false, ltb, Option, refl, sym, ap, ◌∙◌, subst, arith, IsUtf8}
+use Rattle.std.proofs.lemmas.Bool.Decides.{nat_tests}
+use Rattle.std.specs.List.{position_or_len}
+use Rattle.std.proofs.lemmas.List.Sums.{passes_at_first}
+use Rattle.std.proofs.lemmas.Str.{IsUtf8-take, IsCharBoundary-before_ascii}
+use Rattle.http_routes.specs.Routes.{place_of}
+use Rattle.http_routes.specs.declared.Place.{Place}
+use Rattle.http_requests.specs.Requests.{is_question_mark, path_of}
+
+pub path-text : (target : List ℕ) → IsUtf8 target → IsUtf8 (path_of target)
+path-text target text = by (ltb (position_or_len is_question_mark target) (length target)) refl
+  where
+    by : (v : Bool) → ltb (position_or_len is_question_mark target) (length target) ≡ v → IsUtf8 (path_of target)
+    by true e =
+        let within : position_or_len is_question_mark target < length target = grind (arith, nat_tests) in
+        let mark : (get_or target (position_or_len is_question_mark target) 0 == 63) ≡ true = passes_at_first is_question_mark target 0 within in
+        let ascii : get_or target (position_or_len is_question_mark target) 0 < 128 = grind (arith, nat_tests) in
+        IsUtf8-take target (position_or_len is_question_mark target) text (IsCharBoundary-before_ascii target (position_or_len is_question_mark target) within ascii)
+    by false e =
+        let over : length target ≤ position_or_len is_question_mark target = grind (arith, nat_tests) in
+        subst IsUtf8 (sym (take_all (position_or_len is_question_mark target) target over)) text
+
+-- the place that is told of a path is that of the target's path
+pub place-told : (target read path : List ℕ) (told : Option Place) → IsUtf8 target → path ≡ path_of read → read ≡ target → (IsUtf8 path → told ≡ place_of path) → told ≡ place_of (path_of target)
+place-told target read path told text is-path is-target is-told =
+    let same : path ≡ path_of target = is-path ∙ ap path_of is-target in
+    is-told (subst IsUtf8 (sym same) (path-text target text)) ∙ ap place_of same
