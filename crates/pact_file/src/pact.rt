@@ -7,6 +7,7 @@ ghost use Rattle.pact_file.specs.Headers.{HasHeaders};
 ghost use Rattle.pact_file.specs.Pact.{normal_text, states_data};
 ghost use Rattle.pact_file.specs.Parts.{status_in, body_in};
 ghost use Rattle.pact_file.specs.Rules.{IsRulesOf};
+ghost use Rattle.pact_file.specs.Sound.{IsSound};
 ghost use Rattle.serde_json.specs.Written.{compact_text};
 
 use crate::state::State;
@@ -96,9 +97,10 @@ impl Interaction {
         self.states.as_slice()
     }
 
-    /// The compact JSON text of the provider states.
+    /// The compact JSON text of the provider states. Those of two interactions are equal where their texts are.
     pub fn states_text(&self) -> &str
-        ensures { result.now ≡ compact_text (states_data self.now.states) }
+        ensures text { result.now ≡ compact_text (states_data self.now.states) }
+        ensures sound { IsSound 97 (states_data self.now.states) }
     {
         self.states_text.as_str()
     }

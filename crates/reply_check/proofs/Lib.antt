@@ -2,3 +2,10 @@ pub mod BodyLemmas
 mod FitLemmas
 pub mod FittingLemmas
 mod WalkLemmas
+mod ValueLemmas
+mod Deciding
+mod MeetLemmas
+mod Each
+mod ReadLemmas
+mod RivalLemmas
+mod VerdictLemmas

@@ -1,3 +1,14 @@
 pub mod Fitting
 pub mod Computed
 pub mod Bodies
+pub mod HeaderValues
+pub mod Recorded
+pub mod Meeting
+pub mod Sent
+pub mod Filled
+pub mod Reading
+pub mod ReplyParts
+pub mod Replies
+pub mod Words
+pub mod Verdicts
+pub mod Told

@@ -1,11 +1,24 @@
-//! Whether recorded replies meet a pact: the body of a reply against the body that is expected, with the rules of a response.
+//! Whether recorded replies meet a pact: status, headers and bodies against those that are expected, with the rules of a response.
 #![tactic(auto)]
 
 mod body;
+mod checking;
+mod fault;
 mod fit;
+mod header;
+mod header_value;
+mod meet;
+mod parts;
+mod read;
+mod reply;
 
 pub use body::body_meets;
+pub use checking::{Verdict, check};
+pub use fault::{CheckFault, Part, Place, RepliesFault};
 pub use fit::fits;
+pub use meet::meets;
+pub use read::read_replies;
+pub use reply::{Replies, Reply};
 
 #[cfg(test)]
 mod tests;

@@ -1,0 +1,91 @@
+-- Deciding by going through a list.
+use Rattle.std.proofs.Common.{◌≡◌, ◌⊎◌, inl, inr, ◌↔◌, ℕ, ◌+◌, ◌<◌, ◌≤◌, Bool, true, false, List, [], ◌∷◌, length, take, drop, get_or, ◌-◌, arith, length-drop, IsTrue, refl, sym, ap, ◌∙◌, subst, true≢false}
+use Rattle.std.proofs.lemmas.List.{drop_more, drop_all, take_all}
+use Rattle.std.specs.List.{AllByRecursion}
+use Rattle.pact_rules.specs.Lists.{OneOf, IsIn}
+
+pub yes : {P : Type 0} → P → IsTrue true ↔ P
+yes p = (λ h. p, λ q. refl)
+
+pub no : {P : Type 0} → ¬ P → IsTrue false ↔ P
+no n = (λ h. absurd (true≢false (sym h)), λ p. absurd (n p))
+
+pub not_so : {P : Type 0} (b : Bool) → b ≡ false → IsTrue b ↔ P → ¬ P
+not_so b isnt h p = true≢false (sym (h.1 p) ∙ isnt)
+
+skip : {P Q : Type 0} → ¬ P → P ⊎ Q → Q
+skip n (inl p) = absurd (n p)
+skip n (inr q) = q
+
+-- what stands at a place, and behind it
+pub left_at : {A : Type 0} (xs : List A) (i : ℕ) (x : A) → i < length xs → x ≡ get_or xs i x → drop i xs ≡ x ∷ drop (i + 1) xs
+left_at xs i x l is = drop_more xs i x l ∙ ap (λ y. y ∷ drop (i + 1) xs) (sym is)
+
+pub rest_at : {A : Type 0} (xs : List A) (n : ℕ) → take (length xs - n) (drop n xs) ≡ drop n xs
+rest_at xs n = take_all (length xs - n) (drop n xs) (omega (arith, length-drop n xs))
+
+module _ {A : Type 0} (P : A → Type 0) where
+  -- ---- one of them
+
+  pub one_later : (all left more : List A) (x : A) → left ≡ x ∷ more → ¬ P x → OneOf P all ↔ OneOf P left → OneOf P all ↔ OneOf P more
+  one_later all left more x is n h = (λ o. skip n (subst (OneOf P) is (h.0 o)), λ o. h.1 (subst (OneOf P) (sym is) (inr o)))
+
+  pub one_found : (all left more : List A) (x : A) → left ≡ x ∷ more → P x → OneOf P all ↔ OneOf P left → OneOf P all
+  one_found all left more x is p h = h.1 (subst (OneOf P) (sym is) (inl p))
+
+  pub one_none : (all left : List A) → left ≡ [] → OneOf P all ↔ OneOf P left → ¬ OneOf P all
+  one_none all left is h o = subst (OneOf P) is (h.0 o)
+
+  pub in_one : (xs : List A) → OneOf P xs → (x : A) × IsIn x xs × P x
+  in_one [] o = absurd o
+  in_one (x ∷ xs) (inl p) = (x, inl refl, p)
+  in_one (x ∷ xs) (inr o) = let found = in_one xs o in (found.0, inr found.1, found.2)
+
+  pub one_in : (xs : List A) (x : A) → IsIn x xs → P x → OneOf P xs
+  one_in [] x i p = absurd i
+  one_in (y ∷ ys) x (inl same) p = inl (subst P same p)
+  one_in (y ∷ ys) x (inr i) p = inr (one_in ys x i p)
+
+  -- ---- each of them
+
+  pub all_later : (all left more : List A) (x : A) → left ≡ x ∷ more → P x → AllByRecursion P all ↔ AllByRecursion P left → AllByRecursion P all ↔ AllByRecursion P more
+  all_later all left more x is p h =
+      let tail : AllByRecursion P (x ∷ more) → AllByRecursion P more = λ a. a.1 in
+      (λ a. tail (subst (AllByRecursion P) is (h.0 a)), λ a. h.1 (subst (AllByRecursion P) (sym is) (p, a)))
+
+  pub all_fails : (all left more : List A) (x : A) → left ≡ x ∷ more → ¬ P x → AllByRecursion P all ↔ AllByRecursion P left → ¬ AllByRecursion P all
+  all_fails all left more x is n h a =
+      let head : AllByRecursion P (x ∷ more) → P x = λ a. a.0 in
+      n (head (subst (AllByRecursion P) is (h.0 a)))
+
+  pub all_done : (all left : List A) → left ≡ [] → AllByRecursion P all ↔ AllByRecursion P left → AllByRecursion P all
+  all_done all left is h = h.1 (subst (AllByRecursion P) (sym is) tt)
+
+  pub all_in : (xs : List A) → AllByRecursion P xs → (x : A) → IsIn x xs → P x
+  all_in [] a x i = absurd i
+  all_in (y ∷ ys) a x (inl same) = subst P (sym same) a.0
+  all_in (y ∷ ys) a x (inr i) = all_in ys a.1 x i
+
+  pub in_all : (xs : List A) → ((x : A) → IsIn x xs → P x) → AllByRecursion P xs
+  in_all [] h = tt
+  in_all (x ∷ xs) h = (h x (inl refl), in_all xs (λ y i. h y (inr i)))
+
+  -- ---- at a place
+
+  pub one_steps : (xs : List A) (i : ℕ) (x : A) → i < length xs → x ≡ get_or xs i x → ¬ P x → OneOf P xs ↔ OneOf P (drop i xs) → OneOf P xs ↔ OneOf P (drop (i + 1) xs)
+  one_steps xs i x l is n h = one_later xs (drop i xs) (drop (i + 1) xs) x (left_at xs i x l is) n h
+
+  pub one_stops : (xs : List A) (i : ℕ) (x : A) → i < length xs → x ≡ get_or xs i x → P x → OneOf P xs ↔ OneOf P (drop i xs) → OneOf P xs
+  one_stops xs i x l is p h = one_found xs (drop i xs) (drop (i + 1) xs) x (left_at xs i x l is) p h
+
+  pub one_ends : (xs : List A) (i : ℕ) → length xs ≤ i → OneOf P xs ↔ OneOf P (drop i xs) → ¬ OneOf P xs
+  one_ends xs i l h = one_none xs (drop i xs) (drop_all i xs l) h
+
+  pub all_steps : (xs : List A) (i : ℕ) (x : A) → i < length xs → x ≡ get_or xs i x → P x → AllByRecursion P xs ↔ AllByRecursion P (drop i xs) → AllByRecursion P xs ↔ AllByRecursion P (drop (i + 1) xs)
+  all_steps xs i x l is p h = all_later xs (drop i xs) (drop (i + 1) xs) x (left_at xs i x l is) p h
+
+  pub all_stops : (xs : List A) (i : ℕ) (x : A) → i < length xs → x ≡ get_or xs i x → ¬ P x → AllByRecursion P xs ↔ AllByRecursion P (drop i xs) → ¬ AllByRecursion P xs
+  all_stops xs i x l is n h = all_fails xs (drop i xs) (drop (i + 1) xs) x (left_at xs i x l is) n h
+
+  pub all_ends : (xs : List A) (i : ℕ) → length xs ≤ i → AllByRecursion P xs ↔ AllByRecursion P (drop i xs) → AllByRecursion P xs
+  all_ends xs i l h = all_done xs (drop i xs) (drop_all i xs l) h

@@ -1,0 +1,142 @@
+-- Replies that meet an interaction.
+use Rattle.std.proofs.Common.{◌≡◌, ◌⊎◌, inl, inr, ◌↔◌, ℕ, Bool, true, false, ◌||◌, List, [], ◌∷◌, IsTrue, IfOk, codes, option_map, Option, Some, None, Result, Ok, Err, refl, sym, ap, ◌∙◌, subst}
+use Rattle.std.proofs.lemmas.Option.{same_Some}
+use Rattle.serde_json.specs.Data.{Data}
+use Rattle.pact_rules.specs.Trees.{Node}
+use Rattle.std.specs.List.{list_any, find}
+use Rattle.std.specs.Str.{str_eq_ignore_ascii_case}
+use Rattle.pact_rules.specs.Rules.{Rules, Entry, BodyRule, HeaderRule, is_regex, has_regex}
+use Rattle.pact_rules.specs.Tables.{header_entry}
+use Rattle.pact_rules.specs.RuleReading.{IsReading}
+use Rattle.pact_rules.specs.declared.rule_fault.RuleFault.{RuleFault}
+use Rattle.pact_rules.specs.declared.rule_fault.RuleFault.TheVariants.{Pattern}
+use Rattle.pact_rules.proofs.ReadingLemmas.{reading_agrees}
+use Rattle.pact_file.specs.Headers.{HasHeaders}
+use Rattle.pact_file.specs.Pact.{Header, Interaction}
+use Rattle.pact_file.specs.Parts.{given, status_in, body_in}
+use Rattle.pact_file.specs.Rules.{TableRead, IsRulesOf}
+use Rattle.pact_rules.specs.Lists.{IsIn}
+use Rattle.reply_check.specs.Bodies.{MeetsBody}
+use Rattle.reply_check.specs.Meeting.{HasHeader, FitsHeader, Meets}
+use Rattle.reply_check.specs.Recorded.{Reply, status_sent}
+use Rattle.reply_check.specs.Sent.{IsFit, WasSent, WereSent}
+use Rattle.reply_check.proofs.Deciding.{in_one, one_in, all_in, in_all}
+
+-- ---- a response has one table of rules
+
+same_ok : (a b : Rules) → Path (Result Rules RuleFault) (Ok a) (Ok b) → a ≡ b
+same_ok a b h = cc
+
+no_fault : {P : Type 0} (a : Rules) → Path (Result Rules RuleFault) (Ok a) (Err Pattern) → P
+no_fault a h = absurd cc
+
+agreed : (a b : Rules) → (Path (Result Rules RuleFault) (Ok a) (Ok b)) ⊎ ((Path (Result Rules RuleFault) (Ok a) (Err Pattern)) ⊎ (Path (Result Rules RuleFault) (Ok b) (Err Pattern))) → a ≡ b
+agreed a b (inl same) = same_ok a b same
+agreed a b (inr (inl clash)) = no_fault a clash
+agreed a b (inr (inr clash)) = no_fault b clash
+
+one_table : (o : Option Data) (a b : Rules) → TableRead o (Ok a) → TableRead o (Ok b) → a ≡ b
+one_table None a b h k = same_ok a b (h ∙ sym k)
+one_table (Some d) a b h k =
+    let same : k.0 ≡ h.0 = same_Some _ _ (sym k.1 ∙ h.1) in
+    agreed a b (reading_agrees h.0 (Ok a) (Ok b) h.2 (subst (λ n. IsReading n (Ok b)) same k.2))
+
+one_rules : (response : Data) (a b : Rules) → IsRulesOf response a → IsRulesOf response b → a ≡ b
+unfolding IsRulesOf
+one_rules response a b h k = one_table (given (codes "matchingRules") response) a b h k
+
+-- ---- patterns
+
+by_test : {B : Type 0} (b : Bool) → (b ≡ true → B) → (b ≡ false → B) → B
+by_test true is isnt = is refl
+by_test false is isnt = isnt refl
+
+or_left : (a b : Bool) → a ≡ true → (a || b) ≡ true
+or_left true b h = refl
+or_left false b h = absurd cc
+
+or_right : (a b : Bool) → b ≡ true → (a || b) ≡ true
+or_right true b h = refl
+or_right false b h = h
+
+find_here : (p : HeaderRule → Bool) (x : HeaderRule) (xs : List HeaderRule) → p x ≡ true → find p (x ∷ xs) ≡ Some x
+find_here p x xs is = rw is refl
+
+find_later : (p : HeaderRule → Bool) (x : HeaderRule) (xs : List HeaderRule) → p x ≡ false → find p (x ∷ xs) ≡ find p xs
+find_later p x xs isnt = rw isnt refl
+
+in_headers : (p : HeaderRule → Bool) (hs : List HeaderRule) (e : Entry) → Some e ≡ option_map (λ (h : HeaderRule). h.entry) (find p hs) → list_any is_regex e.matchers ≡ true
+    → list_any (λ (h : HeaderRule). list_any is_regex h.entry.matchers) hs ≡ true
+in_headers p [] e is r = absurd cc
+in_headers p (x ∷ xs) e is r = by_test (p x)
+    (λ yes.
+    let same : e ≡ x.entry = same_Some e x.entry (is ∙ ap (option_map (λ (h : HeaderRule). h.entry)) (find_here p x xs yes)) in
+    or_left (list_any is_regex x.entry.matchers) (list_any (λ (h : HeaderRule). list_any is_regex h.entry.matchers) xs) (ap (λ (e : Entry). list_any is_regex e.matchers) (sym same) ∙ r))
+    (λ no.
+    or_right (list_any is_regex x.entry.matchers) (list_any (λ (h : HeaderRule). list_any is_regex h.entry.matchers) xs)
+    (in_headers p xs e (is ∙ ap (option_map (λ (h : HeaderRule). h.entry)) (find_later p x xs no)) r))
+
+-- a header entry with a pattern is in the table
+pub regex_in_header : (rules : Rules) (name : List ℕ) (e : Entry) → Some e ≡ header_entry rules.headers name → list_any is_regex e.matchers ≡ true → has_regex rules ≡ true
+regex_in_header rules name e is r =
+    or_right (list_any (λ (b : BodyRule). list_any is_regex b.entry.matchers) rules.body) (list_any (λ (h : HeaderRule). list_any is_regex h.entry.matchers) rules.headers)
+    (in_headers (λ (h : HeaderRule). str_eq_ignore_ascii_case h.name name) rules.headers e is r)
+
+-- ---- headers
+
+-- one in the list is one of the response
+listed_header : (response : Data) (list : List Header) (h : Header) → HasHeaders response list → IsIn h list → HasHeader response h
+listed_header response list h has i = (has.found, has.read, has.ordered.known h i)
+
+header_listed : (response : Data) (list : List Header) (h : Header) → HasHeaders response list → HasHeader response h → IsIn h list
+header_listed response list h has (found, read, i) = has.ordered.kept h (subst (IsIn h) (same_Some found has.found (sym read ∙ has.read)) i)
+
+sent_so : (rules : Rules) (response : Data) (sent : List Header) (h : Header) → HasHeaders response sent → WasSent rules sent h
+    → (value : List ℕ) × HasHeader response (record { name = h.name; value = value }) × FitsHeader rules h value
+sent_so rules response sent h has was =
+    let found = in_one (λ g. IsFit rules h g) sent was in
+    let g : Header = found.0 in
+    let same : g ≡ record { name = h.name; value = g.value } = λ i. record { name = found.2.0 i; value = g.value } in
+    (g.value, subst (HasHeader response) same (listed_header response sent g has found.1), found.2.1)
+
+so_sent : (rules : Rules) (response : Data) (sent : List Header) (h : Header) (value : List ℕ) → HasHeaders response sent → HasHeader response (record { name = h.name; value = value }) → FitsHeader rules h value
+    → WasSent rules sent h
+so_sent rules response sent h value has is fits =
+    let g : Header = record { name = h.name; value = value } in
+    one_in (λ g. IsFit rules h g) sent g (header_listed response sent g has is) (refl, fits)
+
+-- ---- the whole
+
+pub status_differs : (x : Interaction) (r : Reply) (m n : ℕ) → status_in x.response ≡ Some m → status_sent r.response ≡ Some n → ¬ (m ≡ n) → ¬ Meets x r
+status_differs x r m n e s differs whole =
+    let k : ℕ = whole.status.0 in
+    let left : m ≡ k = same_Some m k (sym e ∙ whole.status.1) in
+    let right : n ≡ k = same_Some n k (sym s ∙ whole.status.2) in
+    differs (left ∙ sym right)
+
+module _ (x : Interaction) (r : Reply) (rules : Rules) (expected sent : List Header) (has_rules : IsRulesOf x.response rules) (has_expected : HasHeaders x.response expected) (has_sent : HasHeaders r.response sent) where
+  pub headers_lack : ¬ WereSent rules sent expected → ¬ Meets x r
+  headers_lack lack whole =
+      let same : whole.rules ≡ rules = one_rules x.response whole.rules rules whole.has_rules has_rules in
+      lack (in_all (λ h. WasSent rules sent h) expected (λ h i.
+      let was = whole.headers h (listed_header x.response expected h has_expected i) in
+      so_sent rules r.response sent h was.0 has_sent was.1 (subst (λ t. FitsHeader t h was.0) same was.2)))
+
+  by_body : (n : ℕ) (b : Bool) → status_in x.response ≡ Some n → status_sent r.response ≡ Some n → WereSent rules sent expected
+      → IsTrue b ↔ MeetsBody rules (body_in x.response) (body_in r.response) → IsTrue b ↔ Meets x r
+  by_body n b e s were body = (
+    λ h. record {
+      status = (n, e, s);
+      rules = rules;
+      has_rules = has_rules;
+      headers = λ h is. sent_so rules r.response sent h has_sent (all_in (λ h. WasSent rules sent h) expected were h (header_listed x.response expected h has_expected is));
+      body = body.0 h;
+    },
+    λ whole. body.1 (subst (λ t. MeetsBody t (body_in x.response) (body_in r.response)) (one_rules x.response whole.rules rules whole.has_rules has_rules) whole.body),
+  )
+
+  pub meets_by_body : {E : Type 0} (m n : ℕ) (answer : Result Bool E) (b c : Option Node) → status_in x.response ≡ Some m → status_sent r.response ≡ Some n → m ≡ n → WereSent rules sent expected
+      → b ≡ body_in x.response → c ≡ body_in r.response → IfOk answer (λ v. IsTrue v ↔ MeetsBody rules b c) → IfOk answer (λ v. IsTrue v ↔ Meets x r)
+  meets_by_body m n (Ok v) b c e s same were eb ec h =
+      by_body n v (e ∙ ap (λ k. Some k) same) s were (subst (λ o. IsTrue v ↔ MeetsBody rules (body_in x.response) o) ec (subst (λ o. IsTrue v ↔ MeetsBody rules o c) eb h))
+  meets_by_body m n (Err f) b c e s same were eb ec h = tt

@@ -1,0 +1,138 @@
+-- The failing interactions so far.
+use Rattle.std.proofs.Common.{◌≡◌, ◌⊎◌, inl, inr, ◌↔◌, ℕ, zero, suc, ◌+◌, ◌<◌, ◌≤◌, List, [], ◌∷◌, ◌++◌, length, get_or, Bool, true, false, nat_lt, Option, Some, None, slice_get, refl, sym, ap, ◌∙◌, subst, arith}
+use Rattle.std.proofs.lemmas.Option.{same_Some, slice_get_past, slice_get_read}
+use Rattle.std.proofs.lemmas.Bool.Decides.{nat_tests}
+use Rattle.std.specs.List.{AllByRecursion}
+use Rattle.pact_file.specs.Pact.{Interaction}
+use Rattle.pact_rules.specs.Lists.{OneOf, IsIn}
+use Rattle.reply_check.specs.Meeting.{HasPattern}
+use Rattle.reply_check.specs.Recorded.{Reply}
+use Rattle.reply_check.specs.Verdicts.{BelongsTo, IsKnown, AreKnown, Passes, Fails, IsAscending, AreFailing, UsesPattern}
+
+by_test : {B : Type 0} (b : Bool) → (b ≡ true → B) → (b ≡ false → B) → B
+by_test true is isnt = is refl
+by_test false is isnt = isnt refl
+
+-- ---- places
+
+all_weaker : (n : ℕ) (is : List ℕ) → AllByRecursion (λ i. i < n) is → AllByRecursion (λ i. i < n + 1) is
+all_weaker n [] h = tt
+all_weaker n (i ∷ is) h = let l : i < n = h.0 in (omega arith, all_weaker n is h.1)
+
+all_push : (n : ℕ) (is : List ℕ) → AllByRecursion (λ i. i < n) is → AllByRecursion (λ i. i < n + 1) (is ++ n ∷ [])
+all_push n [] h = (omega arith, tt)
+all_push n (i ∷ is) h = let l : i < n = h.0 in (omega arith, all_push n is h.1)
+
+above_push : (k n : ℕ) (is : List ℕ) → k < n → AllByRecursion (λ j. k < j) is → AllByRecursion (λ j. k < j) (is ++ n ∷ [])
+above_push k n [] l h = (l, tt)
+above_push k n (i ∷ is) l h = (h.0, above_push k n is l h.1)
+
+ascending_push : (n : ℕ) (is : List ℕ) → AllByRecursion (λ i. i < n) is → IsAscending is → IsAscending (is ++ n ∷ [])
+ascending_push n [] h a = (tt, tt)
+ascending_push n (i ∷ is) h a = (above_push i n is h.0 a.0, ascending_push n is h.1 a.1)
+
+below : (n : ℕ) (is : List ℕ) (i : ℕ) → AllByRecursion (λ i. i < n) is → IsIn i is → i < n
+below n [] i h m = absurd m
+below n (j ∷ js) i h (inl same) = let l : j < n = h.0 in omega arith
+below n (j ∷ js) i h (inr m) = below n js i h.1 m
+
+in_push : (n : ℕ) (is : List ℕ) (i : ℕ) → IsIn i is → IsIn i (is ++ n ∷ [])
+in_push n [] i m = absurd m
+in_push n (j ∷ js) i (inl same) = inl same
+in_push n (j ∷ js) i (inr m) = inr (in_push n js i m)
+
+last_in : (n : ℕ) (is : List ℕ) → IsIn n (is ++ n ∷ [])
+last_in n [] = inl refl
+last_in n (j ∷ js) = inr (last_in n js)
+
+of_push : (n : ℕ) (is : List ℕ) (i : ℕ) → IsIn i (is ++ n ∷ []) → IsIn i is ⊎ (i ≡ n)
+of_push n [] i (inl same) = inr same
+of_push n [] i (inr m) = absurd m
+of_push n (j ∷ js) i (inl same) = inl (inl same)
+of_push n (j ∷ js) i (inr m) = later (of_push n js i m) where
+  later : IsIn i js ⊎ (i ≡ n) → IsIn i (j ∷ js) ⊎ (i ≡ n)
+  later (inl k) = inl (inr k)
+  later (inr same) = inr same
+
+up_to : (n i : ℕ) → i < n + 1 → (i < n) ⊎ (i ≡ n)
+up_to n i l = by_test (nat_lt i n) (λ is. inl (grind (arith, nat_tests))) (λ isnt. inr (grind (arith, nat_tests)))
+
+either : (i n : ℕ) → (i < n) ⊎ (n ≤ i)
+either i n = by_test (nat_lt i n) (λ is. inl (grind (arith, nat_tests))) (λ isnt. inr (grind (arith, nat_tests)))
+
+within : {A : Type 0} (xs : List A) (i : ℕ) (x : A) → slice_get xs i ≡ Some x → (i < length xs) ⊎ (length xs ≤ i) → i < length xs
+within xs i x is (inl l) = l
+within xs i x is (inr past) = let none : None ≡ Some x = sym (slice_get_past xs i past) ∙ is in absurd cc
+
+-- ---- so far
+
+module _ (interactions : List Interaction) (replies : List Reply) where
+  pub record IsSoFar (n : ℕ) (places : List ℕ) : Type 0 where
+    pub ascending : IsAscending places
+    pub below_all : AllByRecursion (λ i. i < n) places
+    pub failing : (i : ℕ) → i < n → IsIn i places ↔ Fails interactions replies i
+
+  pub none_so_far : IsSoFar 0 []
+  none_so_far = record { ascending = tt; below_all = tt; failing = λ i l. absurd (omega arith) }
+
+  module _ (n : ℕ) (x : Interaction) (places : List ℕ) (stands : slice_get interactions n ≡ Some x) (h : IsSoFar n places) where
+    passing : (i : ℕ) → Passes replies x → (i < n) ⊎ (i ≡ n) → IsIn i places ↔ Fails interactions replies i
+    passing i p (inl l) = h.failing i l
+    passing i p (inr same) = (
+      λ m. let l : i < n = below n places i h.below_all m in absurd (omega arith),
+      λ (y, is, fails). absurd (fails (subst (Passes replies) (same_Some x y (sym stands ∙ ap (slice_get interactions) (sym same) ∙ is)) p)),
+    )
+
+    pub one_passes : Passes replies x → IsSoFar (n + 1) places
+    one_passes p = record { ascending = h.ascending; below_all = all_weaker n places h.below_all; failing = λ i l. passing i p (up_to n i l) }
+
+    failing_one : (i : ℕ) → ¬ Passes replies x → (i < n) ⊎ (i ≡ n) → IsIn i (places ++ n ∷ []) ↔ Fails interactions replies i
+    failing_one i f (inl l) = (λ m. (h.failing i l).0 (earlier (of_push n places i m)), λ k. in_push n places i ((h.failing i l).1 k)) where
+      earlier : IsIn i places ⊎ (i ≡ n) → IsIn i places
+      earlier (inl m) = m
+      earlier (inr same) = absurd (omega arith)
+    failing_one i f (inr same) = (λ m. (x, ap (slice_get interactions) same ∙ stands, f), λ k. subst (λ j. IsIn j (places ++ n ∷ [])) (sym same) (last_in n places))
+
+    pub one_fails : ¬ Passes replies x → IsSoFar (n + 1) (places ++ n ∷ [])
+    one_fails f = record { ascending = ascending_push n places h.below_all h.ascending; below_all = all_push n places h.below_all; failing = λ i l. failing_one i f (up_to n i l) }
+
+  pub all_seen : (n : ℕ) (places : List ℕ) → n ≡ length interactions → IsSoFar n places → AreFailing interactions replies places
+  all_seen n places all h = record {
+    ascending = h.ascending;
+    failing = λ i. (
+      λ m. (h.failing i (below n places i h.below_all m)).0 m,
+      λ f. let l : i < length interactions = within interactions i f.0 f.1 (either i (length interactions)) in (h.failing i (omega arith)).1 f,
+    );
+  }
+
+-- ---- replies that are known
+
+pub known_one : (interactions : List Interaction) (replies : List Reply) (n : ℕ) (x : Reply) → slice_get replies n ≡ Some x → IsKnown interactions x
+    → ((j : ℕ) (r : Reply) → j < n → slice_get replies j ≡ Some r → IsKnown interactions r) → (j : ℕ) (r : Reply) → j < n + 1 → slice_get replies j ≡ Some r → IsKnown interactions r
+known_one interactions replies n x stands known before j r l is = by_place (up_to n j l) where
+  by_place : (j < n) ⊎ (j ≡ n) → IsKnown interactions r
+  by_place (inl k) = before j r k is
+  by_place (inr same) = subst (IsKnown interactions) (same_Some x r (sym stands ∙ ap (slice_get replies) (sym same) ∙ is)) known
+
+known_all : (interactions : List Interaction) (replies : List Reply) → ((j : ℕ) (r : Reply) → slice_get replies j ≡ Some r → IsKnown interactions r) → AreKnown interactions replies
+known_all interactions [] h = tt
+known_all interactions (r ∷ rs) h = (h 0 r refl, known_all interactions rs (λ j s is. h (suc j) s is))
+
+pub all_known : (interactions : List Interaction) (replies : List Reply) (n : ℕ) → n ≡ length replies → ((j : ℕ) (r : Reply) → j < n → slice_get replies j ≡ Some r → IsKnown interactions r) → AreKnown interactions replies
+all_known interactions replies n all before = known_all interactions replies (λ j r is. before j r (subst (λ k. j < k) (sym all) (within replies j r is (either j (length replies)))) is)
+
+-- ---- what stands at a place
+
+pub read_at : {A : Type 0} (xs : List A) (n : ℕ) (x : A) → n < length xs → x ≡ get_or xs n x → slice_get xs n ≡ Some x
+read_at xs n x l is = slice_get_read xs (length xs) n x refl l is
+
+at_place : {A : Type 0} (P : A → Type 0) (xs : List A) (n : ℕ) (x : A) → slice_get xs n ≡ Some x → P x → OneOf P xs
+at_place P [] n x is p = absurd cc
+at_place P (y ∷ ys) zero x is p = inl (subst P (sym (same_Some y x is)) p)
+at_place P (y ∷ ys) (suc n) x is p = inr (at_place P ys n x is p)
+
+pub belongs_at : (x : Interaction) (replies : List Reply) (n : ℕ) (r : Reply) → n < length replies → r ≡ get_or replies n r → BelongsTo x r → OneOf (λ s. BelongsTo x s) replies
+belongs_at x replies n r l is b = at_place (λ s. BelongsTo x s) replies n r (read_at replies n r l is) b
+
+pub uses_at : (interactions : List Interaction) (replies : List Reply) (n : ℕ) (x : Interaction) → n < length interactions → x ≡ get_or interactions n x → OneOf (λ r. BelongsTo x r) replies × HasPattern x → UsesPattern interactions replies
+uses_at interactions replies n x l is h = at_place (λ y. OneOf (λ r. BelongsTo y r) replies × HasPattern y) interactions n x (read_at interactions n x l is) h

@@ -1,0 +1,51 @@
+-- When a reply's header has the value that is expected where no rule speaks of it (this project's own choice): spaces and tabs
+-- at both ends and behind commas don't count; and where a media type is expected without parameters, those of the reply and
+-- the case of letters don't count either.
+use Rattle.std.specs.Prelude.{◌≡◌, ◌==◌, ◌||◌, ◌&&◌, ℕ, Bool, true, false, not, List, [], ◌∷◌, map, if◌then◌else◌, bytes_eq, codes}
+use Rattle.std.specs.List.{list_any}
+use mathlib.Core.List.{reverse}
+use Rattle.std.specs.Str.{str_to_ascii_lowercase}
+
+-- a space or a tab
+abbrev pub is_blank : ℕ → Bool
+is_blank b = b == 32 || b == 9
+
+-- without the blanks in front
+abbrev pub without_front : List ℕ → List ℕ
+without_front [] = []
+without_front (b ∷ bs) = if is_blank b then without_front bs else b ∷ bs
+
+-- without the blanks at the end
+abbrev pub without_end : List ℕ → List ℕ
+without_end bs = reverse (without_front (reverse bs))
+
+-- a byte more in front of the first part
+abbrev pub in_front : ℕ → List (List ℕ) → List (List ℕ)
+in_front b [] = (b ∷ []) ∷ []
+in_front b (part ∷ parts) = (b ∷ part) ∷ parts
+
+-- the parts between the commas
+abbrev pub parts_between : List ℕ → List (List ℕ)
+parts_between [] = [] ∷ []
+parts_between (b ∷ bs) = if b == 44 then [] ∷ parts_between bs else in_front b (parts_between bs)
+
+-- what counts of a value: its parts between commas, each without the blanks in front, and none at the end of the whole
+abbrev pub counted : List ℕ → List (List ℕ)
+counted value = map without_front (parts_between (without_end value))
+
+-- what stands before the first semicolon
+abbrev pub before_semicolon : List ℕ → List ℕ
+before_semicolon [] = []
+before_semicolon (b ∷ bs) = if b == 59 then [] else b ∷ before_semicolon bs
+
+-- a media type that is expected without parameters, in a header whose name is in lower case
+abbrev pub is_plain_type : List ℕ → List ℕ → Bool
+is_plain_type name expected = bytes_eq name (codes "content-type") && not (list_any (λ b. b == 59) expected)
+
+abbrev pub HasValueBy : Bool → List ℕ → List ℕ → Type 0
+HasValueBy true expected sent = counted (str_to_ascii_lowercase expected) ≡ counted (before_semicolon (str_to_ascii_lowercase sent))
+HasValueBy false expected sent = counted expected ≡ counted sent
+
+-- what was sent under the name, which is in lower case, is the expected value
+abbrev pub HasValue : List ℕ → List ℕ → List ℕ → Type 0
+HasValue name expected sent = HasValueBy (is_plain_type name expected) expected sent

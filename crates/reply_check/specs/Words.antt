@@ -1,0 +1,53 @@
+-- The texts of faults: a number, and where it helps a place (this project's own choice).
+use Rattle.std.specs.Prelude.{ℕ, List, [], ◌++◌, codes, decimal}
+use Rattle.pact_rules.specs.declared.tree.TreeFault.{TreeFault}
+use Rattle.pact_rules.specs.declared.tree.TreeFault.TheVariants as tree_fault
+use Rattle.reply_check.specs.declared.fault.RepliesFault.{RepliesFault}
+use Rattle.reply_check.specs.declared.fault.RepliesFault.TheVariants as replies_fault
+use Rattle.reply_check.specs.declared.fault.CheckFault.{CheckFault}
+use Rattle.reply_check.specs.declared.fault.CheckFault.TheVariants as check_fault
+use Rattle.reply_check.specs.declared.fault.Place.{Place}
+use Rattle.reply_check.specs.declared.fault.Place.TheVariants.{File, Replies, Reply}
+use Rattle.reply_check.specs.declared.fault.Part.{Part}
+use Rattle.reply_check.specs.declared.fault.Part.TheVariants.{Whole, Description, States, Response, Status, Headers}
+
+-- nothing of a reply as a whole
+abbrev pub part_text : Part → List ℕ
+part_text Whole = []
+part_text Description = codes ".description"
+part_text States = codes ".providerStates"
+part_text Response = codes ".response"
+part_text Status = codes ".status"
+part_text Headers = codes ".headers"
+
+abbrev pub place_text : Place → List ℕ
+place_text File = codes "file"
+place_text Replies = codes "replies"
+place_text (Reply i part) = codes "replies[" ++ (decimal i ++ (codes "]" ++ part_text part))
+
+abbrev pub tree_text : TreeFault → List ℕ
+tree_text tree_fault.NotWhole = codes "3.1"
+tree_text tree_fault.TooDeep = codes "3.2"
+tree_text tree_fault.Memory = codes "3.3"
+
+-- the fault's number, and what follows it
+abbrev pub number_text : RepliesFault → List ℕ
+number_text replies_fault.NotJson = codes "1"
+number_text (replies_fault.Shape place) = codes "2 " ++ place_text place
+number_text (replies_fault.Tree fault) = tree_text fault
+number_text replies_fault.SameReplyTwice = codes "4"
+number_text replies_fault.Memory = codes "5"
+
+-- `replies 2 replies[1].status`; want of memory is `memory`
+abbrev pub replies_text : RepliesFault → List ℕ
+replies_text replies_fault.NotJson = codes "replies " ++ number_text replies_fault.NotJson
+replies_text (replies_fault.Shape place) = codes "replies " ++ number_text (replies_fault.Shape place)
+replies_text (replies_fault.Tree fault) = codes "replies " ++ number_text (replies_fault.Tree fault)
+replies_text replies_fault.SameReplyTwice = codes "replies " ++ number_text replies_fault.SameReplyTwice
+replies_text replies_fault.Memory = codes "memory"
+
+-- `check 1` without the place, since it is no part of the text
+abbrev pub check_text : CheckFault → List ℕ
+check_text (check_fault.UnknownInteraction i) = codes "check 1"
+check_text check_fault.Pattern = codes "check 2"
+check_text check_fault.Memory = codes "memory"

@@ -1,0 +1,142 @@
+//! Which interactions of a pact fail by recorded replies.
+
+ghost use Rattle.std.specs.Prelude.{◌≡◌, ◌↔◌, ℕ, [], IfOk, IfErr, IsTrue, MatchOption};
+ghost use Rattle.pact_rules.specs.Lists.{OneOf};
+ghost use Rattle.pact_rules.specs.declared.holding.MatchFault.TheVariants.{Pattern};
+ghost use Rattle.reply_check.specs.declared.fault.CheckFault.TheVariants as fault;
+ghost use Rattle.reply_check.specs.Meeting.{Meets, HasPattern};
+ghost use Rattle.reply_check.specs.Verdicts.{BelongsTo, IsKnown, AreKnown, IsFirstUnknown, Passes, AreFailing, UsesPattern};
+
+use crate::fault::CheckFault;
+use crate::meet::meets;
+use crate::reply::{Replies, Reply};
+use pact_file::{Interaction, Pact};
+use pact_rules::MatchFault;
+use std::alloc::Global;
+use std::marker::Model;
+
+/// Which interactions of a pact fail: their places, from 0 and ascending, in the order of the normal pact.
+#[derive(Debug, Drop)]
+pub struct Verdict {
+    failing: Vec<usize>,
+}
+
+impl Model for Verdict {
+    ghost use Rattle.std.specs.Prelude.{ℕ, List};
+
+    ghost Value = { List ℕ };
+
+    ghost view = { λ a. a.failing.items };
+}
+
+impl Verdict {
+    /// The places of the interactions that fail.
+    pub fn failing(&self) -> &[usize]
+        ensures { result.now ≡ self.now }
+    {
+        self.failing.as_slice()
+    }
+
+    /// The same as a vector. Takes no memory.
+    pub fn into_failing(self) -> Vec<usize>
+        ensures { result.items ≡ self }
+    {
+        let Verdict { failing } = self;
+        failing
+    }
+
+    /// Whether no interaction fails.
+    pub fn passes(&self) -> bool
+        ensures { IsTrue result ↔ (self.now ≡ []) }
+    {
+        self.failing.is_empty()
+    }
+}
+
+/// Checks recorded replies against a pact. An interaction fails where it has no reply or its reply doesn't meet it: the status
+/// is equal, each expected header was sent with a value that fits, and the body meets the expected one. `UnknownInteraction`
+/// is looked at first; `Pattern` comes only where an interaction that has a reply has a pattern that is refused, and `Memory`
+/// for want of memory alone. (This project's own choice.)
+pub fn check(alloc: Global, pact: &Pact, replies: &Replies) -> Result<Verdict, CheckFault>
+    ensures verdict { IfOk result (λ v. AreKnown pact.now.interactions replies.now × AreFailing pact.now.interactions replies.now v) }
+    ensures unknown { IfErr result (λ e. (i : ℕ) → e ≡ fault.UnknownInteraction i → IsFirstUnknown pact.now.interactions replies.now i) }
+    ensures pattern { IfErr result (λ e. e ≡ fault.Pattern → AreKnown pact.now.interactions replies.now × UsesPattern pact.now.interactions replies.now) }
+{
+    let interactions = pact.interactions();
+    let replies = replies.as_slice();
+    if let Some(place) = first_unknown(interactions, replies) {
+        return Err(CheckFault::UnknownInteraction(place));
+    }
+    Ok(Verdict {
+        failing: failing_places(alloc, interactions, replies)?,
+    })
+}
+
+fn belongs(interaction: &Interaction, reply: &Reply) -> bool
+    ensures { IsTrue result ↔ BelongsTo interaction.now reply.now }
+{
+    reply.is_for(interaction.description(), interaction.states_text())
+}
+
+fn is_known(interactions: &[Interaction], reply: &Reply) -> bool
+    ensures { IsTrue result ↔ IsKnown interactions.now reply.now }
+{
+    for interaction in interactions {
+        if belongs(interaction, reply) {
+            return true;
+        }
+    }
+    false
+}
+
+/// The place of the first reply that belongs to no interaction.
+fn first_unknown(interactions: &[Interaction], replies: &[Reply]) -> Option<usize>
+    ensures { MatchOption result (AreKnown interactions.now replies.now) (λ i. IsFirstUnknown interactions.now replies.now i) }
+{
+    for (place, reply) in replies.iter().enumerate() {
+        if !is_known(interactions, reply) {
+            return Some(place);
+        }
+    }
+    None
+}
+
+/// Whether a reply belongs to an interaction and meets it.
+fn answers(alloc: Global, interaction: &Interaction, reply: &Reply) -> Result<bool, MatchFault>
+    ensures value { IfOk result (λ b. IsTrue b ↔ (BelongsTo interaction.now reply.now × Meets interaction.now reply.now)) }
+    ensures pattern { IfErr result (λ e. e ≡ Pattern → BelongsTo interaction.now reply.now × HasPattern interaction.now) }
+{
+    if !belongs(interaction, reply) {
+        return Ok(false);
+    }
+    meets(alloc, interaction, reply)
+}
+
+fn passes(alloc: Global, interaction: &Interaction, replies: &[Reply]) -> Result<bool, MatchFault>
+    ensures value { IfOk result (λ b. IsTrue b ↔ Passes replies.now interaction.now) }
+    ensures pattern { IfErr result (λ e. e ≡ Pattern → OneOf (λ r. BelongsTo interaction.now r) replies.now × HasPattern interaction.now) }
+{
+    for reply in replies {
+        if answers(alloc, interaction, reply)? {
+            return Ok(true);
+        }
+    }
+    Ok(false)
+}
+
+fn failing_places(
+    alloc: Global,
+    interactions: &[Interaction],
+    replies: &[Reply],
+) -> Result<Vec<usize>, MatchFault>
+    ensures places { IfOk result (λ v. AreFailing interactions.now replies.now v.items) }
+    ensures pattern { IfErr result (λ e. e ≡ Pattern → UsesPattern interactions.now replies.now) }
+{
+    let mut failing = Vec::new(alloc);
+    for (place, interaction) in interactions.iter().enumerate() {
+        if !passes(alloc, interaction, replies)? {
+            failing.push(place)?;
+        }
+    }
+    Ok(failing)
+}

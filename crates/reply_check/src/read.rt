@@ -1,0 +1,126 @@
+//! Reading a file of recorded replies.
+
+ghost use Rattle.std.specs.Prelude.{◌≡◌, ◌↔◌, map, IsTrue};
+ghost use Rattle.std.specs.Option.{ok_or};
+ghost use Rattle.serde_json.specs.View.{view, items_view};
+ghost use Rattle.pact_rules.specs.TreeReading.{tree_in};
+ghost use Rattle.pact_rules.specs.Outcome.{Gives};
+ghost use Rattle.pact_rules.specs.Lists.{OneOf};
+ghost use Rattle.pact_file.specs.Sound.{AreSound};
+ghost use Rattle.reply_check.specs.declared.fault.RepliesFault.TheVariants.{Memory, NotJson};
+ghost use Rattle.reply_check.specs.Reading.{EachRead, GivesOne};
+ghost use Rattle.reply_check.specs.ReplyParts.{json_of, tree_told, file_of, items_of};
+ghost use Rattle.reply_check.specs.Replies.{ReplyRead, AreRivals, HasRivals, RepliesRead};
+
+use crate::fault::{Place, RepliesFault};
+use crate::parts::read_reply;
+use crate::reply::{Replies, Reply};
+use pact_rules::{TreeFault, tree_of};
+use serde_json::Value;
+use std::alloc::Global;
+
+#[tactic(auto, unfolding(crate::specs::ReplyParts::json_of))]
+fn read_json(alloc: Global, bytes: &[u8]) -> Result<Value, RepliesFault>
+    ensures { Gives Memory view result (ok_or (json_of bytes.now) NotJson) }
+{
+    match Value::from_slice(alloc, bytes) {
+        Ok(value) => Ok(value),
+        Err(e) => {
+            if e.is_memory() {
+                Err(RepliesFault::Memory)
+            } else {
+                Err(RepliesFault::NotJson)
+            }
+        }
+    }
+}
+
+fn check_tree(alloc: Global, value: &Value) -> Result<(), RepliesFault>
+    ensures { Gives Memory (λ x. x) result (tree_told (tree_in (view value.now))) }
+{
+    match tree_of(alloc, value) {
+        Ok(_) => Ok(()),
+        Err(TreeFault::NotWhole) => Err(RepliesFault::Tree(TreeFault::NotWhole)),
+        Err(TreeFault::TooDeep) => Err(RepliesFault::Tree(TreeFault::TooDeep)),
+        Err(TreeFault::Memory) => Err(RepliesFault::Memory),
+    }
+}
+
+#[tactic(auto, unfolding(crate::specs::ReplyParts::file_of))]
+fn read_file(alloc: Global, bytes: &[u8]) -> Result<Value, RepliesFault>
+    ensures { Gives Memory view result (file_of bytes.now) }
+{
+    let value = read_json(alloc, bytes)?;
+    check_tree(alloc, &value)?;
+    if !value.is_object() {
+        return Err(RepliesFault::Shape(Place::File));
+    }
+    Ok(value)
+}
+
+/// The values that stand as replies.
+#[tactic(auto, using(pact_file::proofs::Lists::listed_view), unfolding(crate::specs::ReplyParts::items_of))]
+fn items_in(file: &Value) -> Result<&Vec<Value>, RepliesFault>
+    ensures { Gives Memory (λ v. map view v.now.items) result (items_of (view file.now)) }
+{
+    file.get("replies")
+        .and_then(Value::as_array)
+        .ok_or(RepliesFault::Shape(Place::Replies))
+}
+
+fn read_list(alloc: Global, items: &[Value]) -> Result<Vec<Reply>, RepliesFault>
+    requires { AreSound 98 (items_view items.now) }
+    ensures { GivesOne Memory (λ v. v.items) result (EachRead ReplyRead 0 (map view items.now)) }
+{
+    let mut found = Vec::new(alloc);
+    for (index, item) in items.iter().enumerate() {
+        found.push(read_reply(alloc, index, item)?)?;
+    }
+    Ok(found)
+}
+
+/// Whether two replies are for one interaction.
+fn are_rivals(left: &Reply, right: &Reply) -> bool
+    ensures { IsTrue result ↔ AreRivals left.now right.now }
+{
+    left.is_for(right.description(), right.states_text())
+}
+
+fn has_rival(reply: &Reply, others: &[Reply]) -> bool
+    ensures { IsTrue result ↔ OneOf (λ s. AreRivals reply.now s) others.now }
+{
+    for other in others {
+        if are_rivals(reply, other) {
+            return true;
+        }
+    }
+    false
+}
+
+/// Whether a reply has a rival behind it.
+fn have_rivals(replies: &[Reply]) -> bool
+    ensures { IsTrue result ↔ HasRivals replies.now }
+{
+    for (index, reply) in replies.iter().enumerate() {
+        if has_rival(reply, &replies[index + 1..]) {
+            return true;
+        }
+    }
+    false
+}
+
+/// Reads recorded replies: an object whose `replies` is a list, each with a text `description`, provider states as in a pact
+/// file, and an object `response` with a `status` from 100 to 999, headers as in a pact file and an optional `body`. No two
+/// have one description and one list of states. The bytes are any. Each fault is the first one in the order of
+/// `RepliesFault`'s documentation. `Memory` comes for want of memory alone. (This project's own choice.)
+pub fn read_replies(alloc: Global, bytes: &[u8]) -> Result<Replies, RepliesFault>
+    ensures { GivesOne Memory (λ r. r) result (RepliesRead bytes.now) }
+{
+    let file = read_file(alloc, bytes)?;
+    let items = items_in(&file)?;
+    let found = read_list(alloc, items.as_slice())?;
+    if have_rivals(found.as_slice()) {
+        return Err(RepliesFault::SameReplyTwice);
+    }
+    Ok(Replies { replies: found })
+}
