@@ -154,3 +154,6 @@ pub fn read_request(
         }),
     }
 }
+
+#[cfg(test)]
+mod tests;
