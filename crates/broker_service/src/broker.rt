@@ -12,7 +12,7 @@ ghost use Rattle.broker_tables.specs.Holds.{Holds};
 ghost use Rattle.broker_tables.specs.Schema.{no_schema};
 ghost use Rattle.broker_tables.specs.Making.{IsBlank, IsMarked};
 ghost use Rattle.broker_service.specs.Parts.{the_parts};
-ghost use Rattle.broker_service.specs.Opening.{Refuses, Spared, Judged};
+ghost use Rattle.broker_service.specs.Opening.{Refuses, Spared, Judged, IsJudged};
 ghost use Rattle.broker_service.specs.Handed.{left_by, verdict};
 ghost use Rattle.broker_service.specs.Served.{IsServed, HasNoContract};
 ghost use Rattle.broker_service.specs.Ends.{Applies, IsAsBefore, LeavesNothing};
@@ -85,8 +85,10 @@ impl<S: Alter> Broker<S> {
 
     /// Opens the database that a broker left. Nothing is changed.
     ///
-    /// `NotABroker`: there is no table `meta` with one row. `Format`: its format is this other one. `Memory` and `Store` as of `create`.
+    /// `NotABroker`: the first table isn't `meta` with its columns and its key, or `meta` has not just one row. `Format`: the format in that row is this other one.
+    /// `Memory` and `Store` as of `create`; `Store` also where the format isn't a number from 0 to 2^32 - 1.
     pub fn open(conn: Connection<S>) -> Result<Broker<S>, Refused<S>>
+        ensures judges { HasCleanDisk (state S.Store (left_by result)) → IsJudged (state S.Store conn).now (verdict result) }
         ensures bare { HasCleanDisk (state S.Store (left_by result)) → Keeps IsBlank (state S.Store conn) → Judged None (verdict result) }
         ensures marked { HasCleanDisk (state S.Store (left_by result)) → (n : ℕ) (office : List ℕ) → Keeps (IsMarked n office) (state S.Store conn) → Judged (Some n) (verdict result) }
         ensures kept { IfOk result (λ b. HasCleanDisk (state S.Store b.connection) → IsAsBefore (state S.Store conn) (state S.Store b.connection)) }

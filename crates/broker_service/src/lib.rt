@@ -5,6 +5,7 @@ mod broker;
 mod callers;
 mod deploy;
 mod environments;
+mod format;
 mod forms;
 mod grants;
 mod listing;

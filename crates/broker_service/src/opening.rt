@@ -12,11 +12,12 @@ ghost use Rattle.broker_tables.specs.Making.{IsBlank, HasTables, IsMarked};
 ghost use Rattle.broker_service.specs.Parts.{the_parts};
 ghost use Rattle.broker_service.specs.Ends.{IsAsBefore, LeavesNothing};
 ghost use Rattle.broker_service.specs.Opening as spec;
-ghost use Rattle.broker_service.specs.Opening.{Turns, Leaves, Refuses, Spared, Judged, judgement};
+ghost use Rattle.broker_service.specs.Opening.{Turns, Leaves, Refuses, Spared, Judged, IsJudged, judgement};
 
 use crate::callers::digest_of;
+use crate::format::found_format;
 use broker_core::name::Token;
-use registry_tables::{format_of, is_blank, make_strict_environments};
+use registry_tables::{is_blank, make_strict_environments};
 use sqlite::{Alter, Connection};
 use std::alloc::Global;
 use table_access::{Fault, commit, enter, leave};
@@ -28,7 +29,7 @@ pub enum OpenFault {
     /// A table is there already, the broker's or another.
     #[error("the database has tables")]
     NotEmpty,
-    /// There is no table `meta` with one row.
+    /// The first table isn't `meta` with its columns and its key, or has not just one row.
     #[error("not a broker's database")]
     NotABroker,
     /// The tables are of this other format.
@@ -146,8 +147,9 @@ fn judge(found: Option<u32>) -> Result<(), OpenFault>
     }
 }
 
-/// Looks for a broker's tables of this format, and changes nothing.
+/// Looks for a broker's tables of this format, and changes nothing. A broker makes `meta` before each other table.
 pub(crate) fn open<S: Alter>(conn: &mut Connection<S>) -> Result<(), OpenFault>
+    ensures judges { HasCleanDisk (state S.Store conn.new) → IsJudged (state S.Store conn.old).now result }
     ensures bare { HasCleanDisk (state S.Store conn.new) → Keeps IsBlank (state S.Store conn.old) → Judged None result }
     ensures marked { HasCleanDisk (state S.Store conn.new) → (n : ℕ) (office : List ℕ) → Keeps (IsMarked n office) (state S.Store conn.old) → Judged (Some n) result }
     ensures kept { HasCleanDisk (state S.Store conn.new) → OnOk result (IsAsBefore (state S.Store conn.old) (state S.Store conn.new)) }
@@ -156,7 +158,7 @@ pub(crate) fn open<S: Alter>(conn: &mut Connection<S>) -> Result<(), OpenFault>
     ensures clean { doubt (state S.Store conn.old).is_clean ≤ doubt (state S.Store conn.new).is_clean }
 {
     match enter(conn) {
-        Ok(()) => match format_of(conn) {
+        Ok(()) => match found_format(conn) {
             Ok(found) => if leave(conn) {
                 judge(found)
             } else {

@@ -1,0 +1,87 @@
+//! The format of a database that is to be opened.
+ghost use Rattle.std.specs.Prelude.{◌≡◌, ◌≢◌, ◌↔◌, ◌∷◌, [], IsTrue, IfOk, MatchOption, Some, pos, map, length, slice_get};
+ghost use Rattle.sqlite.specs.Held.{state};
+ghost use Rattle.sqlite.specs.Table.{Table as SqlTable};
+ghost use Rattle.sqlite.specs.Order.{column};
+ghost use Rattle.sqlite.specs.declared.types.Value.TheVariants.{Int};
+ghost use Rattle.table_access.specs.Calls.{Call};
+ghost use Rattle.broker_tables.specs.Schema.{meta, numbers};
+ghost use Rattle.broker_service.specs.Opening.{IsMetaTable, Finds};
+
+use sqlite::{Alter, Connection, Row};
+use sqlite_schema::schema::{Column, Kind, Table};
+use sqlite_value::keys::Collation;
+use sqlite_value::value::Value;
+use table_access::{Fault, select};
+
+/// Whether a column has this name, and takes values of this kind alone.
+fn is_column(column: &Column, name: &[u8], kind: Kind) -> bool
+    ensures { IsTrue result ↔ (column.now ≡ record (numbers name.now) { kind = kind }) }
+{
+    column.name.as_slice() == name
+        && column.kind == kind
+        && column.is_strict
+        && column.not_null
+        && matches!(&column.default, Value::Null)
+        && column.collation == Collation::Binary
+}
+
+/// Whether these are the columns of `meta`.
+fn are_columns(columns: &[Column]) -> bool
+    ensures { IsTrue result ↔ (columns.now ≡ meta.columns) }
+{
+    match columns {
+        [one, format, office] => {
+            is_column(one, b"one", Kind::Integer)
+                && is_column(format, b"format", Kind::Integer)
+                && is_column(office, b"office_digest", Kind::Text)
+        }
+        _ => false,
+    }
+}
+
+/// Whether a table is `meta`, which was made before each other table.
+fn is_meta(table: &Table) -> bool
+    ensures { IsTrue result ↔ IsMetaTable table.now }
+{
+    table.name.as_slice() == b"meta".as_slice()
+        && table.tree == 0
+        && are_columns(table.columns.as_slice())
+        && table.key == Some(0)
+}
+
+/// Whether the first table is `meta`.
+fn has_meta<S: Alter>(conn: &Connection<S>) -> bool
+    ensures { IsTrue result ↔ ((table : SqlTable) × (slice_get (state S.Store conn.now).now.schema.tables 0 ≡ Some table) × IsMetaTable table) }
+{
+    match conn.schema().tables.as_slice().first() {
+        Some(table) => is_meta(table),
+        None => false,
+    }
+}
+
+/// The number in the first column of the one row. `None` where there isn't just one.
+fn one_number(rows: &[Row]) -> Result<Option<u32>, Fault>
+    ensures { IfOk result (λ found. MatchOption found (length rows.now ≢ 1) (λ n. map (λ row. column row 0) rows.now ≡ Int (pos n) ∷ [])) }
+{
+    match rows {
+        [row] => match row.get(0) {
+            Ok(number) => Ok(Some(number)),
+            Err(error) => Err(Fault::from(error)),
+        },
+        _ => Ok(None),
+    }
+}
+
+/// The format of a broker's tables, or `None` where the first table isn't `meta` with one row.
+pub(crate) fn found_format<S: Alter>(conn: &mut Connection<S>) -> Result<Option<u32>, Fault>
+    ensures { Call (state S.Store conn.old) (state S.Store conn.new) result (λ found. Finds (state S.Store conn.old).now found) }
+{
+    if !has_meta(conn) {
+        return Ok(None);
+    }
+    match select(conn, "SELECT format FROM meta", &[]) {
+        Ok(rows) => one_number(&rows),
+        Err(fault) => Err(fault),
+    }
+}
