@@ -1,5 +1,5 @@
 -- One call on the tables, and one after another.
-use Rattle.std.proofs.Common.{inl, inr, ◌≡◌, ◌∙◌, true, false, IsTrue, refl, ap, arith, Ok, Err, Result, IfOk, IfErr, OnOk, ℕ, List, Option, Some, None, ◌≤◌}
+use Rattle.std.proofs.Common.{inl, inr, ◌≡◌, ◌∙◌, true, false, IsTrue, refl, sym, ap, arith, Ok, Err, Result, IfOk, IfErr, OnOk, ℕ, List, Option, Some, None, ◌≤◌}
 use Rattle.std.specs.Prelude.{⊤}
 use Rattle.std.proofs.lemmas.Bool.{cases_Bool}
 use Rattle.sqlite.specs.Order.{Row}
@@ -13,8 +13,10 @@ use Rattle.sqlite_trees.specs.declared.error.StoreError.{StoreError}
 use Rattle.sqlite_trees.specs.declared.error.StoreError.TheVariants.{OutOfMemory, Io, Corrupt, Full, Broken, Unstorable}
 use Rattle.table_access.specs.Unit.{IsLeft}
 use Rattle.table_access.specs.declared.Fault.{Fault}
-use Rattle.table_access.specs.Calls.{LeavesCommit, Call, GoesOn, FailsAs, fault_of}
-use Rattle.table_access.proofs.Texts.{IsRefused, caused}
+use Rattle.table_access.specs.declared.Fault.TheVariants.{Memory, Store}
+use Rattle.table_access.specs.Calls.{LeavesCommit, Call, GoesOn, IsEnded, FailsAs, TellsMemory, fault_of}
+use Rattle.table_access.proofs.Refusals.{read_told}
+use Rattle.table_access.proofs.Texts.{IsRefused, caused, no_statement_told, command_told}
 
 pub left_commit : (a b : State) → IsLeft a b → LeavesCommit a b
 left_commit a b (inl same) = record { was_open = λ _. same.0.was_open; committed = λ _. same.0.committed_is }
@@ -35,24 +37,29 @@ shown_inside sql params old new rows h inside = rows_inside old new sql h.0 _ ro
 
 -- how a query fails
 fails_by : (old new : State) (sql : List ℕ) (c : Compiled) (params : Row) (e : Error) (returning : Option Returning) → FailsToShow old new sql c params e returning → IsRefused old new e
-fails_by old new sql c params e None h = inl h.3
-fails_by old new sql c params e (Some what) (inl same) = inl same.1
+fails_by old new sql c params e None h = inl (h.3, read_told old.step_limit c.command h.0 params e h.2)
+fails_by old new sql c params e (Some what) (inl same) = inl (same.1, command_told old c _ params e same.0)
 fails_by old new sql c params e (Some what) (inr fails) = inr (fails.0, fails.1, caused old new _ fails.0 fails.2, fails.3, fails.4)
 
 pub query_by : (sql : List ℕ) (params : Row) (old new : State) (e : Error) → FailsToQuery sql params old new e → IsRefused old new e
 unfolding FailsToQuery IsNotRun
-query_by sql params old new e (inl (inl h)) = inl h.1
+query_by sql params old new e (inl (inl h)) = inl (h.1, no_statement_told old sql params e h.0)
 query_by sql params old new e (inl (inr h)) = inr (h.0, h.1, caused old new _ h.0 h.2, h.3, h.4)
 query_by sql params old new e (inr h) = fails_by old new sql h.0 _ e h.0.returning h.2
 
 pub refused_left : (old new : State) (e : Error) → IsRefused old new e → IsLeft old new
-refused_left old new e (inl same) = inl same
+refused_left old new e (inl same) = inl same.0
 refused_left old new e (inr fails) = inr fails.3
 
 -- a statement that is refused leaves the transaction, or the store failed
 pub refused_fails : (old new : State) (e : Error) (fault : Fault) → fault ≡ fault_of e → IsRefused old new e → IsTrue old.in_transaction → FailsAs old new fault
-refused_fails old new e fault is (inl same) inside = inl (same.0.mode ∙ inside, λ _. same.0.is_open)
+refused_fails old new e fault is (inl same) inside = inl (same.0.0.mode ∙ inside, λ _. same.0.0.is_open)
 refused_fails old new e fault is (inr fails) inside = inr (record { cause = fails.0; told = is ∙ ap fault_of fails.1; has = fails.2; over = fails.3.autocommit; blamed = fails.4 })
+
+-- want of memory ended the transaction
+pub refused_short : (old new : State) (e : Error) (fault : Fault) → fault ≡ fault_of e → IsRefused old new e → fault ≡ Memory → IsEnded old new Memory
+refused_short old new e fault is (inl same) short = absurd (let clash : Memory ≡ Store = sym short ∙ is ∙ same.1 in cc)
+refused_short old new e fault is (inr fails) short = record { cause = fails.0; told = sym short ∙ is ∙ ap fault_of fails.1; has = fails.2; over = fails.3.autocommit; blamed = fails.4 }
 
 pub shows_outside : (sql : List ℕ) (params : Row) (old : State) (db : Trees) → CommitsShowing sql params old db → old.in_transaction ≡ false
 unfolding CommitsShowing
@@ -149,3 +156,7 @@ seq {A} {B} old mid new a r P Q R more one two = record {
 -- a call that failed after another
 pub failed_then : {A B C : Type 0} (old mid new : State) (a : A) (e : Fault) (P : A → Type 0) (Q : B → Type 0) (R : C → Type 0) → Call old mid (Ok a) P → Call mid new (Err e) Q → Call old new (Err e) R
 failed_then {A} {B} {C} old mid new a e P Q R one two = then_err old new e Q R (seq old mid new a (Err e) P Q Q (λ p b q. q) one two)
+
+-- the want of memory of a call, handed on
+pub short_err : {A B : Type 0} (old new : State) (e : Fault) → TellsMemory {A = A} old new (Err e) → TellsMemory {A = B} old new (Err e)
+short_err old new e short clean inside is = short clean inside (let same : e ≡ Memory = (let h = is in cc) in ap Err same)

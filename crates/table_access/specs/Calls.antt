@@ -1,5 +1,5 @@
 -- What a call on the tables leaves of a connection.
-use Rattle.std.specs.Prelude.{◌≡◌, ◌⊎◌, false, IsTrue, ⊤, Result, IfOk, IfErr, OnOk}
+use Rattle.std.specs.Prelude.{◌≡◌, ◌⊎◌, false, IsTrue, ⊤, Result, Err, IfOk, IfErr, OnOk}
 use Rattle.sqlite.specs.declared.error.ErrorCode.TheVariants as code
 use Rattle.sqlite.specs.declared.error.Error.{Error}
 use Rattle.sqlite.specs.declared.error.Error.TheVariants.{SqliteFailure}
@@ -34,6 +34,10 @@ pub record IsEnded (old new : State) (fault : Fault) : Type 0 where
 -- A statement was refused, a row broke the rules or a growth was refused, and the transaction is still open; or the store failed.
 abbrev pub FailsAs : State → State → Fault → Type 0
 FailsAs old new fault = GoesOn old new ⊎ IsEnded old new fault
+
+-- Memory is told only where the store had none, which ended the transaction.
+abbrev pub TellsMemory : {A : Type 0} → State → State → Result A Fault → Type 0
+TellsMemory old new r = HasCleanDisk new → IsTrue old.in_transaction → r ≡ Err Memory → IsEnded old new Memory
 
 -- P of the answer, in a transaction that goes on, or a failure. Nothing is committed, and a crash leaves what it left before.
 pub record Call {A : Type 0} (old new : State) (r : Result A Fault) (P : A → Type 0) : Type 0 where

@@ -5,14 +5,15 @@
 #![tactic(auto)]
 
 ghost use Rattle.std.specs.Prelude.{◌≡◌, ℕ, Ok, Err, false, [], List, IsTrue, IfOk, IfErr, OnOk, OnErr, codes};
-ghost use Rattle.sqlite.specs.State.{HasCleanDisk, Shows, KeepsCounts, Commits, IsUnchanged, IsRolledBack, Survives, IsLive, Executes, Shown, FailsToQuery};
+ghost use Rattle.sqlite.specs.State.{HasCleanDisk, Shows, KeepsCounts, Commits, IsUnchanged, IsRolledBack, Survives, IsLive, Executes, Shown};
 ghost use Rattle.sqlite.specs.declared.error.Error.{Error as SqlError};
 ghost use Rattle.sqlite.specs.Held.{state};
 ghost use Rattle.sqlite.specs.Values.{bound};
 ghost use Rattle.sqlite_resolve.specs.Compile.{first};
 ghost use Rattle.table_access.specs.Unit.{Begins, IsLeft};
-ghost use Rattle.table_access.specs.Calls.{LeavesCommit, Call};
+ghost use Rattle.table_access.specs.Calls.{LeavesCommit, Call, TellsMemory};
 ghost use Rattle.table_access.specs.Calls as spec;
+ghost use Rattle.table_access.specs.Reading.{IsRefusedAs};
 ghost use Rattle.table_access.specs.Writes.{IsWriteText};
 
 use sqlite::types::ValueRef;
@@ -129,6 +130,7 @@ pub fn change<S: Alter>(
     requires { IsWriteText (first sql.now) }
     ensures leaves { Call (state S.Store conn.old) (state S.Store conn.new) result (λ _. (count : ℕ) × Executes sql.now (bound params.now) (state S.Store conn.old) (state S.Store conn.new) (Ok count)) }
     ensures told { HasCleanDisk (state S.Store conn.new) → IfErr result (λ f. (e : SqlError) × (f ≡ spec.fault_of e) × Executes sql.now (bound params.now) (state S.Store conn.old) (state S.Store conn.new) (Err e)) }
+    ensures short { TellsMemory (state S.Store conn.old) (state S.Store conn.new) result }
 {
     match conn.execute(sql, params) {
         Ok(_) => Ok(()),
@@ -143,7 +145,8 @@ pub fn select<S: Alter>(
     params: &[ValueRef<'_>],
 ) -> Result<Vec<Row>, Fault>
     ensures leaves { Call (state S.Store conn.old) (state S.Store conn.new) result (λ rows. Shown sql.now (bound params.now) (state S.Store conn.old) (state S.Store conn.new) rows.items) }
-    ensures told { HasCleanDisk (state S.Store conn.new) → IfErr result (λ f. (e : SqlError) × (f ≡ spec.fault_of e) × FailsToQuery sql.now (bound params.now) (state S.Store conn.old) (state S.Store conn.new) e) }
+    ensures told { HasCleanDisk (state S.Store conn.new) → IfErr result (IsRefusedAs sql.now (bound params.now) (state S.Store conn.old) (state S.Store conn.new)) }
+    ensures short { TellsMemory (state S.Store conn.old) (state S.Store conn.new) result }
 {
     match conn.query_all(sql, params) {
         Ok(rows) => Ok(rows),

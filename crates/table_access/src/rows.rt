@@ -1,17 +1,15 @@
 //! Answers of queries, read into values.
 
-ghost use Rattle.std.specs.Prelude.{◌≡◌, pos, List, [], IfOk, IfErr, length, option_map, string_bytes, slice_get};
-ghost use Rattle.sqlite.specs.State.{HasCleanDisk, Shown, FailsToQuery};
+ghost use Rattle.std.specs.Prelude.{◌≡◌, ◌↔◌, pos, List, [], Some, IfOk, IfErr, IsTrue, length, option_map, string_bytes, slice_get};
+ghost use Rattle.sqlite.specs.State.{HasCleanDisk, Shown};
 ghost use Rattle.sqlite.specs.Held.{state};
 ghost use Rattle.sqlite.specs.Values.{bound};
 ghost use Rattle.sqlite.specs.Order.{Row as SqlRow, column};
 ghost use Rattle.sqlite_rules.specs.Lists.{Has};
 ghost use Rattle.sqlite.specs.declared.types.Value.TheVariants.{Int};
-ghost use Rattle.sqlite.specs.declared.error.Error.{Error as SqlError};
-ghost use Rattle.table_access.specs.Calls.{Call};
-ghost use Rattle.table_access.specs.Calls as spec;
+ghost use Rattle.table_access.specs.Calls.{Call, TellsMemory};
 ghost use Rattle.table_access.specs.Columns.{text};
-ghost use Rattle.table_access.specs.Reading.{AreRead, FailsToRead, IsTextRow, IsNumberRow};
+ghost use Rattle.table_access.specs.Reading.{AreRead, IsRefusedAs, FailsToRead, FailsToTake, IsTextRow, TellsText, TellsNumber};
 
 use crate::{Fault, fault_of, select};
 use sqlite::types::ValueRef;
@@ -36,7 +34,7 @@ pub trait ReadRow {
 /// Reads each row.
 fn read_all<R: ReadRow>(alloc: Global, rows: &[Row]) -> Result<Vec<R::Item>, Fault>
     ensures ok { IfOk result (λ items. AreRead R.reads_as rows.now items.items) }
-    ensures told { IfErr result (λ f. f ≡ Fault.Store → (row : SqlRow) × Has rows.now row × (¬ R.is_readable row)) }
+    ensures told { IfErr result (λ f. (row : SqlRow) × Has rows.now row × (f ≡ Fault.Store → ¬ R.is_readable row)) }
 {
     let mut items = Vec::new(alloc);
     for row in rows {
@@ -74,7 +72,8 @@ pub fn count_of<S: Alter>(
     params: &[ValueRef<'_>],
 ) -> Result<usize, Fault>
     ensures leaves { Call (state S.Store conn.old) (state S.Store conn.new) result (λ count. (rows : List SqlRow) × Shown sql.now (bound params.now) (state S.Store conn.old) (state S.Store conn.new) rows × (count ≡ length rows)) }
-    ensures told { HasCleanDisk (state S.Store conn.new) → IfErr result (λ f. (e : SqlError) × (f ≡ spec.fault_of e) × FailsToQuery sql.now (bound params.now) (state S.Store conn.old) (state S.Store conn.new) e) }
+    ensures told { HasCleanDisk (state S.Store conn.new) → IfErr result (IsRefusedAs sql.now (bound params.now) (state S.Store conn.old) (state S.Store conn.new)) }
+    ensures short { TellsMemory (state S.Store conn.old) (state S.Store conn.new) result }
 {
     match select(conn, sql, params) {
         Ok(rows) => Ok(rows.len()),
@@ -82,30 +81,48 @@ pub fn count_of<S: Alter>(
     }
 }
 
-/// The text in the first column of the first row, if there is a row.
-fn first_text(rows: &[Row]) -> Result<Option<String>, Fault>
-    ensures ok { IfOk result (λ found. option_map string_bytes found ≡ option_map (text 0) (slice_get rows.now 0)) }
-    ensures told { IfErr result (λ f. f ≡ Fault.Store → (row : SqlRow) × Has rows.now row × (¬ IsTextRow row)) }
+/// Whether the first column is a text in UTF-8.
+fn is_text(row: &Row) -> bool
+    ensures { IsTrue result ↔ IsTextRow row.now }
 {
-    match rows.first() {
-        None => Ok(None),
-        Some(row) => match row.get(0) {
-            Ok(text) => Ok(Some(text)),
-            Err(error) => Err(fault_of(error)),
-        },
+    match row.get_ref(0) {
+        Ok(ValueRef::Text(bytes)) => std::str::from_utf8(bytes).is_ok(),
+        _ => false,
     }
 }
 
-/// The whole number in the first column of the first row, if there is a row.
-fn first_number(rows: &[Row]) -> Result<Option<u32>, Fault>
-    ensures ok { IfOk result (λ found. option_map (λ n. Int (pos n)) found ≡ option_map (λ row. column row 0) (slice_get rows.now 0)) }
-    ensures told { IfErr result (λ f. f ≡ Fault.Store → (row : SqlRow) × Has rows.now row × (¬ IsNumberRow row)) }
+/// The text in the first column of the first row, if there is a row. `Fault::Store` where there is no text, and `Fault::Memory` where there is one and no room for it.
+fn first_text(rows: &[Row]) -> Result<Option<String>, Fault>
+    ensures ok { IfOk result (λ found. option_map string_bytes found ≡ option_map (text 0) (slice_get rows.now 0)) }
+    ensures told { IfErr result (λ f. (row : SqlRow) × (slice_get rows.now 0 ≡ Some row) × TellsText row f) }
 {
     match rows.first() {
         None => Ok(None),
-        Some(row) => match row.get(0) {
-            Ok(number) => Ok(Some(number)),
-            Err(error) => Err(fault_of(error)),
+        Some(row) => {
+            if !is_text(row) {
+                return Err(Fault::Store);
+            }
+            match row.get(0) {
+                Ok(text) => Ok(Some(text)),
+                Err(error) => Err(fault_of(error)),
+            }
+        }
+    }
+}
+
+/// The whole number in the first column of the first row, if there is a row. `Fault::Store` where there is no number from 0 to 2^32 - 1.
+fn first_number(rows: &[Row]) -> Result<Option<u32>, Fault>
+    ensures ok { IfOk result (λ found. option_map (λ n. Int (pos n)) found ≡ option_map (λ row. column row 0) (slice_get rows.now 0)) }
+    ensures told { IfErr result (λ f. (row : SqlRow) × (slice_get rows.now 0 ≡ Some row) × TellsNumber row f) }
+{
+    match rows.first() {
+        None => Ok(None),
+        Some(row) => match row.get_ref(0) {
+            Ok(ValueRef::Int(number)) => match u32::try_from(number) {
+                Ok(number) => Ok(Some(number)),
+                Err(_) => Err(Fault::Store),
+            },
+            _ => Err(Fault::Store),
         },
     }
 }
@@ -118,7 +135,7 @@ pub fn text_of<S: Alter>(
 ) -> Result<Option<String>, Fault>
     ensures leaves { Call (state S.Store conn.old) (state S.Store conn.new) result (λ found.
         (rows : List SqlRow) × Shown sql.now (bound params.now) (state S.Store conn.old) (state S.Store conn.new) rows × (option_map string_bytes found ≡ option_map (text 0) (slice_get rows 0))) }
-    ensures told { HasCleanDisk (state S.Store conn.new) → IfErr result (FailsToRead IsTextRow sql.now (bound params.now) (state S.Store conn.old) (state S.Store conn.new)) }
+    ensures told { HasCleanDisk (state S.Store conn.new) → IfErr result (FailsToTake TellsText sql.now (bound params.now) (state S.Store conn.old) (state S.Store conn.new)) }
 {
     match select(conn, sql, params) {
         Ok(rows) => first_text(&rows),
@@ -134,7 +151,8 @@ pub fn number_of<S: Alter>(
 ) -> Result<Option<u32>, Fault>
     ensures leaves { Call (state S.Store conn.old) (state S.Store conn.new) result (λ found.
         (rows : List SqlRow) × Shown sql.now (bound params.now) (state S.Store conn.old) (state S.Store conn.new) rows × (option_map (λ n. Int (pos n)) found ≡ option_map (λ row. column row 0) (slice_get rows 0))) }
-    ensures told { HasCleanDisk (state S.Store conn.new) → IfErr result (FailsToRead IsNumberRow sql.now (bound params.now) (state S.Store conn.old) (state S.Store conn.new)) }
+    ensures told { HasCleanDisk (state S.Store conn.new) → IfErr result (FailsToTake TellsNumber sql.now (bound params.now) (state S.Store conn.old) (state S.Store conn.new)) }
+    ensures short { TellsMemory (state S.Store conn.old) (state S.Store conn.new) result }
 {
     match select(conn, sql, params) {
         Ok(rows) => first_number(&rows),

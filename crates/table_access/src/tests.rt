@@ -1,6 +1,9 @@
+ghost use Rattle.std.specs.Prelude.{IsTrue, IfOk};
+ghost use Rattle.sqlite_disk.specs.Memory.{memory_is_usable};
+
 use super::*;
 use sqlite::{FileStore, Files, Options, params};
-use sqlite_disk::{Fuse, Memory};
+use sqlite_disk::{Disk, Fuse, Memory};
 use std::alloc::Global;
 use std::test::Fail;
 
@@ -186,5 +189,53 @@ fn tells_a_broken_disk(rt: HostRuntime) -> Result<(), Fail> {
     assert!(rt; counts.0 > 0, "{} {} {}", counts.0, counts.1, counts.2);
     assert!(rt; counts.1 > 0, "{} {} {}", counts.0, counts.1, counts.2);
     assert_eq!(rt; counts.2, 0);
+    Ok(())
+}
+
+fn open(alloc: Global, log: Memory, db: Memory) -> Result<Connection<FileStore<Memory>>, Fail>
+    requires { IsTrue (memory_is_usable log) × IsTrue (memory_is_usable db) }
+{
+    match Connection::open_files(alloc, Files { log, db }, Options::new(7)) {
+        Ok(conn) => Ok(conn),
+        Err(_) => Err(Fail::from("open")),
+    }
+}
+
+fn close<D: Disk + Drop>(conn: Connection<FileStore<D>>) -> Result<D, Fail>
+    ensures { IfOk result (λ db. IsTrue (D.Disk.is_usable db)) }
+{
+    match conn.close_files() {
+        Ok(files) => Ok(files.db),
+        Err((_, store)) => {
+            drop(store.close());
+            Err(Fail::from("close"))
+        }
+    }
+}
+
+/// Commits a first word. False where the commit was refused.
+fn commit_word<S: Alter>(conn: &mut Connection<S>) -> Result<bool, Fault> {
+    enter(conn)?;
+    make(conn)?;
+    put(conn, 1, "a")?;
+    Ok(commit(conn))
+}
+
+/// A second word, which is not committed.
+fn begin_another<S: Alter>(conn: &mut Connection<S>) -> Result<(), Fault> {
+    enter(conn)?;
+    put(conn, 2, "b")
+}
+
+/// What was committed to a file is there when it is opened again; what was not is not.
+#[test]
+fn reopens_a_file(rt: HostRuntime) -> Result<(), Fail> {
+    let alloc = rt.alloc();
+    let mut conn = open(alloc, Memory::new(alloc), Memory::new(alloc))?;
+    assert_eq!(rt; commit_word(&mut conn), Ok(true));
+    assert_eq!(rt; begin_another(&mut conn), Ok(()));
+    let db = close(conn)?;
+    let mut again = open(alloc, Memory::new(alloc), db)?;
+    assert_eq!(rt; texts(alloc, &mut again)?.as_str(), "a ");
     Ok(())
 }

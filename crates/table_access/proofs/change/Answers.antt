@@ -1,7 +1,9 @@
 use Rattle.sqlite.proofs.StateLemmas.{survives_weaker}
 use Rattle.table_access.proofs.Texts.{refused_by}
 use Rattle.table_access.proofs.WriteLemmas.{commits_outside, executes_inside}
-use Rattle.table_access.proofs.CallLemmas.{left_commit, shows_commit, refused_left, refused_fails}
+use Rattle.table_access.proofs.CallLemmas.{left_commit, shows_commit, refused_left, refused_fails, refused_short}
+use Rattle.std.proofs.Common.{◌≡◌}
+use Rattle.table_access.specs.declared.Fault.TheVariants.{Memory}
 use Rattle.table_access.proofs.change.Goals as goal
 
 pub returns-in-Ok-clause-leaves : goal.returns-in-Ok-clause-leaves
@@ -24,3 +26,7 @@ returns-in-Err-clause-leaves g c = record {
 
 pub returns-in-Err-clause-told : goal.returns-in-Err-clause-told
 returns-in-Err-clause-told g c clean = (c.in-Err.error, c.fault_of.ensures, c.in-Err.ensures.runs clean)
+
+pub returns-in-Err-clause-short : goal.returns-in-Err-clause-short
+returns-in-Err-clause-short g c clean inside is =
+    refused_short _ _ _ c.fault_of.result c.fault_of.ensures (refused_by _ _ _ _ _ (c.in-Err.ensures.runs clean)) (let same : c.fault_of.result ≡ Memory = (let h = is in cc) in same)

@@ -1,5 +1,7 @@
 use Rattle.sqlite.proofs.StateLemmas.{survives_weaker}
-use Rattle.table_access.proofs.CallLemmas.{left_commit, shows_commit, shown_inside, query_by, refused_left, refused_fails, shows_outside}
+use Rattle.table_access.proofs.CallLemmas.{left_commit, shows_commit, shown_inside, query_by, refused_left, refused_fails, refused_short, shows_outside}
+use Rattle.std.proofs.Common.{◌≡◌}
+use Rattle.table_access.specs.declared.Fault.TheVariants.{Memory}
 use Rattle.table_access.proofs.select.Goals as goal
 
 pub returns-in-Ok-clause-leaves : goal.returns-in-Ok-clause-leaves
@@ -22,3 +24,7 @@ returns-in-Err-clause-leaves g c = record {
 
 pub returns-in-Err-clause-told : goal.returns-in-Err-clause-told
 returns-in-Err-clause-told g c clean = (c.in-Err.error, c.fault_of.ensures, c.in-Err.ensures.err clean)
+
+pub returns-in-Err-clause-short : goal.returns-in-Err-clause-short
+returns-in-Err-clause-short g c clean inside is =
+    refused_short _ _ _ c.fault_of.result c.fault_of.ensures (query_by _ _ _ _ _ (c.in-Err.ensures.err clean)) (let same : c.fault_of.result ≡ Memory = (let h = is in cc) in same)

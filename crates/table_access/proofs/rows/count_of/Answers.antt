@@ -1,6 +1,6 @@
 use Rattle.std.proofs.Common.{◌∙◌}
 use Rattle.sqlite.specs.Held.{state}
-use Rattle.table_access.proofs.CallLemmas.{then_ok, then_err}
+use Rattle.table_access.proofs.CallLemmas.{then_ok, then_err, short_err}
 use Rattle.table_access.proofs.rows.count_of.Goals as goal
 
 pub returns-in-Ok-clause-leaves : goal.returns-in-Ok-clause-leaves
@@ -9,3 +9,6 @@ returns-in-Ok-clause-leaves g c =
 
 pub returns-in-Err-clause-leaves : goal.returns-in-Err-clause-leaves
 returns-in-Err-clause-leaves g c = then_err (state g.S.Store c.args.conn.now) (state g.S.Store c.select.new.conn) c.in-Err.fault _ _ c.in-Err.ensures.leaves
+
+pub returns-in-Err-clause-short : goal.returns-in-Err-clause-short
+returns-in-Err-clause-short g c = short_err (state g.S.Store c.args.conn.now) (state g.S.Store c.select.new.conn) c.in-Err.fault c.in-Err.ensures.short

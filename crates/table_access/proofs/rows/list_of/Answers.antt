@@ -10,7 +10,7 @@ returns-in-Ok-clause-leaves g c =
     (IfOk-weaker c.read_all.result _ _ (λ items are shown. (c.in-Ok.rows.items, shown, are)) (rw c.deref.ensures.value at c.read_all.ensures.ok)) c.in-Ok.ensures.leaves
 
 pub returns-in-Ok-clause-told : goal.returns-in-Ok-clause-told
-returns-in-Ok-clause-told g c clean = IfErr-weaker c.read_all.result _ _ (λ fault why. inr (c.in-Ok.rows.items, c.in-Ok.ensures.leaves.ok clean, why)) (rw c.deref.ensures.value at c.read_all.ensures.told)
+returns-in-Ok-clause-told g c clean = IfErr-weaker c.read_all.result _ _ (λ fault why. inr (c.in-Ok.rows.items, c.in-Ok.ensures.leaves.ok clean, why.0, why.1, why.2)) (rw c.deref.ensures.value at c.read_all.ensures.told)
 
 pub returns-in-Err-clause-leaves : goal.returns-in-Err-clause-leaves
 returns-in-Err-clause-leaves g c = then_err (state g.S.Store c.args.conn.now) (state g.S.Store c.select.new.conn) c.in-Err.fault _ _ c.in-Err.ensures.leaves

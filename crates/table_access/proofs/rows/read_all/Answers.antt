@@ -5,7 +5,10 @@ use Rattle.table_access.proofs.ReadLemmas.{has_get, read_turn}
 use Rattle.table_access.proofs.rows.read_all.Goals as goal
 
 pub returns-in-Err-clause-told : goal.returns-in-Err-clause-told
-returns-in-Err-clause-told g c = λ is. (c.row-item.result, subst (Has c.args.rows.now) (sym c.row-item.is) (has_get c.args.rows.now c.loop-row.row-index c.row-item.result c.loop-row-test.true), c.in-Err.ensures.told is)
+returns-in-Err-clause-told g c = (c.row-item.result, subst (Has c.args.rows.now) (sym c.row-item.is) (has_get c.args.rows.now c.loop-row.row-index c.row-item.result c.loop-row-test.true), c.in-Err.ensures.told)
+
+pub returns-in-Err-push-clause-told : goal.returns-in-Err-push-clause-told
+returns-in-Err-push-clause-told g c = (c.row-item.result, subst (Has c.args.rows.now) (sym c.row-item.is) (has_get c.args.rows.now c.loop-row.row-index c.row-item.result c.loop-row-test.true), λ is. absurd cc)
 
 pub loop-row-preserved : goal.loop-row-preserved
 loop-row-preserved g c =
