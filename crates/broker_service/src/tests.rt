@@ -371,3 +371,58 @@ fn closed_and_opened(rt: HostRuntime) -> Result<(), Fail> {
     );
     Ok(())
 }
+
+const META: &str =
+    "CREATE TABLE meta (one INTEGER NOT NULL PRIMARY KEY, format INTEGER NOT NULL, office_digest TEXT NOT NULL) STRICT";
+
+/// What `open` says of a database on which these two statements were run.
+fn opened(alloc: Global, texts: [&str; 2]) -> Result<Option<OpenFault>, Fail> {
+    let mut conn = blank(alloc)?;
+    for text in texts {
+        conn.execute(text, &[])?;
+    }
+    Ok(fault_of(Broker::open(conn)))
+}
+
+#[test]
+fn another_database_is_no_brokers(rt: HostRuntime) -> Result<(), Fail> {
+    for (first, second, fault) in [
+        (
+            "CREATE TABLE meta (one INTEGER NOT NULL PRIMARY KEY) STRICT",
+            "INSERT INTO meta (one) VALUES (1)",
+            OpenFault::NotABroker,
+        ),
+        (
+            "CREATE TABLE notes (text TEXT NOT NULL) STRICT",
+            META,
+            OpenFault::NotABroker,
+        ),
+        (
+            META,
+            "CREATE TABLE notes (text TEXT NOT NULL) STRICT",
+            OpenFault::NotABroker,
+        ),
+        (
+            META,
+            "INSERT INTO meta (one, format, office_digest) VALUES (1, 2, 'd'), (2, 2, 'd')",
+            OpenFault::NotABroker,
+        ),
+        (
+            META,
+            "INSERT INTO meta (one, format, office_digest) VALUES (1, 1, 'd')",
+            OpenFault::Format(1),
+        ),
+        (
+            META,
+            "INSERT INTO meta (one, format, office_digest) VALUES (1, -1, 'd')",
+            OpenFault::Store,
+        ),
+    ] {
+        assert_eq!(rt;
+            opened(rt.alloc(), [first, second])?,
+            Some(fault),
+            "{second}"
+        );
+    }
+    Ok(())
+}
