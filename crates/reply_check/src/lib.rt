@@ -21,4 +21,6 @@ pub use read::read_replies;
 pub use reply::{Replies, Reply};
 
 #[cfg(test)]
+mod plain_fit;
+#[cfg(test)]
 mod tests;
