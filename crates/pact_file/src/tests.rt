@@ -1,3 +1,7 @@
+mod calls;
+mod files;
+mod rows;
+
 use super::*;
 use pact_rules::Tree;
 use std::alloc::Global;
@@ -296,6 +300,32 @@ fn takes_a_mebibyte(rt: HostRuntime) -> Result<(), Fail> {
         }
         let found = told(rt.alloc(), file.as_str().as_bytes())?;
         assert_eq!(rt; found.as_str(), want, "at {length}");
+    }
+    Ok(())
+}
+
+/// A file of so many bytes with one interaction without states, whose normal text has 20 bytes more.
+fn file_of_length(alloc: Global, length: usize) -> Result<String, Fail> {
+    let mut file = String::from_str(
+        alloc,
+        "{\"consumer\":{\"name\":\"shop\"},\"interactions\":[{\"request\":{},\"response\":{},\"description\":\"",
+    )?;
+    let end = "\"}],\"provider\":{\"name\":\"stock\"}}";
+    for _ in (file.len() + end.len())..length {
+        file.push_str("x")?;
+    }
+    file.push_str(end)?;
+    Ok(file)
+}
+
+#[test]
+fn takes_a_normal_text_of_a_mebibyte(rt: HostRuntime) -> Result<(), Fail> {
+    for (length, want) in [(1_048_556, 1_048_576), (1_048_557, 6)] {
+        let file = file_of_length(rt.alloc(), length)?;
+        assert_eq!(rt; file.len(), length);
+        let found = told(rt.alloc(), file.as_str().as_bytes())?;
+        assert_eq!(rt; found.len(), want);
+        assert!(rt; (want == 6) == (found.as_str() == "pact 1"));
     }
     Ok(())
 }
