@@ -1,10 +1,11 @@
 //! Readers and writers that fail.
 use crate::first_run::*;
-use crate::fixture::{new_broker, replay};
+use crate::fixture::new_broker;
 use broker_http::{Ended, ServeFault, Served, serve};
+use broker_service::Broker;
+use sqlite::MemStore;
 use std::alloc::Global;
 use std::io::{self, ErrorKind, Read, Write};
-use std::process::Abort;
 use std::test::Fail;
 
 /// A reader of one byte at a time that is interrupted after so many.
@@ -52,118 +53,97 @@ impl Write for Full {
     }
 }
 
-/// How many of the seven requests end within so many bytes.
-fn whole_requests(bytes: usize) -> usize {
-    let mut count = 0usize;
-    let mut end = 0usize;
-    for request in REQUESTS {
-        end = end.saturating_add(request.len());
-        if end <= bytes {
-            count = count.saturating_add(1);
-        }
-    }
-    count
-}
-
-/// The requests behind the first so many are answered as in the run that nothing stopped.
-fn go_on(
-    rt: &(impl Abort + AllocGlobal),
-    broker: &mut broker_service::Broker<sqlite::MemStore>,
-    place: usize,
-) -> Result<(), Fail> {
-    let stream = requests_from(rt.alloc(), place)?;
-    let wanted = answers_from(rt.alloc(), place)?;
-    let (_, out) = replay(rt.alloc(), broker, stream.as_slice())?;
-    assert_eq!(rt; out.as_slice(), wanted.as_slice(), "from {place}");
-    Ok(())
-}
-
-/// A reader that fails after so many bytes leaves the whole requests answered.
-fn fail_reading(rt: &(impl Abort + AllocGlobal), stream: &[u8], count: usize) -> Result<(), Fail> {
-    let mut broker = new_broker(rt.alloc())?;
+/// What the first run is answered where its reader fails after so many bytes.
+fn cut_reading(
+    alloc: Global,
+    broker: &mut Broker<MemStore>,
+    count: usize,
+) -> Result<(Result<Served, ServeFault>, Vec<u8>), Fail> {
+    let stream = joined(alloc, REQUESTS.as_slice(), 0)?;
     let mut reader = Interrupted {
-        bytes: stream,
+        bytes: stream.as_slice(),
         left: count,
     };
-    let mut out = Vec::new(rt.alloc());
-    let served = serve(rt.alloc(), &mut broker, &mut reader, &mut out);
-    let done = whole_requests(count);
-    let wanted = answers_from(rt.alloc(), 0)?;
-    let end = if done < 7 {
-        done.saturating_mul(DONE_ANSWER.len())
-    } else {
-        wanted.len()
-    };
-    assert_eq!(rt; served, Err(ServeFault::Read), "after {count}");
-    assert!(rt; wanted.starts_with(out.as_slice()), "after {count}");
-    assert_eq!(rt; out.len(), end, "after {count}");
-    go_on(rt, &mut broker, done)
+    let mut out = Vec::new(alloc);
+    let served = serve(alloc, broker, &mut reader, &mut out);
+    Ok((served, out))
 }
 
-/// A writer that fails after so many bytes leaves the command done whose answer was cut.
-fn fail_writing(
-    rt: &(impl Abort + AllocGlobal),
-    stream: &[u8],
+/// What the first run is answered where its writer takes so many bytes.
+fn cut_writing(
+    alloc: Global,
+    broker: &mut Broker<MemStore>,
     count: usize,
     fails: bool,
-) -> Result<(), Fail> {
-    let mut broker = new_broker(rt.alloc())?;
-    let mut reader = stream;
+) -> Result<(Result<Served, ServeFault>, Vec<u8>), Fail> {
+    let stream = joined(alloc, REQUESTS.as_slice(), 0)?;
+    let mut reader = stream.as_slice();
     let mut writer = Full {
-        bytes: Vec::new(rt.alloc()),
+        bytes: Vec::new(alloc),
         left: count,
         fails,
     };
-    let served = serve(rt.alloc(), &mut broker, &mut reader, &mut writer);
-    let done = (count / DONE_ANSWER.len().max(1)).min(6) + 1;
-    let wanted = answers_from(rt.alloc(), 0)?;
-    assert_eq!(rt; served, Err(ServeFault::Write), "after {count}");
-    assert!(rt;
-        wanted.starts_with(writer.bytes.as_slice()),
-        "after {count}"
-    );
-    assert_eq!(rt; writer.bytes.len(), count, "after {count}");
-    go_on(rt, &mut broker, done)
+    let served = serve(alloc, broker, &mut reader, &mut writer);
+    Ok((served, writer.bytes))
+}
+
+/// Whether these are the first so many bytes of the first run's answers.
+fn is_front(alloc: Global, out: &[u8], length: usize) -> Result<bool, Fail> {
+    let wanted = joined(alloc, ANSWERS.as_slice(), 0)?;
+    Ok(wanted.starts_with(out) && out.len() == length)
+}
+
+/// Whether the requests that are whole within so many bytes are done and answered, and nothing else, where the reader fails then.
+fn is_cut_reading(alloc: Global, count: usize, done: usize, length: usize) -> Result<bool, Fail> {
+    let mut broker = new_broker(alloc)?;
+    let (served, out) = cut_reading(alloc, &mut broker, count)?;
+    Ok(
+        served == Err(ServeFault::Read)
+            && is_front(alloc, out.as_slice(), length)?
+            && goes_on(alloc, &mut broker, done)?,
+    )
 }
 
 #[test]
 fn a_reader_fails(rt: HostRuntime) -> Result<(), Fail> {
-    let stream = requests_from(rt.alloc(), 0)?;
-    for count in (0..=stream.len()).step_by(23) {
-        fail_reading(&rt, stream.as_slice(), count)?;
-    }
+    assert!(rt; is_cut_reading(rt.alloc(), 0, 0, 0)?);
+    assert!(rt; is_cut_reading(rt.alloc(), 125, 0, 0)?);
+    assert!(rt; is_cut_reading(rt.alloc(), 126, 1, 88)?);
+    assert!(rt; is_cut_reading(rt.alloc(), 833, 6, 528)?);
+    assert!(rt; is_cut_reading(rt.alloc(), 834, 7, 730)?);
     Ok(())
+}
+
+/// Whether so many requests are done, the last of them with its answer cut, where the writer takes so many bytes.
+fn is_cut_writing(alloc: Global, count: usize, fails: bool, done: usize) -> Result<bool, Fail> {
+    let mut broker = new_broker(alloc)?;
+    let (served, out) = cut_writing(alloc, &mut broker, count, fails)?;
+    Ok(
+        served == Err(ServeFault::Write)
+            && is_front(alloc, out.as_slice(), count)?
+            && goes_on(alloc, &mut broker, done)?,
+    )
 }
 
 #[test]
 fn a_writer_fails(rt: HostRuntime) -> Result<(), Fail> {
-    let stream = requests_from(rt.alloc(), 0)?;
-    let answers = answers_from(rt.alloc(), 0)?;
-    for count in (0..answers.len()).step_by(19) {
-        fail_writing(&rt, stream.as_slice(), count, count % 2 == 0)?;
-    }
+    assert!(rt; is_cut_writing(rt.alloc(), 0, true, 1)?);
+    assert!(rt; is_cut_writing(rt.alloc(), 87, false, 1)?);
+    assert!(rt; is_cut_writing(rt.alloc(), 88, true, 2)?);
+    assert!(rt; is_cut_writing(rt.alloc(), 700, false, 7)?);
     Ok(())
 }
 
 #[test]
-fn a_writer_that_takes_one_byte_at_a_time(rt: HostRuntime) -> Result<(), Fail> {
-    let stream = requests_from(rt.alloc(), 0)?;
-    let wanted = answers_from(rt.alloc(), 0)?;
+fn a_writer_takes_one_byte_at_a_time(rt: HostRuntime) -> Result<(), Fail> {
     let mut broker = new_broker(rt.alloc())?;
-    let mut reader = stream.as_slice();
-    let mut writer = Full {
-        bytes: Vec::new(rt.alloc()),
-        left: 100000,
-        fails: true,
+    let (served, out) = cut_writing(rt.alloc(), &mut broker, 100000, true)?;
+    let seven = Served {
+        answered: 7,
+        ended: Ended::AtEnd,
     };
-    let served = serve(rt.alloc(), &mut broker, &mut reader, &mut writer)?;
-    assert_eq!(rt;
-        served,
-        Served {
-            answered: 7,
-            ended: Ended::AtEnd
-        }
-    );
-    assert_eq!(rt; writer.bytes.as_slice(), wanted.as_slice());
+    assert_eq!(rt; served, Ok(seven));
+    let wanted = joined(rt.alloc(), ANSWERS.as_slice(), 0)?;
+    assert_eq!(rt; out.as_slice(), wanted.as_slice());
     Ok(())
 }

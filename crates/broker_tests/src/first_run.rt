@@ -1,10 +1,8 @@
 //! Seven requests, from a team to the listing of an environment, and their answers.
 use crate::fixture::{new_broker, replay};
-use broker_http::{Ended, Served};
 use broker_service::Broker;
-use sqlite::MemStore;
+use sqlite::{Alter, MemStore};
 use std::alloc::{AllocError, Global};
-use std::process::Abort;
 use std::test::Fail;
 
 /// A new team, an environment, a pacticipant, a grant, a version, a deployment and the listing.
@@ -26,40 +24,44 @@ pub(crate) const DONE_ANSWER: &[u8] =
 pub(crate) const LISTING: &[u8] =
     b"HTTP/1.1 200 OK\r\ncontent-type: application/json\r\ncontent-length: 130\r\n\r\n{\"answer\":\"shown\",\"deployed\":[{\"instance\":\"\",\"pacticipant\":\"shop\",\"version\":\"1\"}],\"environment\":\"dev\",\"gated\":false,\"released\":[]}";
 
-/// The seven requests of the first run, from that place on, in one stream.
-pub(crate) fn requests_from(alloc: Global, place: usize) -> Result<Vec<u8>, AllocError> {
+/// The answers to the seven requests.
+pub(crate) const ANSWERS: [&[u8]; 7] = [
+    DONE_ANSWER,
+    DONE_ANSWER,
+    DONE_ANSWER,
+    DONE_ANSWER,
+    DONE_ANSWER,
+    DONE_ANSWER,
+    LISTING,
+];
+
+/// The texts behind the first so many, in one.
+pub(crate) fn joined(alloc: Global, texts: &[&[u8]], first: usize) -> Result<Vec<u8>, AllocError> {
     let mut bytes = Vec::new(alloc);
-    for request in REQUESTS.as_slice().iter().skip(place) {
-        bytes.extend_from_slice(request)?;
+    for text in texts.iter().skip(first) {
+        bytes.extend_from_slice(text)?;
     }
     Ok(bytes)
 }
 
-/// The answers to them.
-pub(crate) fn answers_from(alloc: Global, place: usize) -> Result<Vec<u8>, AllocError> {
-    let mut bytes = Vec::new(alloc);
-    for _ in place..6 {
-        bytes.extend_from_slice(DONE_ANSWER)?;
-    }
-    if place < 7 {
-        bytes.extend_from_slice(LISTING)?;
-    }
-    Ok(bytes)
+/// The requests behind the first so many get the answers of the first run.
+pub(crate) fn goes_on<S: Alter>(
+    alloc: Global,
+    broker: &mut Broker<S>,
+    first: usize,
+) -> Result<bool, Fail> {
+    let stream = joined(alloc, REQUESTS.as_slice(), first)?;
+    let wanted = joined(alloc, ANSWERS.as_slice(), first)?;
+    let (_, out) = replay(alloc, broker, stream.as_slice())?;
+    Ok(out.as_slice() == wanted.as_slice())
 }
 
 /// A broker behind the first run.
-pub(crate) fn ran(rt: &(impl Abort + AllocGlobal)) -> Result<Broker<MemStore>, Fail> {
-    let mut broker = new_broker(rt.alloc())?;
-    let stream = requests_from(rt.alloc(), 0)?;
-    let (served, out) = replay(rt.alloc(), &mut broker, stream.as_slice())?;
-    let wanted = answers_from(rt.alloc(), 0)?;
-    assert_eq!(rt;
-        served,
-        Served {
-            answered: 7,
-            ended: Ended::AtEnd
-        }
-    );
-    assert_eq!(rt; out.as_slice(), wanted.as_slice());
-    Ok(broker)
+pub(crate) fn ran(alloc: Global) -> Result<Broker<MemStore>, Fail> {
+    let mut broker = new_broker(alloc)?;
+    if goes_on(alloc, &mut broker, 0)? {
+        Ok(broker)
+    } else {
+        Err(Fail::from("the first run has other answers"))
+    }
 }

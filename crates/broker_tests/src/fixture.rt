@@ -4,7 +4,6 @@ use broker_http::{Ended, Served, serve};
 use broker_service::Broker;
 use sqlite::{Alter, Connection, MemStore};
 use std::alloc::{AllocError, Global};
-use std::process::Abort;
 use std::test::Fail;
 
 /// The token of the office.
@@ -27,7 +26,7 @@ pub(crate) const ALREADY: &str = "{\"answer\":\"already\"}";
 pub(crate) type Row<'a> = (&'a str, &'a str, &'a str, &'a str, &'a str);
 
 /// Two teams, the environment `live`, a pacticipant of each team and a grant of each.
-pub(crate) const FIXTURE: [Row<'static>; 7] = [
+const FIXTURE: [Row<'static>; 7] = [
     (
         OFFICE,
         "PUT /teams/red",
@@ -79,20 +78,48 @@ pub(crate) const FIXTURE: [Row<'static>; 7] = [
     ),
 ];
 
+/// One answer, and then the reader's end.
+pub(crate) const ONE: Served = Served {
+    answered: 1,
+    ended: Ended::AtEnd,
+};
+
 /// A new broker in memory.
 pub(crate) fn new_broker(alloc: Global) -> Result<Broker<MemStore>, Fail> {
-    let Ok(token) = Token::new(alloc, OFFICE) else {
-        return Err("no token")?;
-    };
     let connection = Connection::open_in_memory(alloc)?;
-    match Broker::create(alloc, connection, &token) {
+    let office = Token::new(alloc, OFFICE)?;
+    match Broker::create(alloc, connection, &office) {
         Ok(broker) => Ok(broker),
-        Err(_) => Err("not created")?,
+        Err(refused) => Err(refused.fault)?,
     }
 }
 
+/// What a stream is answered, and how it ended.
+pub(crate) fn replay<S: Alter>(
+    alloc: Global,
+    broker: &mut Broker<S>,
+    stream: &[u8],
+) -> Result<(Served, Vec<u8>), Fail> {
+    let mut reader = stream;
+    let mut out = Vec::new(alloc);
+    let served = serve(alloc, broker, &mut reader, &mut out)?;
+    Ok((served, out))
+}
+
+/// Whether a stream gets these answers, and ends so.
+pub(crate) fn is_told<S: Alter>(
+    alloc: Global,
+    broker: &mut Broker<S>,
+    stream: &[u8],
+    wanted: &[u8],
+    ended: Served,
+) -> Result<bool, Fail> {
+    let (served, out) = replay(alloc, broker, stream)?;
+    Ok(out.as_slice() == wanted && served == ended)
+}
+
 /// The bytes of a request.
-pub(crate) fn request(alloc: Global, row: &Row<'_>) -> Result<String, AllocError> {
+fn request(alloc: Global, row: &Row<'_>) -> Result<String, AllocError> {
     let (token, ask, body, _, _) = *row;
     let len = body.len();
     format!(in alloc;
@@ -101,7 +128,7 @@ pub(crate) fn request(alloc: Global, row: &Row<'_>) -> Result<String, AllocError
 }
 
 /// The bytes of its answer.
-pub(crate) fn answer(alloc: Global, row: &Row<'_>) -> Result<String, AllocError> {
+fn answer(alloc: Global, row: &Row<'_>) -> Result<String, AllocError> {
     let (_, _, _, status, body) = *row;
     let len = body.len();
     let challenge = if status == "401 Unauthorized" {
@@ -114,55 +141,41 @@ pub(crate) fn answer(alloc: Global, row: &Row<'_>) -> Result<String, AllocError>
     )
 }
 
-/// What serving a stream came to, and the bytes that were written.
-pub(crate) fn replay<S: Alter>(
+/// Whether the row's request alone gets its answer.
+pub(crate) fn is_answered<S: Alter>(
     alloc: Global,
     broker: &mut Broker<S>,
-    requests: &[u8],
-) -> Result<(Served, Vec<u8>), Fail> {
-    let mut reader = requests;
-    let mut out = Vec::new(alloc);
-    let served = serve(alloc, broker, &mut reader, &mut out)?;
-    Ok((served, out))
-}
-
-/// Sends the row's request alone, and looks at its answer.
-pub(crate) fn ask<S: Alter>(
-    rt: &(impl Abort + AllocGlobal),
-    broker: &mut Broker<S>,
     row: &Row<'_>,
-) -> Result<(), Fail> {
-    let sent = request(rt.alloc(), row)?;
-    let wanted = answer(rt.alloc(), row)?;
-    let (served, out) = replay(rt.alloc(), broker, sent.as_bytes())?;
-    let named = row.1;
-    assert_eq!(rt; out.as_slice(), wanted.as_bytes(), "at {named}");
-    assert_eq!(rt;
-        served,
-        Served {
-            answered: 1,
-            ended: Ended::AtEnd
-        },
-        "at {named}"
-    );
-    Ok(())
+) -> Result<bool, Fail> {
+    let sent = request(alloc, row)?;
+    let wanted = answer(alloc, row)?;
+    is_told(alloc, broker, sent.as_bytes(), wanted.as_bytes(), ONE)
 }
 
-/// Sends the rows' requests one after the other.
+/// Sends the rows' requests one after the other, and looks at their answers.
 pub(crate) fn ask_all<S: Alter>(
-    rt: &(impl Abort + AllocGlobal),
+    alloc: Global,
     broker: &mut Broker<S>,
     rows: &[Row<'_>],
 ) -> Result<(), Fail> {
     for row in rows {
-        ask(rt, broker, row)?;
+        let (_, named, body, _, _) = *row;
+        if !is_answered(alloc, broker, row)? {
+            return Err(Fail::from((named, body)));
+        }
     }
     Ok(())
 }
 
 /// A broker with the fixture's rows.
-pub(crate) fn fixture(rt: &(impl Abort + AllocGlobal)) -> Result<Broker<MemStore>, Fail> {
-    let mut broker = new_broker(rt.alloc())?;
-    ask_all(rt, &mut broker, FIXTURE.as_slice())?;
+pub(crate) fn fixture(alloc: Global) -> Result<Broker<MemStore>, Fail> {
+    let mut broker = new_broker(alloc)?;
+    ask_all(alloc, &mut broker, FIXTURE.as_slice())?;
     Ok(broker)
+}
+
+/// A broker with the fixture's rows answers these rows.
+pub(crate) fn hold(alloc: Global, rows: &[Row<'_>]) -> Result<(), Fail> {
+    let mut broker = fixture(alloc)?;
+    ask_all(alloc, &mut broker, rows)
 }

@@ -1,6 +1,6 @@
 //! The program's command line over readers and writers in memory.
 use crate::devices::{Full, Interrupted};
-use crate::first_run::{answers_from, requests_from};
+use crate::first_run::{ANSWERS, REQUESTS, joined};
 use broker_program::run;
 use std::test::Fail;
 
@@ -8,8 +8,8 @@ const REPLAY: [&str; 4] = ["broker", "replay", "--office-token", "office-token-0
 
 #[test]
 fn the_first_run(rt: HostRuntime) -> Result<(), Fail> {
-    let stream = requests_from(rt.alloc(), 0)?;
-    let wanted = answers_from(rt.alloc(), 0)?;
+    let stream = joined(rt.alloc(), REQUESTS.as_slice(), 0)?;
+    let wanted = joined(rt.alloc(), ANSWERS.as_slice(), 0)?;
     let mut input = stream.as_slice();
     let mut output = Vec::new(rt.alloc());
     let mut errors = Vec::new(rt.alloc());
@@ -21,63 +21,65 @@ fn the_first_run(rt: HostRuntime) -> Result<(), Fail> {
 }
 
 #[test]
-fn nothing_to_replay(rt: HostRuntime) -> Result<(), Fail> {
+fn nothing_to_replay(rt: HostRuntime) {
     let mut input = b"".as_slice();
     let mut output = Vec::new(rt.alloc());
     let mut errors = Vec::new(rt.alloc());
     let status = run(&rt, REPLAY.as_slice(), &mut input, &mut output, &mut errors);
     assert_eq!(rt; status, 0);
-    assert!(rt; output.is_empty() & errors.is_empty());
-    Ok(())
+    assert!(rt; output.is_empty() && errors.is_empty());
+}
+
+/// The status that the words end with, and whether anything is written to the output and to the errors. Nothing is read.
+fn told(rt: &impl AllocGlobal, words: &[&str]) -> (u8, bool, bool) {
+    let mut input = b"GET / HTTP/1.1\r\n\r\n".as_slice();
+    let mut output = Vec::new(rt.alloc());
+    let mut errors = Vec::new(rt.alloc());
+    let status = run(rt, words, &mut input, &mut output, &mut errors);
+    (status, !output.is_empty(), !errors.is_empty())
 }
 
 #[test]
-fn usage_and_help(rt: HostRuntime) -> Result<(), Fail> {
-    let rows = [
-        (
-            ["broker", "rewind", "--office-token", "office-token-0001"],
-            2,
-        ),
-        (["broker", "replay", "--file", "office-token-0001"], 2),
-        (["broker", "replay", "--help", "x"], 0),
-    ];
-    for (words, wanted) in rows {
-        let mut input = b"GET / HTTP/1.1\r\n\r\n".as_slice();
-        let mut output = Vec::new(rt.alloc());
-        let mut errors = Vec::new(rt.alloc());
-        let status = run(&rt, words.as_slice(), &mut input, &mut output, &mut errors);
-        assert_eq!(rt; status, wanted);
-        assert_eq!(rt; output.is_empty(), status == 2);
-        assert_eq!(rt; errors.is_empty(), status == 0);
-    }
-    Ok(())
+fn usage_and_help(rt: HostRuntime) {
+    let unknown = ["broker", "rewind", "--office-token", "office-token-0001"];
+    assert_eq!(rt; told(&rt, unknown.as_slice()), (2, false, true));
+    let missing = ["broker", "replay", "--file", "office-token-0001"];
+    assert_eq!(rt; told(&rt, missing.as_slice()), (2, false, true));
+    let help = ["broker", "replay", "--help", "x"];
+    assert_eq!(rt; told(&rt, help.as_slice()), (0, true, false));
+}
+
+/// Whether the program ends with status 3 and this text on standard error, where its input gives so many bytes of the
+/// first run and its output takes so many.
+fn fails_with(
+    rt: &impl AllocGlobal,
+    words: &[&str],
+    reads: usize,
+    room: usize,
+    text: &[u8],
+) -> Result<bool, Fail> {
+    let stream = joined(rt.alloc(), REQUESTS.as_slice(), 0)?;
+    let mut input = Interrupted {
+        bytes: stream.as_slice(),
+        left: reads,
+    };
+    let mut output = Full {
+        bytes: Vec::new(rt.alloc()),
+        left: room,
+        fails: false,
+    };
+    let mut errors = Vec::new(rt.alloc());
+    let status = run(rt, words, &mut input, &mut output, &mut errors);
+    Ok(status == 3 && errors.as_slice() == text)
 }
 
 #[test]
 fn faults(rt: HostRuntime) -> Result<(), Fail> {
-    let stream = requests_from(rt.alloc(), 0)?;
-    let wrong = ["broker", "replay", "--office-token", "short"];
+    let short = ["broker", "replay", "--office-token", "short"];
+    assert!(rt; fails_with(&rt, short.as_slice(), 0, 0, b"token\n")?);
+    assert!(rt; fails_with(&rt, REPLAY.as_slice(), 130, 1000, b"serve 1\n")?);
+    assert!(rt; fails_with(&rt, REPLAY.as_slice(), 10000, 50, b"serve 2\n")?);
     let help = ["broker", "replay", "--help", "x"];
-    let rows = [
-        (wrong, 0, 0, b"token\n".as_slice()),
-        (REPLAY, 100, 1000, b"serve 1\n".as_slice()),
-        (REPLAY, 10000, 50, b"serve 2\n".as_slice()),
-        (help, 0, 0, b"file\n".as_slice()),
-    ];
-    for (words, reads, room, wanted) in rows {
-        let mut input = Interrupted {
-            bytes: stream.as_slice(),
-            left: reads,
-        };
-        let mut output = Full {
-            bytes: Vec::new(rt.alloc()),
-            left: room,
-            fails: false,
-        };
-        let mut errors = Vec::new(rt.alloc());
-        let status = run(&rt, words.as_slice(), &mut input, &mut output, &mut errors);
-        assert_eq!(rt; status, 3);
-        assert_eq!(rt; errors.as_slice(), wanted);
-    }
+    assert!(rt; fails_with(&rt, help.as_slice(), 0, 0, b"file\n")?);
     Ok(())
 }

@@ -1,268 +1,146 @@
-//! Messages by HTTP/1.1, and their answers.
+//! Routes, tokens, and requests that close, by HTTP/1.1.
 use crate::first_run::{LISTING, ran};
-use crate::fixture::{FIXTURE, ask_all, new_broker, replay};
+use crate::fixture::{ONE, is_told};
 use broker_http::{Ended, Served};
-use std::alloc::{AllocError, Global};
-use std::process::Abort;
+use broker_service::Broker;
+use sqlite::MemStore;
+use std::alloc::Global;
 use std::test::Fail;
 
-/// The first line, the field of the host and one of the token of the team, and what ends a head.
-const GET: &str = "GET /environments/dev HTTP/1.1\r\nhost: b\r\n";
+const NO_ROUTE: &str =
+    "HTTP/1.1 404 Not Found\r\ncontent-type: application/json\r\ncontent-length: 21\r\n\r\n{\"answer\":\"no route\"}";
 
-const TOKEN: &str = "authorization: Bearer red-team-token-01\r\n";
+/// A message that is answered without looking for its caller, and its answer.
+const ROUTES: [(&str, &str); 5] = [
+    ("GET /nothing HTTP/1.1\r\nhost: b\r\n\r\n", NO_ROUTE),
+    ("GET /t%65ams/red HTTP/1.1\r\nhost: b\r\n\r\n", NO_ROUTE),
+    ("PUT /teams/ HTTP/1.1\r\nhost: b\r\n\r\n", NO_ROUTE),
+    (
+        "POST /matrix HTTP/1.1\r\nhost: b\r\ncontent-length: 0\r\n\r\n",
+        "HTTP/1.1 405 Method Not Allowed\r\ncontent-type: application/json\r\ncontent-length: 22\r\nallow: GET\r\n\r\n{\"answer\":\"no method\"}",
+    ),
+    (
+        "GET /grants/team/red/environment/live HTTP/1.1\r\nhost: b\r\n\r\n",
+        "HTTP/1.1 405 Method Not Allowed\r\ncontent-type: application/json\r\ncontent-length: 22\r\nallow: DELETE, PUT\r\n\r\n{\"answer\":\"no method\"}",
+    ),
+];
 
-/// The answer that refuses a message and closes the stream.
-fn refusal(alloc: Global, status: &str, number: u16) -> Result<String, AllocError> {
-    format!(in alloc;
-        "HTTP/1.1 {status}\r\ncontent-type: application/json\r\ncontent-length: 33\r\nconnection: close\r\n\r\n{{\"answer\":\"refused\",\"status\":{number}}}"
-    )
-}
-
-/// A message that is refused, and nothing behind it is answered.
-fn refuses(
-    rt: &(impl Abort + AllocGlobal),
-    message: &str,
-    status: &str,
-    number: u16,
+/// All these messages get their answers.
+fn are_routed(
+    alloc: Global,
+    broker: &mut Broker<MemStore>,
+    rows: &[(&str, &str)],
 ) -> Result<(), Fail> {
-    let mut broker = new_broker(rt.alloc())?;
-    let wanted = refusal(rt.alloc(), status, number)?;
-    let stream = format!(in rt.alloc(); "{message}{GET}{TOKEN}\r\n")?;
-    let (served, out) = replay(rt.alloc(), &mut broker, stream.as_bytes())?;
-    assert_eq!(rt; out.as_slice(), wanted.as_bytes(), "at {message}");
-    assert_eq!(rt;
-        served,
-        Served {
-            answered: 1,
-            ended: Ended::Closed
-        },
-        "at {message}"
-    );
-    Ok(())
-}
-
-#[test]
-fn refused_heads(rt: HostRuntime) -> Result<(), Fail> {
-    let bad = "400 Bad Request";
-    let rows = [
-        ("GET / HTTP/1.1\r\n\r\n", bad, 400),
-        ("GET / HTTP/1.1\r\nhost: b\r\nhost: b\r\n\r\n", bad, 400),
-        ("GET x HTTP/1.1\r\nhost: b\r\n\r\n", bad, 400),
-        ("G\0T / HTTP/1.1\r\nhost: b\r\n\r\n", bad, 400),
-        ("GET /\r\n\r\n", bad, 400),
-        (
-            "GET / HTTP/1.1\r\nhost: b\r\ncontent-length: 1\r\ncontent-length: 1\r\n\r\n",
-            bad,
-            400,
-        ),
-        (
-            "GET / HTTP/1.1\r\nhost: b\r\ncontent-length: x\r\n\r\n",
-            bad,
-            400,
-        ),
-        (
-            "GET / HTTP/1.1\r\nhost: b\r\ncontent-length: 00000000001\r\n\r\n",
-            bad,
-            400,
-        ),
-        (
-            "PUT / HTTP/1.1\r\nhost: b\r\ncontent-length: 1048577\r\n\r\n",
-            "413 Payload Too Large",
-            413,
-        ),
-        (
-            "PATCH / HTTP/1.1\r\nhost: b\r\n\r\n",
-            "501 Not Implemented",
-            501,
-        ),
-        (
-            "GET / HTTP/1.1\r\nhost: b\r\ntransfer-encoding: chunked\r\n\r\n",
-            "501 Not Implemented",
-            501,
-        ),
-    ];
-    for (message, status, number) in rows {
-        refuses(&rt, message, status, number)?;
-    }
-    Ok(())
-}
-
-#[test]
-fn a_head_has_no_body(rt: HostRuntime) -> Result<(), Fail> {
-    let mut broker = new_broker(rt.alloc())?;
-    let unknown =
-        b"HTTP/1.1 501 Not Implemented\r\ncontent-type: application/json\r\ncontent-length: 33\r\nconnection: close\r\n\r\n".as_slice();
-    let stream = b"HEAD / HTTP/1.1\r\nhost: b\r\n\r\n".as_slice();
-    let (served, out) = replay(rt.alloc(), &mut broker, stream)?;
-    assert_eq!(rt; out.as_slice(), unknown);
-    assert_eq!(rt;
-        served,
-        Served {
-            answered: 1,
-            ended: Ended::Closed
+    for row in rows {
+        let (message, wanted) = *row;
+        if !is_told(alloc, broker, message.as_bytes(), wanted.as_bytes(), ONE)? {
+            return Err(Fail::from(message));
         }
-    );
-    let bad =
-        b"HTTP/1.1 400 Bad Request\r\ncontent-type: application/json\r\ncontent-length: 33\r\nconnection: close\r\n\r\n".as_slice();
-    let (_, out) = replay(
-        rt.alloc(),
-        &mut broker,
-        b"HEAD / HTTP/1.1\r\n\r\n".as_slice(),
-    )?;
-    assert_eq!(rt; out.as_slice(), bad);
-    Ok(())
-}
-
-/// A head with so many fields of one letter beside the host and the token.
-fn with_fields(alloc: Global, count: usize) -> Result<String, AllocError> {
-    let mut text = format!(in alloc; "{GET}{TOKEN}")?;
-    for _ in 0..count {
-        text.push_str("x: y\r\n")?;
-    }
-    text.push_str("\r\n")?;
-    Ok(text)
-}
-
-/// A head of so many bytes, the last of them in a field without meaning.
-fn of_length(alloc: Global, length: usize) -> Result<String, AllocError> {
-    let mut text = format!(in alloc; "{GET}{TOKEN}x: ")?;
-    for _ in text.len()..length.saturating_sub(4) {
-        text.push('y')?;
-    }
-    text.push_str("\r\n\r\n")?;
-    Ok(text)
-}
-
-#[test]
-fn limits_of_a_head(rt: HostRuntime) -> Result<(), Fail> {
-    let mut broker = ran(&rt)?;
-    let large = refusal(rt.alloc(), "431 Request Header Fields Too Large", 431)?;
-    let rows = [
-        (with_fields(rt.alloc(), 62)?, true),
-        (with_fields(rt.alloc(), 63)?, false),
-        (of_length(rt.alloc(), 16384)?, true),
-        (of_length(rt.alloc(), 16385)?, false),
-    ];
-    for (text, fits) in rows {
-        let wanted = if fits { LISTING } else { large.as_bytes() };
-        let (_, out) = replay(rt.alloc(), &mut broker, text.as_bytes())?;
-        assert_eq!(rt; out.as_slice(), wanted, "at {text}");
     }
     Ok(())
 }
 
 #[test]
 fn routes_and_methods(rt: HostRuntime) -> Result<(), Fail> {
-    let mut broker = new_broker(rt.alloc())?;
-    let no_route =
-        "HTTP/1.1 404 Not Found\r\ncontent-type: application/json\r\ncontent-length: 21\r\n\r\n{\"answer\":\"no route\"}";
-    let rows = [
-        ("GET /nothing HTTP/1.1\r\nhost: b\r\n\r\n", no_route),
-        ("GET /t%65ams/red HTTP/1.1\r\nhost: b\r\n\r\n", no_route),
-        ("PUT /teams/ HTTP/1.1\r\nhost: b\r\n\r\n", no_route),
-        (
-            "POST /matrix HTTP/1.1\r\nhost: b\r\ncontent-length: 0\r\n\r\n",
-            "HTTP/1.1 405 Method Not Allowed\r\ncontent-type: application/json\r\ncontent-length: 22\r\nallow: GET\r\n\r\n{\"answer\":\"no method\"}",
-        ),
-        (
-            "GET /grants/team/red/environment/live HTTP/1.1\r\nhost: b\r\n\r\n",
-            "HTTP/1.1 405 Method Not Allowed\r\ncontent-type: application/json\r\ncontent-length: 22\r\nallow: DELETE, PUT\r\n\r\n{\"answer\":\"no method\"}",
-        ),
-    ];
-    for (message, wanted) in rows {
-        let (served, out) = replay(rt.alloc(), &mut broker, message.as_bytes())?;
-        assert_eq!(rt; out.as_slice(), wanted.as_bytes(), "at {message}");
-        assert_eq!(rt;
-            served,
-            Served {
-                answered: 1,
-                ended: Ended::AtEnd
-            },
-            "at {message}"
-        );
+    let mut broker = ran(rt.alloc())?;
+    are_routed(rt.alloc(), &mut broker, ROUTES.as_slice())
+}
+
+const UNKNOWN_CALLER: &[u8] =
+    b"HTTP/1.1 401 Unauthorized\r\ncontent-type: application/json\r\ncontent-length: 31\r\nwww-authenticate: Bearer\r\n\r\n{\"answer\":\"denied\",\"rule\":\"A1\"}";
+
+/// The fields of a request that name its caller, and whether that is the team.
+const CALLERS: [(&str, bool); 7] = [
+    ("", false),
+    ("authorization: Bearer red-team-token-02\r\n", false),
+    ("authorization: Basic red-team-token-01\r\n", false),
+    ("authorization: Bearerred-team-token-01\r\n", false),
+    ("authorization: Bearer red-team-token-01 x\r\n", false),
+    (
+        "authorization: Bearer red-team-token-01\r\nauthorization: Bearer red-team-token-01\r\n",
+        false,
+    ),
+    ("Authorization:bEARER   red-team-token-01\r\n", true),
+];
+
+/// Whether the listing is shown to the caller of these fields, where they name one, and else refused.
+fn is_known(
+    alloc: Global,
+    broker: &mut Broker<MemStore>,
+    fields: &str,
+    known: bool,
+) -> Result<bool, Fail> {
+    let message = format!(in alloc; "GET /environments/dev HTTP/1.1\r\nhost: b\r\n{fields}\r\n")?;
+    let wanted = if known { LISTING } else { UNKNOWN_CALLER };
+    is_told(alloc, broker, message.as_bytes(), wanted, ONE)
+}
+
+/// All these callers are known or not.
+fn are_known(
+    alloc: Global,
+    broker: &mut Broker<MemStore>,
+    rows: &[(&str, bool)],
+) -> Result<(), Fail> {
+    for row in rows {
+        let (fields, known) = *row;
+        if !is_known(alloc, broker, fields, known)? {
+            return Err(Fail::from(fields));
+        }
     }
     Ok(())
 }
 
 #[test]
-fn tokens(rt: HostRuntime) -> Result<(), Fail> {
-    let mut broker = ran(&rt)?;
-    let denied =
-        b"HTTP/1.1 401 Unauthorized\r\ncontent-type: application/json\r\ncontent-length: 31\r\nwww-authenticate: Bearer\r\n\r\n{\"answer\":\"denied\",\"rule\":\"A1\"}".as_slice();
-    let rows = [
-        ("", denied),
-        ("authorization: Bearer red-team-token-02\r\n", denied),
-        ("authorization: Basic red-team-token-01\r\n", denied),
-        ("authorization: Bearerred-team-token-01\r\n", denied),
-        ("authorization: Bearer red-team-token-01 x\r\n", denied),
-        (
-            "authorization: Bearer red-team-token-01\r\nauthorization: Bearer red-team-token-01\r\n",
-            denied,
-        ),
-        ("Authorization:bEARER   red-team-token-01\r\n", LISTING),
-    ];
-    for (field, wanted) in rows {
-        let message = format!(in rt.alloc(); "{GET}{field}\r\n")?;
-        let (_, out) = replay(rt.alloc(), &mut broker, message.as_bytes())?;
-        assert_eq!(rt; out.as_slice(), wanted, "at {field}");
-    }
-    Ok(())
+fn callers_by_their_token(rt: HostRuntime) -> Result<(), Fail> {
+    let mut broker = ran(rt.alloc())?;
+    are_known(rt.alloc(), &mut broker, CALLERS.as_slice())
 }
 
 /// The listing of the first run in an answer that closes.
 const CLOSING: &[u8] =
     b"HTTP/1.1 200 OK\r\ncontent-type: application/json\r\ncontent-length: 130\r\nconnection: close\r\n\r\n{\"answer\":\"shown\",\"deployed\":[{\"instance\":\"\",\"pacticipant\":\"shop\",\"version\":\"1\"}],\"environment\":\"dev\",\"gated\":false,\"released\":[]}";
 
-#[test]
-fn requests_that_close(rt: HostRuntime) -> Result<(), Fail> {
-    let mut broker = ran(&rt)?;
-    let rows = [
-        "GET /environments/dev HTTP/1.0\r\n",
-        "GET /environments/dev HTTP/1.1\r\nhost: b\r\nconnection: close\r\n",
-        "GET /environments/dev HTTP/1.1\r\nhost: b\r\nConnection: keep-alive,\t CLOSE ,x\r\n",
-        "\r\n\nGET /environments/dev HTTP/1.1\nhost: b\nconnection: x\nconnection: close\n",
-    ];
-    for front in rows {
-        let stream = format!(in rt.alloc(); "{front}{TOKEN}\r\n{GET}{TOKEN}\r\n")?;
-        let (served, out) = replay(rt.alloc(), &mut broker, stream.as_bytes())?;
-        assert_eq!(rt; out.as_slice(), CLOSING, "at {front}");
-        assert_eq!(rt;
-            served,
-            Served {
-                answered: 1,
-                ended: Ended::Closed
-            },
-            "at {front}"
-        );
-    }
-    let open = format!(in rt.alloc(); "{GET}connection: closed\r\n{TOKEN}\r\n")?;
-    let (served, out) = replay(rt.alloc(), &mut broker, open.as_bytes())?;
-    assert_eq!(rt; out.as_slice(), LISTING);
-    assert_eq!(rt;
-        served,
-        Served {
-            answered: 1,
-            ended: Ended::AtEnd
+/// The front of a request for the listing, up to its token, that closes the stream.
+const FRONTS: [&str; 4] = [
+    "GET /environments/dev HTTP/1.0\r\n",
+    "GET /environments/dev HTTP/1.1\r\nhost: b\r\nconnection: close\r\n",
+    "GET /environments/dev HTTP/1.1\r\nhost: b\r\nConnection: keep-alive,\t CLOSE ,x\r\n",
+    "\r\n\nGET /environments/dev HTTP/1.1\nhost: b\nconnection: x\nconnection: close\n",
+];
+
+/// Whether a request closes the stream, so that the same request behind it isn't answered.
+fn closes(alloc: Global, broker: &mut Broker<MemStore>, front: &str) -> Result<bool, Fail> {
+    let stream = format!(in alloc;
+        "{front}authorization: Bearer red-team-token-01\r\n\r\n{front}authorization: Bearer red-team-token-01\r\n\r\n"
+    )?;
+    let ended = Served {
+        answered: 1,
+        ended: Ended::Closed,
+    };
+    is_told(alloc, broker, stream.as_bytes(), CLOSING, ended)
+}
+
+/// All these requests close the stream.
+fn all_close(alloc: Global, broker: &mut Broker<MemStore>, fronts: &[&str]) -> Result<(), Fail> {
+    for front in fronts {
+        if !closes(alloc, broker, front)? {
+            return Err(Fail::from(*front));
         }
-    );
+    }
     Ok(())
 }
 
 #[test]
-fn a_refusal_leaves_the_commands_before_it(rt: HostRuntime) -> Result<(), Fail> {
-    let mut broker = new_broker(rt.alloc())?;
-    ask_all(&rt, &mut broker, FIXTURE.as_slice())?;
-    let stream =
-        b"PUT /teams/green HTTP/1.1\r\nhost: b\r\ncontent-length: 1048577\r\n\r\n".as_slice();
-    let (served, out) = replay(rt.alloc(), &mut broker, stream)?;
-    let wanted = refusal(rt.alloc(), "413 Payload Too Large", 413)?;
-    assert_eq!(rt; out.as_slice(), wanted.as_bytes());
-    assert_eq!(rt;
-        served,
-        Served {
-            answered: 1,
-            ended: Ended::Closed
-        }
-    );
+fn requests_that_close(rt: HostRuntime) -> Result<(), Fail> {
+    let mut broker = ran(rt.alloc())?;
+    all_close(rt.alloc(), &mut broker, FRONTS.as_slice())
+}
+
+#[test]
+fn another_option_does_not_close(rt: HostRuntime) -> Result<(), Fail> {
+    let mut broker = ran(rt.alloc())?;
+    let message =
+        b"GET /environments/dev HTTP/1.1\r\nhost: b\r\nconnection: closed\r\nauthorization: Bearer red-team-token-01\r\n\r\n";
+    assert!(rt; is_told(rt.alloc(), &mut broker, message, LISTING, ONE)?);
     Ok(())
 }
