@@ -1,8 +1,8 @@
 //! Tests that cross the crates: the broker from the bytes of its requests to the bytes of its answers.
 //!
 //! The crate has no code of its own. Its tests try what no contract says, with values that were worked out by hand: that calls
-//! succeed where there is ample memory, the texts of the answers, readers and writers that fail, files that stop, a disk that
-//! counts its writes, and the program's command line.
+//! succeed where there is ample memory, the texts of the answers, readers and writers that fail, databases that are no
+//! broker's, and the program's command line.
 #![tactic(auto)]
 
 #[cfg(test)]
