@@ -14,7 +14,7 @@ use Rattle.sqlite_trees.specs.declared.error.StoreError.TheVariants.{OutOfMemory
 use Rattle.table_access.specs.Unit.{IsLeft}
 use Rattle.table_access.specs.declared.Fault.{Fault}
 use Rattle.table_access.specs.declared.Fault.TheVariants.{Memory, Store}
-use Rattle.table_access.specs.Calls.{LeavesCommit, Call, GoesOn, IsEnded, FailsAs, TellsMemory, fault_of}
+use Rattle.table_access.specs.Calls.{LeavesCommit, Call, GoesOn, IsEnded, FailsAs, TellsMemory, Statement, fault_of}
 use Rattle.table_access.proofs.Refusals.{read_told}
 use Rattle.table_access.proofs.Texts.{IsRefused, caused, no_statement_told, command_told}
 
@@ -124,9 +124,12 @@ has_since a b c Full stays up h = omega (arith, up, h)
 has_since a b c Broken stays up h = was_shut a b stays h
 has_since a b c Unstorable stays up h = tt
 
+ended_since : (a b c : State) (e : Fault) → GoesOn a b → a.faults ≤ b.faults → IsEnded b c e → IsEnded a c e
+ended_since a b c e on up ended = record { cause = ended.cause; told = ended.told; has = has_since a b c ended.cause on.1 up ended.has; over = ended.over; blamed = ended.blamed }
+
 fails_since : (a b c : State) (e : Fault) → GoesOn a b → a.faults ≤ b.faults → FailsAs b c e → FailsAs a c e
 fails_since a b c e on up (inl goes) = inl (goes.0, λ h. goes.1 (on.1 h))
-fails_since a b c e on up (inr ended) = inr (record { cause = ended.cause; told = ended.told; has = has_since a b c ended.cause on.1 up ended.has; over = ended.over; blamed = ended.blamed })
+fails_since a b c e on up (inr ended) = inr (ended_since a b c e on up ended)
 
 -- one call after another: Q of the last answer is had from P of the first
 pub seq : {A B : Type 0} (old mid new : State) (a : A) (r : Result B Fault) (P : A → Type 0) (Q R : B → Type 0) → (P a → (b : B) → Q b → R b) → Call old mid (Ok a) P → Call mid new r Q → Call old new r R
@@ -157,6 +160,39 @@ seq {A} {B} old mid new a r P Q R more one two = record {
 pub failed_then : {A B C : Type 0} (old mid new : State) (a : A) (e : Fault) (P : A → Type 0) (Q : B → Type 0) (R : C → Type 0) → Call old mid (Ok a) P → Call mid new (Err e) Q → Call old new (Err e) R
 failed_then {A} {B} {C} old mid new a e P Q R one two = then_err old new e Q R (seq old mid new a (Err e) P Q Q (λ p b q. q) one two)
 
+-- ---- calls that take no memory of their own
+
+pub short_ok : {A : Type 0} (old new : State) (a : A) → TellsMemory old new (Ok a)
+short_ok old new a clean inside is = absurd (cc)
+
 -- the want of memory of a call, handed on
 pub short_err : {A B : Type 0} (old new : State) (e : Fault) → TellsMemory {A = A} old new (Err e) → TellsMemory {A = B} old new (Err e)
 short_err old new e short clean inside is = short clean inside (let same : e ≡ Memory = (let h = is in cc) in ap Err same)
+
+pub short_store : {A : Type 0} (old new : State) (e : Fault) → e ≡ Store → TellsMemory {A = A} old new (Err e)
+short_store old new e store clean inside is = absurd (let clash : Store ≡ Memory = (let same : e ≡ Memory = (let h = is in cc) in sym store ∙ same) in cc)
+
+pub statement_with : {A : Type 0} (old new : State) (r : Result A Fault) (P Q : A → Type 0) → ((a : A) → P a → Q a) → Statement old new r P → Statement old new r Q
+statement_with old new r P Q more it = record { call = call_with old new r P Q more it.call; short = it.short }
+
+-- another answer, computed from the first
+pub statement_ok : {A B : Type 0} (old new : State) (a : A) (b : B) (P : A → Type 0) (Q : B → Type 0) → (P a → Q b) → Statement old new (Ok a) P → Statement old new (Ok b) Q
+statement_ok old new a b P Q more it = record { call = then_ok old new a b P Q more it.call; short = short_ok old new b }
+
+-- the failure of a statement, handed on
+pub statement_err : {A B : Type 0} (old new : State) (e : Fault) (P : A → Type 0) (Q : B → Type 0) → Statement old new (Err e) P → Statement old new (Err e) Q
+statement_err old new e P Q it = record { call = then_err old new e P Q it.call; short = short_err old new e it.short }
+
+-- a computation that fails only where a row breaks the rules, after a statement
+pub statement_result : {A B : Type 0} (old new : State) (a : A) (r : Result B Fault) (P : A → Type 0) (Q : B → Type 0) → IfOk r (λ b. P a → Q b) → IfErr r (λ e. e ≡ Store) → Statement old new (Ok a) P → Statement old new r Q
+statement_result old new a (Ok b) P Q more store it = statement_ok old new a b P Q more it
+statement_result old new a (Err e) P Q more store it = record { call = then_stop old new a e P Q it.call; short = short_store old new e store }
+
+-- one after another
+pub statement_seq : {A B : Type 0} (old mid new : State) (a : A) (r : Result B Fault) (P : A → Type 0) (Q R : B → Type 0) → (P a → (b : B) → Q b → R b) → Statement old mid (Ok a) P → Statement mid new r Q → Statement old new r R
+statement_seq old mid new a r P Q R more one two = record {
+  call = seq old mid new a r P Q R more one.call two.call;
+  short = λ clean inside is.
+      let on = one.call.goes_on (let mid_clean : HasCleanDisk mid = omega (arith, two.call.survives.clean, clean) in mid_clean) inside in
+      ended_since old mid new Memory on one.call.survives.counts (two.short clean on.0 is);
+}

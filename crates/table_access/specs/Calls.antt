@@ -46,3 +46,8 @@ pub record Call {A : Type 0} (old new : State) (r : Result A Fault) (P : A → T
   pub fails : HasCleanDisk new → IsTrue old.in_transaction → IfErr r (FailsAs old new)
   pub commits : HasCleanDisk new → IsTrue old.in_transaction → LeavesCommit old new
   pub survives : Survives old new (λ _. old.in_transaction ≡ false)
+
+-- A call that takes no memory of its own, as a statement, or some in turn: want of memory is the store's.
+pub record Statement {A : Type 0} (old new : State) (r : Result A Fault) (P : A → Type 0) : Type 0 where
+  pub call : Call old new r P
+  pub short : TellsMemory old new r

@@ -1,7 +1,8 @@
 //! Statements on the tables of a database, and the transaction round them.
 //!
 //! The crate knows SQL and no table: a caller gives the text, and its contract says what the text does under the schema that is there.
-//! Each call on tables leaves the same promise, `Call`: what it answers, that it commits nothing, how it fails, and that a crash leaves what it left before.
+//! Each call on tables leaves the same promise, `Call`: what it answers, that it commits nothing, how it fails, and that a crash leaves what it left before;
+//! one that takes no memory of its own leaves `Statement`, by which want of memory is the store's too.
 #![tactic(auto)]
 
 ghost use Rattle.std.specs.Prelude.{◌≡◌, ℕ, Ok, Err, false, [], List, IsTrue, IfOk, IfErr, OnOk, OnErr, codes};
@@ -11,7 +12,7 @@ ghost use Rattle.sqlite.specs.Held.{state};
 ghost use Rattle.sqlite.specs.Values.{bound};
 ghost use Rattle.sqlite_resolve.specs.Compile.{first};
 ghost use Rattle.table_access.specs.Unit.{Begins, IsLeft};
-ghost use Rattle.table_access.specs.Calls.{LeavesCommit, Call, TellsMemory};
+ghost use Rattle.table_access.specs.Calls.{LeavesCommit, Statement};
 ghost use Rattle.table_access.specs.Calls as spec;
 ghost use Rattle.table_access.specs.Reading.{IsRefusedAs};
 ghost use Rattle.table_access.specs.Writes.{IsWriteText};
@@ -128,9 +129,8 @@ pub fn change<S: Alter>(
     params: &[ValueRef<'_>],
 ) -> Result<(), Fault>
     requires { IsWriteText (first sql.now) }
-    ensures leaves { Call (state S.Store conn.old) (state S.Store conn.new) result (λ _. (count : ℕ) × Executes sql.now (bound params.now) (state S.Store conn.old) (state S.Store conn.new) (Ok count)) }
+    ensures leaves { Statement (state S.Store conn.old) (state S.Store conn.new) result (λ _. (count : ℕ) × Executes sql.now (bound params.now) (state S.Store conn.old) (state S.Store conn.new) (Ok count)) }
     ensures told { HasCleanDisk (state S.Store conn.new) → IfErr result (λ f. (e : SqlError) × (f ≡ spec.fault_of e) × Executes sql.now (bound params.now) (state S.Store conn.old) (state S.Store conn.new) (Err e)) }
-    ensures short { TellsMemory (state S.Store conn.old) (state S.Store conn.new) result }
 {
     match conn.execute(sql, params) {
         Ok(_) => Ok(()),
@@ -144,9 +144,8 @@ pub fn select<S: Alter>(
     sql: &str,
     params: &[ValueRef<'_>],
 ) -> Result<Vec<Row>, Fault>
-    ensures leaves { Call (state S.Store conn.old) (state S.Store conn.new) result (λ rows. Shown sql.now (bound params.now) (state S.Store conn.old) (state S.Store conn.new) rows.items) }
+    ensures leaves { Statement (state S.Store conn.old) (state S.Store conn.new) result (λ rows. Shown sql.now (bound params.now) (state S.Store conn.old) (state S.Store conn.new) rows.items) }
     ensures told { HasCleanDisk (state S.Store conn.new) → IfErr result (IsRefusedAs sql.now (bound params.now) (state S.Store conn.old) (state S.Store conn.new)) }
-    ensures short { TellsMemory (state S.Store conn.old) (state S.Store conn.new) result }
 {
     match conn.query_all(sql, params) {
         Ok(rows) => Ok(rows),

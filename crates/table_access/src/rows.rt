@@ -7,7 +7,7 @@ ghost use Rattle.sqlite.specs.Values.{bound};
 ghost use Rattle.sqlite.specs.Order.{Row as SqlRow, column};
 ghost use Rattle.sqlite_rules.specs.Lists.{Has};
 ghost use Rattle.sqlite.specs.declared.types.Value.TheVariants.{Int};
-ghost use Rattle.table_access.specs.Calls.{Call, TellsMemory};
+ghost use Rattle.table_access.specs.Calls.{Call, Statement};
 ghost use Rattle.table_access.specs.Columns.{text};
 ghost use Rattle.table_access.specs.Reading.{AreRead, IsRefusedAs, FailsToRead, FailsToTake, IsTextRow, TellsText, TellsNumber};
 
@@ -71,9 +71,8 @@ pub fn count_of<S: Alter>(
     sql: &str,
     params: &[ValueRef<'_>],
 ) -> Result<usize, Fault>
-    ensures leaves { Call (state S.Store conn.old) (state S.Store conn.new) result (λ count. (rows : List SqlRow) × Shown sql.now (bound params.now) (state S.Store conn.old) (state S.Store conn.new) rows × (count ≡ length rows)) }
+    ensures leaves { Statement (state S.Store conn.old) (state S.Store conn.new) result (λ count. (rows : List SqlRow) × Shown sql.now (bound params.now) (state S.Store conn.old) (state S.Store conn.new) rows × (count ≡ length rows)) }
     ensures told { HasCleanDisk (state S.Store conn.new) → IfErr result (IsRefusedAs sql.now (bound params.now) (state S.Store conn.old) (state S.Store conn.new)) }
-    ensures short { TellsMemory (state S.Store conn.old) (state S.Store conn.new) result }
 {
     match select(conn, sql, params) {
         Ok(rows) => Ok(rows.len()),
@@ -149,10 +148,9 @@ pub fn number_of<S: Alter>(
     sql: &str,
     params: &[ValueRef<'_>],
 ) -> Result<Option<u32>, Fault>
-    ensures leaves { Call (state S.Store conn.old) (state S.Store conn.new) result (λ found.
+    ensures leaves { Statement (state S.Store conn.old) (state S.Store conn.new) result (λ found.
         (rows : List SqlRow) × Shown sql.now (bound params.now) (state S.Store conn.old) (state S.Store conn.new) rows × (option_map (λ n. Int (pos n)) found ≡ option_map (λ row. column row 0) (slice_get rows 0))) }
     ensures told { HasCleanDisk (state S.Store conn.new) → IfErr result (FailsToTake TellsNumber sql.now (bound params.now) (state S.Store conn.old) (state S.Store conn.new)) }
-    ensures short { TellsMemory (state S.Store conn.old) (state S.Store conn.new) result }
 {
     match select(conn, sql, params) {
         Ok(rows) => first_number(&rows),
