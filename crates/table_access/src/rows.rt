@@ -1,6 +1,6 @@
 //! Answers of queries, read into values.
 
-ghost use Rattle.std.specs.Prelude.{◌≡◌, ◌↔◌, pos, List, [], Some, IfOk, IfErr, IsTrue, length, option_map, string_bytes, slice_get};
+ghost use Rattle.std.specs.Prelude.{◌≡◌, pos, List, [], Some, IfOk, IfErr, IfSome, IfNone, length, option_map, is_some, string_bytes, slice_get};
 ghost use Rattle.sqlite.specs.State.{HasCleanDisk, Shown};
 ghost use Rattle.sqlite.specs.Held.{state};
 ghost use Rattle.sqlite.specs.Values.{bound};
@@ -80,32 +80,46 @@ pub fn count_of<S: Alter>(
     }
 }
 
-/// Whether the first column is a text in UTF-8.
-fn is_text(row: &Row) -> bool
-    ensures { IsTrue result ↔ IsTextRow row.now }
+/// Whether a query shows a row.
+pub fn has_row<S: Alter>(
+    conn: &mut Connection<S>,
+    sql: &str,
+    params: &[ValueRef<'_>],
+) -> Result<bool, Fault>
+    ensures leaves { Statement (state S.Store conn.old) (state S.Store conn.new) result (λ has. (rows : List SqlRow) × Shown sql.now (bound params.now) (state S.Store conn.old) (state S.Store conn.new) rows × (has ≡ is_some (slice_get rows 0))) }
+    ensures told { HasCleanDisk (state S.Store conn.new) → IfErr result (IsRefusedAs sql.now (bound params.now) (state S.Store conn.old) (state S.Store conn.new)) }
+{
+    match select(conn, sql, params) {
+        Ok(rows) => Ok(!rows.is_empty()),
+        Err(fault) => Err(fault),
+    }
+}
+
+/// The text in the first column, if it is one in UTF-8.
+fn text_in(row: &Row) -> Option<&str>
+    ensures some { IfSome result (λ found. IsTextRow row.now × (found.now ≡ text 0 row.now)) }
+    ensures none { IfNone result (¬ IsTextRow row.now) }
 {
     match row.get_ref(0) {
-        Ok(ValueRef::Text(bytes)) => std::str::from_utf8(bytes).is_ok(),
-        _ => false,
+        Ok(ValueRef::Text(bytes)) => std::str::from_utf8(bytes).ok(),
+        _ => None,
     }
 }
 
 /// The text in the first column of the first row, if there is a row. `Fault::Store` where there is no text, and `Fault::Memory` where there is one and no room for it.
-fn first_text(rows: &[Row]) -> Result<Option<String>, Fault>
+fn first_text(alloc: Global, rows: &[Row]) -> Result<Option<String>, Fault>
     ensures ok { IfOk result (λ found. option_map string_bytes found ≡ option_map (text 0) (slice_get rows.now 0)) }
     ensures told { IfErr result (λ f. (row : SqlRow) × (slice_get rows.now 0 ≡ Some row) × TellsText row f) }
 {
     match rows.first() {
         None => Ok(None),
-        Some(row) => {
-            if !is_text(row) {
-                return Err(Fault::Store);
-            }
-            match row.get(0) {
+        Some(row) => match text_in(row) {
+            Some(text) => match String::from_str(alloc, text) {
                 Ok(text) => Ok(Some(text)),
-                Err(error) => Err(fault_of(error)),
-            }
-        }
+                Err(_) => Err(Fault::Memory),
+            },
+            None => Err(Fault::Store),
+        },
     }
 }
 
@@ -137,7 +151,7 @@ pub fn text_of<S: Alter>(
     ensures told { HasCleanDisk (state S.Store conn.new) → IfErr result (FailsToTake TellsText sql.now (bound params.now) (state S.Store conn.old) (state S.Store conn.new)) }
 {
     match select(conn, sql, params) {
-        Ok(rows) => first_text(&rows),
+        Ok(rows) => first_text(*rows.allocator(), &rows),
         Err(fault) => Err(fault),
     }
 }

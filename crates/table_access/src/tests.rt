@@ -103,6 +103,22 @@ fn reads_and_writes(rt: HostRuntime) -> Result<(), Fail> {
         count_of(&mut conn, "SELECT number FROM word", &[]).map_err(told)?,
         2
     );
+    assert!(rt;
+        has_row(
+            &mut conn,
+            "SELECT text FROM word WHERE number = ?1",
+            params![1u32]
+        )
+        .map_err(told)?
+    );
+    assert!(rt;
+        !has_row(
+            &mut conn,
+            "SELECT text FROM word WHERE number = ?1",
+            params![2u32]
+        )
+        .map_err(told)?
+    );
     assert!(rt; commit(&mut conn));
     assert!(rt; !commit(&mut conn));
     enter(&mut conn).map_err(told)?;
