@@ -4,4 +4,4 @@ pub mod Transaction
 pub mod Unpublished
 pub mod FollowLemmas
 pub mod Blank
-pub mod FoundFormat
+pub mod Judgements

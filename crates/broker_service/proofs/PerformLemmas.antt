@@ -38,7 +38,7 @@ pub changed_then : {A : Type 0} (old mid new : State) (x : A) (u : Unit {0}) (an
     → ((s : Broker) → P x s → (t : Broker) × Next s t × Q s (record { answer = answer; state = t })) → Reads old mid (Ok x) P → Changes mid new (Ok u) Next → Performs old new Q (Ok answer)
 changed_then old mid new x u answer P Next Q f one two =
     then_ok old new u answer (λ _. (s : Broker) → Holds old.now s → (t : Broker) × Q s (record { answer = answer; state = t }) × Holds new.now t) _ (λ h. h)
-    (seq old mid new x (Ok u) _ _ _ (λ p b q s held. let first = p s held in let next = f s first.0 in (next.0, next.2, q s first.1 next.0 next.1)) one two)
+    (seq old mid new x (Ok u) _ _ _ (λ p b q s held. let first = p s held in let next = f s first.0 in (next.0, next.2, q s first.1 next.0 next.1)) one two.call)
 
 -- a query, and then a command
 pub performs_then : {A : Type 0} (old mid new : State) (x : A) (r : Result Answer Fault) (P : A → Broker → Type 0) (Q R : Broker → Transition → Type 0) → ((s : Broker) → P x s → (out : Transition) → Q s out → R s out) → Reads old mid (Ok x) P → Performs mid new Q r → Performs old new R r

@@ -1,16 +1,13 @@
 -- how a broker is made on a database, or opened
-use Rattle.std.specs.Prelude.{◌≡◌, ◌≢◌, ◌⊎◌, ◌==◌, ℕ, pos, if◌then◌else◌, List, [], ◌∷◌, map, length, slice_get, Option, Some, None, MatchOption, Result, Ok, Err}
-use Rattle.sqlite.specs.Table.{Table}
-use Rattle.sqlite.specs.Order.{column}
-use Rattle.sqlite.specs.declared.types.Value.TheVariants.{Int}
+use Rattle.std.specs.Prelude.{◌≡◌, ◌≢◌, ◌⊎◌, ◌==◌, ℕ, if◌then◌else◌, Option, Some, None, Result, Ok, Err}
 use Rattle.sqlite.specs.Effect.{Database}
 use Rattle.sqlite.specs.State.{State}
 use Rattle.table_access.specs.declared.Fault.{Fault}
 use Rattle.table_access.specs.declared.Fault.TheVariants as fault
 use Rattle.table_access.specs.Calls.{LeavesCommit}
 use Rattle.table_access.specs.Keeps.{Keeps, IsUnsure}
-use Rattle.broker_tables.specs.Schema.{meta}
 use Rattle.broker_tables.specs.Holds.{format}
+use Rattle.registry_tables.specs.Format.{IsOfFormat, IsForeign}
 use Rattle.broker_service.specs.Ends.{IsAsBefore}
 use Rattle.broker_service.specs.declared.opening.OpenFault.{OpenFault}
 use Rattle.broker_service.specs.declared.opening.OpenFault.TheVariants.{NotEmpty, NotABroker, Format, Memory, Store}
@@ -43,21 +40,9 @@ abbrev pub Spared : State → State → OpenFault → Type 0
 Spared old new Store = LeavesCommit old new
 Spared old new _ = IsAsBefore old new
 
--- ---- what a database is
+-- ---- what is told of a database
 
--- the broker's table meta, by its name, its columns and its key: a broker makes it before each other table, so its rows stand in the first tree
-abbrev pub IsMetaTable : Table → Type 0
-IsMetaTable table = (table.name ≡ meta.name) × (table.tree ≡ meta.tree) × (table.columns ≡ meta.columns) × (table.key ≡ meta.key)
-
--- The first table is meta, and this is the format in its one row. So it is in each database that a broker left.
-abbrev pub IsOfFormat : ℕ → Database → Type 0
-IsOfFormat n db = (table : Table) × (slice_get db.schema.tables 0 ≡ Some table) × IsMetaTable table × (map (λ row. column row 2) (db.trees meta.tree) ≡ Int (pos n) ∷ [])
-
--- the first table isn't meta, or meta hasn't one row
-abbrev pub IsForeign : Database → Type 0
-IsForeign db = (table : Table) → slice_get db.schema.tables 0 ≡ Some table → IsMetaTable table → length (db.trees meta.tree) ≢ 1
-
--- what is told of a database, a failure aside
+-- a failure aside
 abbrev pub IsJudged : Database → Result (Unit {0}) OpenFault → Type 0
 IsJudged db (Ok u) = IsOfFormat format db
 IsJudged db (Err NotABroker) = IsForeign db
@@ -65,10 +50,6 @@ IsJudged db (Err (Format n)) = IsOfFormat n db × (n ≢ format)
 IsJudged db (Err NotEmpty) = ⊥
 IsJudged db (Err Memory) = Unit {0}
 IsJudged db (Err Store) = Unit {0}
-
--- what is found in a database: a format, or none
-abbrev pub Finds : Database → Option ℕ → Type 0
-Finds db found = MatchOption found (IsForeign db) (λ n. IsOfFormat n db)
 
 -- what is told of a database by the format that is found in it
 abbrev pub judgement : Option ℕ → Result (Unit {0}) OpenFault

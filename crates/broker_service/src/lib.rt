@@ -5,7 +5,6 @@ mod broker;
 mod callers;
 mod deploy;
 mod environments;
-mod format;
 mod forms;
 mod grants;
 mod listing;

@@ -3,7 +3,7 @@ ghost use Rattle.std.specs.Prelude.{◌≡◌, ◌↔◌, ◌≤◌, ◌++◌, �
 ghost use Rattle.sqlite_trees.specs.View.{doubt};
 ghost use Rattle.sqlite.specs.State.{HasCleanDisk};
 ghost use Rattle.sqlite.specs.Held.{state};
-ghost use Rattle.table_access.specs.Calls.{Call};
+ghost use Rattle.table_access.specs.Calls.{Statement};
 ghost use Rattle.table_access.specs.Keeps.{Keeps};
 ghost use Rattle.broker_core.specs.State.{opening};
 ghost use Rattle.broker_tables.specs.Schema.{no_schema, registry_part, contents, contract_part, all_tables};
@@ -15,9 +15,8 @@ ghost use Rattle.broker_service.specs.Opening as spec;
 ghost use Rattle.broker_service.specs.Opening.{Turns, Leaves, Refuses, Spared, Judged, IsJudged, judgement};
 
 use crate::callers::digest_of;
-use crate::format::found_format;
 use broker_core::name::Token;
-use registry_tables::{is_blank, make_strict_environments};
+use registry_tables::{format_of, is_blank, make_strict_environments};
 use sqlite::{Alter, Connection};
 use std::alloc::Global;
 use table_access::{Fault, commit, enter, leave};
@@ -54,7 +53,7 @@ fn open_fault(fault: Fault) -> OpenFault
 
 /// Makes the tables of the registry, of contents and of contracts.
 fn make_first<S: Alter>(conn: &mut Connection<S>, digest: &str) -> Result<(), Fault>
-    ensures { Call (state S.Store conn.old) (state S.Store conn.new) result (λ _. IsBlank (state S.Store conn.old).now → HasTables (registry_part ++ contents ∷ contract_part) format digest.now (state S.Store conn.new).now) }
+    ensures { Statement (state S.Store conn.old) (state S.Store conn.new) result (λ _. IsBlank (state S.Store conn.old).now → HasTables (registry_part ++ contents ∷ contract_part) format digest.now (state S.Store conn.new).now) }
 {
     match registry_tables::make_tables(conn, 2, digest) {
         Ok(()) => match content_store::make_tables(conn) {
@@ -67,7 +66,7 @@ fn make_first<S: Alter>(conn: &mut Connection<S>, digest: &str) -> Result<(), Fa
 
 /// Makes the tables of what stands where, of evidence and of strict environments.
 fn make_rest<S: Alter>(conn: &mut Connection<S>) -> Result<(), Fault>
-    ensures { Call (state S.Store conn.old) (state S.Store conn.new) result (λ _. (office : List ℕ) → HasTables (registry_part ++ contents ∷ contract_part) format office (state S.Store conn.old).now → HasTables all_tables format office (state S.Store conn.new).now) }
+    ensures { Statement (state S.Store conn.old) (state S.Store conn.new) result (λ _. (office : List ℕ) → HasTables (registry_part ++ contents ∷ contract_part) format office (state S.Store conn.old).now → HasTables all_tables format office (state S.Store conn.new).now) }
 {
     match deploy_tables::make_tables(conn) {
         Ok(()) => match contract_tables::make_checked_results(conn) {
@@ -80,7 +79,7 @@ fn make_rest<S: Alter>(conn: &mut Connection<S>) -> Result<(), Fault>
 
 /// Makes all tables.
 fn make_all<S: Alter>(conn: &mut Connection<S>, digest: &str) -> Result<(), Fault>
-    ensures { Call (state S.Store conn.old) (state S.Store conn.new) result (λ _. IsBlank (state S.Store conn.old).now → Holds (state S.Store conn.new).now (opening digest.now)) }
+    ensures { Statement (state S.Store conn.old) (state S.Store conn.new) result (λ _. IsBlank (state S.Store conn.old).now → Holds (state S.Store conn.new).now (opening digest.now)) }
 {
     match make_first(conn, digest) {
         Ok(()) => make_rest(conn),
@@ -158,7 +157,7 @@ pub(crate) fn open<S: Alter>(conn: &mut Connection<S>) -> Result<(), OpenFault>
     ensures clean { doubt (state S.Store conn.old).is_clean ≤ doubt (state S.Store conn.new).is_clean }
 {
     match enter(conn) {
-        Ok(()) => match found_format(conn) {
+        Ok(()) => match format_of(conn) {
             Ok(found) => if leave(conn) {
                 judge(found)
             } else {

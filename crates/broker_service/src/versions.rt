@@ -1,7 +1,7 @@
 //! Naming of a version, and putting it on a branch.
 ghost use Rattle.std.specs.Prelude.{◌≡◌, ℕ, List, Option, Some, None, true, false, IfSome, IfNone, IfOk, IsTrue, is_some, option_map};
 ghost use Rattle.sqlite.specs.Held.{state};
-ghost use Rattle.table_access.specs.Calls.{Call};
+ghost use Rattle.table_access.specs.Calls.{Statement};
 ghost use Rattle.broker_core.specs.State.{State as BrokerState};
 ghost use Rattle.broker_core.specs.Limit.{has_room};
 ghost use Rattle.broker_core.specs.Change.{told, done, named, joined, on_branch};
@@ -161,7 +161,7 @@ fn number<S: Alter>(
 
 /// Puts the version with this number on the branch, if there is one.
 fn join<S: Alter>(conn: &mut Connection<S>, number: u32, branch: &Option<Name>) -> Result<(), Fault>
-    ensures { Call (state S.Store conn.old) (state S.Store conn.new) result (λ _. (s : BrokerState) → Holds (state S.Store conn.old).now s → (v : VersionModel) → number_of s.versions v ≡ Some number → ((b : List ℕ) → branch.now ≡ Some b → s.branches (v, b) ≡ false) → Holds (state S.Store conn.new).now (joined s v branch.now)) }
+    ensures { Statement (state S.Store conn.old) (state S.Store conn.new) result (λ _. (s : BrokerState) → Holds (state S.Store conn.old).now s → (v : VersionModel) → number_of s.versions v ≡ Some number → ((b : List ℕ) → branch.now ≡ Some b → s.branches (v, b) ≡ false) → Holds (state S.Store conn.new).now (joined s v branch.now)) }
 {
     match branch {
         Some(branch) => add_branch(conn, number, branch.as_str()),
@@ -176,7 +176,7 @@ fn put<S: Alter>(
     branch: &Option<Name>,
     old: Option<u32>,
 ) -> Result<(), Fault>
-    ensures { Call (state S.Store conn.old) (state S.Store conn.new) result (λ _. (s : BrokerState) → Holds (state S.Store conn.old).now s → CanJoin s version.now branch.now old → Holds (state S.Store conn.new).now (joined (named s version.now) version.now branch.now)) }
+    ensures { Statement (state S.Store conn.old) (state S.Store conn.new) result (λ _. (s : BrokerState) → Holds (state S.Store conn.old).now s → CanJoin s version.now branch.now old → Holds (state S.Store conn.new).now (joined (named s version.now) version.now branch.now)) }
 {
     match number(conn, version, branch, old) {
         Ok(number) => join(conn, number, branch),

@@ -8,7 +8,7 @@ use Rattle.sqlite.specs.State.{State}
 use Rattle.sha2.specs.Sha256.{sha256}
 use Rattle.hex.specs.Hex.{encode_lower}
 use Rattle.table_access.specs.declared.Fault.{Fault}
-use Rattle.table_access.specs.Calls.{Call}
+use Rattle.table_access.specs.Calls.{Call, Statement}
 use Rattle.table_access.specs.Columns.{text, text_cmp, whole_at, by_both}
 use Rattle.table_access.specs.Sound.{IsKept}
 use Rattle.broker_core.specs.declared.command.Version.{Version}
@@ -150,13 +150,21 @@ pub record Holds (db : Database) (s : Broker) : Type 0 where
 -- ---- how a call is stated
 
 -- an answer about the state that the database holds, which it holds still
+abbrev pub IsRead : {A : Type 0} → State → State → (A → Broker → Type 0) → A → Type 0
+IsRead old new P a = (s : Broker) → Holds old.now s → P a s × Holds new.now s
+
+-- a query, where there may be no room for its answer
 abbrev pub Reads : {A : Type 0} → State → State → Result A Fault → (A → Broker → Type 0) → Type 0
-Reads old new r P = Call old new r (λ a. (s : Broker) → Holds old.now s → P a s × Holds new.now s)
+Reads old new r P = Call old new r (IsRead old new P)
+
+-- a query whose answer takes no memory
+abbrev pub ReadsInPlace : {A : Type 0} → State → State → Result A Fault → (A → Broker → Type 0) → Type 0
+ReadsInPlace old new r P = Statement old new r (IsRead old new P)
 
 -- the state that the database holds leads to another, which it holds now
 abbrev pub Changes : State → State → Result (Unit {0}) Fault → (Broker → Broker → Type 0) → Type 0
-Changes old new r Next = Call old new r (λ _. (s : Broker) → Holds old.now s → (t : Broker) → Next s t → Holds new.now t)
+Changes old new r Next = Statement old new r (λ _. (s : Broker) → Holds old.now s → (t : Broker) → Next s t → Holds new.now t)
 
 -- where the state that the database holds allows it, an answer, and another state that the database holds now
 abbrev pub Gives : {A : Type 0} → State → State → Result A Fault → (Broker → Type 0) → (A → Broker → Broker → Type 0) → Type 0
-Gives old new r Allows Next = Call old new r (λ a. (s : Broker) → Holds old.now s → Allows s → (t : Broker) × Next a s t × Holds new.now t)
+Gives old new r Allows Next = Statement old new r (λ a. (s : Broker) → Holds old.now s → Allows s → (t : Broker) × Next a s t × Holds new.now t)

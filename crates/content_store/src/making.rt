@@ -1,7 +1,7 @@
 //! The table as a new broker makes it.
 ghost use Rattle.std.specs.Prelude.{◌≡◌, ◌∷◌, []};
 ghost use Rattle.sqlite.specs.Held.{state};
-ghost use Rattle.table_access.specs.Calls.{Call};
+ghost use Rattle.table_access.specs.Calls.{Statement};
 ghost use Rattle.table_access.specs.Statements.{Makes};
 ghost use Rattle.broker_tables.specs.Schema.{registry_part, contents, schema_of};
 
@@ -14,7 +14,7 @@ use table_access::{Fault, change};
 /// # Errors
 /// `Fault::Memory` for want of memory; `Fault::Store` where the database refused the table.
 pub fn make_tables<S: Alter>(conn: &mut Connection<S>) -> Result<(), Fault>
-    ensures { Call (state S.Store conn.old) (state S.Store conn.new) result (λ _. (state S.Store conn.old).now.schema ≡ schema_of registry_part → Makes (contents ∷ []) (state S.Store conn.old).now (state S.Store conn.new).now) }
+    ensures { Statement (state S.Store conn.old) (state S.Store conn.new) result (λ _. (state S.Store conn.old).now.schema ≡ schema_of registry_part → Makes (contents ∷ []) (state S.Store conn.old).now (state S.Store conn.new).now) }
 {
     change(conn, CONTENTS, &[])
 }

@@ -1,7 +1,7 @@
 //! The tables as a new broker makes them.
 ghost use Rattle.std.specs.Prelude.{◌≡◌, ◌++◌, ◌∷◌, []};
 ghost use Rattle.sqlite.specs.Held.{state};
-ghost use Rattle.table_access.specs.Calls.{Call};
+ghost use Rattle.table_access.specs.Calls.{Statement};
 ghost use Rattle.table_access.specs.Statements.{Creates, Makes};
 ghost use Rattle.broker_tables.specs.Schema.{registry_part, contents, contract_part, deploy_part, contracts, results, latest, checked_results, schema_of};
 
@@ -14,7 +14,7 @@ use table_access::{Fault, change};
 /// # Errors
 /// `Fault::Memory` for want of memory; `Fault::Store` where the database refused a table.
 pub fn make_tables<S: Alter>(conn: &mut Connection<S>) -> Result<(), Fault>
-    ensures { Call (state S.Store conn.old) (state S.Store conn.new) result (λ _. (state S.Store conn.old).now.schema ≡ schema_of (registry_part ++ contents ∷ []) → Makes contract_part (state S.Store conn.old).now (state S.Store conn.new).now) }
+    ensures { Statement (state S.Store conn.old) (state S.Store conn.new) result (λ _. (state S.Store conn.old).now.schema ≡ schema_of (registry_part ++ contents ∷ []) → Makes contract_part (state S.Store conn.old).now (state S.Store conn.new).now) }
 {
     match make_contracts(conn) {
         Ok(()) => make_verification(conn),
@@ -24,7 +24,7 @@ pub fn make_tables<S: Alter>(conn: &mut Connection<S>) -> Result<(), Fault>
 
 /// Makes the tables of results and of the latest ones, after that of contracts.
 fn make_verification<S: Alter>(conn: &mut Connection<S>) -> Result<(), Fault>
-    ensures { Call (state S.Store conn.old) (state S.Store conn.new) result (λ _. (state S.Store conn.old).now.schema ≡ schema_of (registry_part ++ contents ∷ contracts ∷ []) → Makes (results ∷ latest ∷ []) (state S.Store conn.old).now (state S.Store conn.new).now) }
+    ensures { Statement (state S.Store conn.old) (state S.Store conn.new) result (λ _. (state S.Store conn.old).now.schema ≡ schema_of (registry_part ++ contents ∷ contracts ∷ []) → Makes (results ∷ latest ∷ []) (state S.Store conn.old).now (state S.Store conn.new).now) }
 {
     match make_results(conn) {
         Ok(()) => make_latest(conn),
@@ -34,21 +34,21 @@ fn make_verification<S: Alter>(conn: &mut Connection<S>) -> Result<(), Fault>
 
 /// Makes the table of contracts.
 fn make_contracts<S: Alter>(conn: &mut Connection<S>) -> Result<(), Fault>
-    ensures { Call (state S.Store conn.old) (state S.Store conn.new) result (λ _. (state S.Store conn.old).now.schema ≡ schema_of (registry_part ++ contents ∷ []) → Creates (state S.Store conn.old).now (state S.Store conn.new).now contracts) }
+    ensures { Statement (state S.Store conn.old) (state S.Store conn.new) result (λ _. (state S.Store conn.old).now.schema ≡ schema_of (registry_part ++ contents ∷ []) → Creates (state S.Store conn.old).now (state S.Store conn.new).now contracts) }
 {
     change(conn, CONTRACTS, &[])
 }
 
 /// Makes the table of results, after that of contracts.
 fn make_results<S: Alter>(conn: &mut Connection<S>) -> Result<(), Fault>
-    ensures { Call (state S.Store conn.old) (state S.Store conn.new) result (λ _. (state S.Store conn.old).now.schema ≡ schema_of (registry_part ++ contents ∷ contracts ∷ []) → Creates (state S.Store conn.old).now (state S.Store conn.new).now results) }
+    ensures { Statement (state S.Store conn.old) (state S.Store conn.new) result (λ _. (state S.Store conn.old).now.schema ≡ schema_of (registry_part ++ contents ∷ contracts ∷ []) → Creates (state S.Store conn.old).now (state S.Store conn.new).now results) }
 {
     change(conn, RESULTS, &[])
 }
 
 /// Makes the table of the latest results, after that of results.
 fn make_latest<S: Alter>(conn: &mut Connection<S>) -> Result<(), Fault>
-    ensures { Call (state S.Store conn.old) (state S.Store conn.new) result (λ _. (state S.Store conn.old).now.schema ≡ schema_of (registry_part ++ contents ∷ contracts ∷ results ∷ []) → Creates (state S.Store conn.old).now (state S.Store conn.new).now latest) }
+    ensures { Statement (state S.Store conn.old) (state S.Store conn.new) result (λ _. (state S.Store conn.old).now.schema ≡ schema_of (registry_part ++ contents ∷ contracts ∷ results ∷ []) → Creates (state S.Store conn.old).now (state S.Store conn.new).now latest) }
 {
     change(conn, LATEST, &[])
 }
@@ -58,7 +58,7 @@ fn make_latest<S: Alter>(conn: &mut Connection<S>) -> Result<(), Fault>
 /// # Errors
 /// `Fault::Memory` for want of memory; `Fault::Store` where the database refused the table.
 pub fn make_checked_results<S: Alter>(conn: &mut Connection<S>) -> Result<(), Fault>
-    ensures { Call (state S.Store conn.old) (state S.Store conn.new) result (λ _. (state S.Store conn.old).now.schema ≡ schema_of (registry_part ++ contents ∷ contract_part ++ deploy_part) → Creates (state S.Store conn.old).now (state S.Store conn.new).now checked_results) }
+    ensures { Statement (state S.Store conn.old) (state S.Store conn.new) result (λ _. (state S.Store conn.old).now.schema ≡ schema_of (registry_part ++ contents ∷ contract_part ++ deploy_part) → Creates (state S.Store conn.old).now (state S.Store conn.new).now checked_results) }
 {
     change(conn, CHECKED_RESULTS, &[])
 }

@@ -4,7 +4,7 @@ ghost use Rattle.std.specs.Option.{option_map_or};
 ghost use Rattle.sqlite.specs.Held.{state};
 ghost use Rattle.broker_core.specs.declared.command.Version.{Version as VersionModel};
 ghost use Rattle.broker_core.specs.Change.{is_text};
-ghost use Rattle.broker_tables.specs.Holds.{Reads, Changes};
+ghost use Rattle.broker_tables.specs.Holds.{ReadsInPlace, Changes};
 ghost use Rattle.broker_tables.specs.Numbers.{number_of as number_in};
 ghost use Rattle.deploy_tables.specs.Deployments.{RecordsDeployed};
 
@@ -22,7 +22,7 @@ pub fn is_deployed<S: Alter>(
     instance: &str,
     number: u32,
 ) -> Result<bool, Fault>
-    ensures { Reads (state S.Store conn.old) (state S.Store conn.new) result (λ has s. (v : VersionModel) → number_in s.versions v ≡ Some number → v.pacticipant ≡ pacticipant.now → has ≡ is_text v.name (s.deployed (environment.now, pacticipant.now, instance.now))) }
+    ensures { ReadsInPlace (state S.Store conn.old) (state S.Store conn.new) result (λ has s. (v : VersionModel) → number_in s.versions v ≡ Some number → v.pacticipant ≡ pacticipant.now → has ≡ is_text v.name (s.deployed (environment.now, pacticipant.now, instance.now))) }
 {
     match number_of(
         conn,

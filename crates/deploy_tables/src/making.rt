@@ -1,7 +1,7 @@
 //! The tables as a new broker makes them.
 ghost use Rattle.std.specs.Prelude.{◌≡◌, ◌++◌, ◌∷◌, []};
 ghost use Rattle.sqlite.specs.Held.{state};
-ghost use Rattle.table_access.specs.Calls.{Call};
+ghost use Rattle.table_access.specs.Calls.{Statement};
 ghost use Rattle.table_access.specs.Statements.{Creates, Makes};
 ghost use Rattle.broker_tables.specs.Schema.{registry_part, contents, contract_part, deploy_part, deployed, released, schema_of};
 
@@ -14,7 +14,7 @@ use table_access::{Fault, change};
 /// # Errors
 /// `Fault::Memory` for want of memory; `Fault::Store` where the database refused a table.
 pub fn make_tables<S: Alter>(conn: &mut Connection<S>) -> Result<(), Fault>
-    ensures { Call (state S.Store conn.old) (state S.Store conn.new) result (λ _. (state S.Store conn.old).now.schema ≡ schema_of (registry_part ++ contents ∷ contract_part) → Makes deploy_part (state S.Store conn.old).now (state S.Store conn.new).now) }
+    ensures { Statement (state S.Store conn.old) (state S.Store conn.new) result (λ _. (state S.Store conn.old).now.schema ≡ schema_of (registry_part ++ contents ∷ contract_part) → Makes deploy_part (state S.Store conn.old).now (state S.Store conn.new).now) }
 {
     match make_deployed(conn) {
         Ok(()) => make_released(conn),
@@ -24,14 +24,14 @@ pub fn make_tables<S: Alter>(conn: &mut Connection<S>) -> Result<(), Fault>
 
 /// Makes the table of the versions that are deployed.
 fn make_deployed<S: Alter>(conn: &mut Connection<S>) -> Result<(), Fault>
-    ensures { Call (state S.Store conn.old) (state S.Store conn.new) result (λ _. (state S.Store conn.old).now.schema ≡ schema_of (registry_part ++ contents ∷ contract_part) → Creates (state S.Store conn.old).now (state S.Store conn.new).now deployed) }
+    ensures { Statement (state S.Store conn.old) (state S.Store conn.new) result (λ _. (state S.Store conn.old).now.schema ≡ schema_of (registry_part ++ contents ∷ contract_part) → Creates (state S.Store conn.old).now (state S.Store conn.new).now deployed) }
 {
     change(conn, DEPLOYED, &[])
 }
 
 /// Makes the table of the versions that are released, after that of the deployed ones.
 fn make_released<S: Alter>(conn: &mut Connection<S>) -> Result<(), Fault>
-    ensures { Call (state S.Store conn.old) (state S.Store conn.new) result (λ _. (state S.Store conn.old).now.schema ≡ schema_of (registry_part ++ contents ∷ contract_part ++ deployed ∷ []) → Creates (state S.Store conn.old).now (state S.Store conn.new).now released) }
+    ensures { Statement (state S.Store conn.old) (state S.Store conn.new) result (λ _. (state S.Store conn.old).now.schema ≡ schema_of (registry_part ++ contents ∷ contract_part ++ deployed ∷ []) → Creates (state S.Store conn.old).now (state S.Store conn.new).now released) }
 {
     change(conn, RELEASED, &[])
 }

@@ -2,12 +2,12 @@
 ghost use Rattle.std.specs.Prelude.{◌≡◌, Some};
 ghost use Rattle.sqlite.specs.Held.{state};
 ghost use Rattle.broker_core.specs.declared.command.Version.{Version as VersionModel};
-ghost use Rattle.broker_tables.specs.Holds.{Reads, Changes, Gives};
+ghost use Rattle.broker_tables.specs.Holds.{ReadsInPlace, Changes, Gives};
 ghost use Rattle.broker_tables.specs.Numbers.{number_of as number_in};
 ghost use Rattle.deploy_tables.specs.Releases.{IsVersion, RecordsReleased, EndsSupport};
 
 use sqlite::{Alter, Connection, params};
-use table_access::{Fault, change, text_of};
+use table_access::{Fault, change, has_row};
 
 /// Whether the version of that number is released in the environment.
 ///
@@ -18,16 +18,13 @@ pub fn is_released<S: Alter>(
     environment: &str,
     number: u32,
 ) -> Result<bool, Fault>
-    ensures { Reads (state S.Store conn.old) (state S.Store conn.new) result (λ has s. (v : VersionModel) → number_in s.versions v ≡ Some number → has ≡ s.released (environment.now, v)) }
+    ensures { ReadsInPlace (state S.Store conn.old) (state S.Store conn.new) result (λ has s. (v : VersionModel) → number_in s.versions v ≡ Some number → has ≡ s.released (environment.now, v)) }
 {
-    match text_of(
+    has_row(
         conn,
         "SELECT environment FROM released WHERE environment = ?1 AND version_number = ?2",
         params![environment, number],
-    ) {
-        Ok(found) => Ok(found.is_some()),
-        Err(fault) => Err(fault),
-    }
+    )
 }
 
 /// Releases the version of that number in the environment, which is there; it isn't released there yet.

@@ -7,5 +7,5 @@ pub mod BranchRows
 pub mod EnvironmentRows
 pub mod TableTexts
 pub mod MetaRow
-pub mod FormatRow
+pub mod FoundFormat
 pub mod BranchNumbers

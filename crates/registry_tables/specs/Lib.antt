@@ -1,1 +1,2 @@
 pub mod Registry
+pub mod Format

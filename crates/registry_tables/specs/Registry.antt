@@ -10,8 +10,7 @@ use Rattle.std.specs.List.{AllByRecursion}
 use Rattle.sqlite.specs.Effect.{Database}
 use Rattle.table_access.specs.Sound.{IsKept}
 use Rattle.broker_tables.specs.Numbers.{number_of}
-use Rattle.broker_tables.specs.Schema.{no_schema, schema_of, registry_part}
-use Rattle.broker_tables.specs.Making.{IsMarked}
+use Rattle.broker_tables.specs.Schema.{schema_of, registry_part}
 use Rattle.broker_tables.specs.Rows.{rows_of}
 use Rattle.broker_tables.specs.Holds.{IsMeta}
 
@@ -70,10 +69,6 @@ PutsMeta n digest old new =
     old.schema ≡ schema_of registry_part → IsKept old → rows_of old (codes "meta") ≡ []
     → (new.schema ≡ old.schema) × IsKept new × IsMeta n digest (rows_of new (codes "meta"))
     × AllByRecursion (λ t. same_text t.name (codes "meta") ≡ false → new.trees t.tree ≡ old.trees t.tree) (schema_of registry_part).tables
-
--- none of a database without tables; the format of one that a broker left, which stays as it is
-abbrev pub FindsFormat : Database → Database → Option ℕ → Type 0
-FindsFormat old new found = (old.schema ≡ no_schema → found ≡ None) × ((n : ℕ) (office : Text) → IsMarked n office old → (found ≡ Some n) × (new ≡ old))
 
 -- the number of a version of the pacticipant that is on the branch
 abbrev pub IsBranchNumber : State → Text → Text → ℕ → Type 0

@@ -7,12 +7,12 @@ ghost use Rattle.broker_core.specs.Listing.{Lists};
 ghost use Rattle.sqlite.specs.Held.{state};
 ghost use Rattle.broker_core.specs.declared.command.Version.{Version as VersionModel};
 ghost use Rattle.broker_tables.specs.Numbers.{number_of as number_in};
-ghost use Rattle.broker_tables.specs.Holds.{Reads, Changes};
+ghost use Rattle.broker_tables.specs.Holds.{Reads, ReadsInPlace, Changes};
 ghost use Rattle.registry_tables.specs.Registry.{AddsBranch, IsBranchNumber};
 
 use sqlite::{Alter, Connection, Row, params};
 use std::alloc::Global;
-use table_access::{Fault, ReadRow, change, list_of, text_of};
+use table_access::{Fault, ReadRow, change, has_row, list_of};
 
 /// Whether the version with this number is on the branch.
 ///
@@ -23,16 +23,13 @@ pub fn on_branch<S: Alter>(
     number: u32,
     branch: &str,
 ) -> Result<bool, Fault>
-    ensures { Reads (state S.Store conn.old) (state S.Store conn.new) result (λ has s. (v : VersionModel) → number_in s.versions v ≡ Some number → has ≡ s.branches (v, branch.now)) }
+    ensures { ReadsInPlace (state S.Store conn.old) (state S.Store conn.new) result (λ has s. (v : VersionModel) → number_in s.versions v ≡ Some number → has ≡ s.branches (v, branch.now)) }
 {
-    match text_of(
+    has_row(
         conn,
         "SELECT branch FROM branches WHERE version_number = ?1 AND branch = ?2",
         params![number, branch],
-    ) {
-        Ok(found) => Ok(found.is_some()),
-        Err(fault) => Err(fault),
-    }
+    )
 }
 
 /// Puts the version with this number on a branch that it isn't on.

@@ -2,11 +2,11 @@
 ghost use Rattle.std.specs.Prelude.{◌≡◌, ◌==◌, ◌<◌, false, IfOk, IfErr, IsSomeAnd, Some, option_map};
 ghost use Rattle.sqlite.specs.Held.{state};
 ghost use Rattle.broker_core.specs.declared.command.Marks.{Marks as MarksModel};
-ghost use Rattle.broker_tables.specs.Holds.{Reads, Changes};
+ghost use Rattle.broker_tables.specs.Holds.{ReadsInPlace, Changes};
 ghost use Rattle.registry_tables.specs.Registry.{AddsEnvironment, marks, MakesStrict};
 
 use sqlite::{Alter, Connection, params};
-use table_access::{Fault, change, number_of, text_of};
+use table_access::{Fault, change, has_row, number_of};
 
 /// The truth value that a number stands for: 0 is false, and 1 true.
 fn truth_of(found: Option<u32>) -> Result<Option<bool>, Fault>
@@ -26,7 +26,7 @@ fn truth_of(found: Option<u32>) -> Result<Option<bool>, Fault>
 /// # Errors
 /// `Fault::Memory` for want of memory; `Fault::Store` where the database refused the query or holds no truth value there.
 pub fn gated<S: Alter>(conn: &mut Connection<S>, environment: &str) -> Result<Option<bool>, Fault>
-    ensures { Reads (state S.Store conn.old) (state S.Store conn.new) result (λ found s. found ≡ option_map (λ m. m.gated) (s.environments environment.now)) }
+    ensures { ReadsInPlace (state S.Store conn.old) (state S.Store conn.new) result (λ found s. found ≡ option_map (λ m. m.gated) (s.environments environment.now)) }
 {
     match number_of(
         conn,
@@ -40,16 +40,13 @@ pub fn gated<S: Alter>(conn: &mut Connection<S>, environment: &str) -> Result<Op
 
 /// Whether an environment that is there is strict.
 fn is_strict<S: Alter>(conn: &mut Connection<S>, environment: &str) -> Result<bool, Fault>
-    ensures { Reads (state S.Store conn.old) (state S.Store conn.new) result (λ strict s. (m : MarksModel) → s.environments environment.now ≡ Some m → strict ≡ m.strict) }
+    ensures { ReadsInPlace (state S.Store conn.old) (state S.Store conn.new) result (λ strict s. (m : MarksModel) → s.environments environment.now ≡ Some m → strict ≡ m.strict) }
 {
-    match text_of(
+    has_row(
         conn,
         "SELECT environment FROM strict_environments WHERE environment = ?1",
         params![environment],
-    ) {
-        Ok(found) => Ok(found.is_some()),
-        Err(fault) => Err(fault),
-    }
+    )
 }
 
 /// Whether the environment is strict, or `None` where there is no such environment.
@@ -60,7 +57,7 @@ pub fn strict_of<S: Alter>(
     conn: &mut Connection<S>,
     environment: &str,
 ) -> Result<Option<bool>, Fault>
-    ensures { Reads (state S.Store conn.old) (state S.Store conn.new) result (λ found s. found ≡ option_map (λ m. m.strict) (s.environments environment.now)) }
+    ensures { ReadsInPlace (state S.Store conn.old) (state S.Store conn.new) result (λ found s. found ≡ option_map (λ m. m.strict) (s.environments environment.now)) }
 {
     match gated(conn, environment) {
         Ok(Some(_)) => match is_strict(conn, environment) {

@@ -1,11 +1,11 @@
 //! Grants: the teams that may change what stands in an environment.
 ghost use Rattle.std.specs.Prelude.{◌≡◌};
 ghost use Rattle.sqlite.specs.Held.{state};
-ghost use Rattle.broker_tables.specs.Holds.{Reads, Changes};
+ghost use Rattle.broker_tables.specs.Holds.{ReadsInPlace, Changes};
 ghost use Rattle.registry_tables.specs.Registry.{AddsGrant, RemovesGrant};
 
 use sqlite::{Alter, Connection, params};
-use table_access::{Fault, change, text_of};
+use table_access::{Fault, change, has_row};
 
 /// Whether the team has a grant for the environment.
 ///
@@ -16,16 +16,13 @@ pub fn granted<S: Alter>(
     team: &str,
     environment: &str,
 ) -> Result<bool, Fault>
-    ensures { Reads (state S.Store conn.old) (state S.Store conn.new) result (λ has s. has ≡ s.grants (team.now, environment.now)) }
+    ensures { ReadsInPlace (state S.Store conn.old) (state S.Store conn.new) result (λ has s. has ≡ s.grants (team.now, environment.now)) }
 {
-    match text_of(
+    has_row(
         conn,
         "SELECT team FROM grants WHERE team = ?1 AND environment = ?2",
         params![team, environment],
-    ) {
-        Ok(found) => Ok(found.is_some()),
-        Err(fault) => Err(fault),
-    }
+    )
 }
 
 /// Grants a team the change of an environment, both of which are there; it has no such grant yet.

@@ -1,7 +1,7 @@
 //! The tables as a new broker makes them.
 ghost use Rattle.std.specs.Prelude.{◌≡◌, ◌++◌, ◌∷◌, []};
 ghost use Rattle.sqlite.specs.Held.{state};
-ghost use Rattle.table_access.specs.Calls.{Call};
+ghost use Rattle.table_access.specs.Calls.{Statement};
 ghost use Rattle.table_access.specs.Statements.{Creates, Makes};
 ghost use Rattle.broker_tables.specs.Making.{IsBlank, HasTables};
 ghost use Rattle.broker_tables.specs.Schema.{registry_part, contract_part, deploy_part, schema_of, meta, teams as teams_table, pacticipants as pacticipants_table, versions as versions_table, branches as branches_table, environments as environments_table, grants as grants_table, contents, checked_results, strict_environments};
@@ -22,7 +22,7 @@ pub fn make_tables<S: Alter>(
     format: u32,
     digest: &str,
 ) -> Result<(), Fault>
-    ensures { Call (state S.Store conn.old) (state S.Store conn.new) result (λ _. IsBlank (state S.Store conn.old).now → HasTables registry_part format digest.now (state S.Store conn.new).now) }
+    ensures { Statement (state S.Store conn.old) (state S.Store conn.new) result (λ _. IsBlank (state S.Store conn.old).now → HasTables registry_part format digest.now (state S.Store conn.new).now) }
 {
     match make_registry(conn) {
         Ok(()) => put_meta(conn, format, digest),
@@ -32,7 +32,7 @@ pub fn make_tables<S: Alter>(
 
 /// Makes the tables of the registry.
 fn make_registry<S: Alter>(conn: &mut Connection<S>) -> Result<(), Fault>
-    ensures { Call (state S.Store conn.old) (state S.Store conn.new) result (λ _. (state S.Store conn.old).now.schema ≡ schema_of ([]) → Makes (meta ∷ teams_table ∷ pacticipants_table ∷ versions_table ∷ branches_table ∷ environments_table ∷ grants_table ∷ []) (state S.Store conn.old).now (state S.Store conn.new).now) }
+    ensures { Statement (state S.Store conn.old) (state S.Store conn.new) result (λ _. (state S.Store conn.old).now.schema ≡ schema_of ([]) → Makes (meta ∷ teams_table ∷ pacticipants_table ∷ versions_table ∷ branches_table ∷ environments_table ∷ grants_table ∷ []) (state S.Store conn.old).now (state S.Store conn.new).now) }
 {
     match make_parties(conn) {
         Ok(()) => make_numbered(conn),
@@ -42,7 +42,7 @@ fn make_registry<S: Alter>(conn: &mut Connection<S>) -> Result<(), Fault>
 
 /// Makes meta and the tables of teams and pacticipants.
 fn make_parties<S: Alter>(conn: &mut Connection<S>) -> Result<(), Fault>
-    ensures { Call (state S.Store conn.old) (state S.Store conn.new) result (λ _. (state S.Store conn.old).now.schema ≡ schema_of ([]) → Makes (meta ∷ teams_table ∷ pacticipants_table ∷ []) (state S.Store conn.old).now (state S.Store conn.new).now) }
+    ensures { Statement (state S.Store conn.old) (state S.Store conn.new) result (λ _. (state S.Store conn.old).now.schema ≡ schema_of ([]) → Makes (meta ∷ teams_table ∷ pacticipants_table ∷ []) (state S.Store conn.old).now (state S.Store conn.new).now) }
 {
     match make_meta(conn) {
         Ok(()) => make_owners(conn),
@@ -52,7 +52,7 @@ fn make_parties<S: Alter>(conn: &mut Connection<S>) -> Result<(), Fault>
 
 /// Makes the tables of teams and pacticipants.
 fn make_owners<S: Alter>(conn: &mut Connection<S>) -> Result<(), Fault>
-    ensures { Call (state S.Store conn.old) (state S.Store conn.new) result (λ _. (state S.Store conn.old).now.schema ≡ schema_of (meta ∷ []) → Makes (teams_table ∷ pacticipants_table ∷ []) (state S.Store conn.old).now (state S.Store conn.new).now) }
+    ensures { Statement (state S.Store conn.old) (state S.Store conn.new) result (λ _. (state S.Store conn.old).now.schema ≡ schema_of (meta ∷ []) → Makes (teams_table ∷ pacticipants_table ∷ []) (state S.Store conn.old).now (state S.Store conn.new).now) }
 {
     match make_teams(conn) {
         Ok(()) => make_pacticipants(conn),
@@ -62,7 +62,7 @@ fn make_owners<S: Alter>(conn: &mut Connection<S>) -> Result<(), Fault>
 
 /// Makes the tables of versions, branches, environments and grants.
 fn make_numbered<S: Alter>(conn: &mut Connection<S>) -> Result<(), Fault>
-    ensures { Call (state S.Store conn.old) (state S.Store conn.new) result (λ _. (state S.Store conn.old).now.schema ≡ schema_of (meta ∷ teams_table ∷ pacticipants_table ∷ []) → Makes (versions_table ∷ branches_table ∷ environments_table ∷ grants_table ∷ []) (state S.Store conn.old).now (state S.Store conn.new).now) }
+    ensures { Statement (state S.Store conn.old) (state S.Store conn.new) result (λ _. (state S.Store conn.old).now.schema ≡ schema_of (meta ∷ teams_table ∷ pacticipants_table ∷ []) → Makes (versions_table ∷ branches_table ∷ environments_table ∷ grants_table ∷ []) (state S.Store conn.old).now (state S.Store conn.new).now) }
 {
     match make_named(conn) {
         Ok(()) => make_places(conn),
@@ -72,7 +72,7 @@ fn make_numbered<S: Alter>(conn: &mut Connection<S>) -> Result<(), Fault>
 
 /// Makes the tables of versions and branches.
 fn make_named<S: Alter>(conn: &mut Connection<S>) -> Result<(), Fault>
-    ensures { Call (state S.Store conn.old) (state S.Store conn.new) result (λ _. (state S.Store conn.old).now.schema ≡ schema_of (meta ∷ teams_table ∷ pacticipants_table ∷ []) → Makes (versions_table ∷ branches_table ∷ []) (state S.Store conn.old).now (state S.Store conn.new).now) }
+    ensures { Statement (state S.Store conn.old) (state S.Store conn.new) result (λ _. (state S.Store conn.old).now.schema ≡ schema_of (meta ∷ teams_table ∷ pacticipants_table ∷ []) → Makes (versions_table ∷ branches_table ∷ []) (state S.Store conn.old).now (state S.Store conn.new).now) }
 {
     match make_versions(conn) {
         Ok(()) => make_branches(conn),
@@ -82,7 +82,7 @@ fn make_named<S: Alter>(conn: &mut Connection<S>) -> Result<(), Fault>
 
 /// Makes the tables of environments and grants.
 fn make_places<S: Alter>(conn: &mut Connection<S>) -> Result<(), Fault>
-    ensures { Call (state S.Store conn.old) (state S.Store conn.new) result (λ _. (state S.Store conn.old).now.schema ≡ schema_of (meta ∷ teams_table ∷ pacticipants_table ∷ versions_table ∷ branches_table ∷ []) → Makes (environments_table ∷ grants_table ∷ []) (state S.Store conn.old).now (state S.Store conn.new).now) }
+    ensures { Statement (state S.Store conn.old) (state S.Store conn.new) result (λ _. (state S.Store conn.old).now.schema ≡ schema_of (meta ∷ teams_table ∷ pacticipants_table ∷ versions_table ∷ branches_table ∷ []) → Makes (environments_table ∷ grants_table ∷ []) (state S.Store conn.old).now (state S.Store conn.new).now) }
 {
     match make_environments(conn) {
         Ok(()) => make_grants(conn),
@@ -92,49 +92,49 @@ fn make_places<S: Alter>(conn: &mut Connection<S>) -> Result<(), Fault>
 
 /// Makes the table meta.
 fn make_meta<S: Alter>(conn: &mut Connection<S>) -> Result<(), Fault>
-    ensures { Call (state S.Store conn.old) (state S.Store conn.new) result (λ _. (state S.Store conn.old).now.schema ≡ schema_of ([]) → Creates (state S.Store conn.old).now (state S.Store conn.new).now meta) }
+    ensures { Statement (state S.Store conn.old) (state S.Store conn.new) result (λ _. (state S.Store conn.old).now.schema ≡ schema_of ([]) → Creates (state S.Store conn.old).now (state S.Store conn.new).now meta) }
 {
     change(conn, META, &[])
 }
 
 /// Makes the table teams.
 fn make_teams<S: Alter>(conn: &mut Connection<S>) -> Result<(), Fault>
-    ensures { Call (state S.Store conn.old) (state S.Store conn.new) result (λ _. (state S.Store conn.old).now.schema ≡ schema_of (meta ∷ []) → Creates (state S.Store conn.old).now (state S.Store conn.new).now teams_table) }
+    ensures { Statement (state S.Store conn.old) (state S.Store conn.new) result (λ _. (state S.Store conn.old).now.schema ≡ schema_of (meta ∷ []) → Creates (state S.Store conn.old).now (state S.Store conn.new).now teams_table) }
 {
     change(conn, TEAMS, &[])
 }
 
 /// Makes the table pacticipants.
 fn make_pacticipants<S: Alter>(conn: &mut Connection<S>) -> Result<(), Fault>
-    ensures { Call (state S.Store conn.old) (state S.Store conn.new) result (λ _. (state S.Store conn.old).now.schema ≡ schema_of (meta ∷ teams_table ∷ []) → Creates (state S.Store conn.old).now (state S.Store conn.new).now pacticipants_table) }
+    ensures { Statement (state S.Store conn.old) (state S.Store conn.new) result (λ _. (state S.Store conn.old).now.schema ≡ schema_of (meta ∷ teams_table ∷ []) → Creates (state S.Store conn.old).now (state S.Store conn.new).now pacticipants_table) }
 {
     change(conn, PACTICIPANTS, &[])
 }
 
 /// Makes the table versions.
 fn make_versions<S: Alter>(conn: &mut Connection<S>) -> Result<(), Fault>
-    ensures { Call (state S.Store conn.old) (state S.Store conn.new) result (λ _. (state S.Store conn.old).now.schema ≡ schema_of (meta ∷ teams_table ∷ pacticipants_table ∷ []) → Creates (state S.Store conn.old).now (state S.Store conn.new).now versions_table) }
+    ensures { Statement (state S.Store conn.old) (state S.Store conn.new) result (λ _. (state S.Store conn.old).now.schema ≡ schema_of (meta ∷ teams_table ∷ pacticipants_table ∷ []) → Creates (state S.Store conn.old).now (state S.Store conn.new).now versions_table) }
 {
     change(conn, VERSIONS, &[])
 }
 
 /// Makes the table branches.
 fn make_branches<S: Alter>(conn: &mut Connection<S>) -> Result<(), Fault>
-    ensures { Call (state S.Store conn.old) (state S.Store conn.new) result (λ _. (state S.Store conn.old).now.schema ≡ schema_of (meta ∷ teams_table ∷ pacticipants_table ∷ versions_table ∷ []) → Creates (state S.Store conn.old).now (state S.Store conn.new).now branches_table) }
+    ensures { Statement (state S.Store conn.old) (state S.Store conn.new) result (λ _. (state S.Store conn.old).now.schema ≡ schema_of (meta ∷ teams_table ∷ pacticipants_table ∷ versions_table ∷ []) → Creates (state S.Store conn.old).now (state S.Store conn.new).now branches_table) }
 {
     change(conn, BRANCHES, &[])
 }
 
 /// Makes the table environments.
 fn make_environments<S: Alter>(conn: &mut Connection<S>) -> Result<(), Fault>
-    ensures { Call (state S.Store conn.old) (state S.Store conn.new) result (λ _. (state S.Store conn.old).now.schema ≡ schema_of (meta ∷ teams_table ∷ pacticipants_table ∷ versions_table ∷ branches_table ∷ []) → Creates (state S.Store conn.old).now (state S.Store conn.new).now environments_table) }
+    ensures { Statement (state S.Store conn.old) (state S.Store conn.new) result (λ _. (state S.Store conn.old).now.schema ≡ schema_of (meta ∷ teams_table ∷ pacticipants_table ∷ versions_table ∷ branches_table ∷ []) → Creates (state S.Store conn.old).now (state S.Store conn.new).now environments_table) }
 {
     change(conn, ENVIRONMENTS, &[])
 }
 
 /// Makes the table grants.
 fn make_grants<S: Alter>(conn: &mut Connection<S>) -> Result<(), Fault>
-    ensures { Call (state S.Store conn.old) (state S.Store conn.new) result (λ _. (state S.Store conn.old).now.schema ≡ schema_of (meta ∷ teams_table ∷ pacticipants_table ∷ versions_table ∷ branches_table ∷ environments_table ∷ []) → Creates (state S.Store conn.old).now (state S.Store conn.new).now grants_table) }
+    ensures { Statement (state S.Store conn.old) (state S.Store conn.new) result (λ _. (state S.Store conn.old).now.schema ≡ schema_of (meta ∷ teams_table ∷ pacticipants_table ∷ versions_table ∷ branches_table ∷ environments_table ∷ []) → Creates (state S.Store conn.old).now (state S.Store conn.new).now grants_table) }
 {
     change(conn, GRANTS, &[])
 }
@@ -144,14 +144,14 @@ fn make_grants<S: Alter>(conn: &mut Connection<S>) -> Result<(), Fault>
 /// # Errors
 /// `Fault::Memory` for want of memory; `Fault::Store` where the database refused the table.
 pub fn make_strict_environments<S: Alter>(conn: &mut Connection<S>) -> Result<(), Fault>
-    ensures { Call (state S.Store conn.old) (state S.Store conn.new) result (λ _. (state S.Store conn.old).now.schema ≡ schema_of (registry_part ++ contents ∷ contract_part ++ deploy_part ++ checked_results ∷ []) → Creates (state S.Store conn.old).now (state S.Store conn.new).now strict_environments) }
+    ensures { Statement (state S.Store conn.old) (state S.Store conn.new) result (λ _. (state S.Store conn.old).now.schema ≡ schema_of (registry_part ++ contents ∷ contract_part ++ deploy_part ++ checked_results ∷ []) → Creates (state S.Store conn.old).now (state S.Store conn.new).now strict_environments) }
 {
     change(conn, STRICT_ENVIRONMENTS, &[])
 }
 
 /// Puts in the one row of meta.
 fn put_meta<S: Alter>(conn: &mut Connection<S>, format: u32, digest: &str) -> Result<(), Fault>
-    ensures { Call (state S.Store conn.old) (state S.Store conn.new) result (λ _. PutsMeta format digest.now (state S.Store conn.old).now (state S.Store conn.new).now) }
+    ensures { Statement (state S.Store conn.old) (state S.Store conn.new) result (λ _. PutsMeta format digest.now (state S.Store conn.old).now (state S.Store conn.new).now) }
 {
     change(
         conn,

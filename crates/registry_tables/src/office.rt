@@ -1,14 +1,11 @@
 //! The one row of the broker itself.
-ghost use Rattle.std.specs.Prelude.{◌≡◌, ◌↔◌, IsTrue, string_bytes, is_some, codes};
+ghost use Rattle.std.specs.Prelude.{◌≡◌, ◌↔◌, IsTrue, string_bytes};
 ghost use Rattle.sqlite.specs.Held.{state};
-ghost use Rattle.sqlite_schema.specs.Names.{table_named};
-ghost use Rattle.table_access.specs.Calls.{Call};
 ghost use Rattle.broker_tables.specs.Schema.{no_schema};
 ghost use Rattle.broker_tables.specs.Holds.{Reads};
-ghost use Rattle.registry_tables.specs.Registry.{FindsFormat};
 
 use sqlite::{Alter, Connection};
-use table_access::{Fault, number_of, text_of};
+use table_access::{Fault, text_of};
 
 /// The digest of the office's token.
 ///
@@ -30,24 +27,4 @@ pub fn is_blank<S: Alter>(conn: &Connection<S>) -> bool
 {
     let schema = conn.schema();
     schema.tables.is_empty() && schema.indexes.is_empty() && schema.views.is_empty()
-}
-
-/// Whether there is a table `meta`.
-fn has_meta<S: Alter>(conn: &Connection<S>) -> bool
-    ensures { result ≡ is_some (table_named (state S.Store conn.now).now.schema (codes "meta")) }
-{
-    conn.schema().table_named(b"meta").is_some()
-}
-
-/// The format of a broker's tables, or `None` where there is no table `meta`, or no row in it.
-///
-/// # Errors
-/// `Fault::Memory` for want of memory; `Fault::Store` where the database refused the query or holds no number there.
-pub fn format_of<S: Alter>(conn: &mut Connection<S>) -> Result<Option<u32>, Fault>
-    ensures { Call (state S.Store conn.old) (state S.Store conn.new) result (λ found. FindsFormat (state S.Store conn.old).now (state S.Store conn.new).now found) }
-{
-    if !has_meta(conn) {
-        return Ok(None);
-    }
-    number_of(conn, "SELECT format FROM meta", &[])
 }

@@ -1,11 +1,13 @@
 //! Teams, and the digests of their tokens.
 ghost use Rattle.std.specs.Prelude.{◌≡◌, ℕ, List, Some, None, MatchOption, option_map, string_bytes, is_some};
 ghost use Rattle.sqlite.specs.Held.{state};
-ghost use Rattle.broker_tables.specs.Holds.{Reads, Changes};
+ghost use Rattle.broker_tables.specs.Holds.{Reads, ReadsInPlace, Changes};
 ghost use Rattle.registry_tables.specs.Registry.{AddsTeam};
 
 use sqlite::{Alter, Connection, params};
-use table_access::{Fault, change, text_of};
+use table_access::{Fault, change, has_row, text_of};
+
+const DIGEST_OF_TEAM: &str = "SELECT token_digest FROM teams WHERE name = ?1";
 
 /// The digest of a team's token, or `None` where there is no such team.
 ///
@@ -14,11 +16,7 @@ use table_access::{Fault, change, text_of};
 pub fn digest_of<S: Alter>(conn: &mut Connection<S>, team: &str) -> Result<Option<String>, Fault>
     ensures { Reads (state S.Store conn.old) (state S.Store conn.new) result (λ digest s. option_map string_bytes digest ≡ s.teams team.now) }
 {
-    text_of(
-        conn,
-        "SELECT token_digest FROM teams WHERE name = ?1",
-        params![team],
-    )
+    text_of(conn, DIGEST_OF_TEAM, params![team])
 }
 
 /// Whether there is such a team.
@@ -26,12 +24,9 @@ pub fn digest_of<S: Alter>(conn: &mut Connection<S>, team: &str) -> Result<Optio
 /// # Errors
 /// `Fault::Memory` for want of memory; `Fault::Store` where the database refused the query.
 pub fn has_team<S: Alter>(conn: &mut Connection<S>, team: &str) -> Result<bool, Fault>
-    ensures { Reads (state S.Store conn.old) (state S.Store conn.new) result (λ has s. has ≡ is_some (s.teams team.now)) }
+    ensures { ReadsInPlace (state S.Store conn.old) (state S.Store conn.new) result (λ has s. has ≡ is_some (s.teams team.now)) }
 {
-    match digest_of(conn, team) {
-        Ok(digest) => Ok(digest.is_some()),
-        Err(fault) => Err(fault),
-    }
+    has_row(conn, DIGEST_OF_TEAM, params![team])
 }
 
 /// The team whose token has this digest, or `None` where no team's has.

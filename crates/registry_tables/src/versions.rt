@@ -4,7 +4,7 @@ ghost use Rattle.sqlite.specs.Held.{state};
 ghost use Rattle.broker_core.specs.Text.{version as version_named};
 ghost use Rattle.broker_core.specs.Request.{is_known};
 ghost use Rattle.broker_tables.specs.Numbers.{number_of as number_in};
-ghost use Rattle.broker_tables.specs.Holds.{Reads, Changes, Gives};
+ghost use Rattle.broker_tables.specs.Holds.{ReadsInPlace, Changes, Gives};
 ghost use Rattle.registry_tables.specs.Registry.{AllowsVersion, AddsVersion, PutsVersion};
 
 use sqlite::{Alter, Connection, params};
@@ -19,7 +19,7 @@ pub fn version_of<S: Alter>(
     pacticipant: &str,
     version: &str,
 ) -> Result<Option<u32>, Fault>
-    ensures { Reads (state S.Store conn.old) (state S.Store conn.new) result (λ found s. (found ≡ number_in s.versions (version_named pacticipant.now version.now)) × (is_some found ≡ is_known s (version_named pacticipant.now version.now))) }
+    ensures { ReadsInPlace (state S.Store conn.old) (state S.Store conn.new) result (λ found s. (found ≡ number_in s.versions (version_named pacticipant.now version.now)) × (is_some found ≡ is_known s (version_named pacticipant.now version.now))) }
 {
     number_of(
         conn,
@@ -33,7 +33,7 @@ pub fn version_of<S: Alter>(
 /// # Errors
 /// `Fault::Memory` for want of memory; `Fault::Store` where the database refused the query.
 pub fn version_count<S: Alter>(conn: &mut Connection<S>) -> Result<u64, Fault>
-    ensures { Reads (state S.Store conn.old) (state S.Store conn.new) result (λ count s. count ≡ length s.versions) }
+    ensures { ReadsInPlace (state S.Store conn.old) (state S.Store conn.new) result (λ count s. count ≡ length s.versions) }
 {
     match count_of(conn, "SELECT number FROM versions", &[]) {
         Ok(count) => Ok(count as u64),

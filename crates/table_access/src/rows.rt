@@ -123,6 +123,20 @@ fn first_text(alloc: Global, rows: &[Row]) -> Result<Option<String>, Fault>
     }
 }
 
+/// The whole number in the first column. `Fault::Store` where there is no number from 0 to 2^32 - 1.
+pub fn number_in(row: &Row) -> Result<u32, Fault>
+    ensures ok { IfOk result (λ n. column row.now 0 ≡ Int (pos n)) }
+    ensures told { IfErr result (TellsNumber row.now) }
+{
+    match row.get_ref(0) {
+        Ok(ValueRef::Int(number)) => match u32::try_from(number) {
+            Ok(number) => Ok(number),
+            Err(_) => Err(Fault::Store),
+        },
+        _ => Err(Fault::Store),
+    }
+}
+
 /// The whole number in the first column of the first row, if there is a row. `Fault::Store` where there is no number from 0 to 2^32 - 1.
 fn first_number(rows: &[Row]) -> Result<Option<u32>, Fault>
     ensures ok { IfOk result (λ found. option_map (λ n. Int (pos n)) found ≡ option_map (λ row. column row 0) (slice_get rows.now 0)) }
@@ -130,12 +144,9 @@ fn first_number(rows: &[Row]) -> Result<Option<u32>, Fault>
 {
     match rows.first() {
         None => Ok(None),
-        Some(row) => match row.get_ref(0) {
-            Ok(ValueRef::Int(number)) => match u32::try_from(number) {
-                Ok(number) => Ok(Some(number)),
-                Err(_) => Err(Fault::Store),
-            },
-            _ => Err(Fault::Store),
+        Some(row) => match number_in(row) {
+            Ok(number) => Ok(Some(number)),
+            Err(fault) => Err(fault),
         },
     }
 }

@@ -19,9 +19,9 @@ returns-then-commit-clause-turns g c clean keeps =
     let done = state g.S.Store c.make_all.new.conn in
     let new = state g.S.Store c.commit.new.conn in
     let done_clean : HasCleanDisk done = omega (arith, c.commit.ensures.survives.clean, clean) in
-    let mid_clean : HasCleanDisk mid = omega (arith, c.make_all.ensures.survives.clean, done_clean) in
+    let mid_clean : HasCleanDisk mid = omega (arith, c.make_all.ensures.call.survives.clean, done_clean) in
     let begun = c.in-Ok.ensures.begun mid_clean in
-    commits (λ db. Holds db (opening c.args.digest.now)) done new (c.if-commit.ensures.done clean refl) c.commit.ensures.live (λ db now may. g.met.S.Store.settled _ db now may) (c.in-Ok-make_all.ensures.ok done_clean (begins IsBlank old mid begun keeps))
+    commits (λ db. Holds db (opening c.args.digest.now)) done new (c.if-commit.ensures.done clean refl) c.commit.ensures.live (λ db now may. g.met.S.Store.settled _ db now may) (c.in-Ok-make_all.ensures.call.ok done_clean (begins IsBlank old mid begun keeps))
 
 pub returns-else-commit-clause-turns : goal.returns-else-commit-clause-turns
 returns-else-commit-clause-turns g c clean keeps =
@@ -30,11 +30,11 @@ returns-else-commit-clause-turns g c clean keeps =
     let done = state g.S.Store c.make_all.new.conn in
     let new = state g.S.Store c.commit.new.conn in
     let done_clean : HasCleanDisk done = omega (arith, c.commit.ensures.survives.clean, clean) in
-    let mid_clean : HasCleanDisk mid = omega (arith, c.make_all.ensures.survives.clean, done_clean) in
+    let mid_clean : HasCleanDisk mid = omega (arith, c.make_all.ensures.call.survives.clean, done_clean) in
     let begun = c.in-Ok.ensures.begun mid_clean in
-    refused IsBlank old mid done (Ok c.in-Ok-make_all.field-0) _ keeps begun c.enter.ensures.survives c.in-Ok-make_all.ensures done_clean new (λ db. Holds db (opening c.args.digest.now))
-    ((c.in-Ok-make_all.ensures.goes_on done_clean begun.1.mode).1 begun.1.is_open) c.commit.ensures.live (λ db now may. g.met.S.Store.settled _ db now may) (c.if-commit.ensures.refused clean refl) clean c.commit.ensures.survives
-    (c.in-Ok-make_all.ensures.ok done_clean (begins IsBlank old mid begun keeps))
+    refused IsBlank old mid done (Ok c.in-Ok-make_all.field-0) _ keeps begun c.enter.ensures.survives c.in-Ok-make_all.ensures.call done_clean new (λ db. Holds db (opening c.args.digest.now))
+    ((c.in-Ok-make_all.ensures.call.goes_on done_clean begun.1.mode).1 begun.1.is_open) c.commit.ensures.live (λ db now may. g.met.S.Store.settled _ db now may) (c.if-commit.ensures.refused clean refl) clean c.commit.ensures.survives
+    (c.in-Ok-make_all.ensures.call.ok done_clean (begins IsBlank old mid begun keeps))
 
 pub returns-then-leave-clause-turns : goal.returns-then-leave-clause-turns
 returns-then-leave-clause-turns g c clean keeps =
@@ -43,9 +43,9 @@ returns-then-leave-clause-turns g c clean keeps =
     let done = state g.S.Store c.make_all.new.conn in
     let new = state g.S.Store c.leave.new.conn in
     let done_clean : HasCleanDisk done = omega (arith, c.leave.ensures.survives.clean, clean) in
-    let mid_clean : HasCleanDisk mid = omega (arith, c.make_all.ensures.survives.clean, done_clean) in
+    let mid_clean : HasCleanDisk mid = omega (arith, c.make_all.ensures.call.survives.clean, done_clean) in
     let begun = c.in-Ok.ensures.begun mid_clean in
-    let before = rolled_back old mid done (Err c.in-Err-make_all.fault) _ begun c.enter.ensures.survives c.in-Err-make_all.ensures done_clean new (c.if-leave.ensures.left clean refl) (c.leave.ensures.commit clean) clean c.leave.ensures.survives in
+    let before = rolled_back old mid done (Err c.in-Err-make_all.fault) _ begun c.enter.ensures.survives c.in-Err-make_all.ensures.call done_clean new (c.if-leave.ensures.left clean refl) (c.leave.ensures.commit clean) clean c.leave.ensures.survives in
     go c.in-Err-make_all.fault (keeps_on IsBlank old new before keeps)
   where
     go : (fault : Fault) → Keeps IsBlank (state g.S.Store c.leave.new.conn) → Turns IsBlank (λ db. Holds db (opening c.args.digest.now)) (state g.S.Store c.leave.new.conn) (Err fault)

@@ -1,6 +1,6 @@
 use Rattle.std.proofs.Common.{◌≡◌, ◌++◌, ◌∷◌, [], List, ℕ, Ok, Err, inl, inr, refl, arith, ap, ◌∙◌}
 use Rattle.sqlite.specs.Held.{state}
-use Rattle.table_access.proofs.CallLemmas.{seq}
+use Rattle.table_access.proofs.CallLemmas.{statement_seq}
 use Rattle.broker_tables.specs.Schema.{registry_part, contents, contract_part, deploy_part, checked_results, strict_environments}
 use Rattle.broker_tables.specs.Holds.{format}
 use Rattle.broker_tables.specs.Making.{IsBlank, HasTables}
@@ -13,8 +13,8 @@ returns-in-Ok-make_tables g c =
     let first = state g.S.Store c.make_tables.new.conn in
     let second = state g.S.Store c.make_tables-in-Ok.new.conn in
     let new = state g.S.Store c.make_tables-in-Ok-make_tables.new.conn in
-    seq old second new c.in-Ok-make_tables.field-0 c.make_tables-in-Ok-make_tables.result (λ _. IsBlank old.now → HasTables (registry_part ++ contents ∷ []) format c.args.digest.now second.now) _ _
+    statement_seq old second new c.in-Ok-make_tables.field-0 c.make_tables-in-Ok-make_tables.result (λ _. IsBlank old.now → HasTables (registry_part ++ contents ∷ []) format c.args.digest.now second.now) _ _
     (λ has u makes blank. let before = has blank in has_more (registry_part ++ contents ∷ []) contract_part format c.args.digest.now second.now new.now (inl refl) before (makes before.schema))
-    (seq old first second c.in-Ok.field-0 (Ok c.in-Ok-make_tables.field-0) _ _ (λ _. IsBlank old.now → HasTables (registry_part ++ contents ∷ []) format c.args.digest.now second.now)
+    (statement_seq old first second c.in-Ok.field-0 (Ok c.in-Ok-make_tables.field-0) _ _ (λ _. IsBlank old.now → HasTables (registry_part ++ contents ∷ []) format c.args.digest.now second.now)
     (λ has u makes blank. let before = has blank in has_more registry_part (contents ∷ []) format c.args.digest.now first.now second.now (inl refl) before (makes before.schema)) c.in-Ok.ensures c.in-Ok-make_tables.ensures)
     c.make_tables-in-Ok-make_tables.ensures

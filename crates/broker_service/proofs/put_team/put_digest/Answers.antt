@@ -21,4 +21,4 @@ returns-in-Ok-add_team g c =
     )) c.in-Ok.ensures c.in-Ok-add_team.ensures
 
 pub returns-in-Ok : goal.returns-in-Ok
-returns-in-Ok g c = failed_then (state g.S.Store c.args.conn.now) (state g.S.Store c.look.new.conn) (state g.S.Store c.add_team.new.conn) (c.in-Ok.old, c.in-Ok.holder) c.in-Err-add_team.fault _ _ _ c.in-Ok.ensures c.in-Err-add_team.ensures
+returns-in-Ok g c = failed_then (state g.S.Store c.args.conn.now) (state g.S.Store c.look.new.conn) (state g.S.Store c.add_team.new.conn) (c.in-Ok.old, c.in-Ok.holder) c.in-Err-add_team.fault _ _ _ c.in-Ok.ensures c.in-Err-add_team.ensures.call

@@ -1,7 +1,7 @@
 use Rattle.std.proofs.Common.{refl}
 use Rattle.sqlite.specs.Held.{state}
 use Rattle.sqlite_tied.specs.Compute.{everything}
-use Rattle.table_access.proofs.CallLemmas.{call_with}
+use Rattle.table_access.proofs.CallLemmas.{statement_with}
 use Rattle.content_store.proofs.TableTexts.{makes_contents}
 use Rattle.content_store.proofs.making.make_tables.Goals as goal
 
@@ -13,4 +13,4 @@ pub returns : goal.returns
 returns g c =
     let old = state g.S.Store c.args.conn.now in
     let new = state g.S.Store c.change.new.conn in
-    call_with old new c.change.result _ _ (λ _ h is. (_, makes_contents old new h.0 is h.1, refl)) c.change.ensures.leaves
+    statement_with old new c.change.result _ _ (λ _ h is. (_, makes_contents old new h.0 is h.1, refl)) c.change.ensures.leaves

@@ -1,6 +1,6 @@
 use Rattle.std.proofs.Common.{◌∙◌}
 use Rattle.sqlite.specs.Held.{state}
-use Rattle.table_access.proofs.CallLemmas.{then_ok, then_err}
+use Rattle.table_access.proofs.CallLemmas.{statement_ok, statement_err}
 use Rattle.table_access.proofs.ReadLemmas.{number_found as found_number}
 use Rattle.broker_tables.proofs.Frames.{held_still}
 use Rattle.deploy_tables.proofs.DeployedRows.{number_means, number_found}
@@ -11,7 +11,7 @@ pub returns-in-Ok : goal.returns-in-Ok
 returns-in-Ok g c =
     let old = state g.S.Store c.args.conn.now in
     let new = state g.S.Store c.number_of.new.conn in
-    then_ok old new c.in-Ok.found c.is_number.result _ _ (λ h s held. (
+    statement_ok old new c.in-Ok.found c.is_number.result _ _ (λ h s held. (
       λ v numbered owner.
           c.is_number.ensures
           ∙ is_there s.versions c.args.pacticipant.now _ (s.deployed (c.args.environment.now, c.args.pacticipant.now, c.args.instance.now)) c.in-Ok.found (held.deployed c.args.environment.now c.args.pacticipant.now c.args.instance.now)
@@ -20,4 +20,4 @@ returns-in-Ok g c =
     )) (rw (c.params-to_sql.ensures, c.params-to_sql-2.ensures, c.params-to_sql-3.ensures) at c.in-Ok.ensures.leaves)
 
 pub returns-in-Err : goal.returns-in-Err
-returns-in-Err g c = then_err (state g.S.Store c.args.conn.now) (state g.S.Store c.number_of.new.conn) c.in-Err.fault _ _ c.in-Err.ensures.leaves
+returns-in-Err g c = statement_err (state g.S.Store c.args.conn.now) (state g.S.Store c.number_of.new.conn) c.in-Err.fault _ _ c.in-Err.ensures.leaves

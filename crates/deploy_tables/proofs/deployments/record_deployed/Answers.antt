@@ -1,7 +1,7 @@
 use Rattle.std.proofs.Common.{refl, sym, subst}
 use Rattle.sqlite.specs.Held.{state}
 use Rattle.sqlite_tied.specs.Compute.{everything}
-use Rattle.table_access.proofs.CallLemmas.{call_with}
+use Rattle.table_access.proofs.CallLemmas.{statement_with}
 use Rattle.broker_tables.specs.Holds.{Holds}
 use Rattle.deploy_tables.proofs.DeployedState.{now_deployed}
 use Rattle.deploy_tables.proofs.deployments.record_deployed.Goals as goal
@@ -14,5 +14,5 @@ pub returns : goal.returns
 returns g c =
     let old = state g.S.Store c.args.conn.now in
     let new = state g.S.Store c.change.new.conn in
-    call_with old new c.change.result _ _ (λ _ h s held t next. subst (Holds new.now) (sym next.3) (now_deployed c.args.environment.now c.args.pacticipant.now c.args.instance.now c.args.number next.0 old new h.0 s held next.1 next.2 h.1))
+    statement_with old new c.change.result _ _ (λ _ h s held t next. subst (Holds new.now) (sym next.3) (now_deployed c.args.environment.now c.args.pacticipant.now c.args.instance.now c.args.number next.0 old new h.0 s held next.1 next.2 h.1))
     (rw (c.params-to_sql.ensures, c.params-to_sql-2.ensures, c.params-to_sql-3.ensures, c.params-to_sql-4.ensures) at c.change.ensures.leaves)

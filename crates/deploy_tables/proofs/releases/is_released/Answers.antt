@@ -1,20 +1,17 @@
-use Rattle.std.proofs.Common.{ap, sym, ◌∙◌}
-use Rattle.std.specs.Option.{is_some}
+use Rattle.std.proofs.Common.{sym, ◌∙◌, slice_get}
 use Rattle.sqlite_keyed.proofs.SliceLemmas.{is_some-map}
 use Rattle.sqlite.specs.Held.{state}
-use Rattle.table_access.proofs.CallLemmas.{then_ok, then_err}
+use Rattle.table_access.specs.Columns.{text}
+use Rattle.table_access.proofs.CallLemmas.{statement_with}
 use Rattle.broker_tables.proofs.Frames.{held_still}
 use Rattle.deploy_tables.proofs.ReleasedRows.{is_means, release_found}
 use Rattle.deploy_tables.proofs.releases.is_released.Goals as goal
 
-pub returns-in-Ok : goal.returns-in-Ok
-returns-in-Ok g c =
+pub returns : goal.returns
+returns g c =
     let old = state g.S.Store c.args.conn.now in
-    let new = state g.S.Store c.text_of.new.conn in
-    then_ok old new c.in-Ok.found c.is_some.result _ _ (λ h s held. (
-      λ v numbered. c.is_some.ensures ∙ sym (is_some-map _ c.in-Ok.found) ∙ ap is_some h.2 ∙ release_found c.args.environment.now c.args.number old new h.0 s v held numbered h.1,
+    let new = state g.S.Store c.has_row.new.conn in
+    statement_with old new c.has_row.result _ _ (λ has h s held. (
+      λ v numbered. h.2 ∙ sym (is_some-map (text 0) (slice_get h.0 0)) ∙ release_found c.args.environment.now c.args.number old new h.0 s v held numbered h.1,
       held_still _ _ old new h.0 s (is_means old.now held.broker) h.1 held,
-    )) (rw (c.params-to_sql.ensures, c.params-to_sql-2.ensures) at c.in-Ok.ensures.leaves)
-
-pub returns-in-Err : goal.returns-in-Err
-returns-in-Err g c = then_err (state g.S.Store c.args.conn.now) (state g.S.Store c.text_of.new.conn) c.in-Err.fault _ _ c.in-Err.ensures.leaves
+    )) (rw (c.params-to_sql.ensures, c.params-to_sql-2.ensures) at c.has_row.ensures.leaves)

@@ -1,7 +1,7 @@
 use Rattle.std.proofs.Common.{refl, sym, subst}
 use Rattle.sqlite.specs.Held.{state}
 use Rattle.sqlite_tied.specs.Compute.{everything}
-use Rattle.table_access.proofs.CallLemmas.{call_with}
+use Rattle.table_access.proofs.CallLemmas.{statement_with}
 use Rattle.broker_tables.specs.Holds.{Holds}
 use Rattle.registry_tables.proofs.TeamRows.{team_added}
 use Rattle.registry_tables.proofs.teams.add_team.Goals as goal
@@ -14,4 +14,4 @@ pub returns : goal.returns
 returns g c =
     let old = state g.S.Store c.args.conn.now in
     let new = state g.S.Store c.change.new.conn in
-    call_with old new c.change.result _ _ (λ _ h s held t next. subst (Holds new.now) (sym next.2) (team_added c.args.team.now c.args.digest.now old new h.0 s held next.0 h.1)) (rw (c.params-to_sql.ensures, c.params-to_sql-2.ensures) at c.change.ensures.leaves)
+    statement_with old new c.change.result _ _ (λ _ h s held t next. subst (Holds new.now) (sym next.2) (team_added c.args.team.now c.args.digest.now old new h.0 s held next.0 h.1)) (rw (c.params-to_sql.ensures, c.params-to_sql-2.ensures) at c.change.ensures.leaves)

@@ -1,13 +1,18 @@
-use Rattle.std.proofs.Common.{ap, sym, ◌∙◌}
+use Rattle.std.proofs.Common.{ap, sym, ◌∙◌, slice_get}
 use Rattle.std.specs.Option.{is_some}
 use Rattle.sqlite_keyed.proofs.SliceLemmas.{is_some-map}
 use Rattle.sqlite.specs.Held.{state}
-use Rattle.table_access.proofs.CallLemmas.{then_ok, then_err}
+use Rattle.table_access.specs.Columns.{text}
+use Rattle.table_access.proofs.CallLemmas.{statement_with}
+use Rattle.broker_tables.proofs.Frames.{held_still}
+use Rattle.registry_tables.proofs.TeamRows.{digest_means, digest_found}
 use Rattle.registry_tables.proofs.teams.has_team.Goals as goal
 
-pub returns-in-Ok : goal.returns-in-Ok
-returns-in-Ok g c =
-    then_ok (state g.S.Store c.args.conn.now) (state g.S.Store c.digest_of.new.conn) c.in-Ok.digest c.is_some.result _ _ (λ is s held. (c.is_some.ensures ∙ sym (is_some-map _ c.in-Ok.digest) ∙ ap is_some (is s held).0, (is s held).1)) c.in-Ok.ensures
-
-pub returns-in-Err : goal.returns-in-Err
-returns-in-Err g c = then_err (state g.S.Store c.args.conn.now) (state g.S.Store c.digest_of.new.conn) c.in-Err.fault _ _ c.in-Err.ensures
+pub returns : goal.returns
+returns g c =
+    let old = state g.S.Store c.args.conn.now in
+    let new = state g.S.Store c.has_row.new.conn in
+    statement_with old new c.has_row.result _ _ (λ has h s held. (
+      h.2 ∙ sym (is_some-map (text 0) (slice_get h.0 0)) ∙ ap is_some (digest_found c.args.team.now old new h.0 s held h.1),
+      held_still _ _ old new h.0 s (digest_means old.now held.broker) h.1 held,
+    )) (rw c.params-to_sql.ensures at c.has_row.ensures.leaves)

@@ -1,6 +1,6 @@
 use Rattle.std.proofs.Common.{◌∙◌}
 use Rattle.sqlite.specs.Held.{state}
-use Rattle.table_access.proofs.CallLemmas.{then_ok}
+use Rattle.table_access.proofs.CallLemmas.{statement_ok}
 use Rattle.broker_tables.proofs.Frames.{held_still}
 use Rattle.registry_tables.proofs.VersionRows.{count_means, versions_counted}
 use Rattle.registry_tables.proofs.versions.version_count.Goals as goal
@@ -9,4 +9,4 @@ pub returns-in-Ok : goal.returns-in-Ok
 returns-in-Ok g c =
     let old = state g.S.Store c.args.conn.now in
     let new = state g.S.Store c.count_of.new.conn in
-    then_ok old new c.in-Ok.count c.in-Ok.count _ _ (λ h s held. (h.2 ∙ versions_counted old new h.0 s held h.1, held_still _ _ old new h.0 s (count_means old.now held.broker) h.1 held)) c.in-Ok.ensures.leaves
+    statement_ok old new c.in-Ok.count c.in-Ok.count _ _ (λ h s held. (h.2 ∙ versions_counted old new h.0 s held h.1, held_still _ _ old new h.0 s (count_means old.now held.broker) h.1 held)) c.in-Ok.ensures.leaves

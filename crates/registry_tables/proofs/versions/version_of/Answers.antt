@@ -1,5 +1,5 @@
 use Rattle.sqlite.specs.Held.{state}
-use Rattle.table_access.proofs.CallLemmas.{call_with}
+use Rattle.table_access.proofs.CallLemmas.{statement_with}
 use Rattle.broker_tables.proofs.Frames.{held_still}
 use Rattle.registry_tables.proofs.VersionRows.{version_means, version_found}
 use Rattle.registry_tables.proofs.versions.version_of.Goals as goal
@@ -8,5 +8,5 @@ pub returns : goal.returns
 returns g c =
     let old = state g.S.Store c.args.conn.now in
     let new = state g.S.Store c.number_of.new.conn in
-    call_with old new c.number_of.result _ _ (λ found h s held. (version_found c.args.pacticipant.now c.args.version.now old new h.0 s found held h.1 h.2, held_still _ _ old new h.0 s (version_means old.now held.broker) h.1 held))
+    statement_with old new c.number_of.result _ _ (λ found h s held. (version_found c.args.pacticipant.now c.args.version.now old new h.0 s found held h.1 h.2, held_still _ _ old new h.0 s (version_means old.now held.broker) h.1 held))
     (rw (c.params-to_sql.ensures, c.params-to_sql-2.ensures) at c.number_of.ensures.leaves)

@@ -1,18 +1,18 @@
-//! The format of a database that is to be opened.
-ghost use Rattle.std.specs.Prelude.{◌≡◌, ◌≢◌, ◌↔◌, ◌∷◌, [], IsTrue, IfOk, MatchOption, Some, pos, map, length, slice_get};
+//! The format of the tables of a broker.
+ghost use Rattle.std.specs.Prelude.{◌≡◌, ◌≢◌, ◌↔◌, ◌∷◌, [], IsTrue, IfOk, IfErr, MatchOption, Some, pos, map, length, slice_get};
 ghost use Rattle.sqlite.specs.Held.{state};
 ghost use Rattle.sqlite.specs.Table.{Table as SqlTable};
 ghost use Rattle.sqlite.specs.Order.{column};
 ghost use Rattle.sqlite.specs.declared.types.Value.TheVariants.{Int};
-ghost use Rattle.table_access.specs.Calls.{Call};
+ghost use Rattle.table_access.specs.Calls.{Statement};
 ghost use Rattle.broker_tables.specs.Schema.{meta, numbers};
-ghost use Rattle.broker_service.specs.Opening.{IsMetaTable, Finds};
+ghost use Rattle.registry_tables.specs.Format.{IsMetaTable, Finds};
 
 use sqlite::{Alter, Connection, Row};
 use sqlite_schema::schema::{Column, Kind, Table};
 use sqlite_value::keys::Collation;
 use sqlite_value::value::Value;
-use table_access::{Fault, select};
+use table_access::{Fault, number_in, select};
 
 /// Whether a column has this name, and takes values of this kind alone.
 fn is_column(column: &Column, name: &[u8], kind: Kind) -> bool
@@ -62,20 +62,24 @@ fn has_meta<S: Alter>(conn: &Connection<S>) -> bool
 
 /// The number in the first column of the one row. `None` where there isn't just one.
 fn one_number(rows: &[Row]) -> Result<Option<u32>, Fault>
-    ensures { IfOk result (λ found. MatchOption found (length rows.now ≢ 1) (λ n. map (λ row. column row 0) rows.now ≡ Int (pos n) ∷ [])) }
+    ensures ok { IfOk result (λ found. MatchOption found (length rows.now ≢ 1) (λ n. map (λ row. column row 0) rows.now ≡ Int (pos n) ∷ [])) }
+    ensures told { IfErr result (λ fault. fault ≡ Fault.Store) }
 {
     match rows {
-        [row] => match row.get(0) {
+        [row] => match number_in(row) {
             Ok(number) => Ok(Some(number)),
-            Err(error) => Err(Fault::from(error)),
+            Err(fault) => Err(fault),
         },
         _ => Ok(None),
     }
 }
 
-/// The format of a broker's tables, or `None` where the first table isn't `meta` with one row.
-pub(crate) fn found_format<S: Alter>(conn: &mut Connection<S>) -> Result<Option<u32>, Fault>
-    ensures { Call (state S.Store conn.old) (state S.Store conn.new) result (λ found. Finds (state S.Store conn.old).now found) }
+/// The format of the broker's tables, or `None` where the first table isn't `meta` with one row.
+///
+/// # Errors
+/// `Fault::Memory` where the database has no memory; `Fault::Store` where it refused the query or holds no number there.
+pub fn format_of<S: Alter>(conn: &mut Connection<S>) -> Result<Option<u32>, Fault>
+    ensures { Statement (state S.Store conn.old) (state S.Store conn.new) result (λ found. Finds (state S.Store conn.old).now found) }
 {
     if !has_meta(conn) {
         return Ok(None);

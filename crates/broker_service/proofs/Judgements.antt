@@ -1,0 +1,48 @@
+-- What is told of a database by the format that is found in it.
+use Rattle.std.proofs.Common.{◌≡◌, ℕ, ℤ, Bool, pos, List, [], ◌∷◌, map, length, refl, sym, ap, subst, ◌∙◌, slice_get, Some, None, Option, Ok, Err, true, false, ◌==◌}
+use Rattle.std.specs.Prelude.{if◌then◌else◌}
+use Rattle.std.proofs.lemmas.Bool.{eqb-true}
+use Rattle.std.proofs.lemmas.List.{length-map}
+use Rattle.sqlite.specs.Schema.{Schema}
+use Rattle.sqlite.specs.Effect.{Database}
+use Rattle.sqlite.specs.declared.types.Value.TheVariants.{Int}
+use Rattle.sqlite.specs.Order.{Row, column}
+use Rattle.sqlite.specs.Edit.{id_in}
+use Rattle.table_access.specs.Columns.{whole_at}
+use Rattle.broker_core.specs.Text.{Text}
+use Rattle.broker_tables.specs.Schema.{meta, no_schema}
+use Rattle.broker_tables.specs.Making.{IsMarked}
+use Rattle.broker_tables.specs.Holds.{IsMeta, format}
+use Rattle.registry_tables.specs.Format.{IsOfFormat, Finds}
+use Rattle.broker_service.specs.declared.opening.OpenFault.TheVariants.{Format}
+use Rattle.broker_service.specs.Opening.{IsJudged, judgement}
+
+pub judged : (db : Database) (found : Option ℕ) → Finds db found → IsJudged db (judgement found)
+judged db None it = it
+judged db (Some n) it = go (n == format) refl
+  where
+    go : (b : Bool) → (n == format) ≡ b → IsJudged db (if b then Ok tt else Err (Format n))
+    go true e = subst (λ k. IsOfFormat k db) (let same : n ≡ format = eqb-true n format e in same) it
+    go false e = (it, λ same. absurd (let clash : (format == format) ≡ false = subst (λ k. (k == format) ≡ false) same e in cc))
+
+pub blank_none : (db : Database) (found : Option ℕ) → db.schema ≡ no_schema → Finds db found → found ≡ None
+blank_none db None blank it = refl
+blank_none db (Some n) blank it = let none : slice_get db.schema.tables 0 ≡ None = ap (λ (s : Schema). slice_get s.tables 0) blank in absurd (let first = it.1 in cc)
+
+one_format : (n k : ℕ) (office : Text) (rows : List Row) → IsMeta n office rows → map (λ row. column row 2) rows ≡ Int (pos k) ∷ [] → k ≡ n
+one_format n k office [] one is = absurd cc
+one_format n k office (r ∷ []) one is =
+    let mine : whole_at 2 r ≡ pos n = ap (λ (xs : List (ℤ × ℤ × Text)). first_of xs) one in
+    let shown : whole_at 2 r ≡ pos k = (let same : column r 2 ≡ Int (pos k) = cc in ap id_in same) in
+    (let both : pos k ≡ pos n = sym shown ∙ mine in cc)
+  where
+    first_of : List (ℤ × ℤ × Text) → ℤ
+    first_of [] = pos 0
+    first_of (x ∷ xs) = x.1
+one_format n k office (r ∷ q ∷ rows) one is = absurd cc
+
+pub marked_some : (n : ℕ) (office : Text) (db : Database) (found : Option ℕ) → IsMarked n office db → Finds db found → found ≡ Some n
+marked_some n office db None marked it =
+    let first : slice_get db.schema.tables 0 ≡ Some meta = ap (λ (s : Schema). slice_get s.tables 0) marked.schema in
+    absurd (it meta first (refl, refl, refl, refl) (sym (length-map (db.trees 0) _) ∙ ap length marked.row))
+marked_some n office db (Some k) marked it = ap Some (one_format n k office (db.trees 0) marked.row it.3)
