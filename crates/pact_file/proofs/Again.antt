@@ -17,7 +17,7 @@ use Rattle.pact_rules.specs.Outcome.{guard}
 use Rattle.pact_file.specs.Pact.{Interaction, Pact, interaction_data, key_cmp, pact_data, normal_text}
 use Rattle.pact_file.specs.Parts.{text_at, object_at, listed}
 use Rattle.pact_file.specs.Placing.{placed, placed_all, same_text}
-use Rattle.pact_file.specs.Reading.{just, EachRead}
+use Rattle.pact_rules.specs.Reading.{just, EachRead}
 use Rattle.pact_rules.specs.Lists.{IsIn}
 use Rattle.pact_file.specs.Sets.{IsRising, HasClash}
 use Rattle.pact_file.specs.Sound.{IsSound}

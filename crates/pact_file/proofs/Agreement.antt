@@ -11,7 +11,7 @@ use Rattle.pact_file.specs.File.{file_of, sides_of, items_of}
 use Rattle.pact_file.specs.Interactions.{parts_at}
 use Rattle.pact_file.specs.Normal.{HeadersRead, InteractionRead, InteractionsRead, Normal, IsRefusal, if_short}
 use Rattle.pact_file.specs.Parts.{given}
-use Rattle.pact_file.specs.Reading.{just, Follows, ◌>>=◌, EachRead}
+use Rattle.pact_rules.specs.Reading.{just, Follows, ◌>>=◌, EachRead}
 use Rattle.pact_file.specs.Rules.{TableRead, rules_told, RulesRead}
 use Rattle.pact_file.specs.declared.fault.PactFault.{PactFault}
 use Rattle.pact_file.specs.declared.fault.PactFault.TheVariants.{Rules}

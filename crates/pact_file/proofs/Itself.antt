@@ -14,7 +14,7 @@ use Rattle.pact_file.specs.Normal.{HeadersRead, InteractionRead}
 use Rattle.pact_rules.specs.Outcome.{guard}
 use Rattle.pact_file.specs.Pact.{State, Interaction, params_data, state_data, interaction_data}
 use Rattle.pact_file.specs.Parts.{unless_null, given, text_at, if_object, object_at, listed, all_of, state_in, one_state, states_from, states_in, status_in}
-use Rattle.pact_file.specs.Reading.{just}
+use Rattle.pact_rules.specs.Reading.{just}
 use Rattle.pact_file.specs.Rules.{rules_told, RulesRead}
 use Rattle.pact_file.specs.declared.fault.Part.TheVariants.{Whole, Description, States, Request, Response, Status}
 use Rattle.pact_file.proofs.ReadLemmas.{read_ok}

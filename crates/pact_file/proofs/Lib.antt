@@ -6,13 +6,11 @@ pub mod HeaderSets
 pub mod Steps
 pub mod Utf8Content
 pub mod Utf8Tokens
-pub mod Kept
 pub mod ReadKept
 pub mod ReadBack
 pub mod SoundData
 pub mod SoundParts
 pub mod Files
-pub mod Each
 pub mod ReadLemmas
 pub mod OrderedSets
 pub mod Itself

@@ -17,8 +17,7 @@ use Rattle.serde_json.specs.Written.{outline, items_outline, members_outline, co
 use Rattle.std.proofs.lemmas.Bool.{or_parts}
 use Rattle.serde_json.proofs.Numbers.{number_of-decimal, number_of-negative}
 use Rattle.serde_json.proofs.Texts.{print-outline}
-use Rattle.pact_file.specs.Sound.{IsBelow}
-use Rattle.pact_file.proofs.Kept.{IsKept, AreKept, MembersAreKept}
+use Rattle.pact_rules.specs.Kept.{IsBelow, IsKept, AreKept, MembersAreKept}
 
 -- ---- the numbers are numbers
 

@@ -11,8 +11,7 @@ use Rattle.json.specs.Json as json
 use Rattle.serde_json.specs.Data.{Num, unsigned, negative, float, Data, number, array, object, Items, item, Members, no_members, member, put}
 use Rattle.serde_json.specs.Read.{is_integer, float_of, number_from, number_of, of_json, of_items, of_members, max_depth, read}
 use Rattle.std.specs.Str.{IsUtf8}
-use Rattle.pact_file.specs.Sound.{IsBelow}
-use Rattle.pact_file.proofs.Kept.{IsNumber, IsKept, AreKept, MembersAreKept}
+use Rattle.pact_rules.specs.Kept.{IsBelow, IsNumber, IsKept, AreKept, MembersAreKept}
 use Rattle.pact_file.proofs.Utf8Tokens.{HasTexts, ItemsHaveTexts, MembersHaveTexts, value_texts}
 
 pub some_same : {A : Type 0} (x y : A) (h : Path (Option A) (Some x) (Some y)) → x ≡ y

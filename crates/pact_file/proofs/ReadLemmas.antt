@@ -1,21 +1,22 @@
 -- What a reading that succeeds went through, and that what is read of sound data is sound.
-use Rattle.std.proofs.Common.{◌≡◌, inl, inr, ℕ, zero, suc, ◌+◌, ◌≤◌, ◌<◌, nat_le, List, [], ◌∷◌, length, map, codes, get_or, Bool, true, false, cond, is_some, Option, Some, None, option_map, option_and_then, Result, Ok, Err, refl, sym, ap, ◌∙◌, subst, arith}
+use Rattle.std.proofs.Common.{◌≡◌, inl, inr, ℕ, zero, suc, ◌+◌, ◌≤◌, ◌<◌, nat_le, List, [], ◌∷◌, length, map, codes, get_or, Bool, true, false, cond, is_some, Option, Some, None, option_and_then, Result, Ok, Err, refl, sym, ap, ◌∙◌, subst, arith}
 use Rattle.std.specs.Prelude.{⊤}
 use Rattle.std.specs.Option.{ok_or}
 use Rattle.std.specs.Str.{IsUtf8, is_utf8}
 use Rattle.std.proofs.lemmas.Bool.Decides.{nat_tests}
 use Rattle.std.proofs.lemmas.Str.{IsUtf8-from_is_utf8}
-use Rattle.serde_json.specs.Data.{Num, unsigned, negative, float, Data, null, boolean, number, string, array, object, Items, no_items, item, Members, no_members, member, depth}
+use Rattle.serde_json.specs.Data.{Data, array, Items, no_items, item, depth}
 use Rattle.serde_json.specs.Events.{items_len}
 use Rattle.serde_json.specs.Find.{get, as_array, as_object}
 use Rattle.serde_json.specs.Read.{read}
 use Rattle.serde_json.specs.View.{view, items_view, items_of}
-use Rattle.serde_json.specs.Written.{has_float, items_have_float, members_have_float}
+use Rattle.serde_json.specs.Written.{items_have_float}
 use Rattle.serde_json.specs.declared.value.Value.{Value}
-use Rattle.pact_rules.specs.Trees.{Node, list, object as tree_object, Nodes, node, Fields, field}
+use Rattle.pact_rules.proofs.Bridge.{has_tree, no_float}
+use Rattle.pact_rules.specs.Trees.{Node}
 use Rattle.pact_rules.specs.Rules.{no_rules, Rules as Table}
 use Rattle.pact_rules.specs.RuleReading.{IsReading}
-use Rattle.pact_rules.specs.TreeReading.{whole_number, whole_tree, whole_items, whole_members, whole_or, tree_in}
+use Rattle.pact_rules.specs.TreeReading.{whole_tree, whole_or, tree_in}
 use Rattle.pact_rules.specs.declared.rule_fault.RuleFault.{RuleFault}
 use Rattle.pact_rules.specs.declared.rule_fault.RuleFault.TheVariants as rule_fault
 use Rattle.pact_rules.specs.declared.tree.TreeFault.{TreeFault}
@@ -26,10 +27,10 @@ use Rattle.pact_file.specs.Normal.{InteractionRead, HeadersRead, InteractionsRea
 use Rattle.pact_rules.specs.Outcome.{guard, Gives}
 use Rattle.pact_file.specs.Pact.{Interaction, Pact, interaction_data, normal_text}
 use Rattle.pact_file.specs.Parts.{text_at, object_at, states_in, status_in, listed, given}
-use Rattle.pact_file.specs.Reading.{◌>>=◌, Follows, just, EachRead, GivesOne}
+use Rattle.pact_rules.specs.Reading.{◌>>=◌, Follows, just, EachRead, GivesOne}
 use Rattle.pact_file.specs.Rules.{TableRead, rules_told, RulesRead, IsRulesOf}
 use Rattle.pact_rules.specs.Lists.{IsIn}
-use Rattle.pact_file.specs.Sound.{IsSound, AreSound, MembersAreSound}
+use Rattle.pact_file.specs.Sound.{IsSound, AreSound}
 use Rattle.pact_file.specs.Told.{rule_told}
 use Rattle.pact_file.specs.declared.fault.PactFault.{PactFault}
 use Rattle.pact_file.specs.declared.fault.PactFault.TheVariants.{Memory, Rules, Shape, TooLong, NotJson, TooMany}
@@ -42,45 +43,12 @@ use Rattle.pact_file.proofs.Steps.{bind_ok, found_ok, ok_same, then_some}
 
 -- ---- trees
 
-number_tree : (m : Num) → has_float (number m) ≡ false → (t : Node) × (whole_number m ≡ Some t)
-number_tree (unsigned m) h = (_, refl)
-number_tree (negative z) h = (_, refl)
-number_tree (float x) h = absurd cc
-
-both_some : {A B C : Type 0} (f : A → B → C) (a : A) (b : B) (o : Option A) (p : Option B) → o ≡ Some a → p ≡ Some b → option_and_then (λ x. option_map (f x) p) o ≡ Some (f a b)
-both_some f a b o p h k = rw (h, k) refl
-
-mutual
-  has_tree : (n : ℕ) (d : Data) → IsSound n d → (t : Node) × (whole_tree d ≡ Some t)
-  has_tree n null h = (_, refl)
-  has_tree n (boolean b) h = (_, refl)
-  has_tree n (number m) h = number_tree m (is_whole n (number m) h)
-  has_tree n (string s) h = (_, refl)
-  has_tree zero (array ds) h = absurd h
-  has_tree (suc n) (array ds) h = let t = have_trees n ds h in (list t.0, ap (option_map list) t.1)
-  has_tree zero (object ms) h = absurd h
-  has_tree (suc n) (object ms) h = let t = members_have_trees n ms h in (tree_object t.0, ap (option_map tree_object) t.1)
-
-  have_trees : (n : ℕ) (ds : Items) → AreSound n ds → (ts : Nodes) × (whole_items ds ≡ Some ts)
-  have_trees n no_items h = (_, refl)
-  have_trees n (item d ds) h =
-      let t = has_tree n d h.0 in
-      let ts = have_trees n ds h.1 in
-      (node t.0 ts.0, both_some node t.0 ts.0 (whole_tree d) (whole_items ds) t.1 ts.1)
-
-  members_have_trees : (n : ℕ) (ms : Members) → MembersAreSound n ms → (fs : Fields) × (whole_members ms ≡ Some fs)
-  members_have_trees n no_members h = (_, refl)
-  members_have_trees n (member k d ms) h =
-      let t = has_tree n d h.1 in
-      let ts = members_have_trees n ms h.2 in
-      (field k t.0 ts.0, both_some (field k) t.0 ts.0 (whole_tree d) (whole_members ms) t.1 ts.1)
-
 test_le : (m k : ℕ) → m ≤ k → nat_le m k ≡ true
 test_le m k h = grind (arith, nat_tests)
 
 pub is_tree : (n : ℕ) (d : Data) → n ≤ 100 → IsSound n d → (t : Node) × (tree_in d ≡ Ok t)
 is_tree n d few h =
-    let t = has_tree n d h in
+    let t = has_tree d (is_whole n d h) in
     let fits : nat_le (depth d) 100 ≡ true = test_le (depth d) 100 (omega (arith, shallow n d h)) in
     (t.0, rw (fits, t.1) refl)
 
@@ -190,37 +158,6 @@ whole_case false o n h = absurd cc
 le_of : (m k : ℕ) → nat_le m k ≡ true → m ≤ k
 le_of m k h = grind (arith, nat_tests)
 
-number_whole : (m : Num) (t : Node) → whole_number m ≡ Some t → has_float (number m) ≡ false
-number_whole (unsigned m) t h = refl
-number_whole (negative z) t h = refl
-number_whole (float x) t h = absurd cc
-
-two_some : {A B C : Type 0} (f : A → B → C) (o : Option A) (p : Option B) (c : C) → option_and_then (λ x. option_map (f x) p) o ≡ Some c → (a : A) × (b : B) × (o ≡ Some a) × (p ≡ Some b)
-two_some f None p c h = absurd cc
-two_some f (Some a) None c h = absurd cc
-two_some f (Some a) (Some b) c h = (a, b, refl, refl)
-
-one_some : {A B : Type 0} (f : A → B) (o : Option A) (b : B) → option_map f o ≡ Some b → (a : A) × (o ≡ Some a)
-one_some f None b h = absurd cc
-one_some f (Some a) b h = (a, refl)
-
-mutual
-  no_float : (d : Data) (t : Node) → whole_tree d ≡ Some t → has_float d ≡ false
-  no_float null t h = refl
-  no_float (boolean b) t h = refl
-  no_float (number m) t h = number_whole m t h
-  no_float (string s) t h = refl
-  no_float (array ds) t h = let p = one_some list (whole_items ds) t h in no_floats ds p.0 p.1
-  no_float (object ms) t h = let p = one_some tree_object (whole_members ms) t h in no_float_members ms p.0 p.1
-
-  no_floats : (ds : Items) (ts : Nodes) → whole_items ds ≡ Some ts → items_have_float ds ≡ false
-  no_floats no_items ts h = refl
-  no_floats (item d ds) ts h = let p = two_some node (whole_tree d) (whole_items ds) ts h in rw (no_float d p.0 p.2) (no_floats ds p.1 p.3)
-
-  no_float_members : (ms : Members) (fs : Fields) → whole_members ms ≡ Some fs → members_have_float ms ≡ false
-  no_float_members no_members fs h = refl
-  no_float_members (member k d ms) fs h = let p = two_some (field k) (whole_tree d) (whole_members ms) fs h in rw (no_float d p.0 p.2) (no_float_members ms p.1 p.3)
-
 -- a value that is read of UTF-8 and that is a tree
 pub read_sound : (bytes : List ℕ) (d : Data) (t : Node) → IsUtf8 bytes → read bytes ≡ Some d → tree_in d ≡ Ok t → IsSound 100 d
 read_sound bytes d t utf8 is tree =
@@ -257,7 +194,7 @@ values_sound [] h = tt
 values_sound (v ∷ vs) h = (h.0, values_sound vs h.1)
 
 -- what a function gives is one answer of a reading that has that answer
-pub from_gives : {X Y : Type 0} (view : X → Y) (r : Result X PactFault) (read : Result Y PactFault) (reads : Result Y PactFault → Type 0) → ((a : Result Y PactFault) → read ≡ a → reads a) → Gives Memory view r read → GivesOne view r reads
+pub from_gives : {X Y : Type 0} (view : X → Y) (r : Result X PactFault) (read : Result Y PactFault) (reads : Result Y PactFault → Type 0) → ((a : Result Y PactFault) → read ≡ a → reads a) → Gives Memory view r read → GivesOne Memory view r reads
 from_gives view (Ok x) read reads f h = f (Ok (view x)) h
 from_gives view (Err e) read reads f h = λ memory. f (Err e) (h memory)
 

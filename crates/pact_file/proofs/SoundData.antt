@@ -9,7 +9,7 @@ use Rattle.json.proofs.Printed.Utf8.{IsUtf8-are_ascii, IsUtf8-quoted, IsUtf8-boo
 use Rattle.serde_json.specs.Data.{Num, unsigned, negative, float, Data, null, boolean, number, string, array, object, Items, no_items, item, Members, no_members, member, depth, items_depth, members_depth}
 use Rattle.serde_json.specs.Written.{has_float, items_have_float, members_have_float, comma_if, compact_text, items_text, members_text, number_text}
 use Rattle.pact_file.specs.Sound.{IsWhole, IsSound, AreSound, MembersAreSound}
-use Rattle.pact_file.proofs.Kept.{IsNumber, IsKept, AreKept, MembersAreKept}
+use Rattle.pact_rules.specs.Kept.{IsNumber, IsKept, AreKept, MembersAreKept}
 
 mutual
   pub sound : (n : ℕ) (d : Data) → IsKept d → has_float d ≡ false → depth d ≤ n → IsSound n d

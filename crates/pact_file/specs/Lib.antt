@@ -5,7 +5,6 @@ pub mod Parts
 pub mod Headers
 pub mod Placing
 pub mod Sound
-pub mod Reading
 pub mod Rules
 pub mod Filled
 pub mod File

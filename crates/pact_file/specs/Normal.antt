@@ -7,7 +7,7 @@ use Rattle.pact_file.specs.File.{most_bytes, file_of, sides_of, items_of}
 use Rattle.pact_file.specs.Headers.{HasHeaders, LacksHeaders}
 use Rattle.pact_file.specs.Interactions.{at, parts_at}
 use Rattle.pact_file.specs.Pact.{Header, Interaction, Pact, interaction_data, key_cmp, normal_text}
-use Rattle.pact_file.specs.Reading.{just, ◌>>=◌, EachRead}
+use Rattle.pact_rules.specs.Reading.{just, ◌>>=◌, EachRead}
 use Rattle.pact_file.specs.Rules.{RulesRead}
 use Rattle.pact_file.specs.Sets.{IsSetInOrder, HasClash}
 use Rattle.pact_file.specs.declared.fault.PactFault.{PactFault}

@@ -1,24 +1,13 @@
 -- JSON data without fractions, as a reader keeps it: whole numbers of 64 bits, texts of UTF-8, keys in order and each once, nesting at most n.
-use Rattle.std.specs.Prelude.{◌≡◌, ℕ, zero, suc, ◌<◌, ◌^◌, ℤ, pos, negsuc, List, ⊤}
+use Rattle.std.specs.Prelude.{ℕ, zero, suc, ◌<◌, ◌^◌, ⊤}
 use Rattle.std.specs.Str.{IsUtf8}
-use Rattle.std.specs.Ordering.{nat_cmp}
-use Rattle.std.specs.declared.cmp.Ordering.TheVariants.{Less}
-use Rattle.std.specs.Cmp.Lexicographic.{slice_cmp}
 use Rattle.serde_json.specs.Data.{Num, unsigned, negative, float, Data, null, boolean, number, string, array, object, Items, no_items, item, Members, no_members, member}
-
-abbrev pub IsBelowZero : ℤ → Type 0
-IsBelowZero (pos n) = ⊥
-IsBelowZero (negsuc n) = n < 2 ^ 63
+use Rattle.pact_rules.specs.Kept.{IsBelowZero, IsBelow}
 
 abbrev pub IsWhole : Num → Type 0
 IsWhole (unsigned n) = n < 2 ^ 64
 IsWhole (negative z) = IsBelowZero z
 IsWhole (float x) = ⊥
-
--- the key is below each of the members' keys
-abbrev pub IsBelow : List ℕ → Members → Type 0
-IsBelow k no_members = ⊤
-IsBelow k (member l d ms) = (slice_cmp nat_cmp k l ≡ Less) × IsBelow k ms
 
 abbrev mutual
   pub IsSound : ℕ → Data → Type 0

@@ -12,7 +12,7 @@ ghost use Rattle.pact_file.specs.Normal.{InteractionRead};
 ghost use Rattle.pact_rules.specs.Outcome.{Gives};
 ghost use Rattle.pact_file.specs.Pact.{interaction_data};
 ghost use Rattle.pact_file.specs.Parts.{text_at, object_at, states_in as states_at, status_in as status_found, body_in};
-ghost use Rattle.pact_file.specs.Reading.{GivesOne};
+ghost use Rattle.pact_rules.specs.Reading.{GivesOne};
 ghost use Rattle.pact_file.specs.Rules.{RulesRead, IsRulesOf};
 ghost use Rattle.pact_file.specs.Sound.{IsSound};
 ghost use Rattle.pact_file.specs.Told.{parts_view, rule_told as fault_told};
@@ -104,8 +104,10 @@ fn part_of(alloc: Global, value: &Value) -> Result<Tree, AllocError>
     }
 }
 
+/// The body of a response: the tree under `body`, where null is a body, or None where the response has no such member. An
+/// error is want of memory.
 #[tactic(auto, unfolding(crate::specs::Parts::body_in))]
-fn body_of(alloc: Global, response: &Value) -> Result<Option<Tree>, AllocError>
+pub fn body_of(alloc: Global, response: &Value) -> Result<Option<Tree>, AllocError>
     requires { IsSound 97 (view response.now) }
     ensures { IfOk result (λ o. option_map tree_view o ≡ body_in (view response.now)) }
 {
@@ -126,7 +128,7 @@ fn rule_told(index: usize, fault: RuleFault) -> PactFault
 
 fn read_rules(alloc: Global, index: usize, response: &Value) -> Result<RuleTable, PactFault>
     requires { IsSound 97 (view response.now) }
-    ensures read { GivesOne (λ t. t) result (RulesRead index (view response.now)) }
+    ensures read { GivesOne Memory (λ t. t) result (RulesRead index (view response.now)) }
     ensures table { IfOk result (λ t. IsRulesOf (view response.now) t) }
 {
     match given_at(response, "matchingRules") {
@@ -182,7 +184,7 @@ pub(crate) fn read_interaction(
     value: &Value,
 ) -> Result<Interaction, PactFault>
     requires { IsSound 98 (view value.now) }
-    ensures { GivesOne (λ x. x) result (InteractionRead index (view value.now)) }
+    ensures { GivesOne Memory (λ x. x) result (InteractionRead index (view value.now)) }
 {
     let parts = read_parts(alloc, index, value)?;
     match read_headers(alloc, &parts.response)? {

@@ -14,6 +14,7 @@ mod texts;
 
 pub use fault::{PactFault, Part, Place};
 pub use headers::read_headers;
+pub use interaction::body_of;
 pub use pact::{Header, Interaction, Pact};
 pub use parts::{read_states, read_status};
 pub use read::read_pact;

@@ -10,7 +10,7 @@ ghost use Rattle.pact_file.specs.declared.fault.PactFault.TheVariants.{Memory, S
 ghost use Rattle.pact_file.specs.File.{most_interactions, json_of, tree_told, file_of, is_3, version_under, is_version_3, holds_nothing, has_no_messages, are_printable, is_name, side_of, sides_of, items_of};
 ghost use Rattle.pact_file.specs.Normal.{InteractionRead, InteractionsRead, Normal};
 ghost use Rattle.pact_rules.specs.Outcome.{Gives};
-ghost use Rattle.pact_file.specs.Reading.{EachRead, GivesOne};
+ghost use Rattle.pact_rules.specs.Reading.{EachRead, GivesOne};
 ghost use Rattle.pact_file.specs.Sound.{IsSound, AreSound};
 
 use crate::fault::{PactFault, Place};
@@ -173,7 +173,7 @@ fn read_sides(file: &Value) -> Result<(&str, &str), PactFault>
 
 fn read_list(alloc: Global, items: &[Value]) -> Result<Vec<Interaction>, PactFault>
     requires { AreSound 98 (items_view items.now) }
-    ensures { GivesOne (λ v. v.items) result (EachRead InteractionRead 0 (map view items.now)) }
+    ensures { GivesOne Memory (λ v. v.items) result (EachRead InteractionRead 0 (map view items.now)) }
 {
     let mut found = Vec::new(alloc);
     for (index, item) in items.iter().enumerate() {
@@ -211,7 +211,7 @@ fn items_in(file: &Value) -> Result<&Vec<Value>, PactFault>
 
 fn read_interactions(alloc: Global, file: &Value) -> Result<Vec<Interaction>, PactFault>
     requires { IsSound 100 (view file.now) }
-    ensures { GivesOne (λ v. v.items) result (InteractionsRead (view file.now)) }
+    ensures { GivesOne Memory (λ v. v.items) result (InteractionsRead (view file.now)) }
 {
     let items = items_in(file)?;
     let found = read_list(alloc, items.as_slice())?;
@@ -223,7 +223,7 @@ fn read_interactions(alloc: Global, file: &Value) -> Result<Vec<Interaction>, Pa
 /// states. The bytes are any. Each fault is the first one in the order of `PactFault`'s documentation, but that at a text
 /// under `regex` in matching rules the pattern may be refused. `Memory` comes for want of memory alone.
 pub fn read_pact(alloc: Global, bytes: &[u8]) -> Result<Pact, PactFault>
-    ensures { GivesOne (λ p. p) result (Normal bytes.now) }
+    ensures { GivesOne Memory (λ p. p) result (Normal bytes.now) }
 {
     let file = read_file(alloc, bytes)?;
     let (consumer, provider) = read_sides(&file)?;

@@ -1,49 +1,27 @@
--- A tree and its JSON value are each other's.
-use Rattle.std.proofs.Common.{◌≡◌, ℕ, ℤ, pos, negsuc, List, Bool, false, ◌||◌, Option, Some, None, option_map, option_and_then, Ordering, Less, Equal, Greater, nat_cmp, bytes_eq, cond, refl, sym, ap, ◌∙◌, subst}
+-- A value that was read and its tree are each other's.
+use Rattle.std.proofs.Common.{◌≡◌, pos, negsuc, List, ℕ, false, ◌||◌, Option, Some, None, option_map, Result, Ok, Err, IfOk, refl, sym, ap, ◌∙◌, subst}
 use Rattle.std.proofs.lemmas.Option.{same_Some}
 use Rattle.std.proofs.lemmas.Bool.{or_parts}
-use Rattle.std.proofs.lemmas.Map.Text.{is_eq-slice_cmp}
-use Rattle.std.specs.Ordering.{match_ordering, is_eq}
-use Rattle.std.specs.Cmp.Lexicographic.{slice_cmp}
 use Rattle.serde_json.specs.Data as json
-use Rattle.serde_json.specs.Find.{of_integer, is_float, get_member}
+use Rattle.serde_json.specs.Find.{is_float}
 use Rattle.serde_json.specs.Written.{has_float, items_have_float, members_have_float}
 use Rattle.pact_rules.specs.Kept as kept
-use Rattle.pact_rules.specs.Holding.{get_field}
+use Rattle.pact_rules.specs.Outcome.{Gives}
 use Rattle.pact_rules.specs.Trees.{Node, null, truth, whole, text, list, object, Nodes, no_nodes, node, Fields, no_fields, field, IsTree, AreTrees, IsMap, IsBelow}
-use Rattle.pact_rules.specs.TreeReading.{whole_number, whole_tree, whole_items, whole_members, data_of, items_data, members_data}
-use Rattle.pact_rules.proofs.TreeLemmas.{both_some, both_make}
+use Rattle.pact_rules.specs.TreeReading.{whole_number, whole_tree, whole_items, whole_members, whole_or, data_of, items_data, members_data}
+use Rattle.pact_rules.specs.TreeView.{tree_view}
+use Rattle.pact_rules.specs.declared.tree.Tree.{Tree}
+use Rattle.pact_rules.specs.declared.tree.TreeFault.{TreeFault}
+use Rattle.pact_rules.specs.declared.tree.TreeFault.TheVariants.{Memory}
+use Rattle.pact_rules.proofs.TreeLemmas.{both_some, both_make, whole_of}
 
 map_some : {A B : Type 0} (f : A → B) (o : Option A) (y : B) → option_map f o ≡ Some y → (x : A) × (o ≡ Some x) × (f x ≡ y)
 map_some f None y e = cc
 map_some f (Some x) y e = (x, refl, same_Some _ _ e)
 
--- ---- from a tree to its value and back
-
-integer_back : (n : ℤ) → whole_number (of_integer n) ≡ Some (whole n)
-integer_back (pos n) = refl
-integer_back (negsuc n) = refl
-
-mutual
-  pub whole_of_data : (t : Node) → whole_tree (data_of t) ≡ Some t
-  whole_of_data null = refl
-  whole_of_data (truth b) = refl
-  whole_of_data (whole n) = integer_back n
-  whole_of_data (text s) = refl
-  whole_of_data (list ts) = ap (option_map list) (whole_of_items ts)
-  whole_of_data (object fs) = ap (option_map object) (whole_of_members fs)
-
-  pub whole_of_items : (ts : Nodes) → whole_items (items_data ts) ≡ Some ts
-  whole_of_items no_nodes = refl
-  whole_of_items (node t ts) = both_make (whole_tree (data_of t)) (whole_items (items_data ts)) node t ts (whole_of_data t) (whole_of_items ts)
-
-  pub whole_of_members : (fs : Fields) → whole_members (members_data fs) ≡ Some fs
-  whole_of_members no_fields = refl
-  whole_of_members (field k t fs) = both_make (whole_tree (data_of t)) (whole_members (members_data fs)) (field k) t fs (whole_of_data t) (whole_of_members fs)
-
 -- ---- from a value that was read to its tree and back
 
-number_back : (n : json.Num) (t : Node) → kept.IsWhole n → whole_number n ≡ Some t → data_of t ≡ json.number n
+number_back : (n : json.Num) (t : Node) → kept.IsNumber n → whole_number n ≡ Some t → data_of t ≡ json.number n
 number_back (json.unsigned n) t h e = ap data_of (sym (same_Some _ _ e))
 number_back (json.negative (pos n)) t h e = absurd h
 number_back (json.negative (negsuc n)) t h e = ap data_of (sym (same_Some _ _ e))
@@ -128,20 +106,6 @@ mutual
       let p = or_parts (has_float d) _ h in let a = has_tree d p.0 in let b = members_have_trees ms p.1 in
       (field k a.0 b.0, both_make (whole_tree d) (whole_members ms) (field k) a.0 b.0 a.1 b.1)
 
--- ---- a part of a tree is a tree
-
-found_by : (o : Ordering) (t : Bool) (d : json.Data) (u : Node) (rest : Option json.Data) (more : Option Node) → is_eq o ≡ t → whole_tree d ≡ Some u
-    → option_and_then whole_tree rest ≡ more → option_and_then whole_tree (match_ordering o rest (Some d) rest) ≡ cond t (Some u) more
-found_by Less t d u rest more e h k = rw (sym e) k
-found_by Equal t d u rest more e h k = rw (sym e) h
-found_by Greater t d u rest more e h k = rw (sym e) k
-
-pub member_of_tree : (k : List ℕ) (ms : json.Members) (fs : Fields) → whole_members ms ≡ Some fs → option_and_then whole_tree (get_member k ms) ≡ get_field k fs
-member_of_tree k json.no_members fs e = ap (get_field k) (same_Some _ _ e)
-member_of_tree k (json.member l d ms) fs e =
-    let p = both_some (whole_tree d) (whole_members ms) (field l) fs e in
-    found_by (slice_cmp nat_cmp k l) (bytes_eq k l) d p.0 (get_member k ms) (get_field k p.1) (is_eq-slice_cmp k l) p.2 (member_of_tree k ms p.1 p.3) ∙ ap (get_field k) p.4
-
 -- ---- the keys stay in order
 
 below : (k : List ℕ) (ms : json.Members) (fs : Fields) → kept.IsBelow k ms → whole_members ms ≡ Some fs → IsBelow k fs
@@ -175,3 +139,11 @@ mutual
   is_map (json.member k d ms) fs h e =
       let p = both_some (whole_tree d) (whole_members ms) (field k) fs e in
       subst IsMap p.4 (below k ms p.1 h.0 p.3, is_tree d p.0 h.1 p.2, is_map ms p.1 h.2 p.3)
+
+-- ---- what a reader of trees gives
+
+pub kept_tree : (d : json.Data) (r : Result Tree TreeFault) → Gives Memory tree_view r (whole_or (whole_tree d)) → kept.IsKept d → IfOk r (λ t. IsTree (tree_view t) × (data_of (tree_view t) ≡ d))
+kept_tree d (Ok t) h k =
+    let is = whole_of (whole_tree d) (tree_view t) h in
+    (is_tree d (tree_view t) k is, data_of_whole d (tree_view t) k is)
+kept_tree d (Err e) h k = tt

@@ -1,5 +1,6 @@
 pub mod TreeLemmas
 pub mod Bridge
+pub mod Each
 pub mod Candidates
 pub mod ChoiceLemmas
 pub mod HoldingLemmas

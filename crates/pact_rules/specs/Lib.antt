@@ -1,4 +1,5 @@
 pub mod Outcome
+pub mod Reading
 pub mod Lists
 pub mod Trees
 pub mod TreeView

@@ -37,6 +37,10 @@ impl Word {
 }
 
 impl fmt::Display for Word {
+    ghost use Rattle.std.specs.Prelude.{Some};
+
+    ghost output = { λ word. Some word };
+
     fn fmt<W: fmt::Write>(&self, f: &mut fmt::Formatter<W>) -> Result<(), fmt::Error> {
         f.write_str(self.text.as_str())
     }

@@ -3,7 +3,9 @@ ghost use Rattle.std.specs.Prelude.{nat_le};
 ghost use Rattle.serde_json.specs.Data.{depth, items_depth, members_depth};
 ghost use Rattle.serde_json.specs.View.{view, number_view, items_view, members_view};
 ghost use Rattle.pact_rules.specs.TreeView.{tree_view, list_view, object_view};
-ghost use Rattle.pact_rules.specs.TreeReading.{whole_or, whole_tree, whole_items, whole_members, whole_number, tree_in};
+ghost use Rattle.pact_rules.specs.Kept.{IsKept};
+ghost use Rattle.pact_rules.specs.Trees.{IsTree};
+ghost use Rattle.pact_rules.specs.TreeReading.{whole_or, whole_tree, whole_items, whole_members, whole_number, tree_in, data_of};
 ghost use Rattle.pact_rules.specs.Outcome.{Gives};
 ghost use Rattle.pact_rules.specs.declared.tree.TreeFault.TheVariants.{Memory};
 
@@ -61,9 +63,12 @@ impl<T: Drop> From<AllocFailed<T>> for TreeFault {
 const MAX_DEPTH: usize = 100;
 
 /// The tree that a value is. `TooDeep` is looked at first, for the whole value, and then `NotWhole`; a scalar has depth 0, a list or
-/// object one more than its deepest member, 1 if empty. `Memory` comes for want of memory alone.
+/// object one more than its deepest member, 1 if empty. `Memory` comes for want of memory alone. The tree of a value that was
+/// read from a text (`IsKept`) is that value again, and each of its objects has its keys in order, each once.
+#[tactic(auto, using(crate::proofs::Bridge::kept_tree))]
 pub fn tree_of(alloc: Global, value: &Value) -> Result<Tree, TreeFault>
-    ensures { Gives Memory tree_view result (tree_in (view value.now)) }
+    ensures tree { Gives Memory tree_view result (tree_in (view value.now)) }
+    ensures back { IsKept (view value.now) → IfOk result (λ t. IsTree (tree_view t) × (data_of (tree_view t) ≡ view value.now)) }
 {
     if !nests_within(value, MAX_DEPTH) {
         return Err(TreeFault::TooDeep);

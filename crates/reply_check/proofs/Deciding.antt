@@ -4,6 +4,10 @@ use Rattle.std.proofs.lemmas.List.{drop_more, drop_all, take_all}
 use Rattle.std.specs.List.{AllByRecursion}
 use Rattle.pact_rules.specs.Lists.{OneOf, IsIn}
 
+pub by_test : {B : Type 0} (b : Bool) → (b ≡ true → B) → (b ≡ false → B) → B
+by_test true is isnt = is refl
+by_test false is isnt = isnt refl
+
 pub yes : {P : Type 0} → P → IsTrue true ↔ P
 yes p = (λ h. p, λ q. refl)
 
@@ -20,9 +24,6 @@ skip n (inr q) = q
 -- what stands at a place, and behind it
 pub left_at : {A : Type 0} (xs : List A) (i : ℕ) (x : A) → i < length xs → x ≡ get_or xs i x → drop i xs ≡ x ∷ drop (i + 1) xs
 left_at xs i x l is = drop_more xs i x l ∙ ap (λ y. y ∷ drop (i + 1) xs) (sym is)
-
-pub rest_at : {A : Type 0} (xs : List A) (n : ℕ) → take (length xs - n) (drop n xs) ≡ drop n xs
-rest_at xs n = take_all (length xs - n) (drop n xs) (omega (arith, length-drop n xs))
 
 module _ {A : Type 0} (P : A → Type 0) where
   -- ---- one of them

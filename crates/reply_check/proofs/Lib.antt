@@ -9,3 +9,4 @@ mod Each
 mod ReadLemmas
 mod RivalLemmas
 mod VerdictLemmas
+mod Examples

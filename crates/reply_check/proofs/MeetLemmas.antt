@@ -20,7 +20,7 @@ use Rattle.reply_check.specs.Bodies.{MeetsBody}
 use Rattle.reply_check.specs.Meeting.{HasHeader, FitsHeader, Meets}
 use Rattle.reply_check.specs.Recorded.{Reply, status_sent}
 use Rattle.reply_check.specs.Sent.{IsFit, WasSent, WereSent}
-use Rattle.reply_check.proofs.Deciding.{in_one, one_in, all_in, in_all}
+use Rattle.reply_check.proofs.Deciding.{by_test, in_one, one_in, all_in, in_all}
 
 -- ---- a response has one table of rules
 
@@ -46,10 +46,6 @@ unfolding IsRulesOf
 one_rules response a b h k = one_table (given (codes "matchingRules") response) a b h k
 
 -- ---- patterns
-
-by_test : {B : Type 0} (b : Bool) → (b ≡ true → B) → (b ≡ false → B) → B
-by_test true is isnt = is refl
-by_test false is isnt = isnt refl
 
 or_left : (a b : Bool) → a ≡ true → (a || b) ≡ true
 or_left true b h = refl

@@ -1,7 +1,17 @@
--- Replies for one interaction.
-use Rattle.std.proofs.Common.{◌≡◌, ◌⊎◌, inl, inr, ◌↔◌, ℕ, Bool, ◌&&◌, List, [], ◌∷◌, IsTrue, bytes_eq, sym, ap, ◌∙◌, subst, arith}
+-- Replies for one interaction, found by their keys: the description, and the text of the states.
+use Rattle.std.proofs.Common.{◌≡◌, ◌⊎◌, inl, inr, ◌↔◌, ℕ, ◌+◌, ◌<◌, ◌≤◌, Bool, true, false, ◌&&◌, ◌||◌, cond, not, List, [], ◌∷◌, ◌++◌, length, take, drop, get_or, take-append-drop, IsTrue, Bor, bytes_eq, nat_cmp, refl, sym, ap, ap₂, ◌∙◌, subst, arith, true≢false}
 use Rattle.std.proofs.lemmas.Bool.{and_from, and_parts}
+use Rattle.std.proofs.lemmas.List.{take_more, take_all}
+use Rattle.std.proofs.lemmas.List.Folds.{list_any-append}
+use Rattle.std.proofs.lemmas.Map.Text.{is_eq-slice_cmp}
 use Rattle.std.proofs.lemmas.Slice.Eq.{bytes_eq-Decides}
+use Rattle.std.specs.BTreeMap.{is_at}
+use Rattle.std.specs.BTreeSet.{BTreeSet, contains, IsEmpty, Updates}
+use Rattle.std.specs.Cmp.Lexicographic.{slice_cmp}
+use Rattle.std.specs.List.{AllByRecursion, list_any}
+use Rattle.std.specs.Ordering.{is_eq, ordering_then}
+use Rattle.std.specs.declared.cmp.Ordering.{Ordering}
+use Rattle.std.specs.declared.cmp.Ordering.TheVariants.{Less, Equal, Greater}
 use Rattle.serde_json.specs.Written.{compact_text}
 use Rattle.pact_file.specs.Pact.{State, states_data}
 use Rattle.pact_rules.specs.Lists.{OneOf}
@@ -9,6 +19,7 @@ use Rattle.pact_file.specs.Sound.{IsSound}
 use Rattle.pact_file.proofs.OrderedSets.{one_states}
 use Rattle.reply_check.specs.Recorded.{Reply}
 use Rattle.reply_check.specs.Replies.{AreRivals, HasRivals}
+use Rattle.reply_check.proofs.Deciding.{by_test, left_at}
 
 -- the descriptions are equal, and so are the states where their texts are
 pub same_key : (d b t e : List ℕ) (ss ts : List State) (r : Bool) → r ≡ (bytes_eq d b && bytes_eq (compact_text (states_data ss)) t) → b ≡ e → t ≡ compact_text (states_data ts)
@@ -23,15 +34,121 @@ same_key d b t e ss ts r is eb et g h =
       λ (p, q). is ∙ and_from (bytes_eq d b) (bytes_eq s t) ((bytes_eq-Decides d b).1 (p ∙ sym eb)) ((bytes_eq-Decides s t).1 (ap (λ x. compact_text (states_data x)) q ∙ sym et)),
     )
 
-rest_of : {P Q : Type 0} → ¬ P → P ⊎ Q → Q
-rest_of n (inl p) = absurd (n p)
-rest_of n (inr q) = q
+-- ---- keys
 
-pub rivals_later : (all left more : List Reply) (r : Reply) → left ≡ r ∷ more → ¬ OneOf (λ s. AreRivals r s) more → HasRivals all ↔ HasRivals left → HasRivals all ↔ HasRivals more
-rivals_later all left more r is n h = (λ o. rest_of n (subst HasRivals is (h.0 o)), λ o. h.1 (subst HasRivals (sym is) (inr o)))
+abbrev pub Key : Type 0
+Key = Bor (List ℕ) × Bor (List ℕ)
 
-pub rivals_found : (all left more : List Reply) (r : Reply) → left ≡ r ∷ more → OneOf (λ s. AreRivals r s) more → HasRivals all ↔ HasRivals left → HasRivals all
-rivals_found all left more r is o h = h.1 (subst HasRivals (sym is) (inl o))
+abbrev pub key_cmp : Key → Key → Ordering
+key_cmp x y = ordering_then (slice_cmp nat_cmp x.0.now y.0.now) (slice_cmp nat_cmp x.1.now y.1.now)
 
-pub rivals_none : (all left : List Reply) → left ≡ [] → HasRivals all ↔ HasRivals left → ¬ HasRivals all
-rivals_none all left is h o = subst HasRivals is (h.0 o)
+abbrev IsSoundReply : Reply → Type 0
+IsSoundReply r = IsSound 97 (states_data r.states)
+
+pub record IsKeyOf (r : Reply) (k : Key) : Type 0 where
+  pub description : k.0.now ≡ r.description
+  pub states_text : k.1.now ≡ compact_text (states_data r.states)
+  pub sound : IsSound 97 (states_data r.states)
+
+abbrev is_key : Key → Reply → Bool
+is_key k r = bytes_eq r.description k.0.now && bytes_eq (compact_text (states_data r.states)) k.1.now
+
+is_rival : (s r : Reply) (k : Key) → IsSoundReply s → IsKeyOf r k → IsTrue (is_key k s) ↔ AreRivals s r
+is_rival s r k g h = same_key s.description k.0.now k.1.now r.description s.states r.states (is_key k s) refl h.description h.states_text g h.sound
+
+eq_then : (o p : Ordering) → is_eq (ordering_then o p) ≡ (is_eq o && is_eq p)
+eq_then Less p = refl
+eq_then Equal p = refl
+eq_then Greater p = refl
+
+key_at : (r : Reply) (k q : Key) → IsKeyOf r k → is_at (key_cmp k) q ≡ is_key q r
+key_at r k q h =
+    eq_then (slice_cmp nat_cmp k.0.now q.0.now) (slice_cmp nat_cmp k.1.now q.1.now)
+    ∙ ap₂ (λ a b. a && b) (is_eq-slice_cmp k.0.now q.0.now ∙ ap (λ d. bytes_eq d q.0.now) h.description) (is_eq-slice_cmp k.1.now q.1.now ∙ ap (λ t. bytes_eq t q.1.now) h.states_text)
+
+-- ---- one of them, or the last
+
+or_later : (a b : Bool) → a ≡ false → (a || b) ≡ true → b ≡ true
+or_later true b n h = absurd (true≢false n)
+or_later false b n h = h
+
+or_parts : (a b : Bool) → (a || b) ≡ false → (a ≡ false) × (b ≡ false)
+or_parts true b h = absurd (true≢false h)
+or_parts false b h = (refl, h)
+
+last_or : (a b : Bool) → cond a true b ≡ (b || (a || false))
+last_or true true = refl
+last_or true false = refl
+last_or false true = refl
+last_or false false = refl
+
+module _ {A : Type 0} (P : A → Type 0) where
+  one_between : (front more : List A) (x : A) → P x → OneOf P (front ++ x ∷ more)
+  one_between [] more x p = inl p
+  one_between (y ∷ ys) more x p = inr (one_between ys more x p)
+
+  one_or_last : (front : List A) (x : A) → OneOf P (front ++ x ∷ []) → OneOf P front ⊎ P x
+  one_or_last [] x (inl p) = inr p
+  one_or_last [] x (inr o) = absurd o
+  one_or_last (y ∷ ys) x (inl p) = inl (inl p)
+  one_or_last (y ∷ ys) x (inr o) = behind (one_or_last ys x o) where
+    behind : OneOf P ys ⊎ P x → OneOf P (y ∷ ys) ⊎ P x
+    behind (inl p) = inl (inr p)
+    behind (inr p) = inr p
+
+  all_and_last : (front : List A) (x : A) → AllByRecursion P front → P x → AllByRecursion P (front ++ x ∷ [])
+  all_and_last [] x a p = (p, tt)
+  all_and_last (y ∷ ys) x a p = (a.0, all_and_last ys x a.1 p)
+
+-- ---- the keys seen so far
+
+pub record AreSeen (seen : BTreeSet Key) (front : List Reply) : Type 0 where
+  pub sound : AllByRecursion IsSoundReply front
+  pub apart : ¬ HasRivals front
+  pub known : (q : Key) → contains key_cmp seen q ≡ list_any (is_key q) front
+
+pub none_seen : (seen : BTreeSet Key) → IsEmpty seen → AreSeen seen []
+none_seen seen empty = record { sound = tt; apart = λ h. h; known = λ q. ap (list_any (is_at (key_cmp q))) empty }
+
+rival_behind : (front more : List Reply) (r : Reply) (k : Key) → AllByRecursion IsSoundReply front → IsKeyOf r k → list_any (is_key k) front ≡ true → HasRivals (front ++ r ∷ more)
+rival_behind [] more r k g h is = absurd (true≢false (sym is))
+rival_behind (s ∷ ss) more r k g h is = by_test (is_key k s)
+    (λ here. inl (one_between (λ t. AreRivals s t) ss more r ((is_rival s r k g.0 h).0 here)))
+    (λ isnt. inr (rival_behind ss more r k g.1 h (or_later (is_key k s) (list_any (is_key k) ss) isnt is)))
+
+still_apart : (front : List Reply) (r : Reply) (k : Key) → AllByRecursion IsSoundReply front → IsKeyOf r k → list_any (is_key k) front ≡ false → ¬ HasRivals front → ¬ HasRivals (front ++ r ∷ [])
+still_apart [] r k g h isnt apart (inl o) = o
+still_apart [] r k g h isnt apart (inr o) = o
+still_apart (s ∷ ss) r k g h isnt apart (inl o) = by_place (one_or_last (λ t. AreRivals s t) ss r o) where
+  by_place : OneOf (λ t. AreRivals s t) ss ⊎ AreRivals s r → ⊥
+  by_place (inl p) = apart (inl p)
+  by_place (inr p) = true≢false (sym ((is_rival s r k g.0 h).1 p) ∙ (or_parts (is_key k s) (list_any (is_key k) ss) isnt).0)
+still_apart (s ∷ ss) r k g h isnt apart (inr o) = still_apart ss r k g.1 h (or_parts (is_key k s) (list_any (is_key k) ss) isnt).1 (λ p. apart (inr p)) o
+
+was_there : (added there : Bool) → added ≡ not there → added ≡ false → there ≡ true
+was_there added true is isnt = refl
+was_there added false is isnt = absurd (true≢false (sym is ∙ isnt))
+
+was_absent : (added there : Bool) → added ≡ not there → added ≡ true → there ≡ false
+was_absent added true is new = absurd (true≢false (sym new ∙ is))
+was_absent added false is new = refl
+
+module _ (xs : List Reply) (i : ℕ) (r : Reply) (k : Key) (old : BTreeSet Key) (added : Bool) (within : i < length xs) (stands : r ≡ get_or xs i r) (h : IsKeyOf r k) (told : added ≡ not (contains key_cmp old k))
+    (s : AreSeen old (take i xs)) where
+  pub rival_found : added ≡ false → HasRivals xs
+  rival_found isnt =
+      subst HasRivals (ap (λ ys. take i xs ++ ys) (sym (left_at xs i r within stands)) ∙ take-append-drop i xs)
+      (rival_behind (take i xs) (drop (i + 1) xs) r k s.sound h (sym (s.known k) ∙ was_there added (contains key_cmp old k) told isnt))
+
+  pub one_seen : (new : BTreeSet Key) → added ≡ true → Updates key_cmp old new k true → AreSeen new (take (i + 1) xs)
+  one_seen new is updates =
+      subst (AreSeen new) (sym (take_more xs i r within ∙ ap (λ y. take i xs ++ y ∷ []) (sym stands))) (record {
+        sound = all_and_last IsSoundReply (take i xs) r s.sound h.sound;
+        apart = still_apart (take i xs) r k s.sound h (sym (s.known k) ∙ was_absent added (contains key_cmp old k) told is) s.apart;
+        known = λ q.
+            updates.0 q ∙ ap₂ (λ a b. cond a true b) (key_at r k q h) (s.known q) ∙ last_or (is_key q r) (list_any (is_key q) (take i xs))
+            ∙ sym (list_any-append (is_key q) (take i xs) (r ∷ []));
+      })
+
+pub all_seen : (xs : List Reply) (i : ℕ) (seen : BTreeSet Key) → length xs ≤ i → AreSeen seen (take i xs) → ¬ HasRivals xs
+all_seen xs i seen all s = subst (λ ys. ¬ HasRivals ys) (take_all i xs all) s.apart

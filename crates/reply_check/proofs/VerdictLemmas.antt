@@ -8,10 +8,7 @@ use Rattle.pact_rules.specs.Lists.{OneOf, IsIn}
 use Rattle.reply_check.specs.Meeting.{HasPattern}
 use Rattle.reply_check.specs.Recorded.{Reply}
 use Rattle.reply_check.specs.Verdicts.{BelongsTo, IsKnown, AreKnown, Passes, Fails, IsAscending, AreFailing, UsesPattern}
-
-by_test : {B : Type 0} (b : Bool) → (b ≡ true → B) → (b ≡ false → B) → B
-by_test true is isnt = is refl
-by_test false is isnt = isnt refl
+use Rattle.reply_check.proofs.Deciding.{by_test}
 
 -- ---- places
 

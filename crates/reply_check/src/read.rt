@@ -1,23 +1,23 @@
 //! Reading a file of recorded replies.
 
-ghost use Rattle.std.specs.Prelude.{◌≡◌, ◌↔◌, map, IsTrue};
+ghost use Rattle.std.specs.Prelude.{◌≡◌, ◌↔◌, map, IfOk, IsTrue};
 ghost use Rattle.std.specs.Option.{ok_or};
 ghost use Rattle.serde_json.specs.View.{view, items_view};
 ghost use Rattle.pact_rules.specs.TreeReading.{tree_in};
 ghost use Rattle.pact_rules.specs.Outcome.{Gives};
-ghost use Rattle.pact_rules.specs.Lists.{OneOf};
 ghost use Rattle.pact_file.specs.Sound.{AreSound};
 ghost use Rattle.reply_check.specs.declared.fault.RepliesFault.TheVariants.{Memory, NotJson};
 ghost use Rattle.reply_check.specs.Reading.{EachRead, GivesOne};
 ghost use Rattle.reply_check.specs.ReplyParts.{json_of, tree_told, file_of, items_of};
-ghost use Rattle.reply_check.specs.Replies.{ReplyRead, AreRivals, HasRivals, RepliesRead};
+ghost use Rattle.reply_check.specs.Replies.{ReplyRead, HasRivals, RepliesRead};
 
 use crate::fault::{Place, RepliesFault};
 use crate::parts::read_reply;
 use crate::reply::{Replies, Reply};
 use pact_rules::{TreeFault, tree_of};
 use serde_json::Value;
-use std::alloc::Global;
+use std::alloc::{AllocError, Global};
+use std::collections::BTreeSet;
 
 #[tactic(auto, unfolding(crate::specs::ReplyParts::json_of))]
 fn read_json(alloc: Global, bytes: &[u8]) -> Result<Value, RepliesFault>
@@ -79,34 +79,17 @@ fn read_list(alloc: Global, items: &[Value]) -> Result<Vec<Reply>, RepliesFault>
     Ok(found)
 }
 
-/// Whether two replies are for one interaction.
-fn are_rivals(left: &Reply, right: &Reply) -> bool
-    ensures { IsTrue result ↔ AreRivals left.now right.now }
+/// Whether two replies are for one interaction. An error is want of memory.
+fn have_rivals(alloc: Global, replies: &[Reply]) -> Result<bool, AllocError>
+    ensures { IfOk result (λ b. IsTrue b ↔ HasRivals replies.now) }
 {
-    left.is_for(right.description(), right.states_text())
-}
-
-fn has_rival(reply: &Reply, others: &[Reply]) -> bool
-    ensures { IsTrue result ↔ OneOf (λ s. AreRivals reply.now s) others.now }
-{
-    for other in others {
-        if are_rivals(reply, other) {
-            return true;
+    let mut seen = BTreeSet::new(alloc);
+    for reply in replies {
+        if !seen.insert((reply.description(), reply.states_text()))? {
+            return Ok(true);
         }
     }
-    false
-}
-
-/// Whether a reply has a rival behind it.
-fn have_rivals(replies: &[Reply]) -> bool
-    ensures { IsTrue result ↔ HasRivals replies.now }
-{
-    for (index, reply) in replies.iter().enumerate() {
-        if has_rival(reply, &replies[index + 1..]) {
-            return true;
-        }
-    }
-    false
+    Ok(false)
 }
 
 /// Reads recorded replies: an object whose `replies` is a list, each with a text `description`, provider states as in a pact
@@ -119,7 +102,7 @@ pub fn read_replies(alloc: Global, bytes: &[u8]) -> Result<Replies, RepliesFault
     let file = read_file(alloc, bytes)?;
     let items = items_in(&file)?;
     let found = read_list(alloc, items.as_slice())?;
-    if have_rivals(found.as_slice()) {
+    if have_rivals(alloc, found.as_slice())? {
         return Err(RepliesFault::SameReplyTwice);
     }
     Ok(Replies { replies: found })

@@ -5,7 +5,7 @@ use Rattle.serde_json.specs.View.{view, items_view}
 use Rattle.pact_file.specs.Normal.{InteractionRead, InteractionsRead}
 use Rattle.pact_file.specs.Pact.{key_cmp}
 use Rattle.pact_file.specs.Placing.{placed_all, same_text}
-use Rattle.pact_file.specs.Reading.{EachRead}
+use Rattle.pact_rules.specs.Reading.{EachRead}
 use Rattle.pact_file.specs.Sound.{AreSound}
 use Rattle.pact_file.specs.declared.fault.PactFault.TheVariants.{SameInteraction}
 use Rattle.pact_file.proofs.OrderedSets.{ordered}

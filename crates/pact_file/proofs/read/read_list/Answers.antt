@@ -3,7 +3,7 @@ use Rattle.std.proofs.lemmas.List.{drop_more, drop_all}
 use Rattle.std.proofs.lemmas.Result.{err_from_is_err_and}
 use Rattle.serde_json.specs.View.{view}
 use Rattle.pact_file.specs.Normal.{InteractionRead}
-use Rattle.pact_file.proofs.Each.{Completes, goes_on, ends, is_done, begins}
+use Rattle.pact_rules.proofs.Each.{Completes, goes_on, ends, is_done, begins}
 use Rattle.pact_file.proofs.ReadLemmas.{value_sound}
 use Rattle.pact_file.proofs.read.read_list.Goals as goal
 

@@ -1,6 +1,7 @@
-use Rattle.std.proofs.Common.{◌↔◌, drop}
-use Rattle.reply_check.specs.Replies.{HasRivals}
+use Rattle.std.proofs.Common.{take}
+use Rattle.reply_check.proofs.RivalLemmas.{AreSeen}
 use Rattle.reply_check.proofs.read.have_rivals.Given as goal
 
-abbrev pub invariant-loop-index : goal.invariant-loop-index
-invariant-loop-index l = HasRivals l.replies ↔ HasRivals (drop l.index l.replies)
+-- the keys of the replies so far, no two of which are rivals
+abbrev pub invariant-loop-reply : goal.invariant-loop-reply
+invariant-loop-reply l = AreSeen l.seen (take l.reply-index l.replies)

@@ -37,17 +37,17 @@ returns-in_err-found c =
     let read : EachRead ReplyRead 0 (map view vs) (Err e) = subst (λ xs. EachRead ReplyRead 0 (map view xs) (Err e)) c.as_slice.ensures.value (c.in_err-found.ensures memory) in
     (Ok (view c.in_ok-file.file), c.in_ok-file.ensures, (Ok (map view vs), c.in_ok-items.ensures, (Err e, read, refl))))
 
-pub returns-then-have_rivals : goal.returns-then-have_rivals
+pub returns-then-branch : goal.returns-then-branch
 unfolding RepliesRead
-returns-then-have_rivals c = λ memory.
+returns-then-branch c = λ memory.
     let vs = c.in_ok-items.items.now.items in
     let rs = c.in_ok-found.found.items in
     let read : EachRead ReplyRead 0 (map view vs) (Ok rs) = subst (λ xs. EachRead ReplyRead 0 (map view xs) (Ok rs)) c.as_slice.ensures.value c.in_ok-found.ensures in
-    let rivals : HasRivals rs = subst HasRivals c.as_slice-2.ensures.value (c.have_rivals.ensures.0 c.if-have_rivals.true) in
+    let rivals : HasRivals rs = subst HasRivals c.as_slice-2.ensures.value (c.in_ok-have_rivals.ensures.0 c.if-branch.true) in
     (Ok (view c.in_ok-file.file), c.in_ok-file.ensures, (Ok (map view vs), c.in_ok-items.ensures, (Ok rs, read, (rivals, refl))))
 
 pub invariant_of-result : goal.invariant_of-result
-invariant_of-result c = λ rivals. not_so c.have_rivals.result c.if-have_rivals.false c.have_rivals.ensures (subst HasRivals (sym c.as_slice-2.ensures.value) rivals)
+invariant_of-result c = λ rivals. not_so c.in_ok-have_rivals.field-0 c.if-branch.false c.in_ok-have_rivals.ensures (subst HasRivals (sym c.as_slice-2.ensures.value) rivals)
 
 pub returns : goal.returns
 unfolding RepliesRead
@@ -55,5 +55,5 @@ returns c =
     let vs = c.in_ok-items.items.now.items in
     let rs = c.in_ok-found.found.items in
     let read : EachRead ReplyRead 0 (map view vs) (Ok rs) = subst (λ xs. EachRead ReplyRead 0 (map view xs) (Ok rs)) c.as_slice.ensures.value c.in_ok-found.ensures in
-    let apart : ¬ HasRivals rs = λ rivals. not_so c.have_rivals.result c.if-have_rivals.false c.have_rivals.ensures (subst HasRivals (sym c.as_slice-2.ensures.value) rivals) in
+    let apart : ¬ HasRivals rs = λ rivals. not_so c.in_ok-have_rivals.field-0 c.if-branch.false c.in_ok-have_rivals.ensures (subst HasRivals (sym c.as_slice-2.ensures.value) rivals) in
     (Ok (view c.in_ok-file.file), c.in_ok-file.ensures, (Ok (map view vs), c.in_ok-items.ensures, (Ok rs, read, (apart, refl))))
