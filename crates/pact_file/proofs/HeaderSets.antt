@@ -28,9 +28,6 @@ lacks_headers response found is e headers h =
     let clash = clash_of name_cmp name_total never (λ x y. ⊤) (λ x. ⊤) never_alike (λ x y k. tt) found (λ z k. tt) e in
     h.apart (subst HasTwins (same_Some _ _ (sym is ∙ h.read)) clash)
 
-pub lacks_form : (response : Data) → headers_found response ≡ None → LacksHeaders response
-lacks_form response is headers h = let e : None ≡ Some h.found = sym is ∙ h.read in absurd cc
-
 pub either : {V : Type 0} (response : Data) (found : List Header) (items : V → List Header) (o : Option V) → headers_found response ≡ Some found → option_map items o ≡ placed_all name_cmp never [] found
     → MatchOption o (LacksHeaders response) (λ v. HasHeaders response (items v))
 either response found items None is e = lacks_headers response found is (sym e)

@@ -42,9 +42,6 @@ behind_ascii front x xs u h =
 
 -- ---- the tests
 
-is_number : (x k : ℕ) (b : Bool) → (x == k) ≡ b → b ≡ true → x ≡ k
-is_number x k b e h = grind (arith, nat_tests)
-
 digit_low : (a : ℕ) → is_digit a 16 ≡ true → a < 128
 digit_low a h = grind (arith, nat_tests)
 

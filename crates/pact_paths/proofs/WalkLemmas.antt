@@ -1,7 +1,6 @@
 -- Weights of a path while a location grows by one step at its end.
-use Rattle.std.proofs.Common.{◌≡◌, ◌⊎◌, inl, inr, ℕ, zero, suc, ◌+◌, ◌*◌, ◌^◌, ◌<◌, ◌≤◌, Bool, true, false, ◌&&◌, cond, eqb, ltb, leb, List, [], ◌∷◌, ◌++◌, map, length, filter, slice_get, zip, Some, refl, sym, ap, ◌∙◌, arith, mul-one, one-mul, mul-zero, zero-mul, mul_assoc, mul_comm, pow-suc, length-append, lt-ltb, le-ltb, eq-eqb, ne_eqb, le-leb, ltb-false, bytes_eq, true≢false, mul-pos, eq-zero-or-pos}
-use Rattle.std.proofs.Math.Pow.{pow-lt}
-use Rattle.std.proofs.lemmas.Bool.{cases_order, cases_lt, lt-leb, and_right}
+use Rattle.std.proofs.Common.{◌≡◌, ◌⊎◌, inl, inr, ℕ, zero, suc, ◌+◌, ◌*◌, ◌^◌, ◌<◌, ◌≤◌, Bool, true, false, ◌&&◌, cond, eqb, ltb, leb, List, [], ◌∷◌, ◌++◌, map, length, filter, slice_get, zip, Some, refl, sym, ap, ◌∙◌, arith, mul-one, one-mul, mul-zero, zero-mul, mul_assoc, mul_comm, pow-suc, length-append, lt-ltb, le-leb, ltb-false, bytes_eq, true≢false, mul-pos, eq-zero-or-pos}
+use Rattle.std.proofs.lemmas.Bool.{and_right}
 use Rattle.std.proofs.lemmas.List.{length-map}
 use Rattle.std.proofs.lemmas.List.Elements.{filter-append}
 use Rattle.std.proofs.lemmas.Slice.Zip.{length-zip}
@@ -136,42 +135,3 @@ weight_dead ts at e = nothing (leb (length ts) (length at)) where
       let h : product_over ts at ≤ 0 = ltb-false 0 (product_over ts at) e in
       omega (arith, h)
   nothing false = refl
-
-pub weight_longer : (ts : List Token) (at : Location) → length at < length ts → weight ts at ≡ 0
-weight_longer ts at h = ap (λ b. cond b (2 * product_over ts at) 0) (lt-leb (length ts) (length at) h)
-
-pub weight_positive : (ts : List Token) (at : Location) → 0 < weight ts at → (length ts ≤ length at) × (is_alive ts at ≡ true)
-weight_positive ts at h = (short (cases_lt (length at) (length ts)), live (is_alive ts at) refl) where
-  short : (length at < length ts) ⊎ (length ts ≤ length at) → length ts ≤ length at
-  short (inl k) = absurd (omega (arith, h, weight_longer ts at k))
-  short (inr k) = k
-
-  live : (b : Bool) → is_alive ts at ≡ b → is_alive ts at ≡ true
-  live true e = e
-  live false e = absurd (omega (arith, h, weight_dead ts at e))
-
--- weights compare as the counts of exact tokens do
-pub ltb-powers : (m n : ℕ) → ltb (2 ^ (1 + m)) (2 ^ (1 + n)) ≡ ltb m n
-ltb-powers m n = by_order (cases_order m n) where
-  by_order : (m ≡ n) ⊎ ((m < n) ⊎ (n < m)) → ltb (2 ^ (1 + m)) (2 ^ (1 + n)) ≡ ltb m n
-  by_order (inl e) = ap (λ k. ltb (2 ^ (1 + k)) (2 ^ (1 + n))) e ∙ le-ltb (2 ^ (1 + n)) (2 ^ (1 + n)) (omega arith) ∙ sym (le-ltb m n (omega (arith, e)))
-  by_order (inr (inl h)) =
-      let up : 1 + m < 1 + n = omega (arith, h) in
-      lt-ltb (2 ^ (1 + m)) (2 ^ (1 + n)) (pow-lt up) ∙ sym (lt-ltb m n h)
-  by_order (inr (inr h)) =
-      let up : 1 + n < 1 + m = omega (arith, h) in
-      let more : 2 ^ (1 + n) < 2 ^ (1 + m) = pow-lt up in
-      le-ltb (2 ^ (1 + m)) (2 ^ (1 + n)) (omega arith) ∙ sym (le-ltb m n (omega (arith, h)))
-
-pub eqb-powers : (m n : ℕ) → eqb (2 ^ (1 + m)) (2 ^ (1 + n)) ≡ eqb m n
-eqb-powers m n = by_order (cases_order m n) where
-  by_order : (m ≡ n) ⊎ ((m < n) ⊎ (n < m)) → eqb (2 ^ (1 + m)) (2 ^ (1 + n)) ≡ eqb m n
-  by_order (inl e) = eq-eqb (2 ^ (1 + m)) (2 ^ (1 + n)) (ap (λ k. 2 ^ (1 + k)) e) ∙ sym (eq-eqb m n e)
-  by_order (inr (inl h)) =
-      let up : 1 + m < 1 + n = omega (arith, h) in
-      let more : 2 ^ (1 + m) < 2 ^ (1 + n) = pow-lt up in
-      ne_eqb (2 ^ (1 + m)) (2 ^ (1 + n)) (λ e. omega arith) ∙ sym (ne_eqb m n (λ e. omega arith))
-  by_order (inr (inr h)) =
-      let up : 1 + n < 1 + m = omega (arith, h) in
-      let more : 2 ^ (1 + n) < 2 ^ (1 + m) = pow-lt up in
-      ne_eqb (2 ^ (1 + m)) (2 ^ (1 + n)) (λ e. omega arith) ∙ sym (ne_eqb m n (λ e. omega arith))

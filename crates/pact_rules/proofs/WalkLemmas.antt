@@ -1,5 +1,5 @@
 -- The rules that are alive, step by step, and the best of them.
-use Rattle.std.proofs.Common.{◌≡◌, ℕ, zero, suc, ◌+◌, ◌-◌, ◌^◌, ◌<◌, ◌≤◌, Bool, true, false, cond, ltb, List, [], ◌∷◌, ◌++◌, map, length, get_or, drop, Option, None, Some, option_map, MatchOption, slice_get, min, refl, sym, ap, ◌∙◌, subst, ⊎_elim, arith, length-append, add-one, lt-ltb, true≢false, eqb, ne_eqb}
+use Rattle.std.proofs.Common.{◌≡◌, ℕ, zero, suc, ◌+◌, ◌-◌, ◌^◌, ◌<◌, ◌≤◌, Bool, true, false, cond, ltb, List, [], ◌∷◌, ◌++◌, map, length, get_or, drop, Option, None, Some, option_map, MatchOption, slice_get, refl, sym, ap, ◌∙◌, subst, ⊎_elim, arith, add-one, lt-ltb, true≢false, eqb, ne_eqb}
 use Rattle.std.proofs.lemmas.Bool.{cases_lt}
 use Rattle.std.proofs.Math.Nat.{min-le_left, min-eq_left, min-eq_right}
 use Rattle.std.proofs.lemmas.List.{length-map, map_push, append-nil}
@@ -170,16 +170,6 @@ pub beyond : (n steps : ℕ) (at : Location) → steps ≡ counted at → steps 
 beyond n steps at is lt few =
     ⊎_elim (λ more. let full : counted at ≡ 2 ^ 64 - 1 = min-eq_right (omega (arith, more)) in absurd (omega (arith, is, full, lt, few)))
     (λ less. is ∙ min-eq_left less) (cases_lt (2 ^ 64 - 1) (length at))
-
-pub count_more : (steps : ℕ) (at : Location) (s : Step) → steps ≡ counted at → min (steps + 1) (2 ^ 64 - 1) ≡ counted (at ++ s ∷ [])
-count_more steps at s is =
-    let long : length (at ++ s ∷ []) ≡ length at + 1 = length-append at (s ∷ []) in
-    ⊎_elim (λ more.
-    let full : counted at ≡ 2 ^ 64 - 1 = min-eq_right (omega (arith, more)) in
-    let here : 2 ^ 64 - 1 ≤ steps + 1 = omega (arith, is, full) in
-    let there : 2 ^ 64 - 1 ≤ length (at ++ s ∷ []) = omega (arith, long, more) in
-    min-eq_right here ∙ sym (min-eq_right there))
-    (λ less. ap (λ n. min n (2 ^ 64 - 1)) (ap (λ n. n + 1) (is ∙ min-eq_left less) ∙ sym long)) (cases_lt (2 ^ 64 - 1) (length at))
 
 pub survive_past : (k e : ℕ) (path : List Token) (at : Location) (s : Step) → length path ≤ length at → is_alive path at ≡ true → e ≡ exact_tokens path at → Some (k, e) ≡ survivor k path (at ++ s ∷ [])
 survive_past k e path at s past alive exact =

@@ -3,7 +3,8 @@ ghost use Rattle.pact_paths.specs.Paths.{Location};
 ghost use Rattle.pact_rules.specs.Walks.{walk};
 
 use crate::{
-    Alive, MatchFault, Matcher, RuleFault, RuleTable, Step, Tree, TreeFault, holds, tree_of,
+    Alive, MatchFault, Matcher, RuleFault, RuleTable, Step, Tree, TreeFault, has_keys_of, holds,
+    tree_of,
 };
 use serde_json::Value;
 use std::alloc::{AllocError, Global};
@@ -77,6 +78,14 @@ fn first_faults(rt: HostRuntime) -> Result<(), Fail> {
             "a pattern is refused",
         ),
         (
+            "{\"body\":{\"$\":{\"matchers\":[{\"match\":\"regex\",\"regex\":5}]}}}",
+            "a pattern is refused",
+        ),
+        (
+            "{\"body\":{\"$\":{\"matchers\":[{\"match\":\"regex\",\"regex\":\"(?:[a&&b]?){4294967295}\"}]}}}",
+            "a pattern is refused",
+        ),
+        (
             "{\"body\":{\"$\":{\"matchers\":[{\"match\":\"decimal\"}]}}}",
             "decimal isn't supported",
         ),
@@ -105,6 +114,12 @@ fn first_faults(rt: HostRuntime) -> Result<(), Fail> {
             "{\"body\":{\"$\":{\"matchers\":5}}}",
             "a part has another form",
         ),
+        (
+            "{\"body\":{\"$\":{\"matchers\":[{\"match\":\"include\"}]}}}",
+            "a part has another form",
+        ),
+        ("{\"header\":{\"x\":5}}", "a part has another form"),
+        ("{\"body\":{\"item\":5},\"cookies\":5}", "a key is no path"),
         ("[]", "a part has another form"),
     ] {
         let read = RuleTable::read(rt.alloc(), &tree(rt.alloc(), text)?);
@@ -257,6 +272,28 @@ fn matchers_hold(rt: HostRuntime) -> Result<(), Fail> {
         .ok_or("a fault")?,
         MatchFault::Pattern
     );
+    Ok(())
+}
+
+/// Whether each key of the first object is in the second.
+fn has_keys(alloc: Global, a: &str, b: &str) -> Result<bool, Fail> {
+    match (tree(alloc, a)?, tree(alloc, b)?) {
+        (Tree::Object(a), Tree::Object(b)) => Ok(has_keys_of(&a, &b)),
+        _ => Err(Fail::from("two objects")),
+    }
+}
+
+#[test]
+fn keys_of_another(rt: HostRuntime) -> Result<(), Fail> {
+    for (a, b, wanted) in [
+        ("{}", "{}", true),
+        ("{}", "{\"a\":1}", true),
+        ("{\"a\":1}", "{}", false),
+        ("{\"a\":1}", "{\"a\":null,\"b\":2}", true),
+        ("{\"a\":1,\"c\":2}", "{\"a\":1,\"b\":2}", false),
+    ] {
+        assert_eq!(rt; has_keys(rt.alloc(), a, b)?, wanted);
+    }
     Ok(())
 }
 
