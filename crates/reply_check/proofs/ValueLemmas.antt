@@ -4,7 +4,7 @@ use mathlib.Core.List.{reverse}
 use Rattle.std.proofs.lemmas.List.{reverse-append, reverse-reverse}
 use Rattle.std.proofs.lemmas.Slice.Eq.{bytes_eq-Decides}
 use Rattle.std.proofs.lemmas.Bool.Decides.{nat_tests}
-use Rattle.reply_check.specs.HeaderValues.{is_blank, without_front, without_end, in_front, parts_between, counted, before_semicolon}
+use Rattle.reply_check.specs.HeaderValues.{is_blank, without_front, without_end, in_front, parts_between, counted}
 use Rattle.reply_check.proofs.Deciding.{by_test}
 
 -- ---- the bytes that are kept, where the first says whether a part begins
