@@ -69,9 +69,6 @@ module _ (interactions : List Interaction) (replies : List Reply) where
     pub below_all : AllByRecursion (λ i. i < n) places
     pub failing : (i : ℕ) → i < n → IsIn i places ↔ Fails interactions replies i
 
-  pub none_so_far : IsSoFar 0 []
-  none_so_far = record { ascending = tt; below_all = tt; failing = λ i l. absurd (omega arith) }
-
   module _ (n : ℕ) (x : Interaction) (places : List ℕ) (stands : slice_get interactions n ≡ Some x) (h : IsSoFar n places) where
     passing : (i : ℕ) → Passes replies x → (i < n) ⊎ (i ≡ n) → IsIn i places ↔ Fails interactions replies i
     passing i p (inl l) = h.failing i l
