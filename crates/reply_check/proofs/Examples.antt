@@ -1,5 +1,5 @@
 -- Worked values, computed from the definitions.
-use Rattle.std.proofs.Common.{◌≡◌, codes, refl}
+use Rattle.std.proofs.Common.{codes, refl}
 use Rattle.reply_check.specs.HeaderValues.{HasValue}
 
 -- blanks behind a comma don't count

@@ -1,5 +1,5 @@
 -- Fitting, item by item and member by member.
-use Rattle.std.proofs.Common.{◌≡◌, ℕ, zero, suc, ◌+◌, Bool, true, ◌&&◌, List, [], ◌∷◌, ◌++◌, length, Option, Some, None, option_map, slice_get, String, Global, Vec, BTreeMap, string_bytes, nat_cmp, Bor, refl, sym, ap, ◌∙◌, rules}
+use Rattle.std.proofs.Common.{◌≡◌, ℕ, zero, suc, Bool, true, ◌&&◌, List, [], ◌∷◌, ◌++◌, length, Option, Some, None, option_map, slice_get, String, Global, Vec, BTreeMap, string_bytes, nat_cmp, Bor, refl, sym, ap, ◌∙◌, rules}
 use Rattle.std.specs.Slice.{IsItemAt}
 use Rattle.std.proofs.lemmas.Option.{slice_get_past, slice_get_read}
 use Rattle.std.specs.Option.{option_or, option_copied}
@@ -13,7 +13,6 @@ use Rattle.pact_rules.specs.Holding.{get_field, has_keys_of}
 use Rattle.std.specs.Cmp.Lexicographic.{slice_cmp}
 use Rattle.std.specs.Map.{lookup}
 use Rattle.std.specs.BTreeMap.{is_at}
-use Rattle.pact_paths.specs.declared.path.Step as code
 use Rattle.reply_check.specs.Computed.{meets, expected_items, expected_fields, first_or, example, if_there, fits, items_fit, members_fit}
 use Rattle.reply_check.specs.Fitting.{get_node}
 

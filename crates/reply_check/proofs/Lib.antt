@@ -5,7 +5,6 @@ mod WalkLemmas
 mod ValueLemmas
 mod Deciding
 mod MeetLemmas
-mod Each
 mod ReadLemmas
 mod RivalLemmas
 mod VerdictLemmas

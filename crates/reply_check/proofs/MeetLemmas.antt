@@ -103,13 +103,6 @@ so_sent rules response sent h value has is fits =
 
 -- ---- the whole
 
-pub status_differs : (x : Interaction) (r : Reply) (m n : ℕ) → status_in x.response ≡ Some m → status_sent r.response ≡ Some n → ¬ (m ≡ n) → ¬ Meets x r
-status_differs x r m n e s differs whole =
-    let k : ℕ = whole.status.0 in
-    let left : m ≡ k = same_Some m k (sym e ∙ whole.status.1) in
-    let right : n ≡ k = same_Some n k (sym s ∙ whole.status.2) in
-    differs (left ∙ sym right)
-
 module _ (x : Interaction) (r : Reply) (rules : Rules) (expected sent : List Header) (has_rules : IsRulesOf x.response rules) (has_expected : HasHeaders x.response expected) (has_sent : HasHeaders r.response sent) where
   pub headers_lack : ¬ WereSent rules sent expected → ¬ Meets x r
   headers_lack lack whole =

@@ -1,5 +1,5 @@
 -- What a reading of replies that succeeds went through, and that what is read is sound.
-use Rattle.std.proofs.Common.{◌≡◌, ℕ, ◌≤◌, List, codes, Bool, true, false, is_some, Option, Some, None, option_and_then, nat_le, Result, Ok, Err, refl, sym, ap, ◌∙◌, subst}
+use Rattle.std.proofs.Common.{◌≡◌, ℕ, List, codes, Bool, true, false, is_some, Some, None, option_and_then, Result, Ok, Err, refl, sym, ◌∙◌, subst}
 use Rattle.std.specs.Prelude.{⊤}
 use Rattle.std.specs.Option.{ok_or}
 use Rattle.std.specs.Str.{IsUtf8, is_utf8}
@@ -11,14 +11,13 @@ use Rattle.pact_rules.specs.TreeReading.{tree_in}
 use Rattle.pact_rules.specs.declared.tree.TreeFault.{TreeFault}
 use Rattle.pact_rules.specs.Outcome.{guard}
 use Rattle.pact_file.specs.Pact.{states_data}
-use Rattle.pact_file.specs.Parts.{text_at, object_at, states_in, listed}
+use Rattle.pact_file.specs.Parts.{text_at, object_at, states_in}
 use Rattle.pact_file.specs.Sound.{IsSound}
 use Rattle.pact_file.proofs.ReadLemmas.{read_sound, AllSound, listed_sound}
 use Rattle.pact_file.proofs.SoundParts.{of_get, of_object_at, of_array, of_states}
 use Rattle.pact_file.proofs.Steps.{bind_ok, found_ok, ok_same, then_some}
 use Rattle.reply_check.specs.Recorded.{Reply as Recorded, status_sent}
 use Rattle.reply_check.specs.ReplyParts.{json_of, tree_told, file_of, items_of, at, parts_at}
-use Rattle.reply_check.specs.declared.fault.RepliesFault.{RepliesFault}
 use Rattle.reply_check.specs.declared.fault.RepliesFault.TheVariants.{NotJson, Shape}
 use Rattle.reply_check.specs.declared.fault.Place.TheVariants.{File, Replies}
 use Rattle.reply_check.specs.declared.fault.Part.TheVariants.{Whole, Description, States, Response, Status}

@@ -1,10 +1,8 @@
 -- What counts of a header's value, byte by byte.
 use Rattle.std.proofs.Common.{◌≡◌, ◌↔◌, ℕ, Bool, true, false, ◌&&◌, ◌==◌, cond, List, [], ◌∷◌, ◌++◌, map, IsTrue, bytes_eq, refl, sym, ap, ap₂, ◌∙◌, arith}
-use mathlib.Core.List.{reverse}
-use Rattle.std.proofs.lemmas.List.{reverse-append, reverse-reverse}
 use Rattle.std.proofs.lemmas.Slice.Eq.{bytes_eq-Decides}
 use Rattle.std.proofs.lemmas.Bool.Decides.{nat_tests}
-use Rattle.reply_check.specs.HeaderValues.{is_blank, without_front, without_end, in_front, parts_between, counted, before_semicolon}
+use Rattle.reply_check.specs.HeaderValues.{is_blank, without_front, without_end, in_front, parts_between, counted}
 use Rattle.reply_check.proofs.Deciding.{by_test}
 
 -- ---- the bytes that are kept, where the first says whether a part begins
@@ -100,15 +98,3 @@ same_counted a b kept_a kept_b u v t is eu ev p q =
       λ h. sym p ∙ ap parts_between ((bytes_eq-Decides kept_a kept_b).0 (sym same ∙ h)) ∙ q,
       λ h. same ∙ (bytes_eq-Decides kept_a kept_b).1 (same_bytes kept_a kept_b (p ∙ h ∙ sym q)),
     )
-
--- ---- the blanks at the end
-
-pub end_dropped : (bs : List ℕ) (b : ℕ) → is_blank b ≡ true → without_end (bs ++ b ∷ []) ≡ without_end bs
-end_dropped bs b h = ap (λ r. reverse (without_front r)) (reverse-append bs (b ∷ [])) ∙ rw h refl
-
-pub end_kept : (bs : List ℕ) (b : ℕ) → is_blank b ≡ false → without_end (bs ++ b ∷ []) ≡ bs ++ b ∷ []
-end_kept bs b h =
-    ap (λ r. reverse (without_front r)) (reverse-append bs (b ∷ [])) ∙ rw h (sym (ap reverse (reverse-append bs (b ∷ []))) ∙ reverse-reverse (bs ++ b ∷ []))
-
-pub end_of_none : without_end [] ≡ []
-end_of_none = refl

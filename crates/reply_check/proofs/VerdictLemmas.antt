@@ -1,5 +1,5 @@
 -- The failing interactions so far.
-use Rattle.std.proofs.Common.{◌≡◌, ◌⊎◌, inl, inr, ◌↔◌, ℕ, zero, suc, ◌+◌, ◌<◌, ◌≤◌, List, [], ◌∷◌, ◌++◌, length, get_or, Bool, true, false, nat_lt, Option, Some, None, slice_get, refl, sym, ap, ◌∙◌, subst, arith}
+use Rattle.std.proofs.Common.{◌≡◌, ◌⊎◌, inl, inr, ◌↔◌, ℕ, zero, suc, ◌+◌, ◌<◌, ◌≤◌, List, [], ◌∷◌, ◌++◌, length, get_or, nat_lt, Some, None, slice_get, refl, sym, ap, ◌∙◌, subst, arith}
 use Rattle.std.proofs.lemmas.Option.{same_Some, slice_get_past, slice_get_read}
 use Rattle.std.proofs.lemmas.Bool.Decides.{nat_tests}
 use Rattle.std.specs.List.{AllByRecursion}
@@ -68,9 +68,6 @@ module _ (interactions : List Interaction) (replies : List Reply) where
     pub ascending : IsAscending places
     pub below_all : AllByRecursion (λ i. i < n) places
     pub failing : (i : ℕ) → i < n → IsIn i places ↔ Fails interactions replies i
-
-  pub none_so_far : IsSoFar 0 []
-  none_so_far = record { ascending = tt; below_all = tt; failing = λ i l. absurd (omega arith) }
 
   module _ (n : ℕ) (x : Interaction) (places : List ℕ) (stands : slice_get interactions n ≡ Some x) (h : IsSoFar n places) where
     passing : (i : ℕ) → Passes replies x → (i < n) ⊎ (i ≡ n) → IsIn i places ↔ Fails interactions replies i

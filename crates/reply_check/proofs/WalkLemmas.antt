@@ -4,7 +4,7 @@ use Rattle.std.proofs.lemmas.Option.{same_Some, slice_get-map}
 use Rattle.std.specs.List.{list_any}
 use Rattle.pact_paths.specs.Paths.{Location}
 use Rattle.pact_rules.specs.Trees.{Node}
-use Rattle.pact_rules.specs.Rules.{Rules, BodyRule, Entry, Matcher, is_regex, has_regex}
+use Rattle.pact_rules.specs.Rules.{Rules, BodyRule, Entry, is_regex, has_regex}
 use Rattle.pact_rules.specs.RuleViews.{matcher_view}
 use Rattle.pact_rules.specs.Choice.{best, beats, pick, chosen}
 use Rattle.pact_rules.specs.Holding.{entry_holds}

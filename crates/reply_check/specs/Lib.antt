@@ -6,7 +6,6 @@ pub mod Recorded
 pub mod Meeting
 pub mod Sent
 pub mod Filled
-pub mod Reading
 pub mod ReplyParts
 pub mod Replies
 pub mod Words

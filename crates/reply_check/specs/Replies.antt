@@ -5,7 +5,7 @@ use Rattle.serde_json.specs.Data.{Data}
 use Rattle.pact_file.specs.Headers.{HasHeaders, LacksHeaders}
 use Rattle.pact_file.specs.Pact.{Header}
 use Rattle.pact_rules.specs.Lists.{OneOf}
-use Rattle.reply_check.specs.Reading.{just, ◌>>=◌, EachRead}
+use Rattle.pact_rules.specs.Reading.{just, ◌>>=◌, EachRead}
 use Rattle.reply_check.specs.Recorded.{Reply as Recorded}
 use Rattle.reply_check.specs.ReplyParts.{file_of, items_of, at, parts_at}
 use Rattle.reply_check.specs.declared.fault.RepliesFault.{RepliesFault}

@@ -1,5 +1,5 @@
 -- For private clauses: the expected headers among those that were sent.
-use Rattle.std.specs.Prelude.{◌≡◌, ℕ, List}
+use Rattle.std.specs.Prelude.{◌≡◌, List}
 use Rattle.std.specs.List.{AllByRecursion}
 use Rattle.pact_rules.specs.Rules.{Rules}
 use Rattle.pact_file.specs.Pact.{Header}

@@ -1,17 +1,15 @@
 //! The parts of a reply, in the order of their tests.
 
-ghost use Rattle.std.specs.Prelude.{◌≡◌, Some, option_map, IfOk};
+ghost use Rattle.std.specs.Prelude.{◌≡◌, Some, IfOk};
 ghost use Rattle.std.specs.Option.{ok_or};
 ghost use Rattle.serde_json.specs.View.{view};
-ghost use Rattle.pact_rules.specs.TreeReading.{whole_tree};
-ghost use Rattle.pact_rules.specs.TreeView.{tree_view};
 ghost use Rattle.pact_file.specs.Headers.{HasHeaders};
 ghost use Rattle.pact_rules.specs.Outcome.{Gives};
-ghost use Rattle.pact_file.specs.Parts.{text_at, object_at, states_in as states_at, body_in};
+ghost use Rattle.pact_file.specs.Parts.{text_at, object_at, states_in as states_at};
 ghost use Rattle.pact_file.specs.Pact.{states_data};
 ghost use Rattle.pact_file.specs.Sound.{IsSound};
 ghost use Rattle.reply_check.specs.declared.fault.RepliesFault.TheVariants.{Memory, Shape};
-ghost use Rattle.reply_check.specs.Reading.{GivesOne};
+ghost use Rattle.pact_rules.specs.Reading.{GivesOne};
 ghost use Rattle.reply_check.specs.Recorded.{status_sent};
 ghost use Rattle.reply_check.specs.Replies.{ReplyRead};
 ghost use Rattle.reply_check.specs.ReplyParts.{parts_at};
@@ -19,8 +17,7 @@ ghost use Rattle.reply_check.specs.Told.{parts_view};
 
 use crate::fault::{Part, Place, RepliesFault};
 use crate::reply::Reply;
-use pact_file::{Header, State, read_headers, read_states, read_status, states_text};
-use pact_rules::{Tree, TreeFault, tree_of};
+use pact_file::{Header, State, body_of, read_headers, read_states, read_status, states_text};
 use serde_json::Value;
 use std::alloc::{AllocError, Global};
 
@@ -88,30 +85,6 @@ fn read_parts(alloc: Global, index: usize, value: &Value) -> Result<Parts, Repli
         response: response.clone()?,
         status,
     })
-}
-
-/// The tree of a part: a part of a tree is a tree, so that memory alone can be wanting.
-fn part_of(alloc: Global, value: &Value) -> Result<Tree, AllocError>
-    requires { IsSound 96 (view value.now) }
-    ensures { IfOk result (λ t. whole_tree (view value.now) ≡ Some (tree_view t)) }
-{
-    match tree_of(alloc, value) {
-        Ok(tree) => Ok(tree),
-        Err(TreeFault::Memory) => Err(AllocError),
-        Err(TreeFault::NotWhole) => unreachable!(),
-        Err(TreeFault::TooDeep) => unreachable!(),
-    }
-}
-
-#[tactic(auto, unfolding(pact_file::specs::Parts::body_in))]
-fn body_of(alloc: Global, response: &Value) -> Result<Option<Tree>, AllocError>
-    requires { IsSound 97 (view response.now) }
-    ensures { IfOk result (λ o. option_map tree_view o ≡ body_in (view response.now)) }
-{
-    match response.get("body") {
-        None => Ok(None),
-        Some(body) => Ok(Some(part_of(alloc, body)?)),
-    }
 }
 
 fn finished(alloc: Global, parts: Parts, headers: Vec<Header>) -> Result<Reply, AllocError>

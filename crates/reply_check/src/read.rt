@@ -7,7 +7,7 @@ ghost use Rattle.pact_rules.specs.TreeReading.{tree_in};
 ghost use Rattle.pact_rules.specs.Outcome.{Gives};
 ghost use Rattle.pact_file.specs.Sound.{AreSound};
 ghost use Rattle.reply_check.specs.declared.fault.RepliesFault.TheVariants.{Memory, NotJson};
-ghost use Rattle.reply_check.specs.Reading.{EachRead, GivesOne};
+ghost use Rattle.pact_rules.specs.Reading.{EachRead, GivesOne};
 ghost use Rattle.reply_check.specs.ReplyParts.{json_of, tree_told, file_of, items_of};
 ghost use Rattle.reply_check.specs.Replies.{ReplyRead, HasRivals, RepliesRead};
 

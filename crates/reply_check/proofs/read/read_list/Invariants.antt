@@ -1,7 +1,7 @@
 use Rattle.std.proofs.Common.{map, drop}
 use Rattle.serde_json.specs.View.{view}
 use Rattle.reply_check.specs.Replies.{ReplyRead}
-use Rattle.reply_check.proofs.Each.{Completes}
+use Rattle.pact_rules.proofs.Each.{Completes}
 use Rattle.reply_check.proofs.read.read_list.Given as goal
 
 abbrev pub invariant-loop-index : goal.invariant-loop-index

@@ -1,9 +1,9 @@
-use Rattle.std.proofs.Common.{◌≡◌, Ok, Err, map, refl, sym, subst}
+use Rattle.std.proofs.Common.{Ok, Err, map, refl, sym, subst}
 use Rattle.std.proofs.lemmas.Result.{err_from_is_err_and}
 use Rattle.serde_json.specs.View.{view, items_view}
 use Rattle.pact_file.specs.Sound.{AreSound}
 use Rattle.pact_file.proofs.ReadLemmas.{values_sound}
-use Rattle.reply_check.specs.Reading.{EachRead}
+use Rattle.pact_rules.specs.Reading.{EachRead}
 use Rattle.reply_check.specs.Replies.{HasRivals, ReplyRead, RepliesRead}
 use Rattle.reply_check.proofs.Deciding.{not_so}
 use Rattle.reply_check.proofs.ReadLemmas.{file_sound, items_sound}
