@@ -1,5 +1,5 @@
 -- What each change of the registry makes of a state, and where it may be asked for.
-use Rattle.std.specs.Prelude.{◌≡◌, ◌+◌, ℕ, Bool, IsTrue, true, false, [], ◌∷◌, ◌++◌, Option, Some, None, is_some, length, codes}
+use Rattle.std.specs.Prelude.{◌≡◌, ◌+◌, ℕ, Bool, IsTrue, true, false, [], ◌∷◌, ◌++◌, Some, None, is_some, length, codes}
 use Rattle.broker_core.specs.Text.{Text, put_at, same_text, same_pair, same_version}
 use Rattle.broker_core.specs.declared.command.Version.{Version}
 use Rattle.broker_core.specs.declared.command.Marks.{Marks}
