@@ -141,6 +141,17 @@ fn answer(alloc: Global, row: &Row<'_>) -> Result<String, AllocError> {
     )
 }
 
+/// The rows' requests in one stream, and their answers.
+pub(crate) fn stream_of(alloc: Global, rows: &[Row<'_>]) -> Result<(String, String), AllocError> {
+    let mut sent = String::new(alloc);
+    let mut wanted = String::new(alloc);
+    for row in rows {
+        sent.push_str(request(alloc, row)?.as_str())?;
+        wanted.push_str(answer(alloc, row)?.as_str())?;
+    }
+    Ok((sent, wanted))
+}
+
 /// Whether the row's request alone gets its answer.
 pub(crate) fn is_answered<S: Alter>(
     alloc: Global,

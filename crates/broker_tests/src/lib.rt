@@ -2,11 +2,15 @@
 //!
 //! The crate has no code of its own. Its tests try what no contract says, with values that were worked out by hand: that calls
 //! succeed where there is ample memory, the texts of the answers, readers and writers that fail, databases that are no
-//! broker's, and the program's command line.
+//! broker's, files that stop, how often files are written to, and the program's command line.
 #![tactic(auto)]
 
 #[cfg(test)]
 mod devices;
+#[cfg(test)]
+mod disks;
+#[cfg(test)]
+mod files;
 #[cfg(test)]
 mod first_run;
 #[cfg(test)]
@@ -21,5 +25,7 @@ mod opening;
 mod program;
 #[cfg(test)]
 mod registry;
+#[cfg(test)]
+mod stores;
 #[cfg(test)]
 mod wire;
