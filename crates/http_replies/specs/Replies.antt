@@ -1,5 +1,5 @@
 -- What goes out for a message (which bodies there are is this project's own choice).
-use Rattle.std.specs.Prelude.{◌≡◌, ℕ, Bool, true, false, List, [], ◌++◌, length, take, codes, if◌then◌else◌, Option, Result, Ok, Err}
+use Rattle.std.specs.Prelude.{◌≡◌, ◌<◌, ℕ, Bool, true, false, List, [], ◌++◌, length, take, codes, if◌then◌else◌, Option, Result, Ok, Err}
 use Rattle.std.specs.Io.KnownBytes.{Appends}
 use Rattle.answer_texts.specs.AnswerText.{answer_text, status_of}
 use Rattle.broker_core.specs.declared.answer.Answer.{Answer}
@@ -50,7 +50,7 @@ no_method place closes = reply_of 405 (allow place) closes false (codes "{\"answ
 abbrev pub answered : Answer → Bool → Reply
 answered answer closes = reply_of (status_of answer) [] closes false (answer_text answer)
 
--- the whole reply is out, or the writer failed and a beginning of it is
+-- the whole reply is out, or the writer failed and a beginning of it is, but not the whole
 abbrev pub Writes : Option (List ℕ) → Option (List ℕ) → Reply → Result Bool ServeFault → Type 0
 Writes old new reply (Ok closes) = (reply.closes ≡ closes) × Appends old new reply.text
-Writes old new reply (Err fault) = (fault ≡ faults.Write) × ((n : ℕ) × Appends old new (take n reply.text))
+Writes old new reply (Err fault) = (fault ≡ faults.Write) × ((n : ℕ) × (n < length reply.text) × Appends old new (take n reply.text))

@@ -1,7 +1,7 @@
 //! The replies to messages: their bytes, and the refusals by HTTP.
 #![tactic(auto)]
 
-ghost use Rattle.std.specs.Prelude.{◌≡◌, ◌≤◌, ℕ, [], ◌++◌, length, take, vec_capacity, IfErr, OnErr, OnOk};
+ghost use Rattle.std.specs.Prelude.{◌≡◌, ◌<◌, ◌≤◌, ℕ, [], ◌++◌, length, take, vec_capacity, IfErr, OnErr, OnOk};
 ghost use Rattle.std.specs.Io.KnownBytes.{Appends};
 ghost use Rattle.http_replies.specs.Replies.{refusal_status, refusal_text, refused, sent, no_route, no_method, answered, reply_of, Writes};
 
@@ -36,7 +36,8 @@ fn sent(is_bodiless: bool, body: &str) -> &str
 /// Writes two parts.
 fn write_parts<W: Write>(writer: &mut W, head: &[u8], body: &str) -> Result<(), ServeFault>
     ensures ok { OnOk result (Appends (W.contents writer.old) (W.contents writer.new) (head.now ++ body.now)) }
-    ensures err { OnErr result ((n : ℕ) × Appends (W.contents writer.old) (W.contents writer.new) (take n (head.now ++ body.now))) }
+    ensures err { OnErr result ((n : ℕ) × (n < length (head.now ++ body.now))
+        × Appends (W.contents writer.old) (W.contents writer.new) (take n (head.now ++ body.now))) }
     ensures which { IfErr result (λ fault. fault ≡ ServeFault.Write) }
 {
     write_whole(writer, head)?;

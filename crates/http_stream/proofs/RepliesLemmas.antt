@@ -68,12 +68,6 @@ Cut-all faults.Read replies which opened = (opened, refl)
 Cut-all faults.Memory replies which opened = (opened, refl)
 Cut-all faults.Write replies which opened = absurd (which refl)
 
--- a fault of the writer leaves a beginning of the last out
-pub Cut-last : (fault : ServeFault) (front : List Reply) (last : Reply) (n : ℕ) → fault ≡ faults.Write → AllOpen front → Cut fault (front ++ last ∷ []) (texts front ++ take n last.text)
-Cut-last faults.Read front last n which opened = absurd cc
-Cut-last faults.Memory front last n which opened = absurd cc
-Cut-last faults.Write front last n which opened = (front, last, n, refl, opened, refl)
-
 -- nothing is left
 pub Ends-at_end : (ended : Ended) (replies : List Reply) (rest : List ℕ) → ended ≡ AtEnd → AllOpen replies → length rest ≡ 0 → Ends ended replies rest
 Ends-at_end AtEnd replies [] e opened none = (opened, refl)
@@ -110,6 +104,6 @@ module _ {S : Type 0} (Exchange : S → Message → Reply → S → Type 0) wher
         after,
         texts replies ++ take part.0 reply.text,
         Replies-then Exchange s stream replies t bytes m reply u after so_far begins broken.1,
-        (replies, reply, part.0, refl, opened, refl),
-        Appends-trans first old new (texts replies) (take part.0 reply.text) out part.1,
+        (replies, reply, part.0, refl, opened, part.1, refl),
+        Appends-trans first old new (texts replies) (take part.0 reply.text) out part.2,
       )

@@ -31,13 +31,13 @@ Ends AtEnd replies rest = AllOpen replies × (rest ≡ [])
 Ends Rest replies rest = AllOpen replies × (0 < length rest) × HasNoMessage rest
 Ends Closed replies rest = LastCloses replies
 
--- What is out at a fault: with Write a beginning that holds all but the last reply, else all of them.
+-- What is out at a fault: with Write all replies but the last, and of that one a beginning that isn't the whole; else all of them.
 abbrev pub Cut : ServeFault → List Reply → List ℕ → Type 0
 Cut faults.Read replies out = AllOpen replies × (out ≡ texts replies)
 Cut faults.Memory replies out = AllOpen replies × (out ≡ texts replies)
 Cut faults.Write replies out =
     (front : List Reply) × (last : Reply) × (n : ℕ)
-    × (replies ≡ front ++ last ∷ []) × AllOpen front × (out ≡ texts front ++ take n last.text)
+    × (replies ≡ front ++ last ∷ []) × AllOpen front × (n < length last.text) × (out ≡ texts front ++ take n last.text)
 
 -- the stream so far begins with that message, or with none
 abbrev pub IsArrival : List ℕ → Arrival → Type 0
@@ -53,8 +53,8 @@ module _ {S : Type 0} (Exchange : S → Message → Reply → S → Type 0) wher
       (m : Message) × (u : S) × (after : List ℕ)
       × Begins stream m after × Exchange s m reply u × Replies u after replies t rest
 
-  -- What a fault leaves of one message: with Memory nothing was done, with Write it is answered and a beginning of its reply is out.
+  -- What a fault leaves of one message: with Memory nothing was done, with Write it is answered and a beginning of its reply is out, but not the whole.
   abbrev pub Breaks : S → Message → S → Option (List ℕ) → Option (List ℕ) → ServeFault → Type 0
   Breaks s m t old new faults.Read = ⊥
   Breaks s m t old new faults.Memory = (t ≡ s) × Appends old new []
-  Breaks s m t old new faults.Write = (reply : Reply) × Exchange s m reply t × ((n : ℕ) × Appends old new (take n reply.text))
+  Breaks s m t old new faults.Write = (reply : Reply) × Exchange s m reply t × ((n : ℕ) × (n < length reply.text) × Appends old new (take n reply.text))

@@ -34,10 +34,10 @@ pub(crate) fn read_more<R: Read>(
     }
 }
 
-/// Writes all of the bytes, or fails and has written a beginning of them.
+/// Writes all of the bytes, or fails before the last is out.
 pub fn write_whole<W: Write>(writer: &mut W, bytes: &[u8]) -> Result<(), ServeFault>
     ensures ok { OnOk result (Appends (W.contents writer.old) (W.contents writer.new) bytes.now) }
-    ensures err { OnErr result ((n : ℕ) × (n ≤ length bytes.now)
+    ensures err { OnErr result ((n : ℕ) × (n < length bytes.now)
         × Appends (W.contents writer.old) (W.contents writer.new) (take n bytes.now)) }
     ensures which { IfErr result (λ fault. fault ≡ ServeFault.Write) }
 {

@@ -1,6 +1,7 @@
 //! Serving a stream.
 ghost use Rattle.std.specs.Prelude.{◌≡◌, ◌≢◌, ℕ, ◌+◌, ◌≤◌, List, ◌++◌, length, drop, vec_len, IfOk, take, IfErr, OnOk, OnErr};
 ghost use Rattle.std.specs.Io.KnownBytes.{Consumes, IsAtEnd};
+ghost use Rattle.http_messages.specs.Messages.{HasNoMessage};
 ghost use Rattle.http_stream.specs.Replies.{IsArrival};
 
 use crate::device::read_more;
@@ -53,7 +54,8 @@ pub enum Arrival {
 /// Reads until the buffer begins with a message, or the reader is at its end.
 ///
 /// Each read asks for no more than what the message at the front may still want, so that the buffer never has more
-/// than one head and one body. `Read`: the reader failed, or 2^64-1 reads were made. `Memory`: the buffer couldn't grow.
+/// than one head and one body. A buffer that begins with a message is told at once, without a read.
+/// `Read`: the reader failed, or 2^64-1 reads were made. `Memory`: the buffer couldn't grow.
 pub fn arrive<R: Read>(reader: &mut R, buffer: &mut Vec<u8>) -> Result<Arrival, ServeFault>
     ensures ok { IfOk result (λ arrival. (more : List ℕ)
         × Consumes (R.remaining reader.old) (R.remaining reader.new) more
@@ -62,6 +64,7 @@ pub fn arrive<R: Read>(reader: &mut R, buffer: &mut Vec<u8>) -> Result<Arrival, 
     ensures end { result ≡ Ok Arrival.End → IsAtEnd (R.remaining reader.new) }
     ensures err { OnErr result ((more : List ℕ)
         × Consumes (R.remaining reader.old) (R.remaining reader.new) more) }
+    ensures waits { OnErr result (HasNoMessage buffer.old.items) }
     ensures which { IfErr result (λ fault. fault ≢ ServeFault.Write) }
 {
     for _ in 0..u64::MAX {
