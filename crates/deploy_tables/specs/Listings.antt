@@ -1,7 +1,9 @@
 -- How the rows of the listings read.
-use Rattle.std.specs.Prelude.{◌≡◌}
+use Rattle.std.specs.Prelude.{◌≡◌, ℕ, ◌<◌, List, length, IsUtf8}
 use Rattle.sqlite.specs.Order.{Row, column}
 use Rattle.sqlite.specs.declared.types.Value.TheVariants.{Text}
+use Rattle.table_access.specs.Reading.{IsTextAt}
+use Rattle.broker_core.specs.Name.{IsName}
 use Rattle.broker_core.specs.declared.command.Version.{Version}
 use Rattle.broker_core.specs.declared.answer.DeployedItem.{DeployedItem}
 
@@ -12,3 +14,15 @@ IsDeployedRow row item = (column row 0 ≡ Text item.pacticipant) × (column row
 -- the columns are the pacticipant and the version's name
 abbrev pub IsReleasedRow : Row → Version → Type 0
 IsReleasedRow row version = (column row 0 ≡ Text version.pacticipant) × (column row 1 ≡ Text version.name)
+
+-- there is such a column, and it is a name
+abbrev pub IsNameAt : ℕ → Row → Type 0
+IsNameAt at row = (at < length row) × ((name : List ℕ) × (column row at ≡ Text name) × IsUtf8 name × IsName name)
+
+-- the row reads as something that is deployed
+abbrev pub ReadsAsDeployed : Row → Type 0
+ReadsAsDeployed row = IsNameAt 0 row × IsTextAt 1 row × IsNameAt 2 row
+
+-- the row reads as a version that is released
+abbrev pub ReadsAsReleased : Row → Type 0
+ReadsAsReleased row = IsNameAt 0 row × IsNameAt 1 row

@@ -1,29 +1,47 @@
 //! What stands in an environment, listed.
-ghost use Rattle.std.specs.Prelude.{◌≡◌, IsTrue, IfOk, Some};
+ghost use Rattle.std.specs.Prelude.{◌≡◌, IsTrue, IfOk, IfErr, Some, string_bytes};
 ghost use Rattle.sqlite.specs.Held.{state};
 ghost use Rattle.sqlite.specs.Order.{column};
 ghost use Rattle.sqlite.specs.declared.types.Value.TheVariants.{Text as SqlText};
+ghost use Rattle.table_access.specs.Reading.{IsTextAt};
 ghost use Rattle.broker_core.specs.Listing.{Lists};
 ghost use Rattle.broker_core.specs.Machine.{deployed_cmp, version_cmp};
 ghost use Rattle.broker_tables.specs.Holds.{Reads};
-ghost use Rattle.deploy_tables.specs.Listings.{IsDeployedRow, IsReleasedRow};
+ghost use Rattle.deploy_tables.specs.Listings.{IsDeployedRow, IsReleasedRow, IsNameAt, ReadsAsDeployed, ReadsAsReleased};
 
 use broker_core::answer::DeployedItem;
 use broker_core::command::Version;
 use broker_core::name::{Name, NameFault, Text};
 use sqlite::{Alter, Connection, Row, params};
 use std::alloc::Global;
-use table_access::{Fault, ReadRow, list_of};
+use table_access::{Fault, ReadRow, list_of, text_at};
+
+/// The text in a column.
+fn text_in(alloc: Global, row: &Row, at: usize) -> Result<String, Fault>
+    ensures ok { IfOk result (λ text. column row.now at ≡ SqlText (string_bytes text)) }
+    ensures told { IfErr result (λ f. f ≡ Fault.Store → ¬ IsTextAt at row.now) }
+{
+    match text_at(row, at) {
+        Some(text) => match String::from_str(alloc, text) {
+            Ok(text) => Ok(text),
+            Err(_) => Err(Fault::Memory),
+        },
+        None => Err(Fault::Store),
+    }
+}
 
 /// The name in a column.
 fn name_in(alloc: Global, row: &Row, at: usize) -> Result<Name, Fault>
-    ensures { IfOk result (λ name. column row.now at ≡ SqlText name) }
+    ensures ok { IfOk result (λ name. column row.now at ≡ SqlText name) }
+    ensures told { IfErr result (λ f. f ≡ Fault.Store → ¬ IsNameAt at row.now) }
 {
-    let text: String = row.get(at)?;
-    match Name::new(alloc, &text) {
-        Ok(name) => Ok(name),
-        Err(NameFault::Memory) => Err(Fault::Memory),
-        Err(NameFault::BadName) => Err(Fault::Store),
+    match text_at(row, at) {
+        Some(text) => match Name::new(alloc, text) {
+            Ok(name) => Ok(name),
+            Err(NameFault::Memory) => Err(Fault::Memory),
+            Err(NameFault::BadName) => Err(Fault::Store),
+        },
+        None => Err(Fault::Store),
     }
 }
 
@@ -35,11 +53,11 @@ impl ReadRow for DeployedRow {
 
     ghost reads_as = { IsDeployedRow };
 
-    ghost is_readable = { λ row. ⊥ };
+    ghost is_readable = { ReadsAsDeployed };
 
     fn read(alloc: Global, row: &Row) -> Result<DeployedItem, Fault> {
         let pacticipant = name_in(alloc, row, 0)?;
-        let instance: String = row.get(1)?;
+        let instance = text_in(alloc, row, 1)?;
         let version = name_in(alloc, row, 2)?;
         Ok(DeployedItem {
             pacticipant,
@@ -57,7 +75,7 @@ impl ReadRow for ReleasedRow {
 
     ghost reads_as = { IsReleasedRow };
 
-    ghost is_readable = { λ row. ⊥ };
+    ghost is_readable = { ReadsAsReleased };
 
     fn read(alloc: Global, row: &Row) -> Result<Version, Fault> {
         let pacticipant = name_in(alloc, row, 0)?;

@@ -3,16 +3,17 @@ ghost use Rattle.std.specs.Prelude.{◌≡◌, Some, pos};
 ghost use Rattle.std.specs.Ordering.{nat_cmp, flip_args};
 ghost use Rattle.sqlite.specs.Order.{column};
 ghost use Rattle.sqlite.specs.declared.types.Value.TheVariants.{Int};
+ghost use Rattle.table_access.specs.Reading.{IsNumberRow};
 ghost use Rattle.broker_core.specs.Listing.{Lists};
 ghost use Rattle.sqlite.specs.Held.{state};
 ghost use Rattle.broker_core.specs.declared.command.Version.{Version as VersionModel};
-ghost use Rattle.broker_tables.specs.Numbers.{number_of as number_in};
+ghost use Rattle.broker_tables.specs.Numbers.{number_of as number_at};
 ghost use Rattle.broker_tables.specs.Holds.{Reads, ReadsInPlace, Changes};
 ghost use Rattle.registry_tables.specs.Registry.{AddsBranch, IsBranchNumber};
 
 use sqlite::{Alter, Connection, Row, params};
 use std::alloc::Global;
-use table_access::{Fault, ReadRow, change, has_row, list_of};
+use table_access::{Fault, ReadRow, change, has_row, list_of, number_in};
 
 /// Whether the version with this number is on the branch.
 ///
@@ -23,7 +24,7 @@ pub fn on_branch<S: Alter>(
     number: u32,
     branch: &str,
 ) -> Result<bool, Fault>
-    ensures { ReadsInPlace (state S.Store conn.old) (state S.Store conn.new) result (λ has s. (v : VersionModel) → number_in s.versions v ≡ Some number → has ≡ s.branches (v, branch.now)) }
+    ensures { ReadsInPlace (state S.Store conn.old) (state S.Store conn.new) result (λ has s. (v : VersionModel) → number_at s.versions v ≡ Some number → has ≡ s.branches (v, branch.now)) }
 {
     has_row(
         conn,
@@ -58,10 +59,10 @@ impl ReadRow for NumberRow {
 
     ghost reads_as = { λ row number. column row 0 ≡ Int (pos number) };
 
-    ghost is_readable = { λ row. ⊥ };
+    ghost is_readable = { IsNumberRow };
 
     fn read(_alloc: Global, row: &Row) -> Result<u32, Fault> {
-        Ok(row.get(0)?)
+        number_in(row)
     }
 }
 

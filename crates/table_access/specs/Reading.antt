@@ -31,9 +31,9 @@ abbrev pub FailsToTake : (Row → Fault → Type 0) → List ℕ → Row → Sta
 FailsToTake Tells sql params old new fault =
     IsRefusedAs sql params old new fault ⊎ ((rows : List Row) × Shown sql params old new rows × (row : Row) × (slice_get rows 0 ≡ Some row) × Tells row fault)
 
--- the first column is a text in UTF-8
-abbrev pub IsTextRow : Row → Type 0
-IsTextRow row = (0 < length row) × ((text : List ℕ) × (column row 0 ≡ Text text) × IsUtf8 text)
+-- there is such a column, and it is a text in UTF-8
+abbrev pub IsTextAt : ℕ → Row → Type 0
+IsTextAt at row = (at < length row) × ((text : List ℕ) × (column row at ≡ Text text) × IsUtf8 text)
 
 -- the first column is a number from 0 to 2^32 - 1
 abbrev pub IsNumberRow : Row → Type 0
@@ -41,7 +41,7 @@ IsNumberRow row = (0 < length row) × ((n : ℕ) × (column row 0 ≡ Int (pos n
 
 -- Store where there is no text, and Memory where there is one, and no room for it
 abbrev pub TellsText : Row → Fault → Type 0
-TellsText row fault = ((fault ≡ Store) × (¬ IsTextRow row)) ⊎ ((fault ≡ Memory) × IsTextRow row)
+TellsText row fault = ((fault ≡ Store) × (¬ IsTextAt 0 row)) ⊎ ((fault ≡ Memory) × IsTextAt 0 row)
 
 -- Store, where there is no number
 abbrev pub TellsNumber : Row → Fault → Type 0

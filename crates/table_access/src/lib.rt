@@ -24,7 +24,7 @@ mod rows;
 #[cfg(test)]
 mod tests;
 
-pub use rows::{ReadRow, count_of, has_row, list_of, number_in, number_of, text_of};
+pub use rows::{ReadRow, count_of, has_row, list_of, number_in, number_of, text_at, text_of};
 
 /// Why a call on the tables failed.
 #[derive(Clone, Copy, Debug, PartialEq, Eq)]

@@ -6,10 +6,10 @@ ghost use Rattle.sqlite.specs.Held.{state};
 ghost use Rattle.sqlite.specs.Values.{bound};
 ghost use Rattle.sqlite.specs.Order.{Row as SqlRow, column};
 ghost use Rattle.sqlite_rules.specs.Lists.{Has};
-ghost use Rattle.sqlite.specs.declared.types.Value.TheVariants.{Int};
+ghost use Rattle.sqlite.specs.declared.types.Value.TheVariants.{Int, Text as SqlText};
 ghost use Rattle.table_access.specs.Calls.{Call, Statement};
 ghost use Rattle.table_access.specs.Columns.{text};
-ghost use Rattle.table_access.specs.Reading.{AreRead, IsRefusedAs, FailsToRead, FailsToTake, IsTextRow, TellsText, TellsNumber};
+ghost use Rattle.table_access.specs.Reading.{AreRead, IsRefusedAs, FailsToRead, FailsToTake, IsTextAt, TellsText, TellsNumber};
 
 use crate::{Fault, fault_of, select};
 use sqlite::types::ValueRef;
@@ -95,12 +95,12 @@ pub fn has_row<S: Alter>(
     }
 }
 
-/// The text in the first column, if it is one in UTF-8.
-fn text_in(row: &Row) -> Option<&str>
-    ensures some { IfSome result (λ found. IsTextRow row.now × (found.now ≡ text 0 row.now)) }
-    ensures none { IfNone result (¬ IsTextRow row.now) }
+/// The text in a column, lent. None where there is no such column, or no text in UTF-8 in it.
+pub fn text_at(row: &Row, at: usize) -> Option<&str>
+    ensures some { IfSome result (λ found. IsTextAt at row.now × (column row.now at ≡ SqlText found.now)) }
+    ensures none { IfNone result (¬ IsTextAt at row.now) }
 {
-    match row.get_ref(0) {
+    match row.get_ref(at) {
         Ok(ValueRef::Text(bytes)) => std::str::from_utf8(bytes).ok(),
         _ => None,
     }
@@ -113,7 +113,7 @@ fn first_text(alloc: Global, rows: &[Row]) -> Result<Option<String>, Fault>
 {
     match rows.first() {
         None => Ok(None),
-        Some(row) => match text_in(row) {
+        Some(row) => match text_at(row, 0) {
             Some(text) => match String::from_str(alloc, text) {
                 Ok(text) => Ok(Some(text)),
                 Err(_) => Err(Fault::Memory),
