@@ -76,6 +76,7 @@ fn commit_text<S: Alter>(conn: &mut Connection<S>) -> Result<usize, Error>
 fn rollback<S: Alter>(conn: &mut Connection<S>) -> Result<usize, Error>
     ensures undone { HasCleanDisk (state S.Store conn.new) → OnOk result (IsRolledBack (state S.Store conn.old) (state S.Store conn.new)) }
     ensures refused { HasCleanDisk (state S.Store conn.new) → OnErr result (IsLeft (state S.Store conn.old) (state S.Store conn.new)) }
+    ensures told { HasCleanDisk (state S.Store conn.new) → IfErr result (λ e. Executes (codes "ROLLBACK") [] (state S.Store conn.old) (state S.Store conn.new) (Err e)) }
     ensures survives { Survives (state S.Store conn.old) (state S.Store conn.new) (λ _. ⊥) }
 {
     conn.execute("ROLLBACK", &[])
@@ -95,11 +96,12 @@ pub fn enter<S: Alter>(conn: &mut Connection<S>) -> Result<(), Fault>
 }
 
 /// Ends the transaction without committing, and says whether none is open any more.
-/// A statement that failed for memory or the disk may have ended it already. What is committed stays as it was.
+/// A statement that failed for memory or the disk may have ended it already. What is committed stays as it was. `false` comes only where the database refused ROLLBACK.
 pub fn leave<S: Alter>(conn: &mut Connection<S>) -> bool
     ensures left { HasCleanDisk (state S.Store conn.new) → IsTrue result → IsTrue (state S.Store conn.new).is_open
         → ((state S.Store conn.new).in_transaction ≡ false) × ((state S.Store conn.new).now ≡ (state S.Store conn.new).committed) }
     ensures commit { HasCleanDisk (state S.Store conn.new) → LeavesCommit (state S.Store conn.old) (state S.Store conn.new) }
+    ensures told { HasCleanDisk (state S.Store conn.new) → result ≡ false → (e : SqlError) × Executes (codes "ROLLBACK") [] (state S.Store conn.old) (state S.Store conn.new) (Err e) }
     ensures survives { Survives (state S.Store conn.old) (state S.Store conn.new) (λ _. ⊥) }
 {
     conn.is_autocommit() || rollback(conn).is_ok()

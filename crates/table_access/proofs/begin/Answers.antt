@@ -1,11 +1,11 @@
-use Rattle.std.proofs.Common.{Ok, Err, Result, ℕ, OnOk, OnErr, IfErr, [], refl, codes}
+use Rattle.std.proofs.Common.{Ok, Err, Result, ℕ, OnOk, OnErr, [], refl, codes}
 use Rattle.sqlite.specs.State.{State, Executes}
 use Rattle.sqlite.specs.Command.TheVariants.{Begin}
 use Rattle.sqlite.specs.declared.error.Error.{Error}
 use Rattle.sqlite.proofs.Callers.{runs_as}
 use Rattle.sqlite.proofs.StateLemmas.{survives_weaker}
 use Rattle.table_access.specs.Unit.{Begins, IsLeft}
-use Rattle.table_access.proofs.Texts.{begin_is, refused_leaves, begin_commits}
+use Rattle.table_access.proofs.Texts.{begin_is, refused_leaves, begin_commits, on_error}
 use Rattle.table_access.proofs.begin.Goals as goal
 
 begun : (old new : State) (r : Result ℕ Error) → Executes (codes "BEGIN") [] old new r → OnOk r (Begins old new) × OnErr r (IsLeft old new)
@@ -18,12 +18,8 @@ returns-clause-begun g c clean = (begun _ _ _ (c.execute.ensures.runs clean)).0
 pub returns-clause-refused : goal.returns-clause-refused
 returns-clause-refused g c clean = (begun _ _ _ (c.execute.ensures.runs clean)).1
 
-on_error : (old new : State) (r : Result ℕ Error) → Executes (codes "BEGIN") [] old new r → IfErr r (λ e. Executes (codes "BEGIN") [] old new (Err e))
-on_error old new (Ok n) h = tt
-on_error old new (Err e) h = h
-
 pub returns-clause-told : goal.returns-clause-told
-returns-clause-told g c clean = on_error _ _ _ (c.execute.ensures.runs clean)
+returns-clause-told g c clean = on_error _ _ _ _ (c.execute.ensures.runs clean)
 
 pub returns-clause-survives : goal.returns-clause-survives
 returns-clause-survives g c = survives_weaker _ _ _ _ (λ _ db h. begin_commits _ db h) c.execute.ensures.survives

@@ -5,7 +5,7 @@ use Rattle.sqlite.specs.declared.error.Error.{Error}
 use Rattle.sqlite.proofs.Callers.{runs_as}
 use Rattle.sqlite.proofs.StateLemmas.{survives_weaker}
 use Rattle.table_access.specs.Unit.{IsLeft}
-use Rattle.table_access.proofs.Texts.{rollback_is, refused_leaves, rollback_commits}
+use Rattle.table_access.proofs.Texts.{rollback_is, refused_leaves, rollback_commits, on_error}
 use Rattle.table_access.proofs.rollback.Goals as goal
 
 undone : (old new : State) (r : Result ℕ Error) → Executes (codes "ROLLBACK") [] old new r → OnOk r (IsRolledBack old new) × OnErr r (IsLeft old new)
@@ -17,6 +17,9 @@ returns-clause-undone g c clean = (undone _ _ _ (c.execute.ensures.runs clean)).
 
 pub returns-clause-refused : goal.returns-clause-refused
 returns-clause-refused g c clean = (undone _ _ _ (c.execute.ensures.runs clean)).1
+
+pub returns-clause-told : goal.returns-clause-told
+returns-clause-told g c clean = on_error _ _ _ _ (c.execute.ensures.runs clean)
 
 pub returns-clause-survives : goal.returns-clause-survives
 returns-clause-survives g c = survives_weaker _ _ _ _ (λ _ db h. rollback_commits _ db h) c.execute.ensures.survives
