@@ -5,8 +5,9 @@ ghost use Rattle.sqlite.specs.State.{HasCleanDisk};
 ghost use Rattle.sqlite.specs.Held.{state};
 ghost use Rattle.table_access.specs.Calls.{Statement};
 ghost use Rattle.table_access.specs.Keeps.{Keeps};
+ghost use Rattle.table_access.specs.Statements.{MakesIndexes};
 ghost use Rattle.broker_core.specs.State.{opening};
-ghost use Rattle.broker_tables.specs.Schema.{no_schema, registry_part, contents, contract_part, all_tables};
+ghost use Rattle.broker_tables.specs.Schema.{no_schema, registry_part, contents, contract_part, all_tables, all_indexes, schema_of};
 ghost use Rattle.broker_tables.specs.Holds.{Holds, format};
 ghost use Rattle.broker_tables.specs.Making.{IsBlank, HasTables, IsMarked};
 ghost use Rattle.broker_service.specs.Parts.{the_parts};
@@ -77,12 +78,28 @@ fn make_rest<S: Alter>(conn: &mut Connection<S>) -> Result<(), Fault>
     }
 }
 
-/// Makes all tables.
+/// Makes the indexes, once all tables are made.
+fn make_indexes<S: Alter>(conn: &mut Connection<S>) -> Result<(), Fault>
+    ensures { Statement (state S.Store conn.old) (state S.Store conn.new) result (λ _. (state S.Store conn.old).now.schema ≡ schema_of all_tables → MakesIndexes all_indexes (state S.Store conn.old).now (state S.Store conn.new).now) }
+{
+    match content_store::make_index(conn) {
+        Ok(()) => match contract_tables::make_indexes(conn) {
+            Ok(()) => registry_tables::make_index(conn),
+            Err(fault) => Err(fault),
+        },
+        Err(fault) => Err(fault),
+    }
+}
+
+/// Makes all tables, and then the indexes.
 fn make_all<S: Alter>(conn: &mut Connection<S>, digest: &str) -> Result<(), Fault>
     ensures { Statement (state S.Store conn.old) (state S.Store conn.new) result (λ _. IsBlank (state S.Store conn.old).now → Holds (state S.Store conn.new).now (opening digest.now)) }
 {
     match make_first(conn, digest) {
-        Ok(()) => make_rest(conn),
+        Ok(()) => match make_rest(conn) {
+            Ok(()) => make_indexes(conn),
+            Err(fault) => Err(fault),
+        },
         Err(fault) => Err(fault),
     }
 }

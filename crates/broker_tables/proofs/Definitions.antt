@@ -2,8 +2,9 @@
 use Rattle.std.proofs.Common.{◌≡◌, refl, Ok}
 use Rattle.sqlite_tied.specs.Compute.{everything}
 use Rattle.sqlite.specs.Compile.{table_defined_by}
+use Rattle.sqlite_resolve.specs.Compile.{index_defined_by}
 use Rattle.broker_tables.specs.Schema as schema
-use Rattle.broker_tables.specs.declared.create.TheConstants.{META, TEAMS, PACTICIPANTS, VERSIONS, BRANCHES, ENVIRONMENTS, GRANTS, CONTENTS, CONTRACTS, RESULTS, LATEST, DEPLOYED, RELEASED, CHECKED_RESULTS, STRICT_ENVIRONMENTS}
+use Rattle.broker_tables.specs.declared.create.TheConstants.{META, TEAMS, PACTICIPANTS, VERSIONS, BRANCHES, ENVIRONMENTS, GRANTS, CONTENTS, CONTRACTS, RESULTS, LATEST, DEPLOYED, RELEASED, CHECKED_RESULTS, STRICT_ENVIRONMENTS, CONTENTS_BY_DIGEST, CONTRACTS_BY_CONTENT, LATEST_BY_PROVIDER_VERSION, VERSIONS_BY_PACTICIPANT}
 
 pub what_meta : table_defined_by META.now ≡ Ok schema.meta
 unfolding everything
@@ -64,3 +65,19 @@ what_checked_results = refl
 pub what_strict_environments : table_defined_by STRICT_ENVIRONMENTS.now ≡ Ok schema.strict_environments
 unfolding everything
 what_strict_environments = refl
+
+pub what_contents_by_digest : index_defined_by schema.contents_by_digest.0 CONTENTS_BY_DIGEST.now ≡ Ok schema.contents_by_digest.1
+unfolding everything
+what_contents_by_digest = refl
+
+pub what_contracts_by_content : index_defined_by schema.contracts_by_content.0 CONTRACTS_BY_CONTENT.now ≡ Ok schema.contracts_by_content.1
+unfolding everything
+what_contracts_by_content = refl
+
+pub what_latest_by_provider_version : index_defined_by schema.latest_by_provider_version.0 LATEST_BY_PROVIDER_VERSION.now ≡ Ok schema.latest_by_provider_version.1
+unfolding everything
+what_latest_by_provider_version = refl
+
+pub what_versions_by_pacticipant : index_defined_by schema.versions_by_pacticipant.0 VERSIONS_BY_PACTICIPANT.now ≡ Ok schema.versions_by_pacticipant.1
+unfolding everything
+what_versions_by_pacticipant = refl

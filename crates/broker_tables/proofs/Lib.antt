@@ -8,3 +8,4 @@ pub mod NumberLemmas
 pub mod References
 pub mod Growth
 pub mod Opening
+pub mod Newest

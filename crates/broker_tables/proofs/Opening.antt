@@ -7,15 +7,16 @@ use Rattle.sqlite.specs.Tree.{Trees}
 use Rattle.sqlite.specs.Change.{created, next_tree, KeepsRows}
 use Rattle.sqlite.specs.Effect.{Database}
 use Rattle.sqlite_rules.specs.Lists.{Has}
-use Rattle.table_access.specs.Statements.{Makes, new_trees}
+use Rattle.table_access.specs.Statements.{Makes, new_trees, MakesIndexes, indexed_by}
 use Rattle.table_access.specs.Sound.{IsKept, IsNumbered}
 use Rattle.table_access.proofs.Creation.{made_schema, made_keeps, made_empty, made_kept}
+use Rattle.table_access.proofs.Indexing.{indexes_schema, indexes_keep, indexes_kept}
 use Rattle.table_access.proofs.SoundLemmas.{at_has}
 use Rattle.broker_core.specs.Text.{Text, same_text}
 use Rattle.broker_core.specs.State.{State as Broker, opening}
 use Rattle.broker_tables.specs.Schema as schema
-use Rattle.broker_tables.specs.Schema.{schema_of, all_tables}
-use Rattle.broker_tables.specs.Making.{IsBlank, HasTables, IsMarked}
+use Rattle.broker_tables.specs.Schema.{schema_of, all_tables, all_indexes}
+use Rattle.broker_tables.specs.Making.{IsBlank, HasTables, HasAll, IsMarked}
 use Rattle.broker_tables.specs.Holds.{Holds, IsMeta, format, AreTeams, ArePacticipants, AreVersions, AreBranches, AreEnvironments, AreGrants, AreContents, AreContracts, AreResults, AreLatest, AreDeployed, AreReleased}
 use Rattle.broker_tables.proofs.Placed.{meta}
 
@@ -56,8 +57,18 @@ has_more before part n office old new among has makes =
           (subst (λ s. AllByRecursion (λ m. new.trees m ≡ []) (new_trees s part)) has.schema (made_empty part old new makes)));
     }
 
--- once all tables are made, the database holds the state of a new broker
-pub opens : (office : Text) (db : Database) → HasTables all_tables format office db → Holds db (opening office)
+-- then the indexes
+pub has_all : (n : ℕ) (office : Text) (old new : Database) → HasTables all_tables n office old → MakesIndexes all_indexes old new → HasAll n office new
+has_all n office old new has makes =
+    let keeps : KeepsRows (schema_of all_tables).tables old.trees new.trees = subst (λ (s : Schema). KeepsRows s.tables old.trees new.trees) has.schema (indexes_keep all_indexes old new makes) in record {
+      schema = indexes_schema all_indexes old new makes ∙ ap (λ s. indexed_by s all_indexes) has.schema;
+      kept = indexes_kept all_indexes old new makes has.kept;
+      meta = subst (IsMeta n office) (sym keeps.0) has.meta;
+      empty = still_empty old.trees new.trees (schema_of all_tables).tables keeps has.empty;
+    }
+
+-- once all is made, the database holds the state of a new broker
+pub opens : (office : Text) (db : Database) → HasAll format office db → Holds db (opening office)
 opens office db has = let e = has.empty in record {
   broker = record { schema = has.schema; kept = has.kept };
   meta = has.meta;

@@ -7,6 +7,7 @@ use Rattle.sqlite.specs.declared.types.Value.TheVariants.{Null, Int}
 use Rattle.sqlite.specs.Kind.TheVariants.{Text, Integer}
 use Rattle.sqlite.specs.Collation.TheVariants.{Binary}
 use Rattle.sqlite_schema.specs.declared.schema.Column.{Column}
+use Rattle.sqlite_schema.specs.declared.schema.Index.{Index}
 use Rattle.sqlite_schema.specs.declared.schema.Reference.{Reference}
 use Rattle.sqlite_schema.specs.declared.schema.Action.TheVariants.{NoAction}
 use Rattle.sqlite_value.specs.Keys.{plain}
@@ -14,7 +15,7 @@ use Rattle.sqlite_sql.specs.Term.{Term, lit, col, op2}
 use Rattle.sqlite_sql.specs.declared.ops.BinaryOp.TheVariants.{Compare, Or}
 use Rattle.sqlite_sql.specs.declared.ops.CompareOp.TheVariants.{Eq}
 use Rattle.sqlite.specs.Change.{created}
-use Rattle.table_access.specs.Statements.{plain_table}
+use Rattle.table_access.specs.Statements.{plain_table, indexed_by}
 
 -- ---- the parts of a table
 
@@ -141,5 +142,30 @@ deploy_part = deployed ∷ released ∷ []
 abbrev pub all_tables : List Table
 all_tables = registry_part ++ contents ∷ contract_part ++ deploy_part ++ checked_results ∷ strict_environments ∷ []
 
+-- Indexes that guard nothing are made after all tables, so that each table and each key keeps its place.
+
+-- a table whose rows are at this place, and an index of its columns at those places. More rows may have the same
+abbrev pub index_on : Table → ℕ → List ℕ → List ℕ → Table × Index
+index_on table tree name columns = (record table { tree = tree }, record { name = name; tree = 0; table = tree; columns = columns; order = plain; is_unique = false })
+
+abbrev pub contents_by_digest : Table × Index
+contents_by_digest = index_on contents 14 (codes "contents_by_digest") (2 ∷ [])
+
+abbrev pub contracts_by_content : Table × Index
+contracts_by_content = index_on contracts 15 (codes "contracts_by_content") (3 ∷ [])
+
+abbrev pub latest_by_provider_version : Table × Index
+latest_by_provider_version = index_on latest 19 (codes "latest_by_provider_version") (2 ∷ [])
+
+abbrev pub versions_by_pacticipant : Table × Index
+versions_by_pacticipant = index_on versions 6 (codes "versions_by_pacticipant") (2 ∷ 0 ∷ [])
+
+-- of pacts and their verification
+abbrev pub contract_indexes : List (Table × Index)
+contract_indexes = contracts_by_content ∷ latest_by_provider_version ∷ []
+
+abbrev pub all_indexes : List (Table × Index)
+all_indexes = contents_by_digest ∷ contract_indexes ++ versions_by_pacticipant ∷ []
+
 abbrev pub broker_schema : Schema
-broker_schema = schema_of all_tables
+broker_schema = indexed_by (schema_of all_tables) all_indexes

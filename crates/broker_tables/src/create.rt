@@ -59,3 +59,17 @@ pub const CHECKED_RESULTS: &str =
 /// The environments whose gate trusts checked results alone.
 pub const STRICT_ENVIRONMENTS: &str =
     "CREATE TABLE strict_environments (environment TEXT NOT NULL PRIMARY KEY REFERENCES environments (name)) STRICT";
+
+/// Contents by their digest.
+pub const CONTENTS_BY_DIGEST: &str = "CREATE INDEX contents_by_digest ON contents (digest)";
+
+/// Contracts by their content.
+pub const CONTRACTS_BY_CONTENT: &str = "CREATE INDEX contracts_by_content ON contracts (content)";
+
+/// The latest results by the version that was verified.
+pub const LATEST_BY_PROVIDER_VERSION: &str =
+    "CREATE INDEX latest_by_provider_version ON latest (provider_version)";
+
+/// The versions of a pacticipant in the order of their numbers.
+pub const VERSIONS_BY_PACTICIPANT: &str =
+    "CREATE INDEX versions_by_pacticipant ON versions (pacticipant, number)";

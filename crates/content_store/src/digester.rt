@@ -42,3 +42,13 @@ pub fn digest_text<D: Digester>(
     let digest = digester.digest(bytes);
     hex::encode(alloc, digest.as_slice())
 }
+
+/// The digest of the bytes, as 64 lower-case hexadecimal digits in ASCII. It takes no memory.
+pub(crate) fn digest_digits<D: Digester>(digester: &D, bytes: &[u8]) -> [u8; 64]
+    ensures { result ≡ encode_lower (D.digest_of bytes.now) }
+{
+    let digest = digester.digest(bytes);
+    let mut digits = [0; 64];
+    let _ = hex::encode_to_slice(digest, &mut digits);
+    digits
+}

@@ -4,6 +4,10 @@
 //! `Fault::Memory` comes where the database has no memory or a growth was refused, and `Fault::Store` where it refused a statement for another cause.
 #![tactic(auto)]
 
+mod contracts;
 mod making;
+mod results;
 
-pub use making::{make_checked_results, make_tables};
+pub use contracts::{add_contract, contract_of};
+pub use making::{make_checked_results, make_indexes, make_tables};
+pub use results::{latest_number, record_result};

@@ -2,10 +2,12 @@
 ghost use Rattle.std.specs.Prelude.{◌≡◌, ◌++◌, ◌∷◌, []};
 ghost use Rattle.sqlite.specs.Held.{state};
 ghost use Rattle.table_access.specs.Calls.{Statement};
-ghost use Rattle.table_access.specs.Statements.{Creates, Makes};
-ghost use Rattle.broker_tables.specs.Schema.{registry_part, contents, contract_part, deploy_part, contracts, results, latest, checked_results, schema_of};
+ghost use Rattle.table_access.specs.Statements.{Creates, Makes, Indexes, MakesIndexes, indexed_by};
+ghost use Rattle.broker_tables.specs.Schema.{registry_part, contents, contract_part, deploy_part, contracts, results, latest, checked_results, schema_of, all_tables, contents_by_digest, contracts_by_content, latest_by_provider_version, contract_indexes};
 
-use broker_tables::create::{CHECKED_RESULTS, CONTRACTS, LATEST, RESULTS};
+use broker_tables::create::{
+    CHECKED_RESULTS, CONTRACTS, CONTRACTS_BY_CONTENT, LATEST, LATEST_BY_PROVIDER_VERSION, RESULTS,
+};
 use sqlite::{Alter, Connection};
 use table_access::{Fault, change};
 
@@ -61,4 +63,31 @@ pub fn make_checked_results<S: Alter>(conn: &mut Connection<S>) -> Result<(), Fa
     ensures { Statement (state S.Store conn.old) (state S.Store conn.new) result (λ _. (state S.Store conn.old).now.schema ≡ schema_of (registry_part ++ contents ∷ contract_part ++ deploy_part) → Creates (state S.Store conn.old).now (state S.Store conn.new).now checked_results) }
 {
     change(conn, CHECKED_RESULTS, &[])
+}
+
+/// Makes the indexes of contracts by their content and of the latest results by the version that was verified, once all tables and the index of contents are made. All tables keep their rows.
+///
+/// # Errors
+/// `Fault::Memory` for want of memory; `Fault::Store` where the database refused an index.
+pub fn make_indexes<S: Alter>(conn: &mut Connection<S>) -> Result<(), Fault>
+    ensures { Statement (state S.Store conn.old) (state S.Store conn.new) result (λ _. (state S.Store conn.old).now.schema ≡ indexed_by (schema_of all_tables) (contents_by_digest ∷ []) → MakesIndexes contract_indexes (state S.Store conn.old).now (state S.Store conn.new).now) }
+{
+    match index_contracts(conn) {
+        Ok(()) => index_latest(conn),
+        Err(fault) => Err(fault),
+    }
+}
+
+/// Makes the index of contracts.
+fn index_contracts<S: Alter>(conn: &mut Connection<S>) -> Result<(), Fault>
+    ensures { Statement (state S.Store conn.old) (state S.Store conn.new) result (λ _. (state S.Store conn.old).now.schema ≡ indexed_by (schema_of all_tables) (contents_by_digest ∷ []) → Indexes (state S.Store conn.old).now (state S.Store conn.new).now contracts_by_content.0 contracts_by_content.1) }
+{
+    change(conn, CONTRACTS_BY_CONTENT, &[])
+}
+
+/// Makes the index of the latest results, after that of contracts.
+fn index_latest<S: Alter>(conn: &mut Connection<S>) -> Result<(), Fault>
+    ensures { Statement (state S.Store conn.old) (state S.Store conn.new) result (λ _. (state S.Store conn.old).now.schema ≡ indexed_by (schema_of all_tables) (contents_by_digest ∷ contracts_by_content ∷ []) → Indexes (state S.Store conn.old).now (state S.Store conn.new).now latest_by_provider_version.0 latest_by_provider_version.1) }
+{
+    change(conn, LATEST_BY_PROVIDER_VERSION, &[])
 }

@@ -47,7 +47,13 @@ use Rattle.broker_tables.specs.Numbers.{number_of}
 use Rattle.broker_tables.specs.Holds.{Holds, IsBroker}
 use Rattle.broker_tables.proofs.Frames.{meant}
 use Rattle.broker_tables.proofs.Orders.{pairs_total, triples_total, exact_triple}
+use Rattle.std.proofs.Common.{inl, inr}
+use Rattle.std.specs.Prelude.{Contains, ◌↔◌}
+use Rattle.sqlite.specs.Edit.{id_in}
+use Rattle.broker_core.proofs.Lists.{contains_none, contains_cases, contains_here, contains_later}
 use Rattle.deploy_tables.specs.Listings.{IsDeployedRow}
+use Rattle.deploy_tables.specs.Needs.{IsDeployedThere, IsStandingRow}
+use Rattle.deploy_tables.specs.declared.needs.StandingVersion.{StandingVersion}
 use Rattle.deploy_tables.proofs.DeployedRows.{place_of, environments, pacticipants, instances, numbers, keys}
 use Rattle.deploy_tables.proofs.VersionRows.{joined_by, joined_is, is_joined, versions_numbered, same_version_row, find_version}
 
@@ -69,6 +75,47 @@ list_text = record { is = refl; plain = (refl, refl); unlisted = refl }
 
 pub list_means : (db : Database) → IsBroker db → Means db.schema list_sql list_command
 list_means db broker = meant db broker list_sql list_text
+
+-- ---- the same rows, with the versions' numbers
+
+abbrev pub standing_sql : List ℕ
+standing_sql = codes "SELECT d.version_number, d.pacticipant, v.version FROM deployed d JOIN versions v ON v.number = d.version_number WHERE d.environment = ?1 ORDER BY d.pacticipant, d.instance"
+
+abbrev standing_project : List Term
+standing_project = col 1 4 ∷ col 1 2 ∷ col 2 3 ∷ []
+
+abbrev pub standing_command : Command
+standing_command = Select (record { lets = []; body = from_both 21 6 (joined_by 4) standing_project list_order }) (codes "version_number" ∷ codes "pacticipant" ∷ codes "version" ∷ [])
+
+standing_text : Means broker_schema standing_sql standing_command
+unfolding understood everything
+standing_text = record { is = refl; plain = (refl, refl); unlisted = refl }
+
+pub standing_means : (db : Database) → IsBroker db → Means db.schema standing_sql standing_command
+standing_means db broker = meant db broker standing_sql standing_text
+
+-- ---- what is read of a list, by members
+
+read_has : {A B : Type 0} (reads : A → B → Type 0) (rows : List A) (items : List B) (x : B) → AreRead reads rows items → Contains items x → (row : A) × Has rows row × reads row x
+read_has reads [] [] x read c = absurd (contains_none x c)
+read_has reads [] (y ∷ items) x read c = absurd read
+read_has reads (r ∷ rows) [] x read c = absurd read
+read_has {A} {B} reads (r ∷ rows) (y ∷ items) x read c = elim (contains_cases y items x c) [
+  | inl same ↦ (r, inl refl, subst (reads r) same read.0)
+  | inr there ↦ let rest = read_has reads rows items x read.1 there in (rest.0, inr rest.1, rest.2)
+]
+
+has_read : {A B : Type 0} (reads : A → B → Type 0) (rows : List A) (items : List B) (row : A) → AreRead reads rows items → Has rows row → (x : B) × Contains items x × reads row x
+has_read reads [] items row read has = absurd has
+has_read reads (r ∷ rows) [] row read has = absurd read
+has_read reads (r ∷ rows) (y ∷ items) row read (inl same) = (y, contains_here y items, subst (λ z. reads z y) (sym same) read.0)
+has_read reads (r ∷ rows) (y ∷ items) row read (inr there) = let rest = has_read reads rows items row read.1 there in (rest.0, contains_later y items rest.0 rest.1, rest.2)
+
+same_some : (m n : ℕ) → Some m ≡ Some n → m ≡ n
+same_some m n h = cc
+
+same_pos : (m n : ℕ) → pos m ≡ pos n → m ≡ n
+same_pos m n h = cc
 
 -- ---- sorted pairs of a row and its version
 
@@ -197,3 +244,59 @@ module _ (db : Database) (broker : IsBroker db) (e : Words) where
             has_contains (map item_of sorted) x (subst (Has (map item_of sorted)) same (has_map item_of sorted q.0 (to_sorted q.0 q.1))),
       );
     })
+
+    -- ---- with the numbers
+
+    -- the version that a row names has the number that it shows
+    row_number : (q : Pair) → Has kept q → (k : ℕ) × (number_of s.versions (version (text 2 q.0) (text 3 q.1)) ≡ Some k) × (whole_at 4 q.0 ≡ pos k)
+    row_number q has =
+        let d = q.0 in
+        let it = has_kept q has in
+        let value : value_at (by_both text_cmp (by_both text_cmp text_cmp)) place_of (whole_at 4) (db.trees 21) (e, (text 2 d, text 3 d)) ≡ Some (whole_at 4 d) =
+        subst (λ f. value_at (by_both text_cmp (by_both text_cmp text_cmp)) place_of (whole_at 4) (db.trees 21) (f, (text 2 d, text 3 d)) ≡ Some (whole_at 4 d)) it.2.1
+        (has_find triples_total exact_triple place_of (whole_at 4) (db.trees 21) d (keys db broker) it.0) in
+        let name = named s.versions (text 2 d) (whole_at 4 d) (s.deployed (e, text 2 d, text 3 d)) (sym (ap (option_map Some) value) ∙ held.deployed e (text 2 d) (text 3 d)) in
+        let w = find_version db broker s.versions (text 2 d) name.0 name.2.0 held.versions name.2.1 in
+        let same : w.0 ≡ q.1 = same_version_row db broker w.0 q.1 w.1 it.1 (w.4 ∙ sym name.2.2 ∙ sym it.2.0) in
+        (name.2.0, subst (λ t. number_of s.versions (version (text 2 d) t) ≡ Some name.2.0) (sym w.3 ∙ ap (text 3) same) name.2.1, name.2.2)
+
+    -- each version that is deployed there has a number
+    pub deployed_numbered : (p i name : Words) → s.deployed (e, p, i) ≡ Some name → (n : ℕ) × (number_of s.versions (version p name) ≡ Some n)
+    deployed_numbered p i name there =
+        let at = valued (value_at (by_both text_cmp (by_both text_cmp text_cmp)) place_of (whole_at 4) (db.trees 21) (e, (p, i))) (number_of s.versions (version p name)) (held.deployed e p i ∙ ap (option_map (λ n. option_map pos (number_of s.versions (version p n)))) there) in
+        (at.0, at.2)
+
+    standing_rows : (rows : List Row) → Answers db (record { lets = []; body = from_both 21 6 (joined_by 4) standing_project list_order }) (Text e ∷ []) rows → rows ≡ map (λ q. eval_all standing_project (env q)) sorted
+    standing_rows rows h =
+        joins_in_order db (Text e ∷ []) 21 6 (joined_by 4) standing_project list_order rows h (ascending_on _ _ kept (λ a b ha hb apart. ap is_eq (sort_is a b ha hb) ∙ apart) no_ties)
+        ∙ ap (map (λ q. eval_all standing_project (env q))) (same_sort (λ a b. sort_cmp list_order (env a) (env b)) by_key kept sort_is)
+
+    -- a row that is read as a version, and the pair that it shows
+    standing_item : (q : Pair) → Has kept q → (x : StandingVersion) → IsStandingRow (eval_all standing_project (env q)) x → (text 2 q.0 ≡ x.pacticipant) × (text 3 q.1 ≡ x.name) × (number_of s.versions (version x.pacticipant x.name) ≡ Some x.number)
+    standing_item q has x reads =
+        let p : text 2 q.0 ≡ x.pacticipant = ap text_in reads.1 in
+        let name : text 3 q.1 ≡ x.name = ap text_in reads.2 in
+        let it = row_number q has in
+        let shown : whole_at 4 q.0 ≡ pos x.number = ap id_in reads.0 in
+        (p, name, (λ i. number_of s.versions (version (sym p i) (sym name i))) ∙ it.1 ∙ ap Some (same_pos it.0 x.number (sym it.2 ∙ shown)))
+
+    pub standing_listed : (rows : List Row) (items : List StandingVersion) → Answers db (record { lets = []; body = from_both 21 6 (joined_by 4) standing_project list_order }) (Text e ∷ []) rows → AreRead IsStandingRow rows items
+        → (x : StandingVersion) → Contains items x ↔ IsDeployedThere s e x
+    standing_listed rows items h read x = (
+      λ c.
+          let r = read_has IsStandingRow rows items x read c in
+          let it = map_has (λ q. eval_all standing_project (env q)) sorted r.0 (subst (λ rs. Has rs r.0) (standing_rows rows h) r.1) in
+          let has = in_sorted it.0 it.1 in
+          let item = standing_item it.0 has x (subst (λ row. IsStandingRow row x) it.2 r.2) in
+          ((text 3 it.0.0, (λ i. s.deployed (e, sym item.0 i, text 3 it.0.0)) ∙ is_deployed it.0 has ∙ ap Some item.1), item.2),
+      λ there.
+          let q = is_listed x.pacticipant there.0.0 x.name there.0.1 in
+          let row = eval_all standing_project (env q.0) in
+          let y = has_read IsStandingRow rows items row read (subst (λ rs. Has rs row) (sym (standing_rows rows h)) (has_map (λ q. eval_all standing_project (env q)) sorted q.0 (to_sorted q.0 q.1))) in
+          let item = standing_item q.0 q.1 y.0 y.2 in
+          let p : y.0.pacticipant ≡ x.pacticipant = sym item.0 ∙ q.2 in
+          let name : y.0.name ≡ x.name = sym item.1 ∙ q.4 in
+          let n : y.0.number ≡ x.number = same_some y.0.number x.number (sym item.2 ∙ (λ i. number_of s.versions (version (p i) (name i))) ∙ there.1) in
+          let same : y.0 ≡ x = (λ i. record { pacticipant = p i; name = name i; number = n i }) in
+          subst (Contains items) same y.1,
+    )

@@ -5,3 +5,7 @@ pub mod VersionRows
 pub mod DeployedList
 pub mod ReleasedList
 pub mod ReleasedRows
+pub mod NeedLemmas
+pub mod NeedOrders
+pub mod ConsumerLoop
+pub mod ContractRows

@@ -1,3 +1,4 @@
 pub mod Deployments
 pub mod Listings
+pub mod Needs
 pub mod Releases

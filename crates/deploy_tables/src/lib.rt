@@ -4,14 +4,19 @@
 //! `Fault::Memory` comes where the database has no memory or a growth was refused, and `Fault::Store` where it refused a statement for another cause, or where a row breaks the tables' rules.
 #![tactic(auto)]
 
+mod consumers;
 mod deployments;
 mod listings;
 mod making;
+pub mod needs;
 mod releases;
+mod standing;
 #[cfg(test)]
 mod tests;
 
+pub use consumers::consumer_contracts;
 pub use deployments::{is_deployed, record_deployed};
 pub use listings::{deployed, released};
 pub use making::make_tables;
 pub use releases::{end_support, is_released, record_released};
+pub use standing::deployed_versions;

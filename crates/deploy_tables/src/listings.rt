@@ -31,7 +31,7 @@ fn text_in(alloc: Global, row: &Row, at: usize) -> Result<String, Fault>
 }
 
 /// The name in a column.
-fn name_in(alloc: Global, row: &Row, at: usize) -> Result<Name, Fault>
+pub(crate) fn name_in(alloc: Global, row: &Row, at: usize) -> Result<Name, Fault>
     ensures ok { IfOk result (λ name. column row.now at ≡ SqlText name) }
     ensures told { IfErr result (λ f. f ≡ Fault.Store → ¬ IsNameAt at row.now) }
 {

@@ -1,16 +1,17 @@
 -- What the texts that make the tables do.
 use Rattle.std.proofs.Common.{◌≡◌, ℕ, [], ◌∷◌, ◌++◌, Ok, refl}
-use Rattle.sqlite.specs.Command.TheVariants.{CreateTable}
+use Rattle.sqlite.specs.Command.TheVariants.{CreateTable, CreateIndex}
 use Rattle.sqlite.specs.State.{State, Executes}
 use Rattle.sqlite.specs.Listing.{understood}
 use Rattle.sqlite.proofs.Callers.{statement_of}
 use Rattle.sqlite_tied.specs.Compute.{everything}
-use Rattle.table_access.specs.Statements.{Creates}
+use Rattle.table_access.specs.Statements.{Creates, Indexes, indexed_by}
 use Rattle.table_access.proofs.Steps.{Means}
 use Rattle.table_access.proofs.Creation.{makes_one}
-use Rattle.broker_tables.specs.declared.create.TheConstants.{META, TEAMS, PACTICIPANTS, VERSIONS, BRANCHES, ENVIRONMENTS, GRANTS, STRICT_ENVIRONMENTS}
-use Rattle.broker_tables.specs.Schema.{registry_part, contract_part, deploy_part, schema_of, meta, teams, pacticipants, versions, branches, environments, grants, contents, checked_results, strict_environments}
-use Rattle.broker_tables.proofs.Definitions.{what_meta, what_teams, what_pacticipants, what_versions, what_branches, what_environments, what_grants, what_strict_environments}
+use Rattle.table_access.proofs.Indexing.{indexes_one}
+use Rattle.broker_tables.specs.declared.create.TheConstants.{META, TEAMS, PACTICIPANTS, VERSIONS, BRANCHES, ENVIRONMENTS, GRANTS, STRICT_ENVIRONMENTS, VERSIONS_BY_PACTICIPANT}
+use Rattle.broker_tables.specs.Schema.{registry_part, contract_part, deploy_part, schema_of, meta, teams, pacticipants, versions, branches, environments, grants, contents, checked_results, strict_environments, all_tables, contents_by_digest, contract_indexes, versions_by_pacticipant}
+use Rattle.broker_tables.proofs.Definitions.{what_meta, what_teams, what_pacticipants, what_versions, what_branches, what_environments, what_grants, what_strict_environments, what_versions_by_pacticipant}
 
 meta_text : Means (schema_of ([])) META.now CreateTable × (statement_of META.now (understood (schema_of ([])) META.now) ≡ META.now)
 unfolding understood everything
@@ -67,3 +68,10 @@ strict_environments_text = (record { is = refl; plain = (refl, refl); unlisted =
 
 pub makes_strict_environments : (old new : State) (count : ℕ) → old.now.schema ≡ schema_of (registry_part ++ contents ∷ contract_part ++ deploy_part ++ checked_results ∷ []) → Executes STRICT_ENVIRONMENTS.now [] old new (Ok count) → Creates old.now new.now strict_environments
 makes_strict_environments = makes_one STRICT_ENVIRONMENTS.now (schema_of (registry_part ++ contents ∷ contract_part ++ deploy_part ++ checked_results ∷ [])) strict_environments strict_environments_text.0 strict_environments_text.1 what_strict_environments refl
+
+by_pacticipant_text : Means (indexed_by (schema_of all_tables) (contents_by_digest ∷ contract_indexes)) VERSIONS_BY_PACTICIPANT.now (CreateIndex 3) × (statement_of VERSIONS_BY_PACTICIPANT.now (understood (indexed_by (schema_of all_tables) (contents_by_digest ∷ contract_indexes)) VERSIONS_BY_PACTICIPANT.now) ≡ VERSIONS_BY_PACTICIPANT.now)
+unfolding understood everything
+by_pacticipant_text = (record { is = refl; plain = (refl, refl); unlisted = refl }, refl)
+
+pub indexes_versions : (old new : State) (count : ℕ) → old.now.schema ≡ indexed_by (schema_of all_tables) (contents_by_digest ∷ contract_indexes) → Executes VERSIONS_BY_PACTICIPANT.now [] old new (Ok count) → Indexes old.now new.now versions_by_pacticipant.0 versions_by_pacticipant.1
+indexes_versions = indexes_one VERSIONS_BY_PACTICIPANT.now (indexed_by (schema_of all_tables) (contents_by_digest ∷ contract_indexes)) 3 versions_by_pacticipant.0 versions_by_pacticipant.1 by_pacticipant_text.0 by_pacticipant_text.1 refl what_versions_by_pacticipant

@@ -1,10 +1,8 @@
 -- The statements on versions.
-use Rattle.std.proofs.Common.{◌≡◌, inl, inr, ℕ, ℤ, pos, ◌+◌, ◌<◌, nat_lt, cond, codes, List, [], ◌∷◌, ◌++◌, map, filter, length, true, false, Bool, refl, sym, ap, subst, ◌∙◌, slice_get, Some, None, Option, Ok, arith, append-nil, Less, Equal, Greater}
+use Rattle.std.proofs.Common.{◌≡◌, inl, inr, ℕ, ℤ, pos, ◌+◌, ◌<◌, nat_lt, cond, codes, List, [], ◌∷◌, ◌++◌, map, length, true, false, Bool, refl, sym, ap, subst, ◌∙◌, slice_get, Some, None, Option, Ok, unwrap_or, arith, append-nil, Less, Equal, Greater}
 use Rattle.std.specs.Prelude.{option_map, is_some}
 use Rattle.std.specs.List.{enumerate_from}
-use Rattle.std.proofs.lemmas.List.Sorted.{length_permutation}
-use Rattle.std.proofs.lemmas.List.{length-map, map-append}
-use Rattle.std.proofs.lemmas.List.FromFn.{length-enumerate_from}
+use Rattle.std.proofs.lemmas.List.{map-append}
 use Rattle.std.specs.Ordering.{eq_by_cmp, int_cmp}
 use Rattle.sqlite.specs.Tree.{IsAscending, rowid}
 use Rattle.sqlite.specs.Edit.{with_rowid}
@@ -26,11 +24,12 @@ use Rattle.sqlite_rules.proofs.TableLemmas.{int_is}
 use Rattle.sqlite_value.proofs.OrderLemmas.{value_cmp-Int}
 use Rattle.sqlite_tied.specs.Compute.{everything}
 use Rattle.table_access.specs.Columns.{text, text_cmp, pair_cmp, whole_at, by_both}
-use Rattle.table_access.specs.Statements.{from_table, by_two, keeps}
+use Rattle.table_access.specs.Statements.{from_table, up_to, newest, by_two}
 use Rattle.table_access.specs.Sound.{IsNumbered}
 use Rattle.table_access.proofs.Values.{cast_null, cast_int}
 use Rattle.table_access.proofs.Steps.{Means, selects, inserts}
 use Rattle.table_access.proofs.Maps.{looks_up_at}
+use Rattle.table_access.proofs.Newest.{newest_number}
 use Rattle.table_access.proofs.Keys.{apart_by, pair_keys, by_pair}
 use Rattle.table_access.proofs.SoundLemmas.{text_at, has_place, at_has}
 use Rattle.broker_core.specs.declared.command.Version.{Version}
@@ -45,6 +44,7 @@ use Rattle.broker_tables.specs.Numbers.{numbered, number_of}
 use Rattle.broker_tables.specs.Holds.{Holds, IsBroker, AreVersions}
 use Rattle.broker_tables.proofs.Frames.{meant, frame_of, Frame}
 use Rattle.broker_tables.proofs.Growth.{versions_grow}
+use Rattle.broker_tables.proofs.Newest.{newest as newest_count}
 use Rattle.broker_tables.proofs.NumberLemmas.{version_row, known_numbered, newly_numbered, none_numbered}
 use Rattle.broker_tables.proofs.References.{row_number}
 use Rattle.std.proofs.lemmas.Bool.{ltb-true}
@@ -107,10 +107,10 @@ version_found p name old new rows s found held h read =
 -- ---- how many versions there are
 
 abbrev pub count_sql : List ℕ
-count_sql = codes "SELECT number FROM versions"
+count_sql = codes "SELECT number FROM versions ORDER BY number DESC LIMIT 1"
 
 abbrev pub count_command : Command
-count_command = Select (record { lets = []; body = from_table 6 [] (col 1 0 ∷ []) [] }) (codes "number" ∷ [])
+count_command = Select (record { lets = []; body = up_to 1 (from_table 6 [] (col 1 0 ∷ []) newest) }) (codes "number" ∷ [])
 
 count_text : Means broker_schema count_sql count_command
 unfolding understood everything
@@ -119,17 +119,11 @@ count_text = record { is = refl; plain = (refl, refl); unlisted = refl }
 pub count_means : (db : Database) → IsBroker db → Means db.schema count_sql count_command
 count_means db broker = meant db broker count_sql count_text
 
-all_kept : (rows : List Row) → filter (keeps [] []) rows ≡ rows
-all_kept [] = refl
-all_kept (r ∷ rows) = ap (λ rs. r ∷ rs) (all_kept rows)
-
-as_many : (rows : List Row) (vs : List Version) → AreVersions vs rows → length rows ≡ length vs
-as_many rows vs is = sym (length-map rows (λ r. (whole_at 0 r, version (text 2 r) (text 3 r)))) ∙ ap length is ∙ length-map (enumerate_from 1 vs) (λ e. (pos e.0, e.1)) ∙ length-enumerate_from 1 vs
-
-pub versions_counted : (old new : State) (rows : List Row) (s : Broker) → Holds old.now s → Shown count_sql [] old new rows → length rows ≡ length s.versions
-versions_counted old new rows s held h =
-    length_permutation _ rows (selects count_sql [] old new 6 _ _ _ _ (count_means old.now held.broker) rows h) ∙ length-map (filter (keeps [] []) (old.now.trees 6)) _ ∙ ap length (all_kept (old.now.trees 6))
-    ∙ as_many (old.now.trees 6) s.versions held.versions
+pub versions_counted : (old new : State) (rows : List Row) (s : Broker) (found : Option ℕ) → Holds old.now s → Shown count_sql [] old new rows → option_map (λ n. Int (pos n)) found ≡ option_map (λ row. column row 0) (slice_get rows 0)
+    → unwrap_or found 0 ≡ length s.versions
+versions_counted old new rows s found held h read =
+    newest_count (λ r. version (text 2 r) (text 3 r)) (old.now.trees 6) s.versions found held.versions
+    (newest_number count_sql old new 6 _ (count_means old.now held.broker) (numbered_rows old.now held.broker) rows h found read)
 
 -- ---- a new version
 

@@ -20,7 +20,7 @@ pub use branches::{add_branch, branch_numbers, on_branch};
 pub use environments::{add_environment, gated, strict_of};
 pub use format::format_of;
 pub use grants::{add_grant, granted, remove_grant};
-pub use making::{make_strict_environments, make_tables};
+pub use making::{make_index, make_strict_environments, make_tables};
 pub use office::{is_blank, office_digest};
 pub use pacticipants::{add_pacticipant, owner_of};
 pub use teams::{add_team, digest_of, has_team, team_of_digest};

@@ -2,13 +2,14 @@
 ghost use Rattle.std.specs.Prelude.{◌≡◌, ◌++◌, ◌∷◌, []};
 ghost use Rattle.sqlite.specs.Held.{state};
 ghost use Rattle.table_access.specs.Calls.{Statement};
-ghost use Rattle.table_access.specs.Statements.{Creates, Makes};
+ghost use Rattle.table_access.specs.Statements.{Creates, Makes, Indexes, indexed_by};
 ghost use Rattle.broker_tables.specs.Making.{IsBlank, HasTables};
-ghost use Rattle.broker_tables.specs.Schema.{registry_part, contract_part, deploy_part, schema_of, meta, teams as teams_table, pacticipants as pacticipants_table, versions as versions_table, branches as branches_table, environments as environments_table, grants as grants_table, contents, checked_results, strict_environments};
+ghost use Rattle.broker_tables.specs.Schema.{registry_part, contract_part, deploy_part, schema_of, meta, teams as teams_table, pacticipants as pacticipants_table, versions as versions_table, branches as branches_table, environments as environments_table, grants as grants_table, contents, checked_results, strict_environments, all_tables, contents_by_digest, contract_indexes, versions_by_pacticipant};
 ghost use Rattle.registry_tables.specs.Registry.{PutsMeta};
 
 use broker_tables::create::{
     BRANCHES, ENVIRONMENTS, GRANTS, META, PACTICIPANTS, STRICT_ENVIRONMENTS, TEAMS, VERSIONS,
+    VERSIONS_BY_PACTICIPANT,
 };
 use sqlite::{Alter, Connection, params};
 use table_access::{Fault, change};
@@ -147,6 +148,16 @@ pub fn make_strict_environments<S: Alter>(conn: &mut Connection<S>) -> Result<()
     ensures { Statement (state S.Store conn.old) (state S.Store conn.new) result (λ _. (state S.Store conn.old).now.schema ≡ schema_of (registry_part ++ contents ∷ contract_part ++ deploy_part ++ checked_results ∷ []) → Creates (state S.Store conn.old).now (state S.Store conn.new).now strict_environments) }
 {
     change(conn, STRICT_ENVIRONMENTS, &[])
+}
+
+/// Makes the index of versions by their pacticipant and number, once all tables and the other indexes are made. All tables keep their rows.
+///
+/// # Errors
+/// `Fault::Memory` for want of memory; `Fault::Store` where the database refused the index.
+pub fn make_index<S: Alter>(conn: &mut Connection<S>) -> Result<(), Fault>
+    ensures { Statement (state S.Store conn.old) (state S.Store conn.new) result (λ _. (state S.Store conn.old).now.schema ≡ indexed_by (schema_of all_tables) (contents_by_digest ∷ contract_indexes) → Indexes (state S.Store conn.old).now (state S.Store conn.new).now versions_by_pacticipant.0 versions_by_pacticipant.1) }
+{
+    change(conn, VERSIONS_BY_PACTICIPANT, &[])
 }
 
 /// Puts in the one row of meta.

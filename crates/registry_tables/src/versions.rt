@@ -8,7 +8,7 @@ ghost use Rattle.broker_tables.specs.Holds.{ReadsInPlace, Changes, Gives};
 ghost use Rattle.registry_tables.specs.Registry.{AllowsVersion, AddsVersion, PutsVersion};
 
 use sqlite::{Alter, Connection, params};
-use table_access::{Fault, change, count_of, number_of};
+use table_access::{Fault, change, number_of};
 
 /// The number of a version, by its pacticipant and its name, or `None` where there is no such version.
 ///
@@ -28,15 +28,19 @@ pub fn version_of<S: Alter>(
     )
 }
 
-/// How many versions there are.
+/// How many versions there are: the number of the newest, or 0.
 ///
 /// # Errors
-/// `Fault::Memory` for want of memory; `Fault::Store` where the database refused the query.
+/// `Fault::Memory` for want of memory; `Fault::Store` where the database refused the query or holds no number there.
 pub fn version_count<S: Alter>(conn: &mut Connection<S>) -> Result<u64, Fault>
     ensures { ReadsInPlace (state S.Store conn.old) (state S.Store conn.new) result (λ count s. count ≡ length s.versions) }
 {
-    match count_of(conn, "SELECT number FROM versions", &[]) {
-        Ok(count) => Ok(count as u64),
+    match number_of(
+        conn,
+        "SELECT number FROM versions ORDER BY number DESC LIMIT 1",
+        &[],
+    ) {
+        Ok(newest) => Ok(newest.unwrap_or(0) as u64),
         Err(fault) => Err(fault),
     }
 }

@@ -82,7 +82,7 @@ made_empty (table ∷ tables) old new h =
     let back = all_back _ old.schema.tables (record table { tree = next_tree old.schema } ∷ []) (subst (λ (s : Schema). KeepsRows s.tables h.0.trees new.trees) h.1.schema later) in
     (back.0 ∙ h.1.empty, subst (λ schema. AllByRecursion (λ tree. new.trees tree ≡ []) (new_trees schema tables)) h.1.schema (made_empty tables h.0 new h.2))
 
-still_numbered : (tables : List Table) (a b : Trees) → KeepsRows tables a b → AllByRecursion (λ t. IsNumbered (a t.tree)) tables → AllByRecursion (λ t. IsNumbered (b t.tree)) tables
+pub still_numbered : (tables : List Table) (a b : Trees) → KeepsRows tables a b → AllByRecursion (λ t. IsNumbered (a t.tree)) tables → AllByRecursion (λ t. IsNumbered (b t.tree)) tables
 still_numbered [] a b same all = tt
 still_numbered (t ∷ tables) a b same all = (subst IsNumbered (sym same.0) all.0, still_numbered tables a b same.1 all.1)
 

@@ -18,3 +18,5 @@ pub mod Parts
 pub mod Changes
 pub mod Ordered
 pub mod Members
+pub mod Newest
+pub mod Indexing

@@ -1,4 +1,4 @@
--- A text that writes rows or makes a table commits nothing inside a transaction, whatever the schema is.
+-- A text that writes rows or makes a table or an index commits nothing inside a transaction, whatever the schema is.
 use Rattle.std.proofs.Common.{inl, inr, ◌≡◌, ◌∙◌, ◌==◌, ◌+◌, Option, ℕ, length, Bool, true, false, cond, List, [], Ok, Err, IsTrue, refl, subst}
 use Rattle.std.proofs.lemmas.Bool.{cases_Bool}
 use Rattle.sqlite_ast.specs.declared.Expr.{Expr}
@@ -7,6 +7,7 @@ use Rattle.sqlite_ast.specs.declared.Upsert.{Upsert}
 use Rattle.sqlite_ast.specs.declared.Conflict.TheVariants as conflict
 use Rattle.sqlite_ast.specs.declared.Statement.{Statement}
 use Rattle.sqlite_ast.specs.declared.CreateTable.{CreateTable as NewTable}
+use Rattle.sqlite_ast.specs.declared.CreateIndex.{CreateIndex as NewIndex}
 use Rattle.std.specs.Option.{option_or}
 use Rattle.std.proofs.Common.{not, ◌&&◌}
 use Rattle.sqlite_schema.specs.Names.{table_named, view_named, index_named}
@@ -16,7 +17,7 @@ use Rattle.sqlite_ast.specs.declared.Statement.TheVariants as written
 use Rattle.sqlite_syntax.specs.declared.statement.Parsed.{Parsed}
 use Rattle.sqlite_schema.specs.declared.schema.Schema.{Schema}
 use Rattle.sqlite_schema.specs.declared.command.Command.{Command}
-use Rattle.sqlite_schema.specs.declared.command.Command.TheVariants.{Insert, InsertOr, Update, Delete, CreateTable, Nothing}
+use Rattle.sqlite_schema.specs.declared.command.Command.TheVariants.{Insert, InsertOr, Update, Delete, CreateTable, CreateIndex, Nothing}
 use Rattle.sqlite_schema.specs.declared.command.Conflict.{Conflict}
 use Rattle.sqlite_schema.specs.declared.command.Source.{Source}
 use Rattle.sqlite_schema.specs.declared.command.Upsert.{Upsert as Clause}
@@ -24,7 +25,7 @@ use Rattle.sqlite_schema.specs.declared.program.Program.{Program}
 use Rattle.sqlite_resolve.specs.declared.compiled.Compiled.{Compiled}
 use Rattle.sqlite_resolve.specs.Lowering.{Checked, and_then}
 use Rattle.sqlite_resolve.specs.Scope.{Name}
-use Rattle.sqlite_resolve.specs.Compile.{first, compiled, planned, meaning, command, command_by, insert, insert_or, insert_or_abort, update, delete, create_table, creates, is_attached, with_command, on_table, target, new_rows, small}
+use Rattle.sqlite_resolve.specs.Compile.{first, compiled, planned, meaning, command, command_by, insert, insert_or, insert_or_abort, update, delete, create_table, create_index, is_reserved, creates, is_attached, with_command, on_table, target, new_rows, small}
 use Rattle.sqlite_resolve.specs.Compile
 use Rattle.sqlite_resolve.specs.Body.{table_at}
 use Rattle.sqlite_resolve.specs.Program.{program}
@@ -45,6 +46,7 @@ is_write (InsertOr at way s found) = true
 is_write (Update at p) = true
 is_write (Delete at p) = true
 is_write CreateTable = true
+is_write (CreateIndex at) = true
 is_write Nothing = true
 is_write _ = false
 
@@ -131,6 +133,20 @@ create_ends schema formats def = elim (cases_Bool (is_attached schema def.name))
       (λ is_new. cond is_new (and_then (define.table formats def) (λ t. cond (length t.computed == length t.stamps.places && not def.resolves) (Ok CreateTable) (Err Unsupported))) (Ok Nothing)) EndsNothing (λ is_new. new_ends formats def is_new))
 ]
 
+new_index_ends : (at : ℕ) (table : Table) (def : NewIndex) (is_new : Bool) → Yields EndsNothing (cond is_new (and_then (define.index table def) (λ _. Ok (CreateIndex at))) (Ok Nothing))
+new_index_ends at table def true = on_any (define.index table def) (λ _. Ok (CreateIndex at)) EndsNothing (λ _. refl)
+new_index_ends at table def false = refl
+
+index_ends : (schema : Schema) (def : NewIndex) → Yields EndsNothing (create_index schema def)
+unfolding create_index
+index_ends schema def = elim (cases_Bool (is_reserved def.table)) [
+  | inl reserved ↦ rw reserved tt
+  | inr free ↦ rw free (on_table_ends schema def.table
+      (λ at table. and_then (creates def.if_missing def.name (index_named schema def.name) (option_or (table_named schema def.name) (view_named schema def.name))) (λ is_new. cond is_new (and_then (define.index table def) (λ _. Ok (CreateIndex at))) (Ok Nothing)))
+      (λ at table. on_any (creates def.if_missing def.name (index_named schema def.name) (option_or (table_named schema def.name) (view_named schema def.name)))
+      (λ is_new. cond is_new (and_then (define.index table def) (λ _. Ok (CreateIndex at))) (Ok Nothing)) EndsNothing (λ is_new. new_index_ends at table def is_new)))
+]
+
 command_ends : (schema : Schema) (formats : List Name) (base : ℕ) (statement : Statement) → writes statement ≡ true → Yields EndsNothing (command schema formats base statement)
 unfolding command
 command_ends schema formats base (written.Insert conflict.Abort name columns rows clauses shown) w = insert_or_abort_ends schema base name columns rows clauses
@@ -139,6 +155,7 @@ command_ends schema formats base (written.Insert conflict.Replace name columns r
 command_ends schema formats base (written.Update name sets test shown) w = update_ends schema name sets test
 command_ends schema formats base (written.Delete name test shown) w = delete_ends schema name test
 command_ends schema formats base (written.CreateTable def) w = create_ends schema formats def
+command_ends schema formats base (written.CreateIndex def) w = index_ends schema def
 command_ends schema formats base _ w = absurd (cc)
 
 compiled_ends : (schema : Schema) (p : Parsed) → writes p.statement ≡ true → Yields (λ (c : Compiled). EndsNothing c.command) (and_then (planned schema p) (λ plan. Ok (with_command p plan)))
@@ -187,6 +204,7 @@ runs_inside old new returning (InsertOr at way s found) text params count w h in
 runs_inside old new returning (Update at p) text params count w h inside = shown_inside old new new.now h.shown inside
 runs_inside old new returning (Delete at p) text params count w h inside = shown_inside old new new.now h.shown inside
 runs_inside old new returning CreateTable text params count w h inside = shown_inside old new new.now h.shown inside
+runs_inside old new returning (CreateIndex at) text params count w h inside = shown_inside old new new.now h.shown inside
 runs_inside old new returning Nothing text params count w h inside =
     let same = h.0.0 in record { was_open = same.was_open; is_open = same.is_open; now_is = refl; committed_is = same.committed_is; mode = same.mode ∙ inside }
 runs_inside old new returning _ text params count w h inside = absurd (cc)

@@ -4,9 +4,10 @@ use Rattle.std.specs.List.{list_all, flat_map, AllByRecursion}
 use Rattle.sqlite.specs.State.{State}
 use Rattle.sqlite.specs.Effect.{Database, IsDatabase}
 use Rattle.sqlite.specs.Schema.{Schema}
-use Rattle.sqlite.specs.Change.{created, next_tree, KeepsRows}
+use Rattle.sqlite.specs.Change.{created, indexed, next_tree, KeepsRows}
 use Rattle.table_access.specs.Sound.{IsKept}
 use Rattle.sqlite_schema.specs.declared.schema.Column.{Column}
+use Rattle.sqlite_schema.specs.declared.schema.Index.{Index}
 use Rattle.sqlite_schema.specs.declared.schema.Reference.{Reference}
 use Rattle.sqlite_schema.specs.declared.schema.Action.TheVariants.{NoAction}
 use Rattle.sqlite_value.specs.declared.keys.Order.{Order}
@@ -33,6 +34,14 @@ from_table tree filter project order = record {
   limit = lit (Int (negsuc 0));
   offset = lit (Int (pos 0));
 }
+
+-- the same with LIMIT n
+abbrev pub up_to : ℕ → Query → Query
+up_to n q = record q { limit = lit (Int (pos n)) }
+
+-- ORDER BY the number of the row, the greatest first
+abbrev pub newest : List (Term × Key)
+newest = (col 1 0, record { collation = Binary; descending = true }) ∷ []
 
 -- SELECT project FROM a table JOIN another WHERE terms ORDER BY order
 abbrev pub from_both : ℕ → ℕ → List Term → List Term → List (Term × Key) → Query
@@ -110,6 +119,22 @@ pub record Creates (old new : Database) (table : Table) : Type 0 where
   pub empty : new.trees (next_tree old.schema) ≡ []
   pub others : KeepsRows old.schema.tables old.trees new.trees
   pub sound : IsDatabase new
+
+-- an index is made on a table, and each table is as it was
+pub record Indexes (old new : Database) (table : Table) (index : Index) : Type 0 where
+  pub schema : new.schema ≡ indexed old.schema table index
+  pub others : KeepsRows old.schema.tables old.trees new.trees
+  pub sound : IsDatabase new
+
+-- such indexes are made, each on its table, one after another
+abbrev pub MakesIndexes : List (Table × Index) → Database → Database → Type 0
+MakesIndexes [] old new = new ≡ old
+MakesIndexes (one ∷ more) old new = (mid : Database) × Indexes old mid one.0 one.1 × MakesIndexes more mid new
+
+-- the schema with such indexes
+abbrev pub indexed_by : Schema → List (Table × Index) → Schema
+indexed_by schema [] = schema
+indexed_by schema (one ∷ more) = indexed_by (indexed schema one.0 one.1) more
 
 -- such tables are made, one after another
 abbrev pub Makes : List Table → Database → Database → Type 0

@@ -1,4 +1,4 @@
--- Texts that write rows or make a table.
+-- Texts that write rows or make a table or an index.
 use Rattle.std.specs.Prelude.{◌≡◌, Bool, true, false, Ok, Err}
 use Rattle.sqlite_ast.specs.declared.Statement.{Statement}
 use Rattle.sqlite_ast.specs.declared.Statement.TheVariants as written
@@ -10,9 +10,10 @@ writes (written.Insert way name columns rows clauses shown) = true
 writes (written.Update name sets test shown) = true
 writes (written.Delete name test shown) = true
 writes (written.CreateTable table) = true
+writes (written.CreateIndex index) = true
 writes _ = false
 
--- the text is one that writes rows or makes a table
+-- the text is one that writes rows or makes a table or an index
 abbrev pub IsWriteText : Checked Parsed → Type 0
 IsWriteText (Ok p) = writes p.statement ≡ true
 IsWriteText (Err e) = ⊥

@@ -123,7 +123,7 @@ pub fn commit<S: Alter>(conn: &mut Connection<S>) -> bool
     false
 }
 
-/// Runs a statement that writes rows or makes a table, in a transaction.
+/// Runs a statement that writes rows or makes a table or an index, in a transaction.
 /// After an error the caller ends the transaction: a failure for memory or the disk has ended it already.
 pub fn change<S: Alter>(
     conn: &mut Connection<S>,

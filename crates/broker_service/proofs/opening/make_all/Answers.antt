@@ -1,9 +1,20 @@
+use Rattle.std.proofs.Common.{Ok}
 use Rattle.sqlite.specs.Held.{state}
 use Rattle.table_access.proofs.CallLemmas.{statement_seq}
-use Rattle.broker_tables.proofs.Opening.{opens}
+use Rattle.broker_tables.specs.Schema.{all_tables}
+use Rattle.broker_tables.specs.Holds.{format}
+use Rattle.broker_tables.specs.Making.{IsBlank, HasTables}
+use Rattle.broker_tables.proofs.Opening.{has_all, opens}
 use Rattle.broker_service.proofs.opening.make_all.Goals as goal
 
-pub returns-in-Ok : goal.returns-in-Ok
-returns-in-Ok g c =
-    statement_seq (state g.S.Store c.args.conn.now) (state g.S.Store c.make_first.new.conn) (state g.S.Store c.make_rest.new.conn) c.in-Ok.field-0 c.make_rest.result _ _ _
-    (λ has u rest blank. opens c.args.digest.now (state g.S.Store c.make_rest.new.conn).now (rest c.args.digest.now (has blank))) c.in-Ok.ensures c.make_rest.ensures
+pub returns-in-Ok-make_rest : goal.returns-in-Ok-make_rest
+returns-in-Ok-make_rest g c =
+    let old = state g.S.Store c.args.conn.now in
+    let first = state g.S.Store c.make_first.new.conn in
+    let second = state g.S.Store c.make_rest.new.conn in
+    let new = state g.S.Store c.make_indexes.new.conn in
+    let digest = c.args.digest.now in
+    statement_seq old second new c.in-Ok-make_rest.field-0 c.make_indexes.result (λ _. IsBlank old.now → HasTables all_tables format digest second.now) _ _
+    (λ has u makes blank. let before = has blank in opens digest new.now (has_all format digest second.now new.now before (makes before.schema)))
+    (statement_seq old first second c.in-Ok.field-0 (Ok c.in-Ok-make_rest.field-0) _ _ (λ _. IsBlank old.now → HasTables all_tables format digest second.now) (λ has u rest blank. rest digest (has blank)) c.in-Ok.ensures c.in-Ok-make_rest.ensures)
+    c.make_indexes.ensures

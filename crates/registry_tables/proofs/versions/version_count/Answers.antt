@@ -8,5 +8,5 @@ use Rattle.registry_tables.proofs.versions.version_count.Goals as goal
 pub returns-in-Ok : goal.returns-in-Ok
 returns-in-Ok g c =
     let old = state g.S.Store c.args.conn.now in
-    let new = state g.S.Store c.count_of.new.conn in
-    statement_ok old new c.in-Ok.count c.in-Ok.count _ _ (λ h s held. (h.2 ∙ versions_counted old new h.0 s held h.1, held_still _ _ old new h.0 s (count_means old.now held.broker) h.1 held)) c.in-Ok.ensures.leaves
+    let new = state g.S.Store c.number_of.new.conn in
+    statement_ok old new c.in-Ok.newest _ _ _ (λ h s held. (c.unwrap_or.ensures ∙ versions_counted old new h.0 s c.in-Ok.newest held h.1 h.2, held_still _ _ old new h.0 s (count_means old.now held.broker) h.1 held)) c.in-Ok.ensures.leaves

@@ -1,0 +1,63 @@
+-- The greatest number of what is numbered from 1 is how many there are.
+use Rattle.std.proofs.Common.{◌≡◌, ℕ, ℤ, pos, ◌+◌, List, [], ◌∷◌, ◌++◌, map, length, reverse, refl, ap, ◌∙◌, Some, None, Option, slice_get, unwrap_or, arith}
+use Rattle.std.specs.Prelude.{option_map}
+use Rattle.std.specs.List.{enumerate_from}
+use Rattle.std.proofs.lemmas.Grind.{reverse_onto}
+use Rattle.sqlite.specs.Order.{Row}
+use Rattle.std.proofs.lemmas.List.{length-map}
+use Rattle.table_access.specs.Columns.{text, whole_at}
+use Rattle.broker_core.specs.declared.command.Version.{Version}
+use Rattle.broker_core.specs.Text.{Text}
+use Rattle.broker_core.specs.State.{Verification}
+use Rattle.broker_tables.specs.Numbers.{numbered}
+use Rattle.broker_tables.specs.Holds.{AreContents, AreResults, with_digest, result_in, result_of}
+
+abbrev last_of : {A : Type 0} → A → List A → A
+last_of x [] = x
+last_of x (y ∷ ys) = last_of y ys
+
+first_before : {A : Type 0} (xs ys : List A) (z : A) → slice_get xs 0 ≡ Some z → slice_get (xs ++ ys) 0 ≡ Some z
+first_before [] ys z h = absurd (cc)
+first_before (x ∷ xs) ys z h = h
+
+last_first : {A : Type 0} (x : A) (xs : List A) → slice_get (reverse (x ∷ xs)) 0 ≡ Some (last_of x xs)
+last_first x [] = refl
+last_first x (y ∷ ys) = ap (λ l. slice_get l 0) (reverse_onto (y ∷ ys) x []) ∙ first_before (reverse (y ∷ ys)) (x ∷ []) (last_of y ys) (last_first y ys)
+
+module _ {X : Type 0} (entry : Row → X) where
+  abbrev listed : Row → ℤ × X
+  listed r = (whole_at 0 r, entry r)
+
+  abbrev head_of : ℤ → List (ℤ × X) → ℤ
+  head_of other [] = other
+  head_of other (e ∷ es) = e.0
+
+  abbrev rest_of : List (ℤ × X) → List (ℤ × X)
+  rest_of [] = []
+  rest_of (e ∷ es) = es
+
+  last_number : (n : ℕ) (r : Row) (rows : List Row) (x : X) (xs : List X) → map listed (r ∷ rows) ≡ map (λ e. (pos e.0, e.1)) (enumerate_from n (x ∷ xs)) → whole_at 0 (last_of r rows) ≡ pos (n + length xs)
+  last_number n r [] x [] is = ap (head_of (pos n)) is ∙ ap pos (let e : n ≡ n + 0 = omega arith in e)
+  last_number n r [] x (y ∷ ys) is = absurd (let e = ap length is in cc)
+  last_number n r (s ∷ rows) x [] is = absurd (let e = ap length is in cc)
+  last_number n r (s ∷ rows) x (y ∷ ys) is = last_number (n + 1) s rows y ys (ap rest_of is) ∙ ap pos (let e : n + 1 + length ys ≡ n + length (y ∷ ys) = omega arith in e)
+
+  -- What is listed from the row with the greatest number on: none where there is no row, and 0 stands for it.
+  pub newest : (rows : List Row) (xs : List X) (found : Option ℕ) → map listed rows ≡ numbered xs → option_map pos found ≡ option_map (whole_at 0) (slice_get (reverse rows) 0) → unwrap_or found 0 ≡ length xs
+  newest [] [] None is read = refl
+  newest [] [] (Some n) is read = absurd cc
+  newest [] (x ∷ xs) found is read = absurd (let e = is in cc)
+  newest (r ∷ rows) [] found is read = absurd (let e = is in cc)
+  newest (r ∷ rows) (x ∷ xs) None is read = absurd (let e : None ≡ Some (whole_at 0 (last_of r rows)) = read ∙ ap (option_map (whole_at 0)) (last_first r rows) in cc)
+  newest (r ∷ rows) (x ∷ xs) (Some n) is read =
+      let e : Some (pos n) ≡ Some (pos (1 + length xs)) = read ∙ ap (option_map (whole_at 0)) (last_first r rows) ∙ ap Some (last_number 1 r rows x xs is) in
+      let same : n ≡ 1 + length xs = cc in
+      same ∙ (let f : 1 + length xs ≡ length (x ∷ xs) = omega arith in f)
+
+-- how many contents there are, and how many results
+pub newest_content : (contents : List Text) (rows : List Row) (found : Option ℕ) → AreContents contents rows → option_map pos found ≡ option_map (whole_at 0) (slice_get (reverse rows) 0) → unwrap_or found 0 ≡ length contents
+newest_content contents rows found are read = newest (λ r. (text 2 r, text 3 r)) rows (map with_digest contents) found are read ∙ length-map contents with_digest
+
+pub newest_result : (versions : List Version) (results : List Verification) (rows checked : List Row) (found : Option ℕ) → AreResults versions results rows checked → option_map pos found ≡ option_map (whole_at 0) (slice_get (reverse rows) 0)
+    → unwrap_or found 0 ≡ length results
+newest_result versions results rows checked found are read = newest (result_in checked) rows (map (result_of versions) results) found are read ∙ length-map results (result_of versions)

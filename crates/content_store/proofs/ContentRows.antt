@@ -1,0 +1,338 @@
+-- The statements on contents.
+use Rattle.std.proofs.Common.{◌≡◌, ◌+◌, ◌-◌, ◌<◌, ℕ, ℤ, pos, zero, suc, cond, codes, List, [], ◌∷◌, ◌++◌, map, filter, length, true, false, Bool, ◌&&◌, ◌||◌, not, Ordering, refl, sym, ap, subst, ◌∙◌, slice_get, unwrap_or, Some, None, Option, Ok, arith, Less}
+use Rattle.std.specs.Prelude.{option_map}
+use Rattle.std.specs.List.{AllByRecursion, enumerate_from, position_or_len, find as first}
+use Rattle.std.specs.Cmp.Lexicographic.{nat_list_cmp_total}
+use Rattle.std.proofs.lemmas.List.{length-map}
+use Rattle.std.proofs.lemmas.Bool.{ne_eqb}
+use Rattle.std.specs.Ordering.{eq_by_cmp, int_cmp, is_eq, is_gt}
+use Rattle.std.specs.Cmp.{int_cmp_total, eq_by_cmp_equiv, Equal-is}
+use Rattle.std.specs.FinMap.Entries.{find}
+use Rattle.std.specs.FinMap.{int_cmp-IsAntisymmetric}
+use Rattle.sqlite.specs.Tree.{IsAscending, rowid}
+use Rattle.sqlite.specs.Edit.{id_in}
+use Rattle.sqlite_keyed.specs.Lists.{insert_sorted, sort_by}
+use Rattle.sqlite_keyed.proofs.ListLemmas.{ascending-filter}
+use Rattle.sqlite_sql.specs.Query.{sort_cmp}
+use Rattle.sqlite_value.specs.declared.keys.Key.{Key}
+use Rattle.sqlite_value.proofs.OrderLemmas.{then-Equal}
+use Rattle.sqlite.specs.declared.types.Value.TheVariants.{Null, Int, Text}
+use Rattle.sqlite.specs.Order.{Row, column, value_cmp}
+use Rattle.sqlite.specs.Term.{Term, col, lit, op2}
+use Rattle.sqlite.specs.Collation.TheVariants.{Binary}
+use Rattle.sqlite_sql.specs.declared.ops.BinaryOp.TheVariants.{Compare}
+use Rattle.sqlite_sql.specs.declared.ops.CompareOp.TheVariants.{Eq}
+use Rattle.sqlite_sql.specs.Ops.{binary, is_true}
+use Rattle.sqlite.specs.Command.{Command}
+use Rattle.sqlite.specs.Command.TheVariants.{Insert, Select}
+use Rattle.sqlite.specs.Source.TheVariants.{Values}
+use Rattle.sqlite.specs.Edit.{with_rowid}
+use Rattle.sqlite.specs.Rowids.TheVariants.{Chosen}
+use Rattle.sqlite.specs.Cast.{cast_all}
+use Rattle.sqlite.specs.Table.{Table}
+use Rattle.sqlite.specs.Effect.{Database}
+use Rattle.sqlite.specs.State.{State, Shown, Executes}
+use Rattle.sqlite.specs.Listing.{understood}
+use Rattle.sqlite_rules.specs.Lists.{Has}
+use Rattle.sqlite_rules.proofs.TableLemmas.{int_is}
+use Rattle.sqlite_tied.specs.Compute.{everything}
+use Rattle.table_access.specs.Columns.{text, text_cmp, whole_at}
+use Rattle.table_access.specs.Statements.{from_table, up_to, newest, keeps, shows}
+use Rattle.table_access.specs.Sound.{IsNumbered}
+use Rattle.table_access.proofs.Values.{same_ints, cast_null, cast_int}
+use Rattle.table_access.proofs.Steps.{Means, selects, inserts, shown_unchanged, shown_answers}
+use Rattle.table_access.proofs.Newest.{newest_number}
+use Rattle.table_access.proofs.Ordered.{selects_in_order}
+use Rattle.table_access.proofs.Keys.{ascending_on, by_text}
+use Rattle.table_access.proofs.Maps.{looks_up_at}
+use Rattle.table_access.proofs.Parts.{numbers_once}
+use Rattle.table_access.proofs.SoundLemmas.{text_at, has_place, at_has, all_of}
+use Rattle.broker_tables.specs.Schema.{broker_schema}
+use Rattle.broker_tables.specs.Numbers.{numbered}
+use Rattle.broker_tables.specs.Holds.{IsBroker}
+use Rattle.broker_tables.proofs.Newest.{newest as newest_count}
+use Rattle.broker_tables.proofs.Frames.{meant, frame_of, Frame, is_other, still_broker}
+use Rattle.broker_tables.specs.Rows.{rows_of}
+use Rattle.broker_tables.proofs.Placed.{contents, contents_there}
+use Rattle.broker_core.specs.Text.{same_text}
+use Rattle.content_store.specs.Contents.{ContentsBy, AreContentsBy, with_digest_by, text_in, is_among, found_in, IsPut}
+use Rattle.content_store.proofs.TextNumbers.{same_is, none_before, with_new}
+use Rattle.content_store.proofs.NextRow.{next_row}
+
+module _ (db : Database) (broker : IsBroker db) where
+  pub numbered_rows : IsNumbered (db.trees 14)
+  numbered_rows = at_has _ db.schema.tables contents broker.kept.numbered (has_place _ 7 contents (contents_there db broker))
+
+  pub ids : (r : Row) → Has (db.trees 14) r → column r 0 ≡ Int (whole_at 0 r)
+  ids r has = int_is (rowid r) (at_has _ (db.trees 14) r numbered_rows.1 has)
+
+  pub digests : (r : Row) → Has (db.trees 14) r → column r 2 ≡ Text (text 2 r)
+  digests r has = text_at db broker.kept.sound contents (has_place _ 7 contents (contents_there db broker)) r has 1 _ refl refl refl refl refl
+
+-- a query leaves all as it was
+pub read_same : {command : Command} (sql : List ℕ) (params : Row) (old new : State) (rows : List Row) → Means old.now.schema sql command → Shown sql params old new rows → new.now ≡ old.now
+read_same sql params old new rows means shown = (shown_unchanged sql params old new rows means.plain shown).0.now_is
+
+-- ---- the text with a number
+
+abbrev pub body_sql : List ℕ
+body_sql = codes "SELECT body FROM contents WHERE number = ?1"
+
+abbrev pub body_command : Command
+body_command = Select (record { lets = []; body = from_table 14 (op2 (Compare Eq Binary) (col 1 0) (col 0 0) ∷ []) (col 1 3 ∷ []) [] }) (codes "body" ∷ [])
+
+body_text : Means broker_schema body_sql body_command
+unfolding understood everything
+body_text = record { is = refl; plain = (refl, refl); unlisted = refl }
+
+pub body_means : (db : Database) → IsBroker db → Means db.schema body_sql body_command
+body_means db broker = meant db broker body_sql body_text
+
+-- ---- how many texts there are
+
+abbrev pub count_sql : List ℕ
+count_sql = codes "SELECT number FROM contents ORDER BY number DESC LIMIT 1"
+
+abbrev pub count_command : Command
+count_command = Select (record { lets = []; body = up_to 1 (from_table 14 [] (col 1 0 ∷ []) newest) }) (codes "number" ∷ [])
+
+count_text : Means broker_schema count_sql count_command
+unfolding understood everything
+count_text = record { is = refl; plain = (refl, refl); unlisted = refl }
+
+pub count_means : (db : Database) → IsBroker db → Means db.schema count_sql count_command
+count_means db broker = meant db broker count_sql count_text
+
+pub contents_counted : (digest : List ℕ → List ℕ) (old new : State) (rows : List Row) (texts : List (List ℕ)) (found : Option ℕ) → ContentsBy digest old.now texts → Shown count_sql [] old new rows
+    → option_map (λ n. Int (pos n)) found ≡ option_map (λ row. column row 0) (slice_get rows 0) → unwrap_or found 0 ≡ length texts
+contents_counted digest old new rows texts found held h read =
+    newest_count (λ r. (text 2 r, text 3 r)) (old.now.trees 14) (map (with_digest_by digest) texts) found held.are
+    (newest_number count_sql old new 14 _ (count_means old.now held.broker) (numbered_rows old.now held.broker) rows h found read)
+    ∙ length-map texts (with_digest_by digest)
+
+-- ---- the text with a number, in the rows
+
+differ : (a b : ℕ) → (a ≡ b → ⊥) → eq_by_cmp int_cmp (pos a) (pos b) ≡ false
+differ a b apart = go (eq_by_cmp int_cmp (pos a) (pos b)) refl
+  where
+    go : (t : Bool) → eq_by_cmp int_cmp (pos a) (pos b) ≡ t → eq_by_cmp int_cmp (pos a) (pos b) ≡ false
+    go true e = absurd (let same : pos a ≡ pos b = int_cmp-IsAntisymmetric (pos a) (pos b) ((Equal-is (int_cmp (pos a) (pos b))).0 e) in let nats : a ≡ b = cc in apart nats)
+    go false e = e
+
+abbrev numbers_from : ℕ → List (List ℕ) → List (ℤ × List ℕ)
+numbers_from m texts = map (λ e. (pos e.0, e.1)) (enumerate_from m texts)
+
+-- no number is below the first
+none_below : (m : ℕ) (texts : List (List ℕ)) (n : ℕ) → n < m → find int_cmp (pos n) (numbers_from m texts) ≡ None
+none_below m [] n low = refl
+none_below m (t ∷ texts) n low = ap (λ b. cond b (Some t) (find int_cmp (pos n) (numbers_from (m + 1) texts))) (differ n m (λ same. omega (arith, low, same))) ∙ none_below (m + 1) texts n (omega (arith, low))
+
+at_place : (m : ℕ) (texts : List (List ℕ)) (i : ℕ) → find int_cmp (pos (m + i)) (numbers_from m texts) ≡ slice_get texts i
+at_place m [] i = refl
+at_place m (t ∷ texts) zero = ap (λ b. cond b (Some t) (find int_cmp (pos (m + 0)) (numbers_from (m + 1) texts))) (ap (λ k. eq_by_cmp int_cmp (pos k) (pos m)) (let e : m + 0 ≡ m = omega arith in e) ∙ (eq_by_cmp_equiv int_cmp_total).refl (pos m))
+at_place m (t ∷ texts) (suc i) =
+    ap (λ b. cond b (Some t) (find int_cmp (pos (m + suc i)) (numbers_from (m + 1) texts))) (differ (m + suc i) m (λ same. omega (arith, same)))
+    ∙ ap (λ k. find int_cmp (pos k) (numbers_from (m + 1) texts)) (let e : m + suc i ≡ m + 1 + i = omega arith in e) ∙ at_place (m + 1) texts i
+
+by_number : (texts : List (List ℕ)) (n : ℕ) → find int_cmp (pos n) (numbers_from 1 texts) ≡ text_in texts n
+by_number texts zero = none_below 1 texts 0 (omega arith)
+by_number texts (suc i) = ap (λ k. find int_cmp (pos k) (numbers_from 1 texts)) (let e : suc i ≡ 1 + i = omega arith in e) ∙ at_place 1 texts i
+    ∙ ap (λ k. slice_get texts k) (let e : i ≡ suc i - 1 = omega arith in e) ∙ sym (ap (λ b. cond b None (slice_get texts (suc i - 1))) (ne_eqb (suc i) 0 (λ e. omega (arith, e))))
+
+-- the row of a number has its text
+bodies : (digest : List ℕ → List ℕ) (rows : List Row) (texts : List (List ℕ)) → AreContentsBy digest texts rows → map {B = ℤ × List ℕ} (λ r. (whole_at 0 r, text 3 r)) rows ≡ numbers_from 1 texts
+bodies digest rows texts is = sym (turned rows) ∙ ap (map turn) is ∙ without 1 texts
+  where
+    turn : ℤ × (List ℕ × List ℕ) → ℤ × List ℕ
+    turn e = (e.0, e.1.1)
+
+    turned : (rs : List Row) → map turn (map {B = ℤ × (List ℕ × List ℕ)} (λ r. (whole_at 0 r, (text 2 r, text 3 r))) rs) ≡ map {B = ℤ × List ℕ} (λ r. (whole_at 0 r, text 3 r)) rs
+    turned [] = refl
+    turned (r ∷ rs) = ap (λ more. (whole_at 0 r, text 3 r) ∷ more) (turned rs)
+
+    without : (m : ℕ) (ts : List (List ℕ)) → map turn (map (λ e. (pos e.0, e.1)) (enumerate_from m (map (with_digest_by digest) ts))) ≡ numbers_from m ts
+    without m [] = refl
+    without m (t ∷ ts) = ap (λ more. (pos m, t) ∷ more) (without (m + 1) ts)
+
+by_id : (db : Database) (broker : IsBroker db) (z : ℤ) → AllByRecursion (λ r. keeps (op2 (Compare Eq Binary) (col 1 0) (col 0 0) ∷ []) (Int z ∷ []) r ≡ eq_by_cmp int_cmp z (whole_at 0 r)) (db.trees 14)
+by_id db broker z = all_of _ (db.trees 14) (λ r has. and_true _ ∙ test r has)
+  where
+    and_true : (b : Bool) → (b && true) ≡ b
+    and_true true = refl
+    and_true false = refl
+
+    test : (r : Row) → Has (db.trees 14) r → is_true (binary (Compare Eq Binary) (column r 0) (Int z)) ≡ eq_by_cmp int_cmp z (whole_at 0 r)
+    test r has = ap (λ v. is_true (binary (Compare Eq Binary) v (Int z))) (ids db broker r has) ∙ same_ints (whole_at 0 r) z ∙ (eq_by_cmp_equiv int_cmp_total).symm (whole_at 0 r) z
+
+pub body_found : (digest : List ℕ → List ℕ) (z : ℤ) (n : ℕ) → z ≡ pos n → (old new : State) (rows : List Row) (texts : List (List ℕ)) → ContentsBy digest old.now texts → Shown body_sql (Int z ∷ []) old new rows
+    → option_map (text 0) (slice_get rows 0) ≡ text_in texts n
+body_found digest z n is old new rows texts held h =
+    looks_up_at int_cmp_total int_cmp-IsAntisymmetric (whole_at 0) (text 3) _ (text 0) (λ r. refl) z _ (old.now.trees 14) rows (by_id old.now held.broker z) (numbers_once (old.now.trees 14) (numbered_rows old.now held.broker))
+    (selects body_sql (Int z ∷ []) old new 14 _ _ _ _ (body_means old.now held.broker) rows h)
+    ∙ ap (find int_cmp z) (bodies digest (old.now.trees 14) texts held.are) ∙ ap (λ k. find int_cmp k (numbers_from 1 texts)) is ∙ by_number texts n
+
+-- ---- the number of a text
+
+abbrev pub found_sql : List ℕ
+found_sql = codes "SELECT number, body FROM contents WHERE digest = ?1 ORDER BY number"
+
+abbrev of_digest : List Term
+of_digest = op2 (Compare Eq Binary) (col 1 2) (col 0 0) ∷ []
+
+abbrev rising : List (Term × Key)
+rising = (col 1 0, record { collation = Binary; descending = false }) ∷ []
+
+abbrev pub found_command : Command
+found_command = Select (record { lets = []; body = from_table 14 of_digest (col 1 0 ∷ col 1 3 ∷ []) rising }) (codes "number" ∷ codes "body" ∷ [])
+
+found_text : Means broker_schema found_sql found_command
+unfolding understood everything
+found_text = record { is = refl; plain = (refl, refl); unlisted = refl }
+
+pub found_means : (db : Database) → IsBroker db → Means db.schema found_sql found_command
+found_means db broker = meant db broker found_sql found_text
+
+-- a list that rises is sorted already
+sort_rising : {X : Type 0} (cmp : X → X → Ordering) (xs : List X) → IsAscending (λ a b. cmp a b ≡ Less) xs → sort_by cmp xs ≡ xs
+sort_rising cmp [] up = refl
+sort_rising {X} cmp (x ∷ xs) up = ap (insert_sorted cmp x) (sort_rising cmp xs up.1) ∙ here xs up.0
+  where
+    here : (ys : List X) → AllByRecursion (λ y. cmp x y ≡ Less) ys → insert_sorted cmp x ys ≡ x ∷ ys
+    here [] all = refl
+    here (y ∷ ys) all = ap (λ o. cond (is_gt o) (y ∷ insert_sorted cmp x ys) (x ∷ y ∷ ys)) all.0
+
+-- the candidates, in the order of their numbers
+candidates : (dg : List ℕ) (old new : State) (rows : List Row) → IsBroker old.now → Shown found_sql (Text dg ∷ []) old new rows
+    → rows ≡ map (shows (col 1 0 ∷ col 1 3 ∷ []) (Text dg ∷ [])) (filter (keeps of_digest (Text dg ∷ [])) (old.now.trees 14))
+candidates dg old new rows broker h =
+    selects_in_order old.now (Text dg ∷ []) 14 of_digest (col 1 0 ∷ col 1 3 ∷ []) rising rows (shown_answers found_sql (Text dg ∷ []) old new _ _ (found_means old.now broker) rows h)
+    (ascending_on _ _ kept (λ a b ha hb less. ap is_eq less) up)
+    ∙ ap (map (shows (col 1 0 ∷ col 1 3 ∷ []) (Text dg ∷ []))) (sort_rising by_query kept up)
+  where
+    kept : List Row
+    kept = filter (keeps of_digest (Text dg ∷ [])) (old.now.trees 14)
+
+    by_query : Row → Row → Ordering
+    by_query a b = sort_cmp rising ((Text dg ∷ []) ∷ a ∷ []) ((Text dg ∷ []) ∷ b ∷ [])
+
+    up : IsAscending (λ a b. by_query a b ≡ Less) kept
+    up = ascending-filter (λ a b. by_query a b ≡ Less) (keeps of_digest (Text dg ∷ [])) (old.now.trees 14) (ascending_on _ _ (old.now.trees 14) (λ a b ha hb less. then-Equal (value_cmp (column a 0) (column b 0)) ∙ less) (numbered_rows old.now broker).0)
+
+module _ (digest : List ℕ → List ℕ) (body dg : List ℕ) (is : digest body ≡ dg) where
+  abbrev Entry : Type 0
+  Entry = ℤ × (List ℕ × List ℕ)
+
+  abbrev entry : Row → Entry
+  entry r = (whole_at 0 r, (text 2 r, text 3 r))
+
+  abbrev shown : Row → Row
+  shown r = shows (col 1 0 ∷ col 1 3 ∷ []) (Text dg ∷ []) r
+
+  abbrev head_of : Entry → List Entry → Entry
+  head_of d [] = d
+  head_of d (e ∷ es) = e
+
+  abbrev rest_of : List Entry → List Entry
+  rest_of [] = []
+  rest_of (e ∷ es) = es
+
+  abbrev place : List (List ℕ) → ℕ
+  place texts = position_or_len (same_text body) texts
+
+  -- of the rows with its digest, the first that has the text is the one of its number
+  first_from : (m : ℕ) (p : Row → Bool) (rows : List Row) (texts : List (List ℕ)) → AllByRecursion (λ r. p r ≡ eq_by_cmp text_cmp dg (text 2 r)) rows
+      → map entry rows ≡ map {B = Entry} (λ e. (pos e.0, e.1)) (enumerate_from m (map (with_digest_by digest) texts))
+      → option_map (whole_at 0) (first (λ row. same_text body (text 1 row)) (map shown (filter p rows))) ≡ cond (is_among texts body) (Some (pos (place texts + m))) None
+  first_from m p [] [] tests h = refl
+  first_from m p [] (t ∷ texts) tests h = absurd (let e = h in cc)
+  first_from m p (r ∷ rows) [] tests h = absurd (let e = h in cc)
+  first_from m p (r ∷ rows) (t ∷ texts) tests h = go (p r) refl (same_text body t) refl (first_from (m + 1) p rows texts tests.1 (ap rest_of h))
+    where
+      one : entry r ≡ (pos m, (digest t, t))
+      one = ap (head_of (entry r)) h
+
+      hits : same_text body (text 3 r) ≡ same_text body t
+      hits = ap (λ (e : Entry). same_text body e.1.1) one
+
+      go : (a : Bool) → p r ≡ a → (b : Bool) → same_text body t ≡ b
+          → option_map (whole_at 0) (first (λ row. same_text body (text 1 row)) (map shown (filter p rows))) ≡ cond (is_among texts body) (Some (pos (place texts + (m + 1)))) None
+          → option_map (whole_at 0) (first (λ row. same_text body (text 1 row)) (map shown (cond a (r ∷ filter p rows) (filter p rows)))) ≡ cond (same_text body t || is_among texts body) (Some (pos (place (t ∷ texts) + m))) None
+      go true e true f later =
+          ap (λ x. option_map (whole_at 0) (cond x (Some (shown r)) (first (λ row. same_text body (text 1 row)) (map shown (filter p rows))))) (hits ∙ f)
+          ∙ ap Some (ap (λ (x : Entry). x.0) one ∙ ap pos (let same : m ≡ 0 + m = omega arith in same)) ∙ sym (ap (λ x. cond (x || is_among texts body) (Some (pos (cond (not x) (1 + place texts) 0 + m))) None) f)
+      go false e true f later =
+          absurd (let same : digest t ≡ dg = ap digest (sym (same_is body t f)) ∙ is in
+          let tied : eq_by_cmp text_cmp dg (text 2 r) ≡ true = ap (eq_by_cmp text_cmp dg) (ap (λ (x : Entry). x.1.0) one ∙ same) ∙ (eq_by_cmp_equiv nat_list_cmp_total).refl dg in
+          let clash : true ≡ false = sym tied ∙ sym tests.0 ∙ e in cc)
+      go true e false f later =
+          ap (λ x. option_map (whole_at 0) (cond x (Some (shown r)) (first (λ row. same_text body (text 1 row)) (map shown (filter p rows))))) (hits ∙ f) ∙ skip f later
+        where
+          skip : same_text body t ≡ false → option_map (whole_at 0) (first (λ row. same_text body (text 1 row)) (map shown (filter p rows))) ≡ cond (is_among texts body) (Some (pos (place texts + (m + 1)))) None
+              → option_map (whole_at 0) (first (λ row. same_text body (text 1 row)) (map shown (filter p rows))) ≡ cond (same_text body t || is_among texts body) (Some (pos (place (t ∷ texts) + m))) None
+          skip f later = later ∙ ap (λ k. cond (is_among texts body) (Some (pos k)) None) (let same : place texts + (m + 1) ≡ 1 + place texts + m = omega arith in same)
+              ∙ sym (ap (λ x. cond (x || is_among texts body) (Some (pos (cond (not x) (1 + place texts) 0 + m))) None) f)
+      go false e false f later =
+          later ∙ ap (λ k. cond (is_among texts body) (Some (pos k)) None) (let same : place texts + (m + 1) ≡ 1 + place texts + m = omega arith in same)
+          ∙ sym (ap (λ x. cond (x || is_among texts body) (Some (pos (cond (not x) (1 + place texts) 0 + m))) None) f)
+
+  pub number_found : (old new : State) (rows : List Row) (texts : List (List ℕ)) (found : Option ℕ) → ContentsBy digest old.now texts → Shown found_sql (Text dg ∷ []) old new rows
+      → option_map (λ n. Int (pos n)) found ≡ option_map (λ row. column row 0) (first (λ row. same_text body (text 1 row)) rows) → found ≡ found_in texts body
+  number_found old new rows texts found held h read =
+      named found (is_among texts body) (twice found ∙ ap (option_map id_in) read ∙ inner (first (λ row. same_text body (text 1 row)) rows)
+      ∙ ap (λ rs. option_map (whole_at 0) (first (λ row. same_text body (text 1 row)) rs)) (candidates dg old new rows held.broker h)
+      ∙ first_from 1 (keeps of_digest (Text dg ∷ [])) (old.now.trees 14) texts (by_text (old.now.trees 14) 2 dg (digests old.now held.broker)) held.are)
+    where
+      twice : (x : Option ℕ) → option_map pos x ≡ option_map id_in (option_map (λ n. Int (pos n)) x)
+      twice None = refl
+      twice (Some n) = refl
+
+      inner : (x : Option Row) → option_map id_in (option_map (λ row. column row 0) x) ≡ option_map (whole_at 0) x
+      inner None = refl
+      inner (Some r) = refl
+
+      named : (x : Option ℕ) (b : Bool) → option_map pos x ≡ cond b (Some (pos (place texts + 1))) None → x ≡ cond b (Some (place texts + 1)) None
+      named None true e = absurd cc
+      named None false e = refl
+      named (Some n) true e = let same : n ≡ place texts + 1 = cc in ap Some same
+      named (Some n) false e = absurd cc
+
+-- ---- a text is put under the next number
+
+abbrev pub put_sql : List ℕ
+put_sql = codes "INSERT INTO contents (number, digest, body) VALUES (?1, ?2, ?3)"
+
+abbrev put_command : Command
+put_command = Insert 7 (Values (col 0 0 ∷ lit Null ∷ col 0 1 ∷ col 0 2 ∷ []) 4)
+
+put_text : Means broker_schema put_sql put_command
+unfolding understood everything
+put_text = record { is = refl; plain = (refl, refl); unlisted = refl }
+
+-- of a change of this table alone
+others_kept : (name : List ℕ) (ts : List Table) (old new : Database) → AllByRecursion (λ n. is_other (name ∷ []) n ≡ true → rows_of new n ≡ rows_of old n) (map (λ t. t.name) ts) → AllByRecursion (λ t. same_text t.name name ≡ false → rows_of new t.name ≡ rows_of old t.name) ts
+others_kept name [] old new all = tt
+others_kept name (t ∷ ts) old new all = (λ apart. all.0 (ap (λ b. not (b || false)) apart), others_kept name ts old new all.1)
+
+digests_grow : (digest : List ℕ → List ℕ) (texts : List (List ℕ)) (body : List ℕ) → map (with_digest_by digest) texts ++ (digest body, body) ∷ [] ≡ map (with_digest_by digest) (texts ++ body ∷ [])
+digests_grow digest [] body = refl
+digests_grow digest (t ∷ texts) body = ap (λ more. (digest t, t) ∷ more) (digests_grow digest texts body)
+
+pub content_put : (digest : List ℕ → List ℕ) (number : ℕ) (dg body : List ℕ) → digest body ≡ dg → (old new : State) (count : ℕ) (texts : List (List ℕ)) → ContentsBy digest old.now texts → is_among texts body ≡ false → number ≡ length texts + 1
+    → Executes put_sql (Int (pos number) ∷ Text dg ∷ Text body ∷ []) old new (Ok count) → IsPut digest body texts number old.now new.now
+content_put digest number dg body by old new count texts held free is h =
+    let made = Int (pos number) ∷ Null ∷ Text dg ∷ Text body ∷ [] in
+    let as_stored = ap (λ v. with_rowid Chosen (old.now.trees 14) (v ∷ cast_all contents.columns (Null ∷ Text dg ∷ Text body ∷ []))) (cast_int (pos number)) ∙ ap (λ v. Int (pos number) ∷ v ∷ Text dg ∷ Text body ∷ []) cast_null in
+    let it = inserts (codes "contents") 14 contents.columns (Some 0) (0 ∷ []) contents.uniques contents.orders [] contents.references put_sql (Int (pos number) ∷ Text dg ∷ Text body ∷ []) old new 7 (contents_there old.now held.broker)
+    _ _ made made refl as_stored (meant old.now held.broker put_sql put_text) count h in
+    let frame : Frame (codes "contents" ∷ []) old.now new.now = frame_of (codes "contents" ∷ []) 14 refl old new held.broker it.0 in
+    let broker : IsBroker new.now = still_broker (codes "contents" ∷ []) old.now new.now frame held.broker in
+    let entry : Row → List ℕ × List ℕ = λ r. (text 2 r, text 3 r) in
+    let rows : AreContentsBy digest (texts ++ body ∷ []) (new.now.trees 14) =
+    next_row entry (map (with_digest_by digest) texts) (old.now.trees 14) (new.now.trees 14) made held.are (numbered_rows new.now broker) (ap pos (is ∙ ap (λ k. k + 1) (sym (length-map texts (with_digest_by digest))))) it.1
+    ∙ ap (λ d. numbered (map (with_digest_by digest) texts ++ (d, body) ∷ [])) (sym by) ∙ ap numbered (digests_grow digest texts body) in
+    record {
+      number_is = is ∙ ap (λ k. k + 1) (sym (none_before texts body free));
+      contents = subst (ContentsBy digest new.now) (sym (with_new texts body free)) (record { broker = broker; are = rows });
+      others = others_kept (codes "contents") broker_schema.tables old.now new.now frame.others;
+      same = λ there. absurd (let clash : true ≡ false = sym there ∙ free in cc);
+    }

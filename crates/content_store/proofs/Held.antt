@@ -1,0 +1,73 @@
+-- The calls on contents, where all were stored by SHA-256 and the database holds a state of the broker.
+use Rattle.std.proofs.Common.{◌≡◌, ℕ, List, [], ◌∷◌, ◌++◌, map, Bool, true, false, not, ◌||◌, cond, codes, refl, sym, ap, subst, ◌∙◌, Result}
+use Rattle.std.specs.Prelude.{⊤}
+use Rattle.std.specs.List.{AllByRecursion}
+use Rattle.sqlite.specs.Table.{Table}
+use Rattle.sqlite.specs.Effect.{Database}
+use Rattle.sqlite.specs.State.{State}
+use Rattle.sha2.specs.Sha256.{sha256}
+use Rattle.table_access.specs.declared.Fault.{Fault}
+use Rattle.table_access.specs.Calls.{Call, Statement}
+use Rattle.table_access.proofs.CallLemmas.{call_with, statement_with}
+use Rattle.broker_core.specs.Text.{Text, same_text}
+use Rattle.broker_core.specs.State.{State as Broker}
+use Rattle.broker_core.specs.Change.{is_stored, number_of, stored}
+use Rattle.broker_tables.specs.Schema.{broker_schema}
+use Rattle.broker_tables.specs.Rows.{rows_of}
+use Rattle.broker_tables.specs.Numbers.{numbered}
+use Rattle.broker_tables.specs.Holds.{Holds, with_digest, IsRead, Reads, ReadsInPlace, Gives}
+use Rattle.broker_tables.proofs.Frames.{Frame, is_other, contents_change}
+use Rattle.content_store.specs.Contents.{hex_of, ContentsBy, IsReadBy, IsReadByAny, IsPut, IsPutBy}
+
+-- what a state says of contents is that they are stored by SHA-256
+pub contents_held : (db : Database) (s : Broker) → Holds db s → ContentsBy (hex_of sha256) db s.contents
+contents_held db s held = record { broker = held.broker; are = held.contents }
+
+-- where there are no contents yet, all were stored by any digest
+pub no_contents : (digest : Text → Text) (db : Database) (s : Broker) → Holds db s → s.contents ≡ [] → ContentsBy digest db []
+no_contents digest db s held none = record { broker = held.broker; are = held.contents ∙ ap (λ texts. numbered (map with_digest texts)) none }
+
+-- ---- a read
+
+pub read_held : {A : Type 0} (old new : State) (P : A → List Text → Type 0) (a : A) → IsReadBy (hex_of sha256) old new P a → IsRead old new (λ x s. P x s.contents) a
+read_held old new P a read s held = let it = read s.contents (contents_held old.now s held) in (it.0, subst (λ d. Holds d s) (sym it.1) held)
+
+pub reads_held : {A : Type 0} (old new : State) (r : Result A Fault) (P : A → List Text → Type 0) → Call old new r (IsReadByAny old new P) → Reads old new r (λ a s. P a s.contents)
+reads_held old new r P = call_with old new r _ _ (λ a read. read_held old new P a (read (hex_of sha256)))
+
+pub counts_held : {A : Type 0} (old new : State) (r : Result A Fault) (P : A → List Text → Type 0) → Statement old new r (IsReadByAny old new P) → ReadsInPlace old new r (λ a s. P a s.contents)
+counts_held old new r P = statement_with old new r _ _ (λ a read. read_held old new P a (read (hex_of sha256)))
+
+pub finds_held : {A : Type 0} (old new : State) (r : Result A Fault) (P : A → List Text → Type 0) → Statement old new r (IsReadBy (hex_of sha256) old new P) → ReadsInPlace old new r (λ a s. P a s.contents)
+finds_held old new r P = statement_with old new r _ _ (λ a read. read_held old new P a read)
+
+-- ---- a text is put
+
+is_apart : (name other : List ℕ) → is_other (other ∷ []) name ≡ true → same_text name other ≡ false
+is_apart name other h = go (same_text name other) h
+  where
+    go : (b : Bool) → not (b || false) ≡ true → b ≡ false
+    go true e = absurd cc
+    go false e = refl
+
+named : (name : List ℕ) (ts : List Table) (old new : Database) → AllByRecursion (λ t. same_text t.name name ≡ false → rows_of new t.name ≡ rows_of old t.name) ts → AllByRecursion (λ n. is_other (name ∷ []) n ≡ true → rows_of new n ≡ rows_of old n) (map (λ t. t.name) ts)
+named name [] old new all = tt
+named name (t ∷ ts) old new all = (λ other. all.0 (is_apart t.name name other), named name ts old new all.1)
+
+pub put_frame : (digest : Text → Text) (body : Text) (texts : List Text) (number : ℕ) (old new : Database) → ContentsBy digest old texts → IsPut digest body texts number old new → Frame (codes "contents" ∷ []) old new
+put_frame digest body texts number old new held put = record {
+  schema = put.contents.broker.schema ∙ sym held.broker.schema;
+  kept = λ _. put.contents.broker.kept;
+  others = named (codes "contents") broker_schema.tables old new put.others;
+}
+
+-- what is held afterwards, by the machine's own words
+pub put_held : (old new : Database) (s : Broker) (body : Text) (number : ℕ) → Holds old s → IsPut (hex_of sha256) body s.contents number old new → (number ≡ number_of s body) × Holds new (stored s body)
+put_held old new s body number held put = (put.number_is, go (is_stored s body) refl put.contents)
+  where
+    go : (b : Bool) → is_stored s body ≡ b → ContentsBy (hex_of sha256) new (cond b s.contents (s.contents ++ body ∷ [])) → Holds new (cond b s (record s { contents = s.contents ++ body ∷ [] }))
+    go true e are = subst (λ d. Holds d s) (sym (put.same e)) held
+    go false e are = contents_change old new s (s.contents ++ body ∷ []) held (put_frame (hex_of sha256) body s.contents number old new (contents_held old s held) put) are.are
+
+pub puts_held : (old new : State) (r : Result ℕ Fault) (body : Text) → Statement old new r (IsPutBy (hex_of sha256) body old new) → Gives old new r (λ s. ⊤) (λ number s t. (number ≡ number_of s body) × (t ≡ stored s body))
+puts_held old new r body = statement_with old new r _ _ (λ number puts s held free. let it = put_held old.now new.now s body number held (puts s.contents (contents_held old.now s held)) in (stored s body, (it.0, refl), it.1))

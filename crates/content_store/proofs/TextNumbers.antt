@@ -1,0 +1,29 @@
+-- Texts and their numbers.
+use Rattle.std.proofs.Common.{◌≡◌, cond, List, [], ◌∷◌, ◌++◌, length, true, false, Bool, ◌||◌, refl, sym, ap, ◌∙◌, arith}
+use Rattle.std.specs.List.{position_or_len}
+use Rattle.std.specs.Cmp.{eq_by_cmp_equiv, Equal-is}
+use Rattle.std.specs.Cmp.Lexicographic.{texts_ties, nat_list_cmp_total}
+use Rattle.table_access.specs.Columns.{text_cmp}
+use Rattle.broker_core.specs.Text.{Text, same_text}
+use Rattle.broker_tables.proofs.Orders.{exact_texts}
+use Rattle.content_store.specs.Contents.{is_among, with_text}
+
+-- texts that are the same by their bytes are equal
+pub same_is : (a b : Text) → same_text a b ≡ true → a ≡ b
+same_is a b e = exact_texts a b ((Equal-is (text_cmp a b)).0 (sym (texts_ties a b) ∙ e))
+
+pub same_itself : (a : Text) → same_text a a ≡ true
+same_itself a = texts_ties a a ∙ (eq_by_cmp_equiv nat_list_cmp_total).refl a
+
+-- a text that isn't there gets the next number
+pub none_before : (texts : List Text) (body : Text) → is_among texts body ≡ false → position_or_len (same_text body) texts ≡ length texts
+none_before [] body free = refl
+none_before (t ∷ texts) body free = go (same_text body t) refl free (none_before texts body)
+  where
+    go : (b : Bool) → same_text body t ≡ b → (b || is_among texts body) ≡ false → (is_among texts body ≡ false → position_or_len (same_text body) texts ≡ length texts) → position_or_len (same_text body) (t ∷ texts) ≡ length (t ∷ texts)
+    go true e h more = absurd cc
+    go false e h more = rw e (omega (arith, more h))
+
+-- a text that isn't there comes last
+pub with_new : (texts : List Text) (body : Text) → is_among texts body ≡ false → with_text texts body ≡ texts ++ body ∷ []
+with_new texts body e = ap (λ b. cond b texts (texts ++ body ∷ [])) e

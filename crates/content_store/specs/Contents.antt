@@ -1,0 +1,92 @@
+-- The contents that a database holds, by any digest, and how a call on them is stated.
+use Rattle.std.specs.Prelude.{◌≡◌, ◌==◌, ◌-◌, ◌+◌, ℕ, List, [], ◌∷◌, ◌++◌, map, Bool, true, false, Option, Some, None, codes, slice_get, length, ⊤, if◌then◌else◌}
+use Rattle.std.specs.List.{AllByRecursion, list_any, position_or_len}
+use Rattle.sqlite.specs.Order.{Row}
+use Rattle.sqlite.specs.Effect.{Database}
+use Rattle.sqlite.specs.State.{State}
+use Rattle.hex.specs.Hex.{encode_lower}
+use Rattle.table_access.specs.Columns.{text, whole_at}
+use Rattle.broker_core.specs.Text.{Text, same_text}
+use Rattle.broker_tables.specs.Schema.{broker_schema}
+use Rattle.broker_tables.specs.Rows.{rows_of}
+use Rattle.broker_tables.specs.Numbers.{numbered}
+use Rattle.broker_tables.specs.Holds.{IsBroker}
+
+-- a function from bytes to bytes, as the table has what it answers: 2 digits for each byte
+abbrev pub hex_of : (List ℕ → List ℕ) → Text → Text
+hex_of digest body = encode_lower (digest body)
+
+-- ---- the table
+
+-- a text with its digest
+abbrev pub with_digest_by : (Text → Text) → Text → Text × Text
+with_digest_by digest body = (digest body, body)
+
+-- the texts in the order of their numbers, from 1 without gaps, each with its digest
+abbrev pub AreContentsBy : (Text → Text) → List Text → List Row → Type 0
+AreContentsBy digest texts rows = map (λ r. (whole_at 0 r, (text 2 r, text 3 r))) rows ≡ numbered (map (with_digest_by digest) texts)
+
+-- The tables are the broker's, and the one of contents has these texts. All of them were stored by this digest.
+pub record ContentsBy (digest : Text → Text) (db : Database) (texts : List Text) : Type 0 where
+  pub broker : IsBroker db
+  pub are : AreContentsBy digest texts (rows_of db (codes "contents"))
+
+-- each table but this one is as it was
+abbrev pub KeepsOthers : List ℕ → Database → Database → Type 0
+KeepsOthers name old new = AllByRecursion (λ t. same_text t.name name ≡ false → rows_of new t.name ≡ rows_of old t.name) broker_schema.tables
+
+-- ---- texts and their numbers
+
+-- the text is one of them
+abbrev pub is_among : List Text → Text → Bool
+is_among texts body = list_any (same_text body) texts
+
+-- the number of the first that is this text; the next number where none is
+abbrev pub number_in : List Text → Text → ℕ
+number_in texts body = position_or_len (same_text body) texts + 1
+
+-- its number, where it is one of them
+abbrev pub found_in : List Text → Text → Option ℕ
+found_in texts body = if is_among texts body then Some (number_in texts body) else None
+
+-- the text with this number
+abbrev pub text_in : List Text → ℕ → Option Text
+text_in texts number = if number == 0 then None else slice_get texts (number - 1)
+
+-- the text is one of them, at the end where it wasn't
+abbrev pub with_text : List Text → Text → List Text
+with_text texts body = if is_among texts body then texts else texts ++ body ∷ []
+
+-- no text stands twice
+abbrev pub AreApart : List Text → Type 0
+AreApart [] = ⊤
+AreApart (body ∷ texts) = (is_among texts body ≡ false) × AreApart texts
+
+-- ---- how a call is stated
+
+-- an answer about the contents, all stored by this digest; nothing changes
+abbrev pub IsReadBy : {A : Type 0} → (Text → Text) → State → State → (A → List Text → Type 0) → A → Type 0
+IsReadBy digest old new P a = (texts : List Text) → ContentsBy digest old.now texts → P a texts × (new.now ≡ old.now)
+
+-- the same, whatever the digest is
+abbrev pub IsReadByAny : {A : Type 0} → State → State → (A → List Text → Type 0) → A → Type 0
+IsReadByAny old new P a = (digest : Text → Text) → IsReadBy digest old new P a
+
+-- The text has this number, and it is one of the contents now. Where it was one before, nothing changes; else it is the last. All other tables are as they were.
+pub record IsPut (digest : Text → Text) (body : Text) (texts : List Text) (number : ℕ) (old new : Database) : Type 0 where
+  pub number_is : number ≡ number_in texts body
+  pub contents : ContentsBy digest new (with_text texts body)
+  pub others : KeepsOthers (codes "contents") old new
+  pub same : is_among texts body ≡ true → new ≡ old
+
+-- a text is put among the contents, all stored by this digest
+abbrev pub IsPutBy : (Text → Text) → Text → State → State → ℕ → Type 0
+IsPutBy digest body old new number = (texts : List Text) → ContentsBy digest old.now texts → IsPut digest body texts number old.now new.now
+
+-- a text that isn't there is put among them, whatever its number is to be
+abbrev pub IsNewBy : (Text → Text) → Text → State → State → ℕ → Type 0
+IsNewBy digest body old new number = (texts : List Text) → ContentsBy digest old.now texts → is_among texts body ≡ false → IsPut digest body texts number old.now new.now
+
+-- a text that isn't there is put among them under the number that is its own
+abbrev pub IsPutUnder : (Text → Text) → Text → State → State → ℕ → Type 0
+IsPutUnder digest body old new number = (texts : List Text) → ContentsBy digest old.now texts → is_among texts body ≡ false → number ≡ length texts + 1 → IsPut digest body texts number old.now new.now

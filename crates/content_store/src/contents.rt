@@ -1,0 +1,182 @@
+//! The normal texts of pacts, each once under its number, beside its digest.
+ghost use Rattle.std.specs.Prelude.{◌≡◌, ◌+◌, ◌≤◌, pos, List, ℕ, IfOk, IfErr, IfSome, IfNone, length, option_map, string_bytes};
+ghost use Rattle.std.specs.List.{find as first};
+ghost use Rattle.sqlite.specs.Held.{state};
+ghost use Rattle.sqlite.specs.Order.{column};
+ghost use Rattle.sqlite.specs.declared.types.Value.TheVariants.{Int};
+ghost use Rattle.hex.specs.Hex.{encode_lower};
+ghost use Rattle.table_access.specs.Calls.{Call, Statement};
+ghost use Rattle.table_access.specs.Columns.{text};
+ghost use Rattle.broker_core.specs.Text.{Text, same_text};
+ghost use Rattle.content_store.specs.Contents.{hex_of, found_in, text_in, IsReadBy, IsReadByAny, IsPutBy, IsPutUnder, IsNewBy};
+
+use crate::digester::{Digester, digest_digits};
+use sqlite::types::{ToSql, ValueRef};
+use sqlite::{Alter, Connection, Row, params};
+use table_access::{Fault, change, number_in, number_of, select, text_at, text_of};
+
+/// The text with this number, or `None` where there is none.
+///
+/// # Errors
+/// `Fault::Memory` for want of memory; `Fault::Store` where the database refused the query, or for a number above 2^63 - 1, which no row can have.
+pub fn get<S: Alter>(conn: &mut Connection<S>, number: u64) -> Result<Option<String>, Fault>
+    ensures { Call (state S.Store conn.old) (state S.Store conn.new) result (IsReadByAny (state S.Store conn.old) (state S.Store conn.new) (λ found texts. option_map string_bytes found ≡ text_in texts number)) }
+{
+    match i64::try_from(number) {
+        Ok(number) => text_of(
+            conn,
+            "SELECT body FROM contents WHERE number = ?1",
+            params![number],
+        ),
+        Err(_) => Err(Fault::Store),
+    }
+}
+
+/// How many texts there are: the number of the newest, or 0.
+///
+/// # Errors
+/// `Fault::Memory` for want of memory; `Fault::Store` where the database refused the query or holds no number there.
+pub fn content_count<S: Alter>(conn: &mut Connection<S>) -> Result<u64, Fault>
+    ensures { Statement (state S.Store conn.old) (state S.Store conn.new) result (IsReadByAny (state S.Store conn.old) (state S.Store conn.new) (λ count texts. count ≡ length texts)) }
+{
+    match number_of(
+        conn,
+        "SELECT number FROM contents ORDER BY number DESC LIMIT 1",
+        &[],
+    ) {
+        Ok(newest) => Ok(newest.unwrap_or(0) as u64),
+        Err(fault) => Err(fault),
+    }
+}
+
+/// Whether this is the row's text. `Fault::Store` where the row has none.
+fn has_text(row: &Row, body: &str) -> Result<bool, Fault>
+    ensures ok { IfOk result (λ has. has ≡ same_text body.now (text 1 row.now)) }
+    ensures store { IfErr result (λ f. f ≡ Fault.Store) }
+{
+    match text_at(row, 1) {
+        Some(found) => Ok(body == found),
+        None => Err(Fault::Store),
+    }
+}
+
+/// The number in the first row that has this text, if one has it. `Fault::Store` where a row has no text, or no number.
+fn number_among(rows: &[Row], body: &str) -> Result<Option<u32>, Fault>
+    ensures ok { IfOk result (λ found. option_map (λ n. Int (pos n)) found ≡ option_map (λ row. column row 0) (first (λ row. same_text body.now (text 1 row)) rows.now)) }
+    ensures store { IfErr result (λ f. f ≡ Fault.Store) }
+{
+    for row in rows {
+        match has_text(row, body) {
+            Ok(true) => match number_in(row) {
+                Ok(number) => return Ok(Some(number)),
+                Err(fault) => return Err(fault),
+            },
+            Ok(false) => {}
+            Err(fault) => return Err(fault),
+        }
+    }
+    Ok(None)
+}
+
+/// The number of a text, whose digest this is. The digest finds the candidates, and their texts are compared with this one.
+fn find_beside<S: Alter>(
+    conn: &mut Connection<S>,
+    digest: &[u8],
+    body: &str,
+) -> Result<Option<u32>, Fault>
+    ensures { Statement (state S.Store conn.old) (state S.Store conn.new) result (λ found. (by : Text → Text) → by body.now ≡ digest.now → IsReadBy by (state S.Store conn.old) (state S.Store conn.new) (λ found texts. found ≡ found_in texts body.now) found) }
+{
+    match select(
+        conn,
+        "SELECT number, body FROM contents WHERE digest = ?1 ORDER BY number",
+        &[ValueRef::Text(digest)],
+    ) {
+        Ok(rows) => number_among(&rows, body),
+        Err(fault) => Err(fault),
+    }
+}
+
+/// The number of the text, or `None` where it isn't stored.
+///
+/// # Errors
+/// `Fault::Memory` for want of memory; `Fault::Store` where the database refused the query, or where a row has no number below 2^32.
+pub fn find<S: Alter, D: Digester>(
+    conn: &mut Connection<S>,
+    digester: &D,
+    body: &str,
+) -> Result<Option<u64>, Fault>
+    ensures { Statement (state S.Store conn.old) (state S.Store conn.new) result (IsReadBy (hex_of D.digest_of) (state S.Store conn.old) (state S.Store conn.new) (λ found texts. found ≡ found_in texts body.now)) }
+{
+    let digest = digest_digits(digester, body.as_bytes());
+    match find_beside(conn, &digest, body) {
+        Ok(Some(number)) => Ok(Some(u64::from(number))),
+        Ok(None) => Ok(None),
+        Err(fault) => Err(fault),
+    }
+}
+
+/// The number after so many, if there is one.
+fn next_number(count: u64) -> Option<u32>
+    ensures some { IfSome result (λ n. n ≡ count + 1) }
+    ensures none { IfNone result (4294967295 ≤ count) }
+{
+    if count < 4_294_967_295 {
+        Some(count as u32 + 1)
+    } else {
+        None
+    }
+}
+
+/// Puts in a text under a number, with this digest.
+fn put_under<'a, S: Alter>(
+    conn: &mut Connection<S>,
+    number: u32,
+    digest: &'a [u8],
+    body: &'a str,
+) -> Result<(), Fault>
+    ensures { Statement (state S.Store conn.old) (state S.Store conn.new) result (λ _. (by : Text → Text) → by body.now ≡ digest.now → IsPutUnder by body.now (state S.Store conn.old) (state S.Store conn.new) number) }
+{
+    change(
+        conn,
+        "INSERT INTO contents (number, digest, body) VALUES (?1, ?2, ?3)",
+        &[number.to_sql(), ValueRef::Text(digest), body.to_sql()],
+    )
+}
+
+/// Adds a text that isn't there, with this digest, and answers its number, which is the next one.
+fn add<S: Alter>(conn: &mut Connection<S>, digest: &[u8], body: &str) -> Result<u32, Fault>
+    ensures { Statement (state S.Store conn.old) (state S.Store conn.new) result (λ number. (by : Text → Text) → by body.now ≡ digest.now → IsNewBy by body.now (state S.Store conn.old) (state S.Store conn.new) number) }
+{
+    match content_count(conn) {
+        Ok(count) => match next_number(count) {
+            Some(number) => match put_under(conn, number, digest, body) {
+                Ok(()) => Ok(number),
+                Err(fault) => Err(fault),
+            },
+            None => Err(Fault::Store),
+        },
+        Err(fault) => Err(fault),
+    }
+}
+
+/// The number of the text, which is stored under the next one where it isn't stored yet. Each text that is there was stored by this digester.
+///
+/// # Errors
+/// `Fault::Memory` for want of memory; `Fault::Store` where the database refused a statement, or where the numbers are used up.
+pub fn put<S: Alter, D: Digester>(
+    conn: &mut Connection<S>,
+    digester: &D,
+    body: &str,
+) -> Result<u64, Fault>
+    ensures { Statement (state S.Store conn.old) (state S.Store conn.new) result (IsPutBy (hex_of D.digest_of) body.now (state S.Store conn.old) (state S.Store conn.new)) }
+{
+    let digest = digest_digits(digester, body.as_bytes());
+    match find_beside(conn, &digest, body) {
+        Ok(Some(number)) => Ok(u64::from(number)),
+        Ok(None) => match add(conn, &digest, body) {
+            Ok(number) => Ok(u64::from(number)),
+            Err(fault) => Err(fault),
+        },
+        Err(fault) => Err(fault),
+    }
+}

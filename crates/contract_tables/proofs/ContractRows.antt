@@ -1,0 +1,142 @@
+-- The statements on contracts.
+use Rattle.std.proofs.Common.{◌≡◌, ℕ, ℤ, pos, codes, List, [], ◌∷◌, Bool, true, false, cond, ◌&&◌, refl, sym, ap, ◌∙◌, slice_get, Some, None, Option, Ok}
+use Rattle.std.specs.Prelude.{option_map, option_and_then}
+use Rattle.std.specs.Ordering.{eq_by_cmp, int_cmp}
+use Rattle.std.specs.Cmp.{int_cmp_total}
+use Rattle.std.specs.Cmp.Lexicographic.{nat_list_cmp_total, texts_ties}
+use Rattle.sqlite.specs.Tree.{IsAscending}
+use Rattle.sqlite.specs.Edit.{next_rowid, with_rowid}
+use Rattle.sqlite.specs.Rowids.TheVariants.{Chosen}
+use Rattle.sqlite.specs.declared.types.Value.TheVariants.{Null, Int, Text}
+use Rattle.sqlite.specs.Order.{Row, column}
+use Rattle.sqlite.specs.Cast.{cast}
+use Rattle.sqlite.specs.Kind.TheVariants.{Integer}
+use Rattle.sqlite.specs.Term.{col, lit}
+use Rattle.sqlite.specs.Source.TheVariants.{Values}
+use Rattle.sqlite.specs.Command.{Command}
+use Rattle.sqlite.specs.Command.TheVariants.{Insert, Select}
+use Rattle.sqlite.specs.Schema.{Schema}
+use Rattle.sqlite.specs.Effect.{Database}
+use Rattle.sqlite.specs.State.{State, Shown, Executes}
+use Rattle.sqlite.specs.Listing.{understood}
+use Rattle.sqlite_rules.specs.Lists.{Has}
+use Rattle.sqlite_tied.specs.Compute.{everything}
+use Rattle.table_access.specs.Columns.{text, text_cmp, whole_at, by_both}
+use Rattle.table_access.specs.Statements.{from_table, by_two, keeps}
+use Rattle.table_access.proofs.Values.{cast_null, cast_int}
+use Rattle.table_access.proofs.Steps.{Means, selects, inserts}
+use Rattle.table_access.proofs.Maps.{looks_up_at, puts_at}
+use Rattle.table_access.proofs.Keys.{apart_by}
+use Rattle.table_access.proofs.Parts.{Part, text_part, whole_part, is_param, where_last, where_and, all_where, agree_last, agree_and, once}
+use Rattle.table_access.proofs.SoundLemmas.{text_at, whole_in, has_place}
+use Rattle.table_access.proofs.ReadLemmas.{number_found}
+use Rattle.broker_core.specs.declared.command.Version.{Version}
+use Rattle.broker_core.specs.Text.{put_at, same_text, same_version, same_pair}
+use Rattle.broker_core.specs.State.{State as Broker}
+use Rattle.broker_tables.specs.Schema.{broker_schema}
+use Rattle.broker_tables.specs.Rows.{value_at}
+use Rattle.broker_tables.specs.Numbers.{number_of}
+use Rattle.broker_tables.specs.Holds.{Holds, IsBroker}
+use Rattle.broker_tables.proofs.Frames.{meant, frame_of, contracts_change}
+use Rattle.broker_tables.proofs.Orders.{marked_total, exact_marked}
+use Rattle.broker_tables.proofs.Ties.{both_eq, two_tests}
+use Rattle.broker_tables.proofs.NumberLemmas.{number_ties, version_unknown}
+use Rattle.broker_tables.proofs.Placed.{contracts, contracts_there}
+
+abbrev pub key : Row → ℤ × List ℕ
+key r = (whole_at 1 r, text 2 r)
+
+-- the content of the contract of a version's number with a provider
+abbrev pub content_at : List Row → ℕ → List ℕ → Option ℤ
+content_at rows n p = value_at (by_both int_cmp text_cmp) key (whole_at 3) rows (pos n, p)
+
+module _ (db : Database) (broker : IsBroker db) where
+  numbers : Part int_cmp Int (db.trees 15) 1 (whole_at 1)
+  numbers = whole_part (db.trees 15) 1 (λ r has. whole_in db broker.kept.sound contracts (has_place _ 8 contracts (contracts_there db broker)) r has 0 _ refl refl refl refl refl)
+
+  providers : Part text_cmp Text (db.trees 15) 2 (text 2)
+  providers = text_part (db.trees 15) 2 (λ r has. text_at db broker.kept.sound contracts (has_place _ 8 contracts (contracts_there db broker)) r has 1 _ refl refl refl refl refl)
+
+  pub keys : IsAscending (λ a b. eq_by_cmp (by_both int_cmp text_cmp) (key a) (key b) ≡ false) (db.trees 15)
+  keys = once (by_both int_cmp text_cmp) (db.trees 15) (1 ∷ 2 ∷ []) key
+      (λ a b ha hb. agree_and int_cmp_total (db.trees 15) 1 (whole_at 1) numbers text_cmp (text 2) (2 ∷ []) a b ha hb (agree_last nat_list_cmp_total (db.trees 15) 2 (text 2) providers a b ha hb))
+      (apart_by db broker.kept contracts 8 (contracts_there db broker) _ 7 (ap (λ (s : Schema). slice_get s.indexes 7) broker.schema) refl)
+
+  by_key : (n : ℕ) (p : List ℕ) → (r : Row) → Has (db.trees 15) r → keeps (by_two 1 2) (Int (pos n) ∷ Text p ∷ []) r ≡ eq_by_cmp (by_both int_cmp text_cmp) (pos n, p) (key r)
+  by_key n p r has =
+      where_and int_cmp_total (db.trees 15) 1 (whole_at 1) numbers text_cmp (text 2) p (is_param 2 1 ∷ []) (Int (pos n) ∷ Text p ∷ []) 0 (pos n) refl r has
+      (where_last nat_list_cmp_total (db.trees 15) 2 (text 2) providers (Int (pos n) ∷ Text p ∷ []) 1 p refl r has)
+
+-- ---- the content of a contract
+
+abbrev pub content_sql : List ℕ
+content_sql = codes "SELECT content FROM contracts WHERE version_number = ?1 AND provider = ?2"
+
+abbrev pub content_command : Command
+content_command = Select (record { lets = []; body = from_table 15 (by_two 1 2) (col 1 3 ∷ []) [] }) (codes "content" ∷ [])
+
+content_text : Means broker_schema content_sql content_command
+unfolding understood everything
+content_text = record { is = refl; plain = (refl, refl); unlisted = refl }
+
+pub content_means : (db : Database) → IsBroker db → Means db.schema content_sql content_command
+content_means db broker = meant db broker content_sql content_text
+
+-- numbers are equal where the columns hold the same
+pub named : (a b : Option ℕ) → option_map pos a ≡ option_map pos b → a ≡ b
+named None None e = refl
+named None (Some n) e = absurd cc
+named (Some k) None e = absurd cc
+named (Some k) (Some n) e = let ints : pos k ≡ pos n = cc in let nats : k ≡ n = cc in ap Some nats
+
+-- what the state has is what the row has
+held_content : (db : Database) (s : Broker) (v : Version) (n : ℕ) (p : List ℕ) → Holds db s → number_of s.versions v ≡ Some n → content_at (db.trees 15) n p ≡ option_map pos (s.contracts (v, p))
+held_content db s v n p held is = sym (ap (option_and_then (λ k. content_at (db.trees 15) k p)) is) ∙ held.contracts v p
+
+pub content_found : (n : ℕ) (p : List ℕ) (old new : State) (rows : List Row) (found : Option ℕ) (s : Broker) (v : Version) → Holds old.now s → number_of s.versions v ≡ Some n → Shown content_sql (Int (pos n) ∷ Text p ∷ []) old new rows
+    → option_map (λ n. Int (pos n)) found ≡ option_map (λ r. column r 0) (slice_get rows 0) → found ≡ s.contracts (v, p)
+content_found n p old new rows found s v held is h read = named found (s.contracts (v, p)) (
+  number_found found rows read
+  ∙ looks_up_at marked_total exact_marked key (whole_at 3) _ (whole_at 0) (λ r. refl) (pos n, p) _ (old.now.trees 15) rows
+      (all_where (by_both int_cmp text_cmp) (old.now.trees 15) key (pos n, p) (by_two 1 2) (Int (pos n) ∷ Text p ∷ []) (by_key old.now held.broker n p)) (keys old.now held.broker)
+      (selects content_sql (Int (pos n) ∷ Text p ∷ []) old new 15 _ _ _ _ (content_means old.now held.broker) rows h)
+  ∙ held_content old.now s v n p held is
+)
+
+-- ---- a contract is put in
+
+abbrev pub add_sql : List ℕ
+add_sql = codes "INSERT INTO contracts (version_number, provider, content) VALUES (?1, ?2, ?3)"
+
+abbrev add_command : Command
+add_command = Insert 8 (Values (lit Null ∷ col 0 0 ∷ col 0 1 ∷ col 0 2 ∷ []) 4)
+
+add_text : Means broker_schema add_sql add_command
+unfolding understood everything
+add_text = record { is = refl; plain = (refl, refl); unlisted = refl }
+
+pub contract_added : (n : ℕ) (p : List ℕ) (content : ℕ) (old new : State) (count : ℕ) (s : Broker) (v : Version) → Holds old.now s → number_of s.versions v ≡ Some n → s.contracts (v, p) ≡ None
+    → Executes add_sql (Int (pos n) ∷ Text p ∷ Int (pos content) ∷ []) old new (Ok count) → Holds new.now (record s { contracts = put_at (same_pair same_version same_text) s.contracts (v, p) (Some content) })
+contract_added n p content old new count s v held is free h =
+    let params = Int (pos n) ∷ Text p ∷ Int (pos content) ∷ [] in
+    let made = Int (next_rowid (old.now.trees 15)) ∷ Int (pos n) ∷ Text p ∷ Int (pos content) ∷ [] in
+    let it = inserts (codes "contracts") 15 contracts.columns None (1 ∷ 2 ∷ []) contracts.uniques contracts.orders [] contracts.references add_sql params old new 8 (contracts_there old.now held.broker)
+    _ _ (Null ∷ params) made refl (λ i. with_rowid Chosen (old.now.trees 15) (cast_null i ∷ cast_int (pos n) i ∷ Text p ∷ cast_int (pos content) i ∷ [])) (meant old.now held.broker add_sql add_text) count h in
+    let put = puts_at marked_total exact_marked key (whole_at 3) (old.now.trees 15) (new.now.trees 15) made it.1 (held_content old.now s v n p held is ∙ ap (option_map pos) free) in
+    contracts_change old.now new.now s _ held (frame_of (codes "contracts" ∷ []) 15 refl old new held.broker it.0) (λ w q. each w q (number_of s.versions w) refl (λ k. put (pos k, q)))
+  where
+    each : (w : Version) (q : List ℕ) (o : Option ℕ) → number_of s.versions w ≡ o
+        → ((k : ℕ) → content_at (new.now.trees 15) k q ≡ cond (eq_by_cmp (by_both int_cmp text_cmp) (pos k, q) (pos n, p)) (Some (pos content)) (content_at (old.now.trees 15) k q))
+        → option_and_then (λ k. content_at (new.now.trees 15) k q) (number_of s.versions w) ≡ option_map pos (put_at (same_pair same_version same_text) s.contracts (v, p) (Some content) (w, q))
+    each w q None e put =
+        ap (option_and_then (λ k. content_at (new.now.trees 15) k q)) e ∙ sym (ap (option_and_then (λ k. content_at (old.now.trees 15) k q)) e) ∙ held.contracts w q
+        ∙ sym (ap (λ t. option_map pos (cond (t && same_text q p) (Some content) (s.contracts (w, q)))) (version_unknown s.versions w v n e is))
+    each w q (Some k) e put =
+        let same : (same_version w v && same_text q p) ≡ eq_by_cmp (by_both int_cmp text_cmp) (pos k, q) (pos n, p) =
+        two_tests (same_version w v) (same_text q p) (eq_by_cmp int_cmp (pos k) (pos n)) (eq_by_cmp text_cmp q p) (number_ties s.versions w v k n e is) (texts_ties q p) ∙ both_eq (int_cmp (pos k) (pos n)) (text_cmp q p) in
+        ap (option_and_then (λ m. content_at (new.now.trees 15) m q)) e ∙ put k ∙ go (eq_by_cmp (by_both int_cmp text_cmp) (pos k, q) (pos n, p)) (held_content old.now s w k q held e)
+        ∙ sym (ap (λ b. option_map pos (cond b (Some content) (s.contracts (w, q)))) same)
+      where
+        go : (b : Bool) → content_at (old.now.trees 15) k q ≡ option_map pos (s.contracts (w, q)) → cond b (Some (pos content)) (content_at (old.now.trees 15) k q) ≡ option_map pos (cond b (Some content) (s.contracts (w, q)))
+        go true was = refl
+        go false was = was

@@ -1,0 +1,47 @@
+//! The contracts of consumers' versions with providers.
+ghost use Rattle.std.specs.Prelude.{◌≡◌, Some};
+ghost use Rattle.sqlite.specs.Held.{state};
+ghost use Rattle.broker_core.specs.declared.command.Version.{Version as VersionModel};
+ghost use Rattle.broker_tables.specs.Numbers.{number_of as number_in};
+ghost use Rattle.broker_tables.specs.Holds.{ReadsInPlace, Changes};
+ghost use Rattle.contract_tables.specs.Verified.{AddsContract};
+
+use sqlite::{Alter, Connection, params};
+use table_access::{Fault, change, number_of};
+
+/// The number of the content that the version of this number has for the provider, or `None` where it has no contract with it.
+///
+/// # Errors
+/// `Fault::Memory` for want of memory; `Fault::Store` where the database refused the query or holds no number there.
+pub fn contract_of<S: Alter>(
+    conn: &mut Connection<S>,
+    version_number: u32,
+    provider: &str,
+) -> Result<Option<u32>, Fault>
+    ensures { ReadsInPlace (state S.Store conn.old) (state S.Store conn.new) result (λ found s. (v : VersionModel) → number_in s.versions v ≡ Some version_number → found ≡ s.contracts (v, provider.now)) }
+{
+    number_of(
+        conn,
+        "SELECT content FROM contracts WHERE version_number = ?1 AND provider = ?2",
+        params![version_number, provider],
+    )
+}
+
+/// Gives the version of this number a contract with a provider, with which it has none.
+///
+/// # Errors
+/// `Fault::Memory` for want of memory; `Fault::Store` where the database refused the row.
+pub fn add_contract<S: Alter>(
+    conn: &mut Connection<S>,
+    version_number: u32,
+    provider: &str,
+    content: u32,
+) -> Result<(), Fault>
+    ensures { Changes (state S.Store conn.old) (state S.Store conn.new) result (AddsContract version_number provider.now content) }
+{
+    change(
+        conn,
+        "INSERT INTO contracts (version_number, provider, content) VALUES (?1, ?2, ?3)",
+        params![version_number, provider, content],
+    )
+}

@@ -1,0 +1,150 @@
+//! The results of verifications, those that the broker checked itself, and the latest one for each content and each version of a provider.
+ghost use Rattle.std.specs.Prelude.{◌≡◌, option_map, Some, None};
+ghost use Rattle.sqlite.specs.Held.{state};
+ghost use Rattle.table_access.specs.Calls.{Statement};
+ghost use Rattle.broker_tables.specs.Holds.{IsBroker, ReadsInPlace, Changes};
+ghost use Rattle.broker_core.specs.declared.command.Version.{Version as VersionModel};
+ghost use Rattle.broker_core.specs.State.{latest_result};
+ghost use Rattle.broker_tables.specs.Numbers.{number_of as number_in};
+ghost use Rattle.contract_tables.specs.Verified.{RecordsResult, PutsRow, result_row, Marks, Points};
+ghost use Rattle.std.specs.Prelude.{pos, ◌∷◌, []};
+ghost use Rattle.sqlite.specs.declared.types.Value.TheVariants.{Int, Null};
+
+use sqlite::{Alter, Connection, params};
+use table_access::{Fault, change, number_of};
+
+/// Puts in the row of a result of a run.
+fn put_run<S: Alter>(
+    conn: &mut Connection<S>,
+    number: u32,
+    content: u32,
+    provider: &str,
+    version_number: u32,
+    pass: bool,
+    run: &str,
+) -> Result<(), Fault>
+    ensures { Statement (state S.Store conn.old) (state S.Store conn.new) result (λ _. IsBroker (state S.Store conn.old).now → PutsRow 17 (result_row number content provider.now version_number pass (Some run.now)) (state S.Store conn.old) (state S.Store conn.new)) }
+{
+    change(
+        conn,
+        "INSERT INTO results (number, content, provider, provider_version, pass, run) VALUES (?1, ?2, ?3, ?4, ?5, ?6)",
+        params![number, content, provider, version_number, pass, run],
+    )
+}
+
+/// Puts in the row of a result of no run.
+fn put_plain<S: Alter>(
+    conn: &mut Connection<S>,
+    number: u32,
+    content: u32,
+    provider: &str,
+    version_number: u32,
+    pass: bool,
+) -> Result<(), Fault>
+    ensures { Statement (state S.Store conn.old) (state S.Store conn.new) result (λ _. IsBroker (state S.Store conn.old).now → PutsRow 17 (result_row number content provider.now version_number pass None) (state S.Store conn.old) (state S.Store conn.new)) }
+{
+    change(
+        conn,
+        "INSERT INTO results (number, content, provider, provider_version, pass, run) VALUES (?1, ?2, ?3, ?4, ?5, NULL)",
+        params![number, content, provider, version_number, pass],
+    )
+}
+
+/// Puts in the row of a result.
+fn put_result<S: Alter>(
+    conn: &mut Connection<S>,
+    number: u32,
+    content: u32,
+    provider: &str,
+    version_number: u32,
+    pass: bool,
+    run: Option<&str>,
+) -> Result<(), Fault>
+    ensures { Statement (state S.Store conn.old) (state S.Store conn.new) result (λ _. IsBroker (state S.Store conn.old).now → PutsRow 17 (result_row number content provider.now version_number pass (option_map (λ text. text.now) run.entry)) (state S.Store conn.old) (state S.Store conn.new)) }
+{
+    match run {
+        Some(run) => put_run(conn, number, content, provider, version_number, pass, run),
+        None => put_plain(conn, number, content, provider, version_number, pass),
+    }
+}
+
+/// Marks a result as checked.
+fn mark_checked<S: Alter>(conn: &mut Connection<S>, number: u32) -> Result<(), Fault>
+    ensures { Statement (state S.Store conn.old) (state S.Store conn.new) result (λ _. IsBroker (state S.Store conn.old).now → PutsRow 25 (Int (pos number) ∷ Null ∷ []) (state S.Store conn.old) (state S.Store conn.new)) }
+{
+    change(
+        conn,
+        "INSERT INTO checked_results (result) VALUES (?1)",
+        params![number],
+    )
+}
+
+/// Marks a result as checked where it was.
+fn mark<S: Alter>(conn: &mut Connection<S>, number: u32, checked: bool) -> Result<(), Fault>
+    ensures { Statement (state S.Store conn.old) (state S.Store conn.new) result (λ _. IsBroker (state S.Store conn.old).now → Marks checked number (state S.Store conn.old) (state S.Store conn.new)) }
+{
+    if checked {
+        mark_checked(conn, number)
+    } else {
+        Ok(())
+    }
+}
+
+/// Makes a result the latest one for its content and its version.
+fn point_latest<S: Alter>(
+    conn: &mut Connection<S>,
+    content: u32,
+    version_number: u32,
+    number: u32,
+) -> Result<(), Fault>
+    ensures { Statement (state S.Store conn.old) (state S.Store conn.new) result (λ _. IsBroker (state S.Store conn.old).now → Points content version_number number (state S.Store conn.old) (state S.Store conn.new)) }
+{
+    change(
+        conn,
+        "INSERT INTO latest (content, provider_version, result) VALUES (?1, ?2, ?3) ON CONFLICT (content, provider_version) DO UPDATE SET result = excluded.result",
+        params![content, version_number, number],
+    )
+}
+
+/// Records the result of verifying a content with a version of its provider, under the next number: it is the latest one for them.
+///
+/// # Errors
+/// `Fault::Memory` for want of memory; `Fault::Store` where the database refused a row.
+pub fn record_result<S: Alter>(
+    conn: &mut Connection<S>,
+    number: u32,
+    content: u32,
+    provider: &str,
+    version_number: u32,
+    pass: bool,
+    checked: bool,
+    run: Option<&str>,
+) -> Result<(), Fault>
+    ensures { Changes (state S.Store conn.old) (state S.Store conn.new) result (RecordsResult number content provider.now version_number pass checked (option_map (λ text. text.now) run.entry)) }
+{
+    match put_result(conn, number, content, provider, version_number, pass, run) {
+        Ok(()) => match mark(conn, number, checked) {
+            Ok(()) => point_latest(conn, content, version_number, number),
+            Err(fault) => Err(fault),
+        },
+        Err(fault) => Err(fault),
+    }
+}
+
+/// The number of the latest result for a content and the version of this number, or `None` where there is none.
+///
+/// # Errors
+/// `Fault::Memory` for want of memory; `Fault::Store` where the database refused the query or holds no number there.
+pub fn latest_number<S: Alter>(
+    conn: &mut Connection<S>,
+    content: u32,
+    version_number: u32,
+) -> Result<Option<u32>, Fault>
+    ensures { ReadsInPlace (state S.Store conn.old) (state S.Store conn.new) result (λ found s. (v : VersionModel) → number_in s.versions v ≡ Some version_number → found ≡ option_map (λ e. e.0) (latest_result s content v)) }
+{
+    number_of(
+        conn,
+        "SELECT result FROM latest WHERE content = ?1 AND provider_version = ?2",
+        params![content, version_number],
+    )
+}

@@ -1,0 +1,14 @@
+use Rattle.sqlite.specs.Held.{state}
+use Rattle.table_access.proofs.CallLemmas.{statement_with}
+use Rattle.broker_tables.proofs.Frames.{held_still}
+use Rattle.deploy_tables.proofs.ContractRows.{contract_means, contract_found}
+use Rattle.deploy_tables.proofs.consumers.contract_of.Goals as goal
+
+pub returns : goal.returns
+returns g c =
+    let old = state g.S.Store c.args.conn.now in
+    let new = state g.S.Store c.number_of.new.conn in
+    statement_with old new c.number_of.result _ _ (λ found h s held. (
+      λ v is. contract_found c.args.number c.args.provider.now old new h.0 s v found held is h.1 h.2,
+      held_still _ _ old new h.0 s (contract_means old.now held.broker) h.1 held,
+    )) (rw (c.params-to_sql.ensures, c.params-to_sql-2.ensures) at c.number_of.ensures.leaves)

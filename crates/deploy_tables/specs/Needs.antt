@@ -1,0 +1,125 @@
+-- What a version needs in an environment, from the parts that are read: what stands there, its own contracts, and those that are with it.
+use Rattle.std.specs.Prelude.{Contains, ◌≡◌, ◌≢◌, ℕ, List, [], ◌∷◌, ◌++◌, map, filter_map, flat_map, Option, Some, None, option_map, option_and_then, if◌then◌else◌, IsTrue, pos}
+use Rattle.sqlite.specs.Order.{Row, column}
+use Rattle.sqlite.specs.declared.types.Value.TheVariants.{Int, Text as SqlText}
+use Rattle.std.specs.declared.cmp.Ordering.{Ordering}
+use Rattle.std.specs.Ordering.{ordering_then, nat_cmp}
+use Rattle.std.specs.Option.{option_cmp}
+use Rattle.broker_core.specs.declared.command.Version.{Version}
+use Rattle.broker_core.specs.declared.need.Need.{Need}
+use Rattle.broker_core.specs.Text.{Text, text_cmp, same_text, version}
+use Rattle.broker_core.specs.State.{State, latest}
+use Rattle.broker_core.specs.Gate.{Stands}
+use Rattle.broker_tables.specs.Numbers.{number_of}
+use Rattle.table_access.specs.Reading.{IsNumberRow}
+use Rattle.deploy_tables.specs.Listings.{IsNameAt}
+use Rattle.deploy_tables.specs.declared.needs.StandingVersion.{StandingVersion}
+use Rattle.deploy_tables.specs.declared.needs.OwnContract.{OwnContract}
+use Rattle.deploy_tables.specs.declared.needs.ConsumerContract.{ConsumerContract}
+use Rattle.deploy_tables.specs.declared.needs.Partner.{Partner}
+use Rattle.deploy_tables.specs.declared.needs.Pair.{Pair}
+
+-- ---- what is read
+
+-- the version stands there, and this is its number
+abbrev pub IsStanding : State → Text → StandingVersion → Type 0
+IsStanding s e x = Stands s e (version x.pacticipant x.name) × (number_of s.versions (version x.pacticipant x.name) ≡ Some x.number)
+
+-- the version is deployed there in some instance, and this is its number
+abbrev pub IsDeployedThere : State → Text → StandingVersion → Type 0
+IsDeployedThere s e x = ((instance : Text) × (s.deployed (e, x.pacticipant, instance) ≡ Some x.name)) × (number_of s.versions (version x.pacticipant x.name) ≡ Some x.number)
+
+-- the version is released there, and this is its number
+abbrev pub IsReleasedThere : State → Text → StandingVersion → Type 0
+IsReleasedThere s e x = IsTrue (s.released (e, version x.pacticipant x.name)) × (number_of s.versions (version x.pacticipant x.name) ≡ Some x.number)
+
+-- the versions that are deployed there have numbers
+abbrev pub AreDeployedNumbered : State → Text → Type 0
+AreDeployedNumbered s e = (p instance name : Text) → s.deployed (e, p, instance) ≡ Some name → (n : ℕ) × (number_of s.versions (version p name) ≡ Some n)
+
+-- the columns are the version's number, its pacticipant and its name
+abbrev pub IsStandingRow : Row → StandingVersion → Type 0
+IsStandingRow row x = (column row 0 ≡ Int (pos x.number)) × (column row 1 ≡ SqlText x.pacticipant) × (column row 2 ≡ SqlText x.name)
+
+-- the row reads as a version with its number
+abbrev pub ReadsAsStanding : Row → Type 0
+ReadsAsStanding row = IsNumberRow row × IsNameAt 1 row × IsNameAt 2 row
+
+-- each version that stands there has a number
+abbrev pub AreNumbered : State → Text → Type 0
+AreNumbered s e = (w : Version) → Stands s e w → (n : ℕ) × (number_of s.versions w ≡ Some n)
+
+-- in the order of pacticipants and names
+abbrev pub standing_cmp : StandingVersion → StandingVersion → Ordering
+standing_cmp x y = ordering_then (text_cmp x.pacticipant y.pacticipant) (ordering_then (text_cmp x.name y.name) (nat_cmp x.number y.number))
+
+-- v has this contract
+abbrev pub IsOwnContract : State → Version → OwnContract → Type 0
+IsOwnContract s v c = s.contracts (v, c.provider) ≡ Some c.content
+
+-- a version of another pacticipant stands there, and has this contract with the pacticipant of v
+abbrev pub IsConsumerContract : State → Version → Text → ConsumerContract → Type 0
+IsConsumerContract s v e c = (c.consumer ≢ v.pacticipant) × Stands s e (version c.consumer c.consumer_version) × (s.contracts (version c.consumer c.consumer_version, v.pacticipant) ≡ Some c.content)
+
+-- their numbers are right
+abbrev pub HaveNumbers : State → List StandingVersion → Type 0
+HaveNumbers s standing = (x : StandingVersion) → Contains standing x → number_of s.versions (version x.pacticipant x.name) ≡ Some x.number
+
+-- the contract that this version has with the pacticipant, where it is a version of another
+abbrev pub consumer_in : State → Text → StandingVersion → Option ConsumerContract
+consumer_in s p x = if same_text x.pacticipant p then None else option_map (λ content. record { consumer = x.pacticipant; consumer_version = x.name; content = content }) (s.contracts (version x.pacticipant x.name, p))
+
+-- ---- how it is paired
+
+-- a contract of v with this version, where that is one of the provider
+abbrev pub with_partner : Version → OwnContract → StandingVersion → Option Pair
+with_partner v c x = if same_text x.pacticipant c.provider then Some (record { consumer = v.pacticipant; consumer_version = v.name; provider = c.provider; partner = Some (record { name = x.name; number = x.number }); content = c.content }) else None
+
+-- with no version of its provider
+abbrev pub without_partner : Version → OwnContract → Pair
+without_partner v c = record { consumer = v.pacticipant; consumer_version = v.name; provider = c.provider; partner = None; content = c.content }
+
+abbrev pub or_one : {X : Type 0} → List X → X → List X
+or_one [] x = x ∷ []
+or_one (y ∷ ys) x = y ∷ ys
+
+-- with each version of its provider, or with none
+abbrev pub consumed : Version → List StandingVersion → OwnContract → List Pair
+consumed v standing c = or_one (filter_map (with_partner v c) standing) (without_partner v c)
+
+-- a contract with the pacticipant of v, and v, whose number is n
+abbrev pub provided : Version → ℕ → ConsumerContract → Pair
+provided v n c = record { consumer = c.consumer; consumer_version = c.consumer_version; provider = v.pacticipant; partner = Some (record { name = v.name; number = n }); content = c.content }
+
+abbrev pub pairs_among : Version → ℕ → List OwnContract → List StandingVersion → List ConsumerContract → List Pair
+pairs_among v n own standing consumers = flat_map (consumed v standing) own ++ map (provided v n) consumers
+
+abbrev pub partner_cmp : Partner → Partner → Ordering
+partner_cmp x y = ordering_then (text_cmp x.name y.name) (nat_cmp x.number y.number)
+
+-- in the order of their names, none first
+abbrev pub pair_cmp : Pair → Pair → Ordering
+pair_cmp x y = ordering_then (text_cmp x.consumer y.consumer)
+    (ordering_then (text_cmp x.consumer_version y.consumer_version)
+    (ordering_then (text_cmp x.provider y.provider)
+    (ordering_then (option_cmp partner_cmp x.partner y.partner)
+    (nat_cmp x.content y.content))))
+
+-- ---- the needs
+
+-- the need that a pair is in a state
+abbrev pub need_in : State → Pair → Need
+need_in s p = record {
+  consumer = p.consumer;
+  consumer_version = p.consumer_version;
+  provider = p.provider;
+  provider_version = option_map (λ w. w.name) p.partner;
+  latest = option_and_then (λ w. latest s p.content (version p.provider w.name)) p.partner;
+}
+
+-- needs in the order of their names, none first
+abbrev pub need_cmp : Need → Need → Ordering
+need_cmp x y = ordering_then (text_cmp x.consumer y.consumer)
+    (ordering_then (text_cmp x.consumer_version y.consumer_version)
+    (ordering_then (text_cmp x.provider y.provider)
+    (option_cmp text_cmp x.provider_version y.provider_version)))

@@ -1,0 +1,71 @@
+-- What CREATE INDEX leaves.
+use Rattle.std.proofs.Common.{◌≡◌, ◌∷◌, ◌++◌, ℕ, List, [], Ok, Some, None, slice_get, refl, sym, ap, subst, ◌∙◌}
+use Rattle.std.specs.List.{AllByRecursion}
+use Rattle.sqlite_schema.specs.declared.schema.Index.{Index}
+use Rattle.sqlite.specs.Table.{Table}
+use Rattle.sqlite.specs.Schema.{Schema}
+use Rattle.sqlite.specs.Command.TheVariants.{CreateIndex}
+use Rattle.sqlite_resolve.specs.Compile.{index_defined_by}
+use Rattle.sqlite.specs.Change.{indexed, KeepsRows}
+use Rattle.sqlite.specs.Effect.{Database}
+use Rattle.sqlite.specs.Does.{Tally, AtPlace, Defines, MakesIndex}
+use Rattle.sqlite.specs.State.{State, Executes, Writes, mode_of}
+use Rattle.sqlite.specs.Listing.{understood}
+use Rattle.sqlite.proofs.Callers.{statement_of, runs_as}
+use Rattle.table_access.specs.Statements.{Indexes, MakesIndexes, indexed_by}
+use Rattle.table_access.specs.Sound.{IsNumbered, IsKept}
+use Rattle.table_access.proofs.Creation.{still_numbered, keeps_then}
+use Rattle.table_access.proofs.Steps.{Means, went, same_value}
+
+pub indexes : (sql : List ℕ) (old new : State) (at : ℕ) (table : Table) (index : Index) (count : ℕ) → Means old.now.schema sql (CreateIndex at) → statement_of sql (understood old.now.schema sql) ≡ sql
+    → slice_get old.now.schema.tables at ≡ Some table → index_defined_by table sql ≡ Ok index → Executes sql [] old new (Ok count) → Indexes old.now new.now table index
+indexes sql old new at table index count means whole there defined h =
+    let w = subst (λ t. Writes old new None (CreateIndex at) t [] count) whole (runs_as sql [] old new old.now.schema refl (CreateIndex at) means.is means.plain count h) in
+    let done = went (subst (λ o. AtPlace (λ t. Defines (mode_of old) (MakesIndex sql old.now t)) o (Ok (w.tally, new.now))) there w.changed) in
+    let made = done.1 in
+    let both : Ok made.index ≡ Ok index = sym made.defined ∙ defined in
+    let same : made.index ≡ index = cc in
+    let now : new.now ≡ done.0 = ap (λ (p : Tally × Database). p.1) (same_value done.2) in
+    record {
+      schema = ap (λ (d : Database). d.schema) now ∙ made.is ∙ ap (indexed old.now.schema table) same;
+      others = subst (λ (d : Database). KeepsRows old.now.schema.tables old.now.trees d.trees) (sym now) made.rows;
+      sound = w.sound;
+    }
+
+-- all tables obey the schema still, and their rows are in the order of their numbers
+pub indexed_kept : (old new : Database) (table : Table) (index : Index) → Indexes old new table index → IsKept old → IsKept new
+indexed_kept old new table index h kept = record {
+  sound = h.sound;
+  numbered = subst (λ (s : Schema). AllByRecursion (λ t. IsNumbered (new.trees t.tree)) s.tables) (sym h.schema) (still_numbered old.schema.tables old.trees new.trees h.others kept.numbered);
+}
+
+-- one index by its text, over a schema that is written out: each premise but the last two is `refl`
+pub indexes_one : (sql : List ℕ) (schema : Schema) (at : ℕ) (table : Table) (index : Index) → Means schema sql (CreateIndex at) → statement_of sql (understood schema sql) ≡ sql → slice_get schema.tables at ≡ Some table → index_defined_by table sql ≡ Ok index
+    → (old new : State) (count : ℕ) → old.now.schema ≡ schema → Executes sql [] old new (Ok count) → Indexes old.now new.now table index
+indexes_one sql schema at table index means whole there defined old new count is h =
+    indexes sql old new at table index count (subst (λ s. Means s sql (CreateIndex at)) (sym is) means) (subst (λ s. statement_of sql (understood s sql) ≡ sql) (sym is) whole) (subst (λ (s : Schema). slice_get s.tables at ≡ Some table) (sym is) there) defined h
+
+-- ---- what indexes that are made leave
+
+-- more indexes are made, after these
+pub indexes_then : (front back : List (Table × Index)) (old mid new : Database) → MakesIndexes front old mid → MakesIndexes back mid new → MakesIndexes (front ++ back) old new
+indexes_then [] back old mid new one two = subst (λ db. MakesIndexes back db new) one two
+indexes_then (first ∷ front) back old mid new one two = (one.0, one.1, indexes_then front back one.0 mid new one.2 two)
+
+pub indexes_schema : (more : List (Table × Index)) (old new : Database) → MakesIndexes more old new → new.schema ≡ indexed_by old.schema more
+indexes_schema [] old new h = ap (λ (db : Database). db.schema) h
+indexes_schema (one ∷ more) old new h = indexes_schema more h.0 new h.2 ∙ ap (λ schema. indexed_by schema more) h.1.schema
+
+-- the tables keep their rows
+pub indexes_keep : (more : List (Table × Index)) (old new : Database) → MakesIndexes more old new → KeepsRows old.schema.tables old.trees new.trees
+indexes_keep [] old new h = same old.schema.tables
+  where
+    same : (ts : List Table) → KeepsRows ts old.trees new.trees
+    same [] = tt
+    same (t ∷ ts) = (ap (λ (db : Database). db.trees t.tree) h, same ts)
+indexes_keep (one ∷ more) old new h =
+    keeps_then old.schema.tables old.trees h.0.trees new.trees h.1.others (subst (λ (s : Schema). KeepsRows s.tables h.0.trees new.trees) h.1.schema (indexes_keep more h.0 new h.2))
+
+pub indexes_kept : (more : List (Table × Index)) (old new : Database) → MakesIndexes more old new → IsKept old → IsKept new
+indexes_kept [] old new h kept = subst IsKept (sym h) kept
+indexes_kept (one ∷ more) old new h kept = indexes_kept more h.0 new h.2 (indexed_kept old h.0 one.0 one.1 h.1 kept)
