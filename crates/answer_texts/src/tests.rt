@@ -7,7 +7,7 @@ use broker_core::answer::{
     Answer as Told, Clash, DeployedItem, DeployedItems, Detail, Faults, MatrixRow, MatrixRows,
     Missing, Places, Shown, Verified, Versions,
 };
-use broker_core::command::{Fault, Marks, Version};
+use broker_core::command::{FormFault, Marks, Version};
 use broker_core::name::{Name, Text};
 use broker_core::need::{Kind, Latest, PairFault};
 use broker_core::policy::Rule;
@@ -235,11 +235,11 @@ fn what_is_taken(rt: HostRuntime) -> Result<(), Fail> {
 }
 
 fn field(alloc: Global, content: &str) -> Result<Told, Fail> {
-    Ok(Told::BadForm(Fault::Field(text(alloc, content)?)))
+    Ok(Told::BadForm(FormFault::Field(text(alloc, content)?)))
 }
 
 fn pact(alloc: Global, place: &str) -> Result<Told, Fail> {
-    Ok(Told::BadForm(Fault::Pact(text(alloc, place)?)))
+    Ok(Told::BadForm(FormFault::Pact(text(alloc, place)?)))
 }
 
 #[test]
@@ -248,14 +248,14 @@ fn bad_forms(rt: HostRuntime) -> Result<(), Fail> {
     goes_out(
         &rt,
         alloc,
-        Ok(Told::BadForm(Fault::Json)),
+        Ok(Told::BadForm(FormFault::Json)),
         422,
         "{\"answer\":\"bad form\",\"fault\":\"json\"}",
     )?;
     goes_out(
         &rt,
         alloc,
-        Ok(Told::BadForm(Fault::UnknownReply)),
+        Ok(Told::BadForm(FormFault::UnknownReply)),
         422,
         "{\"answer\":\"bad form\",\"fault\":\"check 1\"}",
     )?;

@@ -9,7 +9,7 @@ ghost use Rattle.answer_texts.specs.AnswerText as bodies;
 
 use crate::items::{deployed_list, fault_list, place_list, row_list, version_list};
 use broker_core::answer::{DeployedItem, Detail, MatrixRow, Shown};
-use broker_core::command::{Fault, Marks, Version};
+use broker_core::command::{FormFault, Marks, Version};
 use broker_core::need::PairFault;
 use serde_json::{Value, json};
 use std::alloc::{AllocError, Global};
@@ -107,7 +107,7 @@ pub(crate) fn what_text(alloc: Global, word: &str, what: &str) -> Result<String,
     text_of(alloc, json!(in alloc; { "answer": word, "what": what })?)
 }
 
-pub(crate) fn form_text(alloc: Global, fault: &Fault) -> Result<String, AllocError>
+pub(crate) fn form_text(alloc: Global, fault: &FormFault) -> Result<String, AllocError>
     ensures { IfOk result (λ text. string_bytes text ≡ compact_text (spec.says (codes "bad form") ((codes "fault", string (fault_text fault.now)) ∷ []))) }
 {
     let fault = fault.to_string(alloc)?;

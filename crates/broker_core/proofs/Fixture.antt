@@ -15,7 +15,7 @@ use Rattle.broker_core.specs.declared.answer.Detail.TheVariants.{Plain, Result}
 use Rattle.broker_core.specs.Text.{Text, same_text, put_at, version}
 use Rattle.broker_core.specs.State.{State, opening, claimed_result}
 use Rattle.broker_core.specs.Change.{Transition, put_team, put_pacticipant, put_environment, put_grant, put_version, put_pact, report}
-use Rattle.broker_core.specs.Machine.{Parts, Step, Run, Request, Recognizes}
+use Rattle.broker_core.specs.Machine.{Primitives, Step, Run, Request, IsCallerOfDigest}
 use Rattle.broker_core.specs.Machine.Reading.{IsPact}
 use Rattle.broker_core.proofs.Judgement.{Rows}
 
@@ -26,7 +26,7 @@ abbrev pub stock : Text
 stock = codes "stock"
 
 -- a token is its own digest, each file is its own normal text, of shop with stock, and all replies pass
-abbrev pub simple_parts : Parts
+abbrev pub simple_parts : Primitives
 simple_parts = record {
   digest_of = λ token. token;
   Reads = λ file reading. reading ≡ IsPact shop stock file;
@@ -121,11 +121,11 @@ put_other table key value x other none q e =
 pub no_team : (x q : Text) → (opening office_token).teams q ≢ Some x
 no_team x q e = absurd (cc)
 
-red_is_new : Recognizes (opening office_token) red_token None
+red_is_new : IsCallerOfDigest (opening office_token) red_token None
 red_is_new Office = other_text office_token red_token refl
 red_is_new (Team t) = no_team red_token t
 
-blue_is_new : Recognizes (put_team (opening office_token) red red_token false).state blue_token None
+blue_is_new : IsCallerOfDigest (put_team (opening office_token) red red_token false).state blue_token None
 blue_is_new Office = other_text office_token blue_token refl
 blue_is_new (Team t) = put_other (opening office_token).teams red red_token blue_token (other_text red_token blue_token refl) (no_team blue_token) t
 

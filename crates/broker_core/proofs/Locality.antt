@@ -8,7 +8,7 @@ use Rattle.broker_core.specs.declared.policy.Rule.TheVariants.{A1}
 use Rattle.broker_core.specs.declared.command.Command.{Command}
 use Rattle.broker_core.specs.declared.command.Command.TheVariants.{Deploy}
 use Rattle.broker_core.specs.declared.command.Version.{Version}
-use Rattle.broker_core.specs.declared.command.Fault.{Fault}
+use Rattle.broker_core.specs.declared.command.FormFault.{FormFault}
 use Rattle.broker_core.specs.declared.answer.Answer.{Answer}
 use Rattle.broker_core.specs.declared.answer.Answer.TheVariants.{Denied, NotPermitted, BadForm, Already, Done}
 use Rattle.broker_core.specs.declared.answer.Detail.TheVariants.{Plain}
@@ -19,8 +19,8 @@ use Rattle.broker_core.specs.State.{State, latest, is_gated, is_strict}
 use Rattle.broker_core.specs.Faults.{fault_of}
 use Rattle.broker_core.specs.Gate.{Stands, consumer_of, NeedsStanding, NeedsAbsent, NeedsAsProvider, IsNeed, IsGood, IsPermitted, IsFault, Judges}
 use Rattle.broker_core.specs.Request.{refusal}
-use Rattle.broker_core.specs.Change.{Transition, told, already, done, deploy, instance_of, is_text}
-use Rattle.broker_core.specs.Machine.{Parts, Follows, Knows, Recognizes, FindsCaller, Acts}
+use Rattle.broker_core.specs.Change.{Transition, unchanged_with, already, done, deploy, instance_of, is_text}
+use Rattle.broker_core.specs.Machine.{Primitives, StepOfCaller, HasDigest, IsCallerOfDigest, IsCallerOfToken, TakesEffect}
 use Rattle.broker_core.specs.Laws.{HasOneCaller, Concerns, Agree, GateLocality}
 use Rattle.broker_core.proofs.Listing.{Lists-same}
 use Rattle.broker_core.proofs.Order.{fault_cmp_total}
@@ -117,21 +117,21 @@ answer-deploy s e v instance =
     elim (is_text v.name (s.deployed (e, v.pacticipant, instance))) as (λ b. (if b then already s else done next).answer ≡ (if b then Already Plain else Done Plain)) [ true ↦ refl | false ↦ refl ]
 
 gated : State → Text → Version → Text → Bool → List PairFault → Transition
-gated s e v instance permitted faults = if permitted then deploy s e v instance else told s (NotPermitted faults)
+gated s e v instance permitted faults = if permitted then deploy s e v instance else unchanged_with s (NotPermitted faults)
 
 answer-gated : (s t : State) (v : Version) (e instance : Text) → AgreeHere s t v e → (p : Bool) (fs : List PairFault) → (gated s e v instance p fs).answer ≡ (gated t e v instance p fs).answer
 unfolding gated
 answer-gated s t v e instance a true fs = answer-deploy s e v instance ∙ ap (deploy_answer v.name) (a.deployed v.pacticipant instance) ∙ sym (answer-deploy t e v instance)
 answer-gated s t v e instance a false fs = refl
 
-acts_same : (parts : Parts) (s t : State) (v : Version) (e : Text) (instance : Option Text) (a b : Transition) → AgreeHere s t v e
-    → Acts parts s (Deploy e v instance) a → Acts parts t (Deploy e v instance) b → a.answer ≡ b.answer
+acts_same : (parts : Primitives) (s t : State) (v : Version) (e : Text) (instance : Option Text) (a b : Transition) → AgreeHere s t v e
+    → TakesEffect parts s (Deploy e v instance) a → TakesEffect parts t (Deploy e v instance) b → a.answer ≡ b.answer
 unfolding gated
 acts_same parts s t v e instance a b agree x y =
     ap (λ o. o.answer) x.3 ∙ answer-gated s t v e (instance_of instance) agree x.0 x.1
     ∙ (λ i. (gated t e v (instance_of instance) (same_verdict agree x.2 y.2 i) (same_faults agree x.2 y.2 i)).answer) ∙ sym (ap (λ o. o.answer) y.3)
 
-module _ {parts : Parts} {s t : State} {v : Version} {e : Text} {token : Option Text} (agree : Agree parts token s t v e) where
+module _ {parts : Primitives} {s t : State} {v : Version} {e : Text} {token : Option Text} (agree : Agree parts token s t v e) where
   here : AgreeHere s t v e
   here = record { environment = agree.environment; deployed = agree.deployed; released = agree.released; contracts = agree.contracts; results = agree.results }
 
@@ -139,27 +139,27 @@ module _ {parts : Parts} {s t : State} {v : Version} {e : Text} {token : Option 
   refusal_same Office instance grants = let env = agree.environment in let owner = agree.owner in let known = agree.known in cc
   refusal_same (Team team) instance grants = let env = agree.environment in let owner = agree.owner in let known = agree.known in let grant = grants team refl in cc
 
-pub same_who : (s t : State) (digest : Text) → HasOneCaller s → ((caller : Caller) → (Knows s digest caller → Knows t digest caller) × (Knows t digest caller → Knows s digest caller))
-    → (a b : Option Caller) → Recognizes s digest a → Recognizes t digest b → a ≡ b
+pub same_who : (s t : State) (digest : Text) → HasOneCaller s → ((caller : Caller) → (HasDigest s digest caller → HasDigest t digest caller) × (HasDigest t digest caller → HasDigest s digest caller))
+    → (a b : Option Caller) → IsCallerOfDigest s digest a → IsCallerOfDigest t digest b → a ≡ b
 same_who s t digest one callers None None x y = refl
 same_who s t digest one callers None (Some b) x y = absurd (x b ((callers b).1 y))
 same_who s t digest one callers (Some a) None x y = absurd (y a ((callers a).0 x))
 same_who s t digest one callers (Some a) (Some b) x y = ap Some (one digest a b x ((callers b).1 y))
 
-pub calls_same : (parts : Parts) (s t : State) (token : Option Text) → HasOneCaller s → ((digest : Text) (caller : Caller) → (Knows s digest caller → Knows t digest caller) × (Knows t digest caller → Knows s digest caller))
-    → (a b : Option Caller) → FindsCaller parts s token a → FindsCaller parts t token b → a ≡ b
+pub calls_same : (parts : Primitives) (s t : State) (token : Option Text) → HasOneCaller s → ((digest : Text) (caller : Caller) → (HasDigest s digest caller → HasDigest t digest caller) × (HasDigest t digest caller → HasDigest s digest caller))
+    → (a b : Option Caller) → IsCallerOfToken parts s token a → IsCallerOfToken parts t token b → a ≡ b
 calls_same parts s t None one callers a b x y = x ∙ sym y
 calls_same parts s t (Some secret) one callers a b x y = same_who s t (parts.digest_of secret) one (callers (parts.digest_of secret)) a b x y
 
 -- what a step says once its caller is known
-After : Parts → State → Command → Option Caller → Transition → Type 0
-After parts s command who out = MatchOption who (out ≡ told s (Denied A1)) (λ caller. Follows parts s caller command out)
+After : Primitives → State → Command → Option Caller → Transition → Type 0
+After parts s command who out = MatchOption who (out ≡ unchanged_with s (Denied A1)) (λ caller. StepOfCaller parts s caller command out)
 
-Judged : Parts → State → Command → Option Answer → Transition → Type 0
-Judged parts s command refused out = MatchOption refused (Acts parts s command out) (λ answer. out ≡ told s answer)
+Judged : Primitives → State → Command → Option Answer → Transition → Type 0
+Judged parts s command refused out = MatchOption refused (TakesEffect parts s command out) (λ answer. out ≡ unchanged_with s answer)
 
 -- the law: the answer to a deployment is the same in two states that agree
-pub gate_locality : (parts : Parts) → GateLocality parts
+pub gate_locality : (parts : Primitives) → GateLocality parts
 unfolding After Judged
 gate_locality parts token e v instance s t a b one agree x y = by_who x.0 y.0 (calls_same parts s t token one agree.callers x.0 y.0 x.1 y.1) x.1 x.2 y.2
   where
@@ -172,18 +172,18 @@ gate_locality parts token e v instance s t a b one agree x y = by_who x.0 y.0 (c
         some_same : (k l : Answer) → Some k ≡ Some l → k ≡ l
         some_same k l is = cc
 
-    granted : (caller : Caller) (token : Option Text) → FindsCaller parts s token (Some caller) → Agree parts token s t v e → (team : Text) → caller ≡ Team team → s.grants (team, e) ≡ t.grants (team, e)
+    granted : (caller : Caller) (token : Option Text) → IsCallerOfToken parts s token (Some caller) → Agree parts token s t v e → (team : Text) → caller ≡ Team team → s.grants (team, e) ≡ t.grants (team, e)
     granted caller None calls agree team is = absurd (cc)
-    granted caller (Some secret) calls agree team is = agree.grant team secret refl (subst (Knows s (parts.digest_of secret)) is calls)
+    granted caller (Some secret) calls agree team is = agree.grant team secret refl (subst (HasDigest s (parts.digest_of secret)) is calls)
 
-    by_found : (caller : Caller) → FindsCaller parts s token (Some caller) → (f g : Option Fault) → f ≡ None → g ≡ None
-        → MatchOption f (Judged parts s (Deploy e v instance) (refusal s caller (Deploy e v instance)) a) (λ fault. a ≡ told s (BadForm fault))
-        → MatchOption g (Judged parts t (Deploy e v instance) (refusal t caller (Deploy e v instance)) b) (λ fault. b ≡ told t (BadForm fault)) → a.answer ≡ b.answer
+    by_found : (caller : Caller) → IsCallerOfToken parts s token (Some caller) → (f g : Option FormFault) → f ≡ None → g ≡ None
+        → MatchOption f (Judged parts s (Deploy e v instance) (refusal s caller (Deploy e v instance)) a) (λ fault. a ≡ unchanged_with s (BadForm fault))
+        → MatchOption g (Judged parts t (Deploy e v instance) (refusal t caller (Deploy e v instance)) b) (λ fault. b ≡ unchanged_with t (BadForm fault)) → a.answer ≡ b.answer
     by_found caller calls None None p q m n = by_refusal _ _ (refusal_same agree caller instance (granted caller token calls agree)) m n
     by_found caller calls (Some f) g p q m n = absurd (cc)
     by_found caller calls None (Some g) p q m n = absurd (cc)
 
-    by_who : (p q : Option Caller) → p ≡ q → FindsCaller parts s token p → After parts s (Deploy e v instance) p a → After parts t (Deploy e v instance) q b → a.answer ≡ b.answer
+    by_who : (p q : Option Caller) → p ≡ q → IsCallerOfToken parts s token p → After parts s (Deploy e v instance) p a → After parts t (Deploy e v instance) q b → a.answer ≡ b.answer
     by_who None None same calls m n = ap (λ o. o.answer) m ∙ sym (ap (λ o. o.answer) n)
     by_who None (Some k) same calls m n = absurd (cc)
     by_who (Some k) None same calls m n = absurd (cc)

@@ -6,13 +6,13 @@ use Rattle.broker_core.specs.declared.policy.Caller.TheVariants.{Office, Team}
 use Rattle.broker_core.specs.declared.policy.Rule.TheVariants.{A7, A1}
 use Rattle.broker_core.specs.declared.command.Command.{Command}
 use Rattle.broker_core.specs.declared.command.Command.TheVariants.{Deploy, PutEnvironment, Malformed}
-use Rattle.broker_core.specs.declared.command.Fault.TheVariants.{Json, Field}
+use Rattle.broker_core.specs.declared.command.FormFault.TheVariants.{Json, Field}
 use Rattle.broker_core.specs.declared.answer.Answer.TheVariants.{Denied, BadForm, Unknown}
 use Rattle.broker_core.specs.declared.answer.Missing.TheVariants as missing
 use Rattle.broker_core.specs.Text.{Text, version}
 use Rattle.broker_core.specs.State.{State, opening}
-use Rattle.broker_core.specs.Change.{told, put_team, put_environment, put_grant, delete_grant, put_version}
-use Rattle.broker_core.specs.Machine.{Recognizes}
+use Rattle.broker_core.specs.Change.{unchanged_with, put_team, put_environment, put_grant, delete_grant, put_version}
+use Rattle.broker_core.specs.Machine.{IsCallerOfDigest}
 use Rattle.broker_core.proofs.Fixture.{shop, Answers, office_token, red_token, blue_token, red, blue, live, one, fixture, put_other, no_team}
 
 -- red has named shop 1 and has no grant for live
@@ -44,7 +44,7 @@ a_strict_environment_is_gated = (_, (Some Office, refl, (Some (Field (codes "str
 abbrev pub unknown_token : Text
 unknown_token = codes "who-is-this-000001"
 
-unknown_is_new : Recognizes fixture unknown_token None
+unknown_is_new : IsCallerOfDigest fixture unknown_token None
 unknown_is_new Office = other_text office_token unknown_token refl
 unknown_is_new (Team t) = put_other named_red.teams blue blue_token unknown_token (other_text blue_token unknown_token refl)
     (put_other (opening office_token).teams red red_token unknown_token (other_text red_token unknown_token refl) (no_team unknown_token)) t
@@ -53,4 +53,4 @@ unknown_is_new (Team t) = put_other named_red.teams blue blue_token unknown_toke
     named_red = (put_team (opening office_token) red red_token false).state
 
 an_unknown_token_is_denied_whatever_the_command : (command : Command) → Answers fixture unknown_token command (Denied A1)
-an_unknown_token_is_denied_whatever_the_command command = (told fixture (Denied A1), (None, unknown_is_new, refl), refl)
+an_unknown_token_is_denied_whatever_the_command command = (unchanged_with fixture (Denied A1), (None, unknown_is_new, refl), refl)

@@ -3,7 +3,7 @@ use Rattle.std.proofs.Common.{refl}
 use Rattle.std.specs.Prelude.{codes, Some, None}
 use Rattle.broker_core.specs.declared.policy.Caller.TheVariants.{Team}
 use Rattle.broker_core.specs.declared.command.Command.TheVariants.{PutPact, GetBranchPact}
-use Rattle.broker_core.specs.declared.command.Fault.TheVariants.{Names}
+use Rattle.broker_core.specs.declared.command.FormFault.TheVariants.{Names}
 use Rattle.broker_core.specs.declared.answer.Answer.TheVariants.{Done, Already, Taken, BadForm, Shown, Unknown}
 use Rattle.broker_core.specs.declared.answer.Shown.TheVariants as shown
 use Rattle.broker_core.specs.declared.answer.Detail.TheVariants.{Content}

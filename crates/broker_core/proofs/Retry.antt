@@ -11,7 +11,7 @@ use Rattle.broker_core.specs.declared.command.Command.{Command}
 use Rattle.broker_core.specs.declared.command.Command.TheVariants.{PutTeam, PutPacticipant, PutEnvironment, PutGrant, DeleteGrant, PutVersion, PutPact, GetPact, GetBranchPact, PostResult, PostReplies, Deploy, Undeploy, Release, EndSupport, GetEnvironment, CanIDeploy, GetMatrix, Malformed}
 use Rattle.broker_core.specs.declared.command.Marks.{Marks}
 use Rattle.broker_core.specs.declared.command.Version.{Version}
-use Rattle.broker_core.specs.declared.command.Fault.{Fault}
+use Rattle.broker_core.specs.declared.command.FormFault.{FormFault}
 use Rattle.broker_core.specs.declared.answer.Answer.{Answer}
 use Rattle.broker_core.specs.declared.answer.Answer.TheVariants.{Denied, BadForm, Done}
 use Rattle.broker_core.specs.declared.answer.Detail.{Detail}
@@ -20,8 +20,8 @@ use Rattle.broker_core.specs.Text.{Text, same_text, same_version, same_pair, sam
 use Rattle.broker_core.specs.State.{State, Verification, claimed_result, checked_result}
 use Rattle.broker_core.specs.Request.{is_known, refusal, consumer_version}
 use Rattle.broker_core.specs.Limit.{has_room}
-use Rattle.broker_core.specs.Change.{Transition, told, done, repeated, put_team, put_pacticipant, put_environment, put_grant, delete_grant, put_version, named, joined, on_branch, can_name, put_pact, report, result_of_run, deploy, undeploy, release, end_support, is_text, is_stored, number_of, stored, instance_of}
-use Rattle.broker_core.specs.Machine.{Parts, Follows, Step, Acts, report_replies, is_empty}
+use Rattle.broker_core.specs.Change.{Transition, unchanged_with, done, repeated, put_team, put_pacticipant, put_environment, put_grant, delete_grant, put_version, named, joined, on_branch, can_name, put_pact, report, result_of_run, deploy, undeploy, release, end_support, is_text, is_stored, number_of, stored, instance_of}
+use Rattle.broker_core.specs.Machine.{Primitives, StepOfCaller, Step, TakesEffect, report_replies, is_empty}
 use Rattle.broker_core.specs.Laws.{IsRepeatable, Retry}
 
 same_text-refl : (x : Text) → same_text x x ≡ true
@@ -62,7 +62,7 @@ module _ (calm : State → Type 0) (s : State) where
   by_test true x y h k = h
   by_test false x y h k = k
 
-  told_settles : (answer : Answer) → Settles calm s (told s answer)
+  told_settles : (answer : Answer) → Settles calm s (unchanged_with s answer)
   unfolding Settles
   told_settles answer = inl refl
 
@@ -223,10 +223,10 @@ settled calm s out a b is follows (inl h) = inl (ap (λ o. o.state) is ∙ h)
 settled calm s out a b is follows (inr h) = inr (follows h ∙ sym (ap (λ o. o.state) is))
 
 -- the state that the second step begins from is that of the first's outcome
-from_outcome : (parts : Parts) (c : Command) (a out b : Transition) → a ≡ out → Acts parts a.state c b → Acts parts out.state c b
-from_outcome parts c a out b is = subst (λ o. Acts parts o.state c b) is
+from_outcome : (parts : Primitives) (c : Command) (a out b : Transition) → a ≡ out → TakesEffect parts a.state c b → TakesEffect parts out.state c b
+from_outcome parts c a out b is = subst (λ o. TakesEffect parts o.state c b) is
 
-unchanged : (s : State) (a b : Transition) (answer : Answer) → a ≡ told s answer → Twice s a b
+unchanged : (s : State) (a b : Transition) (answer : Answer) → a ≡ unchanged_with s answer → Twice s a b
 unfolding Twice
 unchanged s a b answer is = inl (ap (λ o. o.state) is)
 
@@ -253,8 +253,8 @@ replies-settled s v run h content (Some places) a b is content' None again = inr
 replies-settled s v run h content (Some places) a b is content' (Some places') again =
     report-settled s (checked_result content v (is_empty places) run) h _ a b is (checked_result content' v (is_empty places') run, (λ n. Replies places' n (is_empty places')), refl, refl, again)
 
-gated-settled : (s : State) (F : State → Transition) → Settles (λ t. (F t).state ≡ t) s (F s) → (p : Bool) (x : Answer) (a b : Transition) → a ≡ (if p then F s else told s x)
-    → (q : Bool) (y : Answer) → b ≡ (if q then F a.state else told a.state y) → Twice s a b
+gated-settled : (s : State) (F : State → Transition) → Settles (λ t. (F t).state ≡ t) s (F s) → (p : Bool) (x : Answer) (a b : Transition) → a ≡ (if p then F s else unchanged_with s x)
+    → (q : Bool) (y : Answer) → b ≡ (if q then F a.state else unchanged_with a.state y) → Twice s a b
 unfolding Twice
 gated-settled s F h false x a b is q y again = inl (ap (λ o. o.state) is)
 gated-settled s F h true x a b is false y again = inr (ap (λ o. o.state) again)
@@ -262,7 +262,7 @@ gated-settled s F h true x a b is true y again =
     let z = subst (λ (o : Transition). b ≡ F o.state) is again in
     settled (λ t. (F t).state ≡ t) s (F s) a b is (λ calm. ap (λ o. o.state) z ∙ calm) h
 
-acts-twice : (parts : Parts) (s : State) (c : Command) (a b : Transition) → IsRepeatable c → Acts parts s c a → Acts parts a.state c b → Twice s a b
+acts-twice : (parts : Primitives) (s : State) (c : Command) (a b : Transition) → IsRepeatable c → TakesEffect parts s c a → TakesEffect parts a.state c b → Twice s a b
 acts-twice parts s (PutTeam team token) a b _ x y =
     let out = put_team s team (parts.digest_of token) (is_some x.0) in
     let z = from_outcome parts (PutTeam team token) a out b x.2 y in
@@ -307,26 +307,26 @@ acts-twice parts s (GetMatrix v) a b _ x y = unchanged s a b _ x.2
 acts-twice parts s (Malformed fault) a b _ x y = absurd x
 
 -- a step that changes something is one of a command that was let through
-pub acts-or-same : (parts : Parts) (s : State) (token : Option Text) (c : Command) (out : Transition) → Step parts s token c out → (out.state ≡ s) ⊎ Acts parts s c out
+pub acts-or-same : (parts : Primitives) (s : State) (token : Option Text) (c : Command) (out : Transition) → Step parts s token c out → (out.state ≡ s) ⊎ TakesEffect parts s c out
 acts-or-same parts s token c out x = by_who x.0 x.2
   where
-    same : (answer : Answer) → out ≡ told s answer → (out.state ≡ s) ⊎ Acts parts s c out
+    same : (answer : Answer) → out ≡ unchanged_with s answer → (out.state ≡ s) ⊎ TakesEffect parts s c out
     same answer is = inl (ap (λ o. o.state) is)
 
-    by_refusal : (r : Option Answer) → MatchOption r (Acts parts s c out) (λ answer. out ≡ told s answer) → (out.state ≡ s) ⊎ Acts parts s c out
+    by_refusal : (r : Option Answer) → MatchOption r (TakesEffect parts s c out) (λ answer. out ≡ unchanged_with s answer) → (out.state ≡ s) ⊎ TakesEffect parts s c out
     by_refusal None h = inr h
     by_refusal (Some answer) h = same answer h
 
-    by_found : (caller : Caller) (f : Option Fault) → MatchOption f (MatchOption (refusal s caller c) (Acts parts s c out) (λ answer. out ≡ told s answer)) (λ fault. out ≡ told s (BadForm fault)) → (out.state ≡ s) ⊎ Acts parts s c out
+    by_found : (caller : Caller) (f : Option FormFault) → MatchOption f (MatchOption (refusal s caller c) (TakesEffect parts s c out) (λ answer. out ≡ unchanged_with s answer)) (λ fault. out ≡ unchanged_with s (BadForm fault)) → (out.state ≡ s) ⊎ TakesEffect parts s c out
     by_found caller None h = by_refusal (refusal s caller c) h
     by_found caller (Some fault) h = same _ h
 
-    by_who : (who : Option Caller) → MatchOption who (out ≡ told s (Denied A1)) (λ caller. Follows parts s caller c out) → (out.state ≡ s) ⊎ Acts parts s c out
+    by_who : (who : Option Caller) → MatchOption who (out ≡ unchanged_with s (Denied A1)) (λ caller. StepOfCaller parts s caller c out) → (out.state ≡ s) ⊎ TakesEffect parts s c out
     by_who None h = same _ h
     by_who (Some caller) h = by_found caller h.0 h.2
 
 -- the law, in every state
-pub retry : (parts : Parts) → Retry parts (λ s. Unit {0})
+pub retry : (parts : Primitives) → Retry parts (λ s. Unit {0})
 unfolding Twice
 retry parts s token c a b _ repeatable x y = by_first (acts-or-same parts s token c a x)
   where
@@ -343,10 +343,10 @@ retry parts s token c a b _ repeatable x y = by_first (acts-or-same parts s toke
     by_twice (inl h) = second h
     by_twice (inr h) = first h
 
-    by_second : Acts parts s c a → (b.state ≡ a.state) ⊎ Acts parts a.state c b → Goal b.state
+    by_second : TakesEffect parts s c a → (b.state ≡ a.state) ⊎ TakesEffect parts a.state c b → Goal b.state
     by_second h (inl k) = first k
     by_second h (inr k) = by_twice (acts-twice parts s c a b repeatable h k)
 
-    by_first : (a.state ≡ s) ⊎ Acts parts s c a → Goal b.state
+    by_first : (a.state ≡ s) ⊎ TakesEffect parts s c a → Goal b.state
     by_first (inl h) = second h
     by_first (inr h) = by_second h (acts-or-same parts a.state token c b y)

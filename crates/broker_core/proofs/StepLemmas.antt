@@ -6,7 +6,7 @@ use Rattle.broker_core.specs.declared.policy.Rule.TheVariants.{A1}
 use Rattle.broker_core.specs.declared.command.Command.{Command}
 use Rattle.broker_core.specs.declared.command.Command.TheVariants.{PutTeam, PutPacticipant, PutEnvironment, PutGrant, DeleteGrant, PutVersion, PutPact, GetPact, GetBranchPact, PostResult, PostReplies, Deploy, Undeploy, Release, EndSupport, GetEnvironment, CanIDeploy, GetMatrix, Malformed}
 use Rattle.broker_core.specs.declared.command.Version.{Version}
-use Rattle.broker_core.specs.declared.command.Fault.{Fault}
+use Rattle.broker_core.specs.declared.command.FormFault.{FormFault}
 use Rattle.broker_core.specs.declared.answer.Answer.{Answer}
 use Rattle.broker_core.specs.declared.answer.Answer.TheVariants.{Denied, BadForm}
 use Rattle.broker_core.specs.declared.answer.Detail.{Detail}
@@ -14,9 +14,9 @@ use Rattle.broker_core.specs.declared.answer.Missing.{Missing}
 use Rattle.broker_core.specs.Text.{Text}
 use Rattle.broker_core.specs.State.{State, Verification}
 use Rattle.broker_core.specs.Request.{refusal, refused, first_missing, is_allowed, is_known, consumer_version}
-use Rattle.broker_core.specs.Change.{Transition, told, repeated, report, result_of_run, says_same, can_name, on_branch, is_text, text_of, is_stored, instance_of}
+use Rattle.broker_core.specs.Change.{Transition, unchanged_with, repeated, report, result_of_run, says_same, can_name, on_branch, is_text, text_of, is_stored, instance_of}
 use Rattle.broker_core.specs.Limit.{has_room}
-use Rattle.broker_core.specs.Machine.{Parts, Step, Follows, Acts, report_replies, is_step}
+use Rattle.broker_core.specs.Machine.{Primitives, Step, StepOfCaller, TakesEffect, report_replies, is_step}
 
 IsStep : Transition → Type 0
 IsStep out = is_step out.answer ≡ true
@@ -33,7 +33,7 @@ test : (b : Bool) (x y : Transition) → IsStep x → IsStep y → IsStep (if b 
 test true x y h k = h
 test false x y h k = k
 
-either : (s : State) (b : Bool) (x y : Answer) → is_step x ≡ true → is_step y ≡ true → IsStep (told s (if b then x else y))
+either : (s : State) (b : Bool) (x y : Answer) → is_step x ≡ true → is_step y ≡ true → IsStep (unchanged_with s (if b then x else y))
 either s true x y h k = is x s h
 either s false x y h k = is y s k
 
@@ -51,7 +51,7 @@ replies : (s : State) (content : ℕ) (v : Version) (run : Option Text) (failing
 replies s content v run None = is _ _ refl
 replies s content v run (Some failing) = reports s _ _
 
-acts_answer : (parts : Parts) (s : State) (c : Command) (out : Transition) → Acts parts s c out → IsStep out
+acts_answer : (parts : Primitives) (s : State) (c : Command) (out : Transition) → TakesEffect parts s c out → IsStep out
 acts_answer parts s (PutTeam team token) out x = same out _ x.2 (lookup _ _ (s.teams team) (λ old. stands s _) (test (is_some x.0) _ _ (is _ _ refl) (is _ _ refl)))
 acts_answer parts s (PutPacticipant p team) out x = same out _ x (lookup _ _ (s.pacticipants p) (λ old. stands s _) (is _ _ refl))
 acts_answer parts s (PutEnvironment e marks) out x = same out _ x (lookup _ _ (s.environments e) (λ old. stands s _) (is _ _ refl))
@@ -72,23 +72,23 @@ acts_answer parts s (CanIDeploy v e) out x = same out _ x.2.3 (is _ _ refl)
 acts_answer parts s (GetMatrix v) out x = same out _ x.2 (is _ _ refl)
 acts_answer parts s (Malformed fault) out x = absurd x
 
-refuses : (parts : Parts) (s : State) (c : Command) (out : Transition) (m : Option Missing) (b : Bool) → MatchOption (refused c m b) (Acts parts s c out) (λ answer. out ≡ told s answer) → IsStep out
+refuses : (parts : Primitives) (s : State) (c : Command) (out : Transition) (m : Option Missing) (b : Bool) → MatchOption (refused c m b) (TakesEffect parts s c out) (λ answer. out ≡ unchanged_with s answer) → IsStep out
 refuses parts s c out (Some what) b h = same out _ h (is _ _ refl)
 refuses parts s c out None true h = acts_answer parts s c out h
 refuses parts s c out None false h = same out _ h (is _ _ refl)
 
-pub follows_answers : (parts : Parts) (s : State) (caller : Caller) (c : Command) (out : Transition) → Follows parts s caller c out → is_step out.answer ≡ true
+pub follows_answers : (parts : Primitives) (s : State) (caller : Caller) (c : Command) (out : Transition) → StepOfCaller parts s caller c out → is_step out.answer ≡ true
 unfolding IsStep
 follows_answers parts s caller c out x = by_found x.0 x.2
   where
-    by_found : (f : Option Fault) → MatchOption f (MatchOption (refusal s caller c) (Acts parts s c out) (λ answer. out ≡ told s answer)) (λ fault. out ≡ told s (BadForm fault)) → IsStep out
+    by_found : (f : Option FormFault) → MatchOption f (MatchOption (refusal s caller c) (TakesEffect parts s c out) (λ answer. out ≡ unchanged_with s answer)) (λ fault. out ≡ unchanged_with s (BadForm fault)) → IsStep out
     by_found None h = refuses parts s c out (first_missing s c) (is_allowed s caller c) h
-    by_found (Some fault) h = same out (told s (BadForm fault)) h (is (BadForm fault) s refl)
+    by_found (Some fault) h = same out (unchanged_with s (BadForm fault)) h (is (BadForm fault) s refl)
 
-pub step_answers : (parts : Parts) (s : State) (token : Option Text) (c : Command) (out : Transition) → Step parts s token c out → is_step out.answer ≡ true
+pub step_answers : (parts : Primitives) (s : State) (token : Option Text) (c : Command) (out : Transition) → Step parts s token c out → is_step out.answer ≡ true
 unfolding IsStep
 step_answers parts s token c out x = by_who x.0 x.2
   where
-    by_who : (who : Option Caller) → MatchOption who (out ≡ told s (Denied A1)) (λ caller. Follows parts s caller c out) → IsStep out
-    by_who None h = same out (told s (Denied A1)) h (is (Denied A1) s refl)
+    by_who : (who : Option Caller) → MatchOption who (out ≡ unchanged_with s (Denied A1)) (λ caller. StepOfCaller parts s caller c out) → IsStep out
+    by_who None h = same out (unchanged_with s (Denied A1)) h (is (Denied A1) s refl)
     by_who (Some caller) h = follows_answers parts s caller c out h

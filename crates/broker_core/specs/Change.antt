@@ -21,11 +21,11 @@ pub record Transition : Type 0 where
   pub state : State
 
 -- answered, and nothing changes
-abbrev pub told : State → Answer → Transition
-told s answer = record { answer = answer; state = s }
+abbrev pub unchanged_with : State → Answer → Transition
+unchanged_with s answer = record { answer = answer; state = s }
 
 abbrev pub already : State → Transition
-already s = told s (Already Plain)
+already s = unchanged_with s (Already Plain)
 
 -- answered Done, and this is the next state
 abbrev pub done : State → Transition
@@ -34,12 +34,12 @@ done next = record { answer = Done Plain; state = next }
 -- what stands is the same, or its name is taken
 abbrev pub repeated : State → Bool → Transition
 repeated s true = already s
-repeated s false = told s (Taken clash.Name)
+repeated s false = unchanged_with s (Taken clash.Name)
 
 -- a team with the digest of its token; is_taken says whether a caller has that digest already
 abbrev pub put_team : State → Text → Text → Bool → Transition
 put_team s team digest is_taken = option_map_or (λ old. repeated s (same_text old digest)) (s.teams team)
-    (if is_taken then told s (Taken clash.Token) else done (record s { teams = put_at same_text s.teams team (Some digest) }))
+    (if is_taken then unchanged_with s (Taken clash.Token) else done (record s { teams = put_at same_text s.teams team (Some digest) }))
 
 -- a pacticipant with the team that owns it
 abbrev pub put_pacticipant : State → Text → Text → Transition
@@ -57,7 +57,7 @@ abbrev pub put_grant : State → Text → Text → Transition
 put_grant s team e = if s.grants (team, e) then already s else done (record s { grants = put_at (same_pair same_text same_text) s.grants (team, e) true })
 
 abbrev pub delete_grant : State → Text → Text → Transition
-delete_grant s team e = if s.grants (team, e) then done (record s { grants = put_at (same_pair same_text same_text) s.grants (team, e) false }) else told s (Unknown missing.Grant)
+delete_grant s team e = if s.grants (team, e) then done (record s { grants = put_at (same_pair same_text same_text) s.grants (team, e) false }) else unchanged_with s (Unknown missing.Grant)
 
 -- the version is there, with the next number where it wasn't
 abbrev pub named : State → Version → State
@@ -82,7 +82,7 @@ abbrev pub put_version : State → Version → Option Text → Transition
 put_version s v branch =
     if is_known s v && on_branch s v branch then already s
     else if can_name s v then done (joined (named s v) v branch)
-    else told s Full
+    else unchanged_with s Full
 
 -- the text of the content with a number
 abbrev pub text_of : State → ℕ → Option Text
@@ -107,13 +107,13 @@ is_text text None = false
 
 -- the text becomes the content of the contract of v with the provider; where there is a contract already, it is this text or another
 abbrev pub put_pact : State → Version → Text → Text → Transition
-put_pact s v provider text = option_map_or (λ content. told s (if is_text text (text_of s content) then Already (Content content) else Taken clash.OtherContent)) (s.contracts (v, provider))
+put_pact s v provider text = option_map_or (λ content. unchanged_with s (if is_text text (text_of s content) then Already (Content content) else Taken clash.OtherContent)) (s.contracts (v, provider))
     (if can_name s v && (is_stored s text || has_room s.contents)
     then record {
       answer = Done (Content (number_of s text));
       state = record (stored (named s v) text) { contracts = put_at (same_pair same_version same_text) s.contracts (v, provider) (Some (number_of s text)) };
     }
-    else told s Full)
+    else unchanged_with s Full)
 
 -- the result of a run of the provider, with its number
 abbrev pub result_of_run : State → Text → Option Text → Option (ℕ × Verification)
@@ -125,13 +125,13 @@ says_same r q = r.content == q.content && (same_version r.version q.version && (
 
 -- a result comes in: a run that the provider has used is answered by the old result, else it gets the next number, and the version of the provider is there from then on
 abbrev pub report : State → Verification → (ℕ → Detail) → Transition
-report s r detail = option_map_or (λ e. told s (if says_same e.1 r then Already (detail e.0) else Taken clash.Run)) (result_of_run s r.version.pacticipant r.run)
+report s r detail = option_map_or (λ e. unchanged_with s (if says_same e.1 r then Already (detail e.0) else Taken clash.Run)) (result_of_run s r.version.pacticipant r.run)
     (if can_name s r.version && has_room s.results
     then record {
       answer = Done (detail (length s.results + 1));
       state = record (named s r.version) { results = s.results ++ r ∷ [] };
     }
-    else told s Full)
+    else unchanged_with s Full)
 
 -- the text of an instance; an absent one is the empty text
 abbrev pub instance_of : Option Text → Text
@@ -149,7 +149,7 @@ abbrev pub undeploy : State → Text → Version → Text → Transition
 undeploy s e v instance =
     if is_text v.name (s.deployed (e, v.pacticipant, instance))
     then done (record s { deployed = put_at same_place s.deployed (e, v.pacticipant, instance) None })
-    else told s (Unknown missing.Deployed)
+    else unchanged_with s (Unknown missing.Deployed)
 
 -- a release that the gate lets through
 abbrev pub release : State → Text → Version → Transition
@@ -162,4 +162,4 @@ abbrev pub end_support : State → Text → Version → Transition
 end_support s e v =
     if s.released (e, v)
     then done (record s { released = put_at (same_pair same_text same_version) s.released (e, v) false })
-    else told s (Unknown missing.Released)
+    else unchanged_with s (Unknown missing.Released)

@@ -15,19 +15,19 @@ use Rattle.broker_core.specs.Gate.{Stands, IsPermitted, IsFault}
 use Rattle.broker_core.specs.Faults.{fault_cmp}
 use Rattle.broker_core.specs.Listing.{Lists}
 use Rattle.broker_core.specs.Request.{is_known, refusal}
-use Rattle.broker_core.specs.Change.{Transition, told, instance_of}
-use Rattle.broker_core.specs.Machine.{Parts, Knows, FindsCaller, Step, Request, Run}
+use Rattle.broker_core.specs.Change.{Transition, unchanged_with, instance_of}
+use Rattle.broker_core.specs.Machine.{Primitives, HasDigest, IsCallerOfToken, Step, Request, Run}
 
 -- no two callers have tokens with one digest
 abbrev pub HasOneCaller : State → Type 0
-HasOneCaller s = (digest : Text) (a b : Caller) → Knows s digest a → Knows s digest b → a ≡ b
+HasOneCaller s = (digest : Text) (a b : Caller) → HasDigest s digest a → HasDigest s digest b → a ≡ b
 
 abbrev pub IsDone : Answer → Type 0
 IsDone (Done detail) = Unit {0}
 IsDone _ = ⊥
 
 -- only a step that is answered Done changes anything
-abbrev pub OnlyDoneChanges : Parts → Type 0
+abbrev pub OnlyDoneChanges : Primitives → Type 0
 OnlyDoneChanges parts = (s : State) (token : Option Text) (command : Command) (out : Transition) → Step parts s token command out → (out.state ≡ s) ⊎ IsDone out.answer
 
 -- what the gate makes of a command that would record v in e: where v is permitted the record stands afterwards and the answer is Done or Already;
@@ -35,18 +35,18 @@ OnlyDoneChanges parts = (s : State) (token : Option Text) (command : Command) (o
 abbrev pub IsJudged : State → Text → Version → (State → Type 0) → Transition → Type 0
 IsJudged s e v IsRecorded out =
     (IsPermitted s v e × IsRecorded out.state × ((out.answer ≡ Done Plain) ⊎ (out.answer ≡ Already Plain)))
-    ⊎ ((¬ (IsPermitted s v e)) × ((faults : List PairFault) × Lists fault_cmp (IsFault s v e) faults × (out ≡ told s (NotPermitted faults))))
+    ⊎ ((¬ (IsPermitted s v e)) × ((faults : List PairFault) × Lists fault_cmp (IsFault s v e) faults × (out ≡ unchanged_with s (NotPermitted faults))))
 
 -- a deployment whose caller is known and which nothing refuses before the gate is recorded exactly where the gate permits it
-abbrev pub DeploysAsJudged : Parts → Type 0
+abbrev pub DeploysAsJudged : Primitives → Type 0
 DeploysAsJudged parts = (s : State) (token : Option Text) (caller : Caller) (e : Text) (v : Version) (instance : Option Text) (out : Transition)
-    → HasOneCaller s → FindsCaller parts s token (Some caller) → refusal s caller (Deploy e v instance) ≡ None
+    → HasOneCaller s → IsCallerOfToken parts s token (Some caller) → refusal s caller (Deploy e v instance) ≡ None
     → Step parts s token (Deploy e v instance) out → IsJudged s e v (λ t. t.deployed (e, v.pacticipant, instance_of instance) ≡ Some v.name) out
 
 -- and so is a release
-abbrev pub ReleasesAsJudged : Parts → Type 0
+abbrev pub ReleasesAsJudged : Primitives → Type 0
 ReleasesAsJudged parts = (s : State) (token : Option Text) (caller : Caller) (e : Text) (v : Version) (out : Transition)
-    → HasOneCaller s → FindsCaller parts s token (Some caller) → refusal s caller (Release e v) ≡ None
+    → HasOneCaller s → IsCallerOfToken parts s token (Some caller) → refusal s caller (Release e v) ≡ None
     → Step parts s token (Release e v) out → IsJudged s e v (λ t. IsTrue (t.released (e, v))) out
 
 -- the version v, or one that stands in e
@@ -54,11 +54,11 @@ abbrev pub Concerns : State → Version → Text → Version → Type 0
 Concerns s v e w = (w ≡ v) ⊎ Stands s e w
 
 -- what a deployment of v to e by this token may depend on is the same in both states
-pub record Agree (parts : Parts) (token : Option Text) (s t : State) (v : Version) (e : Text) : Type 0 where
-  pub callers : (digest : Text) (caller : Caller) → (Knows s digest caller → Knows t digest caller) × (Knows t digest caller → Knows s digest caller)
+pub record Agree (parts : Primitives) (token : Option Text) (s t : State) (v : Version) (e : Text) : Type 0 where
+  pub callers : (digest : Text) (caller : Caller) → (HasDigest s digest caller → HasDigest t digest caller) × (HasDigest t digest caller → HasDigest s digest caller)
   pub owner : s.pacticipants v.pacticipant ≡ t.pacticipants v.pacticipant
   pub known : is_known s v ≡ is_known t v
-  pub grant : (team secret : Text) → token ≡ Some secret → Knows s (parts.digest_of secret) (Team team) → s.grants (team, e) ≡ t.grants (team, e)
+  pub grant : (team secret : Text) → token ≡ Some secret → HasDigest s (parts.digest_of secret) (Team team) → s.grants (team, e) ≡ t.grants (team, e)
   pub environment : s.environments e ≡ t.environments e
   pub deployed : (p instance : Text) → s.deployed (e, p, instance) ≡ t.deployed (e, p, instance)
   pub released : (w : Version) → s.released (e, w) ≡ t.released (e, w)
@@ -66,7 +66,7 @@ pub record Agree (parts : Parts) (token : Option Text) (s t : State) (v : Versio
   pub results : (w : Version) (p : Text) (content : ℕ) → Concerns s v e w → s.contracts (w, p) ≡ Some content → (u : Version) → latest s content u ≡ latest t content u
 
 -- the answer to a deployment is the same in two states that agree on these
-abbrev pub GateLocality : Parts → Type 0
+abbrev pub GateLocality : Primitives → Type 0
 GateLocality parts = (token : Option Text) (e : Text) (v : Version) (instance : Option Text) (s t : State) (a b : Transition)
     → HasOneCaller s → Agree parts token s t v e
     → Step parts s token (Deploy e v instance) a → Step parts t token (Deploy e v instance) b → a.answer ≡ b.answer
@@ -78,7 +78,7 @@ IsRepeatable (PostReplies path report replies) = IsSome report.run
 IsRepeatable _ = Unit {0}
 
 -- a step taken twice leaves a state of a step taken once
-abbrev pub Retry : Parts → (State → Type 0) → Type 0
+abbrev pub Retry : Primitives → (State → Type 0) → Type 0
 Retry parts IsAllowed = (s : State) (token : Option Text) (command : Command) (a b : Transition) → IsAllowed s → IsRepeatable command
     → Step parts s token command a → Step parts a.state token command b
     → (answer : Answer) × Step parts s token command (record { answer = answer; state = b.state })
@@ -89,14 +89,14 @@ pub record Session : Type 0 where
   pub cut : Option Request
 
 -- the cut request took its step, or nothing
-abbrev pub Cut : Parts → State → Option Request → State → Type 0
-Cut parts s None last = last ≡ s
-Cut parts s (Some r) last = (last ≡ s) ⊎ ((answer : Answer) × Step parts s r.token r.command (record { answer = answer; state = last }))
+abbrev pub CutLeaves : Primitives → State → Option Request → State → Type 0
+CutLeaves parts s None last = last ≡ s
+CutLeaves parts s (Some r) last = (last ≡ s) ⊎ ((answer : Answer) × Step parts s r.token r.command (record { answer = answer; state = last }))
 
 -- the states after a list of sessions
-abbrev pub Sessions : Parts → State → List Session → State → Type 0
+abbrev pub Sessions : Primitives → State → List Session → State → Type 0
 Sessions parts s [] last = last ≡ s
-Sessions parts s (x ∷ xs) last = (answers : List Answer) × (mid : State) × (next : State) × Run parts s x.answered answers mid × Cut parts mid x.cut next × Sessions parts next xs last
+Sessions parts s (x ∷ xs) last = (answers : List Answer) × (mid : State) × (next : State) × Run parts s x.answered answers mid × CutLeaves parts mid x.cut next × Sessions parts next xs last
 
 -- how a call ended: answered by a step, answered by no step, or cut by a stop or answered Store
 pub data Exit : Type 0 where
@@ -105,15 +105,15 @@ pub data Exit : Type 0 where
   WasCut : Exit
 
 -- what the clauses of one call allow it to leave
-abbrev pub Leaves : Parts → State → Request → Exit → State → Type 0
-Leaves parts s r (Stepped a) next = Step parts s r.token r.command (record { answer = a; state = next })
-Leaves parts s r NoStep next = next ≡ s
-Leaves parts s r WasCut next = Cut parts s (Some r) next
+abbrev pub CallLeaves : Primitives → State → Request → Exit → State → Type 0
+CallLeaves parts s r (Stepped a) next = Step parts s r.token r.command (record { answer = a; state = next })
+CallLeaves parts s r NoStep next = next ≡ s
+CallLeaves parts s r WasCut next = CutLeaves parts s (Some r) next
 
 -- what the calls of a session leave, one after another
-abbrev pub LeavesAll : Parts → State → List (Request × Exit) → State → Type 0
+abbrev pub LeavesAll : Primitives → State → List (Request × Exit) → State → Type 0
 LeavesAll parts s [] last = last ≡ s
-LeavesAll parts s (c ∷ cs) last = (next : State) × Leaves parts s c.0 c.1 next × LeavesAll parts next cs last
+LeavesAll parts s (c ∷ cs) last = (next : State) × CallLeaves parts s c.0 c.1 next × LeavesAll parts next cs last
 
 -- after a call that was cut no call of the session is a step: the broker is stopped
 abbrev pub AllNoStep : List (Request × Exit) → Type 0
@@ -146,12 +146,12 @@ sessions_of [] = []
 sessions_of (cs ∷ css) = record { answered = answered_of cs; cut = cut_of cs } ∷ sessions_of css
 
 -- calls of sessions, each session from the state that the one before left
-abbrev pub LeavesSessions : Parts → State → List (List (Request × Exit)) → State → Type 0
+abbrev pub LeavesSessions : Primitives → State → List (List (Request × Exit)) → State → Type 0
 LeavesSessions parts s [] last = last ≡ s
 LeavesSessions parts s (cs ∷ css) last = (next : State) × IsSession cs × LeavesAll parts s cs next × LeavesSessions parts next css last
 
 -- the clauses of the calls compose over every list of sessions
-abbrev pub SessionsCompose : Parts → Type 0
+abbrev pub SessionsCompose : Primitives → Type 0
 SessionsCompose parts = (s last : State) (css : List (List (Request × Exit))) → LeavesSessions parts s css last → Sessions parts s (sessions_of css) last
 
 -- each session's cut request comes first in the next session, and it isn't a result without a run
@@ -169,5 +169,5 @@ all_answered [] = []
 all_answered (x ∷ xs) = x.answered ++ all_answered xs
 
 -- where cut requests come again, the state is that of a run over all requests, each once
-abbrev pub RunsOnce : Parts → Type 0
+abbrev pub RunsOnce : Primitives → Type 0
 RunsOnce parts = (s last : State) (xs : List Session) → ComeAgain xs → Sessions parts s xs last → (answers : List Answer) × Run parts s (all_answered xs) answers last

@@ -9,8 +9,8 @@ use Rattle.broker_core.specs.declared.policy.Caller.TheVariants.{Office, Team}
 use Rattle.broker_core.specs.declared.policy.Rule.TheVariants.{A1}
 use Rattle.broker_core.specs.declared.command.Command.{Command}
 use Rattle.broker_core.specs.declared.command.Command.TheVariants.{PutTeam, PutPacticipant, PutEnvironment, PutGrant, DeleteGrant, PutVersion, PutPact, GetPact, GetBranchPact, PostResult, PostReplies, Deploy, Undeploy, Release, EndSupport, GetEnvironment, CanIDeploy, GetMatrix, Malformed}
-use Rattle.broker_core.specs.declared.command.Fault.{Fault}
-use Rattle.broker_core.specs.declared.command.Fault.TheVariants as fault
+use Rattle.broker_core.specs.declared.command.FormFault.{FormFault}
+use Rattle.broker_core.specs.declared.command.FormFault.TheVariants as fault
 use Rattle.broker_core.specs.declared.command.Marks.{Marks}
 use Rattle.broker_core.specs.declared.command.Version.{Version}
 use Rattle.broker_core.specs.declared.need.PairFault.{PairFault}
@@ -27,50 +27,50 @@ use Rattle.broker_core.specs.State.{State, claimed_result, checked_result, said_
 use Rattle.broker_core.specs.Listing.{Lists}
 use Rattle.broker_core.specs.Gate.{Judges}
 use Rattle.broker_core.specs.Request.{consumer_version, branch_version, refusal}
-use Rattle.broker_core.specs.Change.{Transition, told, put_team, put_pacticipant, put_environment, put_grant, delete_grant, put_version, text_of, put_pact, report, instance_of, deploy, undeploy, release, end_support}
+use Rattle.broker_core.specs.Change.{Transition, unchanged_with, put_team, put_pacticipant, put_environment, put_grant, delete_grant, put_version, text_of, put_pact, report, instance_of, deploy, undeploy, release, end_support}
 
 -- a file is read as a pact, of which its two names and its normal text matter here, or refused
 pub data Reading : Type 0 where
   IsPact : (consumer provider normal_text : Text) → Reading
-  IsRefused : Fault → Reading
+  IsRefused : FormFault → Reading
 
 -- what other crates define: the digest, the reading of pact files and of replies, and their comparison. Reading and comparing are relations,
 -- since whether a pattern is read isn't wholly known beforehand
-pub record Parts : Type 1 where
+pub record Primitives : Type 1 where
   pub digest_of : Text → Text
   -- the reading of the bytes of a pact file
   pub Reads : Text → Reading → Type 0
   -- whether the bytes hold well formed replies: the fault, or none
-  pub ReadsReplies : Text → Option Fault → Type 0
+  pub ReadsReplies : Text → Option FormFault → Type 0
   -- of a normal text and the bytes of replies: the places of the interactions that fail; none where a reply belongs to no interaction
   pub Fails : Text → Text → Option (List ℕ) → Type 0
 
 -- the token of this caller has this digest
-abbrev pub Knows : State → Text → Caller → Type 0
-Knows s digest Office = s.office ≡ digest
-Knows s digest (Team team) = s.teams team ≡ Some digest
+abbrev pub HasDigest : State → Text → Caller → Type 0
+HasDigest s digest Office = s.office ≡ digest
+HasDigest s digest (Team team) = s.teams team ≡ Some digest
 
 -- the caller whose token has this digest, none where no one's has
-abbrev pub Recognizes : State → Text → Option Caller → Type 0
-Recognizes s digest (Some caller) = Knows s digest caller
-Recognizes s digest None = (caller : Caller) → ¬ (Knows s digest caller)
+abbrev pub IsCallerOfDigest : State → Text → Option Caller → Type 0
+IsCallerOfDigest s digest (Some caller) = HasDigest s digest caller
+IsCallerOfDigest s digest None = (caller : Caller) → ¬ (HasDigest s digest caller)
 
 -- the caller of a token; without a token there is none
-abbrev pub FindsCaller : Parts → State → Option Text → Option Caller → Type 0
-FindsCaller parts s (Some token) who = Recognizes s (parts.digest_of token) who
-FindsCaller parts s None who = who ≡ None
+abbrev pub IsCallerOfToken : Primitives → State → Option Text → Option Caller → Type 0
+IsCallerOfToken parts s (Some token) who = IsCallerOfDigest s (parts.digest_of token) who
+IsCallerOfToken parts s None who = who ≡ None
 
 -- the fault of a file for a path: its own, or that its names are others
-abbrev pub fault_of_reading : Text → Text → Reading → Option Fault
+abbrev pub fault_of_reading : Text → Text → Reading → Option FormFault
 fault_of_reading consumer provider (IsRefused fault) = Some fault
 fault_of_reading consumer provider (IsPact c p text) = if same_text c consumer && same_text p provider then None else Some fault.Names
 
 -- a strict environment is a gated one
-abbrev pub fault_of_marks : Marks → Option Fault
+abbrev pub fault_of_marks : Marks → Option FormFault
 fault_of_marks marks = if marks.strict && not marks.gated then Some (fault.Field (codes "strict")) else None
 
 -- the fault of a command's form, if there is one
-abbrev pub FindsFault : Parts → Command → Option Fault → Type 0
+abbrev pub FindsFault : Primitives → Command → Option FormFault → Type 0
 FindsFault parts (Malformed fault) found = found ≡ Some fault
 FindsFault parts (PutEnvironment e marks) found = found ≡ fault_of_marks marks
 FindsFault parts (PutPact path file) found = (reading : Reading) × parts.Reads file reading × (found ≡ fault_of_reading path.consumer path.provider reading)
@@ -119,52 +119,52 @@ pub record IsMatrixRow (s : State) (v : Version) (row : MatrixRow) : Type 0 wher
 
 -- replies pass where no interaction fails; they are refused where one belongs to no interaction
 abbrev pub report_replies : State → ℕ → Version → Option Text → Option (List ℕ) → Transition
-report_replies s content v run None = told s (BadForm fault.UnknownReply)
+report_replies s content v run None = unchanged_with s (BadForm fault.UnknownReply)
 report_replies s content v run (Some failing) = report s (checked_result content v (is_empty failing) run) (λ n. Replies failing n (is_empty failing))
 
 -- what a command does that is let through
-abbrev pub Acts : Parts → State → Command → Transition → Type 0
-Acts parts s (PutTeam team token) out =
-    (holder : Option Caller) × Recognizes s (parts.digest_of token) holder × (out ≡ put_team s team (parts.digest_of token) (is_some holder))
-Acts parts s (PutPacticipant p team) out = out ≡ put_pacticipant s p team
-Acts parts s (PutEnvironment e marks) out = out ≡ put_environment s e marks
-Acts parts s (PutGrant team e) out = out ≡ put_grant s team e
-Acts parts s (DeleteGrant team e) out = out ≡ delete_grant s team e
-Acts parts s (PutVersion v branch) out = out ≡ put_version s v branch
-Acts parts s (PutPact path file) out =
+abbrev pub TakesEffect : Primitives → State → Command → Transition → Type 0
+TakesEffect parts s (PutTeam team token) out =
+    (holder : Option Caller) × IsCallerOfDigest s (parts.digest_of token) holder × (out ≡ put_team s team (parts.digest_of token) (is_some holder))
+TakesEffect parts s (PutPacticipant p team) out = out ≡ put_pacticipant s p team
+TakesEffect parts s (PutEnvironment e marks) out = out ≡ put_environment s e marks
+TakesEffect parts s (PutGrant team e) out = out ≡ put_grant s team e
+TakesEffect parts s (DeleteGrant team e) out = out ≡ delete_grant s team e
+TakesEffect parts s (PutVersion v branch) out = out ≡ put_version s v branch
+TakesEffect parts s (PutPact path file) out =
     (text : Text) × parts.Reads file (IsPact path.consumer path.provider text) × (out ≡ put_pact s (consumer_version path) path.provider text)
-Acts parts s (GetPact path) out =
-    (text : Text) × (pact_text s (consumer_version path) path.provider ≡ Some text) × (out ≡ told s (Shown (shown.Pact text)))
-Acts parts s (GetBranchPact provider consumer branch) out =
+TakesEffect parts s (GetPact path) out =
+    (text : Text) × (pact_text s (consumer_version path) path.provider ≡ Some text) × (out ≡ unchanged_with s (Shown (shown.Pact text)))
+TakesEffect parts s (GetBranchPact provider consumer branch) out =
     (v : Version) × (branch_version s provider consumer branch ≡ Some v)
-    × ((text : Text) × (pact_text s v provider ≡ Some text) × (out ≡ told s (Shown (shown.Pact text))))
-Acts parts s (PostResult path r success) out =
+    × ((text : Text) × (pact_text s v provider ≡ Some text) × (out ≡ unchanged_with s (Shown (shown.Pact text))))
+TakesEffect parts s (PostResult path r success) out =
     (content : ℕ) × (s.contracts (consumer_version path, path.provider) ≡ Some content)
     × (out ≡ report s (claimed_result content (version path.provider r.provider_version) success r.run) Result)
-Acts parts s (PostReplies path r replies) out =
+TakesEffect parts s (PostReplies path r replies) out =
     (content : ℕ) × (s.contracts (consumer_version path, path.provider) ≡ Some content)
     × ((text : Text) × (text_of s content ≡ Some text)
     × ((failing : Option (List ℕ)) × parts.Fails text replies failing
     × (out ≡ report_replies s content (version path.provider r.provider_version) r.run failing)))
-Acts parts s (Deploy e v instance) out =
+TakesEffect parts s (Deploy e v instance) out =
     (permitted : Bool) × (faults : List PairFault) × Judges s v e permitted faults
-    × (out ≡ (if permitted then deploy s e v (instance_of instance) else told s (NotPermitted faults)))
-Acts parts s (Undeploy e v instance) out = out ≡ undeploy s e v (instance_of instance)
-Acts parts s (Release e v) out =
+    × (out ≡ (if permitted then deploy s e v (instance_of instance) else unchanged_with s (NotPermitted faults)))
+TakesEffect parts s (Undeploy e v instance) out = out ≡ undeploy s e v (instance_of instance)
+TakesEffect parts s (Release e v) out =
     (permitted : Bool) × (faults : List PairFault) × Judges s v e permitted faults
-    × (out ≡ (if permitted then release s e v else told s (NotPermitted faults)))
-Acts parts s (EndSupport e v) out = out ≡ end_support s e v
-Acts parts s (GetEnvironment e) out =
+    × (out ≡ (if permitted then release s e v else unchanged_with s (NotPermitted faults)))
+TakesEffect parts s (EndSupport e v) out = out ≡ end_support s e v
+TakesEffect parts s (GetEnvironment e) out =
     (marks : Marks) × (s.environments e ≡ Some marks)
     × ((items : List DeployedItem) × Lists deployed_cmp (λ x. s.deployed (e, x.pacticipant, x.instance) ≡ Some x.version) items
     × ((versions : List Version) × Lists version_cmp (λ v. IsTrue (s.released (e, v))) versions
-    × (out ≡ told s (Shown (shown.Environment e marks items versions)))))
-Acts parts s (CanIDeploy v e) out =
+    × (out ≡ unchanged_with s (Shown (shown.Environment e marks items versions)))))
+TakesEffect parts s (CanIDeploy v e) out =
     (marks : Marks) × (s.environments e ≡ Some marks)
     × ((permitted : Bool) × (faults : List PairFault) × Judges s v e permitted faults
-    × (out ≡ told s (Shown (shown.Gate e marks permitted faults))))
-Acts parts s (GetMatrix v) out = (rows : List MatrixRow) × Lists matrix_cmp (IsMatrixRow s v) rows × (out ≡ told s (Shown (shown.Matrix rows)))
-Acts parts s (Malformed fault) out = ⊥
+    × (out ≡ unchanged_with s (Shown (shown.Gate e marks permitted faults))))
+TakesEffect parts s (GetMatrix v) out = (rows : List MatrixRow) × Lists matrix_cmp (IsMatrixRow s v) rows × (out ≡ unchanged_with s (Shown (shown.Matrix rows)))
+TakesEffect parts s (Malformed fault) out = ⊥
 
 -- the answers that steps have: none of them says that a pattern was too costly, that memory or the store failed, or that a broker is stopped
 abbrev pub is_step : Answer → Bool
@@ -175,14 +175,14 @@ is_step answer.Stopped = false
 is_step _ = true
 
 -- a known caller's command: its form comes first, then existence and policy, and then what the command does
-abbrev pub Follows : Parts → State → Caller → Command → Transition → Type 0
-Follows parts s caller command out = (found : Option Fault) × FindsFault parts command found × MatchOption found
-    (MatchOption (refusal s caller command) (Acts parts s command out) (λ answer. out ≡ told s answer))
-    (λ fault. out ≡ told s (BadForm fault))
+abbrev pub StepOfCaller : Primitives → State → Caller → Command → Transition → Type 0
+StepOfCaller parts s caller command out = (found : Option FormFault) × FindsFault parts command found × MatchOption found
+    (MatchOption (refusal s caller command) (TakesEffect parts s command out) (λ answer. out ≡ unchanged_with s answer))
+    (λ fault. out ≡ unchanged_with s (BadForm fault))
 
 -- a command with its token: who calls comes before all else
-abbrev pub Step : Parts → State → Option Text → Command → Transition → Type 0
-Step parts s token command out = (who : Option Caller) × FindsCaller parts s token who × MatchOption who (out ≡ told s (Denied A1)) (λ caller. Follows parts s caller command out)
+abbrev pub Step : Primitives → State → Option Text → Command → Transition → Type 0
+Step parts s token command out = (who : Option Caller) × IsCallerOfToken parts s token who × MatchOption who (out ≡ unchanged_with s (Denied A1)) (λ caller. StepOfCaller parts s caller command out)
 
 -- a command with the token that came with it
 pub record Request : Type 0 where
@@ -190,7 +190,7 @@ pub record Request : Type 0 where
   pub command : Command
 
 -- the answers and the last state, one step after another
-abbrev pub Run : Parts → State → List Request → List Answer → State → Type 0
+abbrev pub Run : Primitives → State → List Request → List Answer → State → Type 0
 Run parts s [] [] last = last ≡ s
 Run parts s (r ∷ rs) (a ∷ answers) last = (next : State) × Step parts s r.token r.command (record { answer = a; state = next }) × Run parts next rs answers last
 Run parts s [] (a ∷ answers) last = ⊥

@@ -8,8 +8,8 @@ use Rattle.broker_core.specs.declared.answer.Missing.{Missing}
 use Rattle.broker_core.specs.declared.answer.Missing.TheVariants as missing
 use Rattle.broker_core.specs.declared.answer.Clash.{Clash}
 use Rattle.broker_core.specs.declared.answer.Clash.TheVariants as clash
-use Rattle.broker_core.specs.declared.command.Fault.{Fault}
-use Rattle.broker_core.specs.declared.command.Fault.TheVariants as fault
+use Rattle.broker_core.specs.declared.command.FormFault.{FormFault}
+use Rattle.broker_core.specs.declared.command.FormFault.TheVariants as fault
 use Rattle.broker_core.specs.Text.{Text}
 
 abbrev pub rule_text : Rule → Text
@@ -45,7 +45,7 @@ clash_text clash.OtherContent = codes "other content"
 clash_text clash.Run = codes "run"
 
 -- the place of a fault in a pact file or in replies follows the word
-abbrev pub fault_text : Fault → Text
+abbrev pub fault_text : FormFault → Text
 fault_text fault.Name = codes "name"
 fault_text fault.Json = codes "json"
 fault_text (fault.Field field) = codes "field " ++ field

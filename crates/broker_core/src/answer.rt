@@ -1,7 +1,7 @@
 //! Answers, one variant an answer.
 ghost use Rattle.std.specs.Prelude.{◌≡◌};
 
-use crate::command::{Fault, Marks, Version};
+use crate::command::{FormFault, Marks, Version};
 use crate::name::{Name, Text};
 use crate::need::{Latest, PairFault};
 use crate::policy::Rule;
@@ -369,7 +369,7 @@ pub enum Answer {
     /// Something that it names isn't there.
     Unknown(Missing),
     /// Its form is at fault.
-    BadForm(Fault),
+    BadForm(FormFault),
     /// Something else stands in its place.
     Taken(Clash),
     /// It would need a number over 1,000,000,000.

@@ -36,7 +36,7 @@ pub struct Report {
 
 /// Where the form of a command is at fault.
 #[derive(Debug, Drop)]
-pub enum Fault {
+pub enum FormFault {
     /// A name in the path.
     Name,
     /// The body isn't JSON, or not an object.
@@ -57,7 +57,7 @@ pub enum Fault {
     UnknownReply,
 }
 
-impl fmt::Display for Fault {
+impl fmt::Display for FormFault {
     ghost use Rattle.std.specs.Prelude.{Some};
     ghost use Rattle.broker_core.specs.Words.{fault_text};
 
@@ -65,15 +65,15 @@ impl fmt::Display for Fault {
 
     fn fmt<W: fmt::Write>(&self, f: &mut fmt::Formatter<W>) -> fmt::Result {
         match self {
-            Fault::Name => f.write_str("name"),
-            Fault::Json => f.write_str("json"),
-            Fault::Field(field) => write!(f, "field {}", field.as_str()),
-            Fault::Query(key) => write!(f, "query {}", key.as_str()),
-            Fault::Token => f.write_str("token"),
-            Fault::Names => f.write_str("names"),
-            Fault::Pact(place) => write!(f, "pact {}", place.as_str()),
-            Fault::Replies(place) => write!(f, "replies {}", place.as_str()),
-            Fault::UnknownReply => f.write_str("check 1"),
+            FormFault::Name => f.write_str("name"),
+            FormFault::Json => f.write_str("json"),
+            FormFault::Field(field) => write!(f, "field {}", field.as_str()),
+            FormFault::Query(key) => write!(f, "query {}", key.as_str()),
+            FormFault::Token => f.write_str("token"),
+            FormFault::Names => f.write_str("names"),
+            FormFault::Pact(place) => write!(f, "pact {}", place.as_str()),
+            FormFault::Replies(place) => write!(f, "replies {}", place.as_str()),
+            FormFault::UnknownReply => f.write_str("check 1"),
         }
     }
 }
@@ -174,5 +174,5 @@ pub enum Command {
         version: Version,
     },
     /// A request of a known route whose path, query or body is at fault: it is told after the token was looked at.
-    Malformed(Fault),
+    Malformed(FormFault),
 }

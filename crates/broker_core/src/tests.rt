@@ -1,7 +1,7 @@
 use crate::answer::{
     Clash, DeployedItem, DeployedItems, Faults, MatrixRow, MatrixRows, Missing, Places, Versions,
 };
-use crate::command::{Fault, Version};
+use crate::command::{FormFault, Version};
 use crate::gate::decide;
 use crate::limit::room;
 use crate::name::{Body, Name, NameFault, Text, Token, TokenFault};
@@ -239,9 +239,9 @@ fn words_stand_for_what_is_told(rt: HostRuntime) -> Result<(), Fail> {
     let clash = Clash::Run.to_string(rt.alloc())?;
     assert_eq!(rt; clash.as_str(), "run");
     let place = Text::new(String::from_str(rt.alloc(), "7.5 interactions[0] decimal")?);
-    let fault = Fault::Pact(place).to_string(rt.alloc())?;
+    let fault = FormFault::Pact(place).to_string(rt.alloc())?;
     assert_eq!(rt; fault.as_str(), "pact 7.5 interactions[0] decimal");
-    let fault = Fault::UnknownReply.to_string(rt.alloc())?;
+    let fault = FormFault::UnknownReply.to_string(rt.alloc())?;
     assert_eq!(rt; fault.as_str(), "check 1");
     Ok(())
 }

@@ -1,7 +1,7 @@
 -- A message asks only what the broker serves.
 use Rattle.std.proofs.Common.{◌≡◌, ℕ, Bool, true, false, List, Option, Some, None, Result, Ok, Err, refl, sym, ap, ◌∙◌, subst}
 use Rattle.broker_core.specs.declared.command.Command.{Command}
-use Rattle.broker_core.specs.declared.command.Fault.{Fault}
+use Rattle.broker_core.specs.declared.command.FormFault.{FormFault}
 use Rattle.broker_service.specs.Served.{IsServed}
 use Rattle.httparse.specs.Grammar.{RequestHead}
 use Rattle.http_messages.specs.Message.{Message}
@@ -14,19 +14,19 @@ use Rattle.http_requests.specs.Requests.{is_here, ByTask, ByAsked, ByPlace, ByHe
 use Rattle.http_requests.specs.declared.Request.{Request}
 use Rattle.broker_http.specs.Asked.{IsAskedServed}
 
-served-map_ok : {A : Type 0} (f : A → Command) (a : Result A Fault) → ((x : A) → IsServed (f x)) → IsServed (or_malformed (map_ok f a))
+served-map_ok : {A : Type 0} (f : A → Command) (a : Result A FormFault) → ((x : A) → IsServed (f x)) → IsServed (or_malformed (map_ok f a))
 served-map_ok f (Ok x) served = served x
 served-map_ok f (Err e) served = tt
 
-served-map2 : {A B : Type 0} (f : A → B → Command) (a : Result A Fault) (b : Result B Fault) → ((x : A) (y : B) → IsServed (f x y)) → IsServed (or_malformed (map2 f a b))
+served-map2 : {A B : Type 0} (f : A → B → Command) (a : Result A FormFault) (b : Result B FormFault) → ((x : A) (y : B) → IsServed (f x y)) → IsServed (or_malformed (map2 f a b))
 served-map2 f (Ok x) b served = served-map_ok (f x) b (served x)
 served-map2 f (Err e) b served = tt
 
-served-map3 : {A B C : Type 0} (f : A → B → C → Command) (a : Result A Fault) (b : Result B Fault) (c : Result C Fault) → ((x : A) (y : B) (z : C) → IsServed (f x y z)) → IsServed (or_malformed (map3 f a b c))
+served-map3 : {A B C : Type 0} (f : A → B → C → Command) (a : Result A FormFault) (b : Result B FormFault) (c : Result C FormFault) → ((x : A) (y : B) (z : C) → IsServed (f x y z)) → IsServed (or_malformed (map3 f a b c))
 served-map3 f (Ok x) b c served = served-map2 (f x) b c (served x)
 served-map3 f (Err e) b c served = tt
 
-served-of : (r s : Result Command Fault) (c : Command) → r ≡ s → c ≡ or_malformed r → IsServed (or_malformed s) → IsServed c
+served-of : (r s : Result Command FormFault) (c : Command) → r ≡ s → c ≡ or_malformed r → IsServed (or_malformed s) → IsServed c
 served-of r s c e is p = subst IsServed (sym (is ∙ ap or_malformed e)) p
 
 command-served : (t : Task) (path query body : List ℕ) (c : Command) → is_here t ≡ true → IsCommand t path query body c → IsServed c

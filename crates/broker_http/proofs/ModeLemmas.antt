@@ -3,7 +3,7 @@ use Rattle.std.proofs.Common.{◌≡◌, ◌≢◌, ◌⊎◌, ◌↔◌, inl, i
 use Rattle.sqlite_trees.specs.View.{doubt}
 use Rattle.sqlite.specs.Held.{Held}
 use Rattle.sqlite.specs.State.{State, HasCleanDisk}
-use Rattle.table_access.specs.Keeps.{Keeps, IsUnsure}
+use Rattle.table_access.specs.Durability.{HoldsDurably, HoldsEither}
 use Rattle.broker_core.specs.Machine.{is_step}
 use Rattle.broker_core.specs.State.{State as Broker}
 use Rattle.broker_core.specs.Text.{Text}

@@ -4,7 +4,7 @@ use Rattle.std.specs.Io.KnownBytes.{Appends, Consumes, IsAtEnd}
 use Rattle.clap.specs.Words.{first_of, matches_of}
 use Rattle.broker_core.specs.State.{opening}
 use Rattle.broker_core.specs.Text.{Text}
-use Rattle.broker_service.specs.Parts.{the_parts}
+use Rattle.broker_service.specs.Primitives.{broker_primitives}
 use Rattle.http_messages.specs.Message.{Reply}
 use Rattle.http_stream.specs.Replies.{texts, Replies, Ends}
 use Rattle.http_stream.specs.declared.stream.Ended.{Ended}
@@ -25,7 +25,7 @@ abbrev pub Replays : Text → Option (List ℕ) → Option (List ℕ) → Option
 Replays office before after old new =
     (stream : List ℕ) × (replies : List Reply) × (last : Mode) × (rest : List ℕ) × (ended : Ended)
     × Consumes before after stream
-    × Replies (Exchange Turns) (Runs (opening (the_parts.digest_of office))) stream replies last rest
+    × Replies (Exchange Turns) (Runs (opening (broker_primitives.digest_of office))) stream replies last rest
     × Ends ended replies rest
     × (ended ≢ ends.Closed → IsAtEnd after)
     × Appends old new (texts replies)

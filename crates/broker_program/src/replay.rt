@@ -4,7 +4,7 @@ ghost use Rattle.sqlite.specs.Held.{state};
 ghost use Rattle.sqlite.specs.Steps.{over_memory};
 ghost use Rattle.broker_core.specs.Name.{IsToken};
 ghost use Rattle.broker_core.specs.State.{opening};
-ghost use Rattle.broker_service.specs.Parts.{the_parts};
+ghost use Rattle.broker_service.specs.Primitives.{broker_primitives};
 ghost use Rattle.broker_http.specs.Serving.{Holding};
 ghost use Rattle.broker_http.specs.Serving.Mode.{Runs};
 ghost use Rattle.broker_program.specs.Replays.{Replays};
@@ -31,7 +31,7 @@ fn token_of(alloc: Global, text: &str) -> Result<Token, RunFault>
 
 /// A new broker over tables in memory.
 fn new_broker(alloc: Global, office: &Token) -> Result<Broker<MemStore>, RunFault>
-    ensures holds { IfOk result (Holding (state over_memory) (Runs (opening (the_parts.digest_of office.now)))) }
+    ensures holds { IfOk result (Holding (state over_memory) (Runs (opening (broker_primitives.digest_of office.now)))) }
     ensures fails { result ≢ Err RunFault.Token }
 {
     match Connection::open_in_memory(alloc) {

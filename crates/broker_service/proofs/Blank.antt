@@ -5,11 +5,11 @@ use Rattle.sqlite.specs.Effect.{Database, IsDatabase}
 use Rattle.sqlite.specs.Held.{Held, state}
 use Rattle.sqlite.specs.Steps.{over_memory, IsEmpty}
 use Rattle.sqlite_trees.specs.declared.memory.MemStore.{MemStore}
-use Rattle.table_access.specs.Keeps.{Keeps, Stored}
+use Rattle.table_access.specs.Durability.{HoldsDurably, IsOnDisk}
 use Rattle.broker_tables.specs.Making.{IsBlank}
 
 -- so a broker can be created on it
-pub memory_is_blank : (c : Held MemStore) → IsEmpty (state over_memory c) → Keeps IsBlank (state over_memory c)
+pub memory_is_blank : (c : Held MemStore) → IsEmpty (state over_memory c) → HoldsDurably IsBlank (state over_memory c)
 memory_is_blank c it =
     let opened = it.0 in
     let sound : IsDatabase (state over_memory c).committed = (it.1 opened.is_open).1 in

@@ -6,8 +6,8 @@ use Rattle.broker_core.specs.State.{State}
 use Rattle.broker_core.specs.Listing.{Lists}
 use Rattle.broker_core.specs.Policy.{allows}
 use Rattle.broker_core.specs.Request.{refusal, refused, unless, has_grant, is_known}
-use Rattle.broker_core.specs.Change.{Transition, told, already, done, deploy, instance_of, is_text}
-use Rattle.broker_core.specs.Machine.{Acts, Follows, deployed_cmp, version_cmp}
+use Rattle.broker_core.specs.Change.{Transition, unchanged_with, already, done, deploy, instance_of, is_text}
+use Rattle.broker_core.specs.Machine.{TakesEffect, StepOfCaller, deployed_cmp, version_cmp}
 use Rattle.broker_core.specs.declared.answer.Answer.{Answer}
 use Rattle.broker_core.specs.declared.answer.Answer.TheVariants.{Shown, Already}
 use Rattle.broker_core.specs.declared.answer.Detail.TheVariants.{Plain}
@@ -19,7 +19,7 @@ use Rattle.broker_core.specs.declared.command.Marks.{Marks}
 use Rattle.broker_core.specs.declared.command.Version.{Version}
 use Rattle.broker_core.specs.declared.policy.Caller.{Caller}
 use Rattle.broker_core.specs.declared.policy.Rule.TheVariants.{A7}
-use Rattle.broker_service.specs.Parts.{the_parts}
+use Rattle.broker_service.specs.Primitives.{broker_primitives}
 use Rattle.broker_service.specs.Found.{owners_of}
 use Rattle.broker_service.specs.Served.{HasNoContract}
 use Rattle.broker_service.proofs.Unpublished.{all_permitted}
@@ -41,35 +41,35 @@ module _ (s : State) (caller : Caller) (e : Text) (v : Version) (instance : Opti
 
   -- a deployment that nothing refuses is judged, and permitted where there are no contracts
   deploys : HasNoContract s → is_some (s.environments e) ≡ true → is_some (s.pacticipants v.pacticipant) ≡ true → is_known s v ≡ true → allows A7 caller (owners_of (s.pacticipants v.pacticipant)) (has_grant s caller (Some e)) ≡ true
-      → Follows the_parts s caller (Deploy e v instance) (deploy s e v (instance_of instance))
+      → StepOfCaller broker_primitives s caller (Deploy e v instance) (deploy s e v (instance_of instance))
   deploys unpublished environment pacticipant known may = (
     None,
     refl,
-    subst (λ (r : Option Answer). MatchOption r (Acts the_parts s (Deploy e v instance) (deploy s e v (instance_of instance))) (λ answer. deploy s e v (instance_of instance) ≡ told s answer))
+    subst (λ (r : Option Answer). MatchOption r (TakesEffect broker_primitives s (Deploy e v instance) (deploy s e v (instance_of instance))) (λ answer. deploy s e v (instance_of instance) ≡ unchanged_with s answer))
         (sym (not_refused environment pacticipant known may)) (true, [], all_permitted s unpublished v e, refl),
   )
 
   pub stands_already : HasNoContract s → is_some (s.environments e) ≡ true → is_some (s.pacticipants v.pacticipant) ≡ true → is_known s v ≡ true → allows A7 caller (owners_of (s.pacticipants v.pacticipant)) (has_grant s caller (Some e)) ≡ true
-      → is_text v.name (s.deployed (e, v.pacticipant, instance_of instance)) ≡ true → Follows the_parts s caller (Deploy e v instance) (told s (Already Plain))
-  stands_already unpublished environment pacticipant known may stands = subst (Follows the_parts s caller (Deploy e v instance))
+      → is_text v.name (s.deployed (e, v.pacticipant, instance_of instance)) ≡ true → StepOfCaller broker_primitives s caller (Deploy e v instance) (unchanged_with s (Already Plain))
+  stands_already unpublished environment pacticipant known may stands = subst (StepOfCaller broker_primitives s caller (Deploy e v instance))
       (ap (λ b. if b then already s else done (record s { deployed = put_at same_place s.deployed (e, v.pacticipant, instance_of instance) (Some v.name) })) stands)
       (deploys unpublished environment pacticipant known may)
 
   pub is_recorded : HasNoContract s → is_some (s.environments e) ≡ true → is_some (s.pacticipants v.pacticipant) ≡ true → is_known s v ≡ true → allows A7 caller (owners_of (s.pacticipants v.pacticipant)) (has_grant s caller (Some e)) ≡ true
       → is_text v.name (s.deployed (e, v.pacticipant, instance_of instance)) ≡ false
-      → Follows the_parts s caller (Deploy e v instance) (done (record s { deployed = put_at same_place s.deployed (e, v.pacticipant, instance_of instance) (Some v.name) }))
-  is_recorded unpublished environment pacticipant known may stands = subst (Follows the_parts s caller (Deploy e v instance))
+      → StepOfCaller broker_primitives s caller (Deploy e v instance) (done (record s { deployed = put_at same_place s.deployed (e, v.pacticipant, instance_of instance) (Some v.name) }))
+  is_recorded unpublished environment pacticipant known may stands = subst (StepOfCaller broker_primitives s caller (Deploy e v instance))
       (ap (λ b. if b then already s else done (record s { deployed = put_at same_place s.deployed (e, v.pacticipant, instance_of instance) (Some v.name) })) stands)
       (deploys unpublished environment pacticipant known may)
 
 -- an environment that is there is shown with its two lists
 pub is_listed : (s : State) (caller : Caller) (e name : Text) (marks : Marks) (items : List DeployedItem) (versions : List Version) → s.environments e ≡ Some marks → name ≡ e
     → Lists deployed_cmp (λ x. s.deployed (e, x.pacticipant, x.instance) ≡ Some x.version) items → Lists version_cmp (λ v. IsTrue (s.released (e, v))) versions
-    → Follows the_parts s caller (GetEnvironment e) (told s (Shown (shown.Environment name marks items versions)))
+    → StepOfCaller broker_primitives s caller (GetEnvironment e) (unchanged_with s (Shown (shown.Environment name marks items versions)))
 is_listed s caller e name marks items versions is same deployed released = (
   None,
   refl,
-  subst (λ (o : Option Marks). MatchOption (refused (GetEnvironment e) (unless (is_some o) missing.Environment None) true) (Acts the_parts s (GetEnvironment e) (told s (Shown (shown.Environment name marks items versions))))
-      (λ answer. told s (Shown (shown.Environment name marks items versions)) ≡ told s answer))
-      (sym is) (marks, is, (items, deployed, (versions, released, ap (λ (n : Text). told s (Shown (shown.Environment n marks items versions))) same))),
+  subst (λ (o : Option Marks). MatchOption (refused (GetEnvironment e) (unless (is_some o) missing.Environment None) true) (TakesEffect broker_primitives s (GetEnvironment e) (unchanged_with s (Shown (shown.Environment name marks items versions))))
+      (λ answer. unchanged_with s (Shown (shown.Environment name marks items versions)) ≡ unchanged_with s answer))
+      (sym is) (marks, is, (items, deployed, (versions, released, ap (λ (n : Text). unchanged_with s (Shown (shown.Environment n marks items versions))) same))),
 )

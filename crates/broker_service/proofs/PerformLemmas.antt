@@ -1,54 +1,54 @@
 -- How a command is put together from calls on the tables.
 use Rattle.std.proofs.Common.{Ok, Result}
 use Rattle.sqlite.specs.State.{State}
-use Rattle.table_access.specs.declared.Fault.{Fault}
-use Rattle.table_access.specs.Calls.{Call}
+use Rattle.table_access.specs.declared.StoreFault.{StoreFault}
+use Rattle.table_access.specs.Calls.{CallsTables}
 use Rattle.table_access.proofs.CallLemmas.{call_with, then_ok, seq, idle}
 use Rattle.broker_core.specs.State.{State as Broker}
-use Rattle.broker_core.specs.Change.{Transition, told}
+use Rattle.broker_core.specs.Change.{Transition, unchanged_with}
 use Rattle.broker_core.specs.declared.answer.Answer.{Answer}
-use Rattle.broker_tables.specs.Holds.{Holds, Reads, Changes}
+use Rattle.broker_tables.specs.Holds.{Holds, Queries, Changes}
 use Rattle.broker_service.specs.Performs.{Performs}
 use Rattle.broker_service.specs.Served.{HasNoContract}
 
 -- nothing is called
-pub refused : (c : State) (answer : Answer) (Q : Broker → Transition → Type 0) → ((s : Broker) → Q s (told s answer)) → Performs c c Q (Ok answer)
+pub refused : (c : State) (answer : Answer) (Q : Broker → Transition → Type 0) → ((s : Broker) → Q s (unchanged_with s answer)) → Performs c c Q (Ok answer)
 refused c answer Q f = idle c (Ok answer) _ (λ s held. (s, f s, held))
 
 -- a query, and an answer
-pub told_then : {A : Type 0} (old new : State) (x : A) (answer : Answer) (P : A → Broker → Type 0) (Q : Broker → Transition → Type 0) → ((s : Broker) → P x s → Q s (told s answer)) → Reads old new (Ok x) P → Performs old new Q (Ok answer)
+pub told_then : {A : Type 0} (old new : State) (x : A) (answer : Answer) (P : A → Broker → Type 0) (Q : Broker → Transition → Type 0) → ((s : Broker) → P x s → Q s (unchanged_with s answer)) → Queries old new (Ok x) P → Performs old new Q (Ok answer)
 told_then old new x answer P Q f it = then_ok old new x answer _ _ (λ h s held. (s, f s (h s held).0, (h s held).1)) it
 
 -- another answer of a query
-pub answers : {A B : Type 0} (old new : State) (x : A) (y : B) (P : A → Broker → Type 0) (Q : B → Broker → Type 0) → ((s : Broker) → P x s → Q y s) → Reads old new (Ok x) P → Reads old new (Ok y) Q
+pub answers : {A B : Type 0} (old new : State) (x : A) (y : B) (P : A → Broker → Type 0) (Q : B → Broker → Type 0) → ((s : Broker) → P x s → Q y s) → Queries old new (Ok x) P → Queries old new (Ok y) Q
 answers old new x y P Q f it = then_ok old new x y _ _ (λ h s held. (f s (h s held).0, (h s held).1)) it
 
 -- one query after another
-pub reads_then : {A B : Type 0} (old mid new : State) (x : A) (r : Result B Fault) (P : A → Broker → Type 0) (Q R : B → Broker → Type 0) → ((s : Broker) → P x s → (b : B) → Q b s → R b s) → Reads old mid (Ok x) P → Reads mid new r Q → Reads old new r R
+pub reads_then : {A B : Type 0} (old mid new : State) (x : A) (r : Result B StoreFault) (P : A → Broker → Type 0) (Q R : B → Broker → Type 0) → ((s : Broker) → P x s → (b : B) → Q b s → R b s) → Queries old mid (Ok x) P → Queries mid new r Q → Queries old new r R
 reads_then old mid new x r P Q R f one two = seq old mid new x r _ _ _ (λ p b q s held. let first = p s held in let second = q s first.1 in (f s first.0 b second.0, second.1)) one two
 
 -- two queries, and an answer from both
-pub read_both : {A B C : Type 0} (old mid new : State) (x : A) (y : B) (z : C) (P : A → Broker → Type 0) (Q : B → Broker → Type 0) (R : C → Broker → Type 0) → ((s : Broker) → P x s → Q y s → R z s) → Reads old mid (Ok x) P → Reads mid new (Ok y) Q → Reads old new (Ok z) R
+pub read_both : {A B C : Type 0} (old mid new : State) (x : A) (y : B) (z : C) (P : A → Broker → Type 0) (Q : B → Broker → Type 0) (R : C → Broker → Type 0) → ((s : Broker) → P x s → Q y s → R z s) → Queries old mid (Ok x) P → Queries mid new (Ok y) Q → Queries old new (Ok z) R
 read_both old mid new x y z P Q R f one two =
     then_ok old new z z (λ _. (s : Broker) → Holds old.now s → R z s × Holds new.now s) _ (λ h. h)
     (seq old mid new x (Ok z) _ (λ _. (s : Broker) → Holds mid.now s → Q y s × Holds new.now s) _ (λ p b q s held. let first = p s held in let second = q s first.1 in (f s first.0 second.0, second.1)) one (then_ok mid new y z _ _ (λ h. h) two))
 
 -- a query, and a change
 pub changed_then : {A : Type 0} (old mid new : State) (x : A) (u : Unit {0}) (answer : Answer) (P : A → Broker → Type 0) (Next : Broker → Broker → Type 0) (Q : Broker → Transition → Type 0)
-    → ((s : Broker) → P x s → (t : Broker) × Next s t × Q s (record { answer = answer; state = t })) → Reads old mid (Ok x) P → Changes mid new (Ok u) Next → Performs old new Q (Ok answer)
+    → ((s : Broker) → P x s → (t : Broker) × Next s t × Q s (record { answer = answer; state = t })) → Queries old mid (Ok x) P → Changes mid new (Ok u) Next → Performs old new Q (Ok answer)
 changed_then old mid new x u answer P Next Q f one two =
     then_ok old new u answer (λ _. (s : Broker) → Holds old.now s → (t : Broker) × Q s (record { answer = answer; state = t }) × Holds new.now t) _ (λ h. h)
     (seq old mid new x (Ok u) _ _ _ (λ p b q s held. let first = p s held in let next = f s first.0 in (next.0, next.2, q s first.1 next.0 next.1)) one two.call)
 
 -- a query, and then a command
-pub performs_then : {A : Type 0} (old mid new : State) (x : A) (r : Result Answer Fault) (P : A → Broker → Type 0) (Q R : Broker → Transition → Type 0) → ((s : Broker) → P x s → (out : Transition) → Q s out → R s out) → Reads old mid (Ok x) P → Performs mid new Q r → Performs old new R r
+pub performs_then : {A : Type 0} (old mid new : State) (x : A) (r : Result Answer StoreFault) (P : A → Broker → Type 0) (Q R : Broker → Transition → Type 0) → ((s : Broker) → P x s → (out : Transition) → Q s out → R s out) → Queries old mid (Ok x) P → Performs mid new Q r → Performs old new R r
 performs_then old mid new x r P Q R f one two = seq old mid new x r _ _ _ (λ p b q s held. let first = p s held in let next = q s first.1 in (next.0, f s first.0 _ next.1, next.2)) one two
 
 -- a query, and then a listing
-pub shown_then : {A : Type 0} (old mid new : State) (x : A) (r : Result Answer Fault) (P : A → Broker → Type 0) (Q : Answer → Broker → Type 0) (R : Broker → Transition → Type 0)
-    → ((s : Broker) → P x s → (answer : Answer) → Q answer s → R s (told s answer)) → Reads old mid (Ok x) P → Reads mid new r Q → Performs old new R r
+pub shown_then : {A : Type 0} (old mid new : State) (x : A) (r : Result Answer StoreFault) (P : A → Broker → Type 0) (Q : Answer → Broker → Type 0) (R : Broker → Transition → Type 0)
+    → ((s : Broker) → P x s → (answer : Answer) → Q answer s → R s (unchanged_with s answer)) → Queries old mid (Ok x) P → Queries mid new r Q → Performs old new R r
 shown_then old mid new x r P Q R f one two = seq old mid new x r _ _ _ (λ p b q s held. let first = p s held in let second = q s first.1 in (s, f s first.0 b second.0, second.1)) one two
 
 -- so also where nothing is published
-pub where_unpublished : (old new : State) (r : Result Answer Fault) (Q : Broker → Transition → Type 0) → Performs old new Q r → Performs old new (λ s out. HasNoContract s → Q s out) r
+pub where_unpublished : (old new : State) (r : Result Answer StoreFault) (Q : Broker → Transition → Type 0) → Performs old new Q r → Performs old new (λ s out. HasNoContract s → Q s out) r
 where_unpublished old new r Q it = call_with old new r _ _ (λ answer h s held. let next = h s held in (next.0, λ _. next.1, next.2)) it

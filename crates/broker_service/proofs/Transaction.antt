@@ -3,9 +3,9 @@ use Rattle.std.proofs.Common.{◌≡◌, inl, inr, true, false, IsTrue, Result, 
 use Rattle.sqlite.specs.Effect.{Database, IsDatabase}
 use Rattle.sqlite.specs.State.{State, HasCleanDisk, Survives}
 use Rattle.table_access.specs.Unit.{Begins, IsLeft}
-use Rattle.table_access.specs.declared.Fault.{Fault}
-use Rattle.table_access.specs.Calls.{Call, LeavesCommit}
-use Rattle.table_access.specs.Keeps.{Keeps, IsUnsure}
+use Rattle.table_access.specs.declared.StoreFault.{StoreFault}
+use Rattle.table_access.specs.Calls.{CallsTables, KeepsLastCommit}
+use Rattle.table_access.specs.Durability.{HoldsDurably, HoldsEither}
 use Rattle.table_access.proofs.CallLemmas.{left_commit}
 use Rattle.broker_service.specs.Ends.{IsAsBefore, LeavesNothing}
 
@@ -21,9 +21,9 @@ not_begun old new it s clean = record {
   ended = ended_left old new it;
 }
 
-module _ {A : Type 0} (old mid done : State) (r : Result A Fault) (X : A → Type 0) (begun : Begins old mid) (s : Survives old mid (λ _. ⊥)) (work : Call mid done r X) (clean : HasCleanDisk done) where
+module _ {A : Type 0} (old mid done : State) (r : Result A StoreFault) (X : A → Type 0) (begun : Begins old mid) (s : Survives old mid (λ _. ⊥)) (work : CallsTables mid done r X) (clean : HasCleanDisk done) where
   -- nothing is committed in the transaction
-  before : LeavesCommit old done
+  before : KeepsLastCommit old done
   before = let it = work.commits clean begun.1.mode in record { was_open = λ _. begun.1.was_open; committed = λ now. it.committed now ∙ begun.1.committed_is }
 
   -- what a crash leaves before the end, it left before the transaction
@@ -34,18 +34,18 @@ module _ {A : Type 0} (old mid done : State) (r : Result A Fault) (X : A → Typ
   ]
 
   -- it ends with nothing committed
-  pub commit_left : (new : State) → LeavesCommit done new → LeavesCommit old new
+  pub commit_left : (new : State) → KeepsLastCommit done new → KeepsLastCommit old new
   commit_left new it = record { was_open = λ now. before.was_open (it.was_open now); committed = λ now. it.committed now ∙ before.committed (it.was_open now) }
 
   pub nothing_left : (new : State) → HasCleanDisk new → Survives done new (λ _. ⊥) → LeavesNothing old new
   nothing_left new now_clean t trees may = elim (t.crash now_clean trees may) [ inl dones ↦ left_before trees dones | inr never ↦ absurd never ]
 
   -- it is rolled back
-  pub rolled_back : (new : State) → (IsTrue new.is_open → (new.in_transaction ≡ false) × (new.now ≡ new.committed)) → LeavesCommit done new → HasCleanDisk new → Survives done new (λ _. ⊥) → IsAsBefore old new
+  pub rolled_back : (new : State) → (IsTrue new.is_open → (new.in_transaction ≡ false) × (new.now ≡ new.committed)) → KeepsLastCommit done new → HasCleanDisk new → Survives done new (λ _. ⊥) → IsAsBefore old new
   rolled_back new ended it now_clean t = record { commit = commit_left new it; left = nothing_left new now_clean t; ended = λ _ _. ended }
 
 -- what was kept still is
-pub keeps_on : (P : Database → Type 0) (old new : State) → IsAsBefore old new → Keeps P old → Keeps P new
+pub keeps_on : (P : Database → Type 0) (old new : State) → IsAsBefore old new → HoldsDurably P old → HoldsDurably P new
 keeps_on P old new it keeps = record {
   held = λ now.
       let was = keeps.held (it.commit.was_open now) in
@@ -56,7 +56,7 @@ keeps_on P old new it keeps = record {
 }
 
 -- the rollback is refused
-pub unsure_on : (P Q : Database → Type 0) (old new : State) → LeavesCommit old new → LeavesNothing old new → Keeps P old → IsUnsure P Q new
+pub unsure_on : (P Q : Database → Type 0) (old new : State) → KeepsLastCommit old new → LeavesNothing old new → HoldsDurably P old → HoldsEither P Q new
 unsure_on P Q old new it left keeps = record {
   committed = λ now. subst P (sym (it.committed now)) (keeps.held (it.was_open now)).has;
   left_open = λ _ trees may. keeps.left trees (left trees may);

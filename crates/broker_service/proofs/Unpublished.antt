@@ -11,7 +11,7 @@ use Rattle.broker_core.specs.State.{State}
 use Rattle.broker_core.specs.Gate.{Judges}
 use Rattle.broker_core.specs.Request.{is_known}
 use Rattle.broker_core.specs.Change.{Transition, repeated, joined, named, can_name, on_branch, is_text, instance_of}
-use Rattle.broker_core.specs.Machine.{Parts, Acts, Step}
+use Rattle.broker_core.specs.Machine.{Primitives, TakesEffect, Step}
 use Rattle.broker_core.proofs.Lists.{contains_none}
 use Rattle.broker_core.proofs.Retry.{acts-or-same}
 use Rattle.broker_service.specs.Served.{IsServed, HasNoContract}
@@ -38,7 +38,7 @@ module _ (s : State) (h : HasNoContract s) where
   by_equation : (out by : Transition) → out ≡ by → HasNoContract by.state → HasNoContract out.state
   by_equation out by is k = subst (λ (o : Transition). HasNoContract o.state) (sym is) k
 
-  acts_unpublished : (parts : Parts) (c : Command) (out : Transition) → IsServed c → Acts parts s c out → HasNoContract out.state
+  acts_unpublished : (parts : Primitives) (c : Command) (out : Transition) → IsServed c → TakesEffect parts s c out → HasNoContract out.state
   acts_unpublished parts (PutTeam team token) out served x = by_equation out _ x.2 (by_lookup _ _ (s.teams team) (λ old. by_repeated _) (by_test (is_some x.0) _ _ h h))
   acts_unpublished parts (PutPacticipant p team) out served x = by_equation out _ x (by_lookup _ _ (s.pacticipants p) (λ old. by_repeated _) h)
   acts_unpublished parts (PutEnvironment e marks) out served x = by_equation out _ x (by_lookup _ _ (s.environments e) (λ old. by_repeated _) h)
@@ -70,7 +70,7 @@ module _ (s : State) (h : HasNoContract s) where
     faults_are = record { sorted = tt; exactly = λ x. (λ in_none. absurd (contains_none x in_none), λ fault. absurd (no_contract _ _ fault.1.content fault.1.contract)) };
   }
 
-pub unpublished_step : (parts : Parts) (s : State) (token : Option Text) (c : Command) (out : Transition) → IsServed c → HasNoContract s → Step parts s token c out → HasNoContract out.state
+pub unpublished_step : (parts : Primitives) (s : State) (token : Option Text) (c : Command) (out : Transition) → IsServed c → HasNoContract s → Step parts s token c out → HasNoContract out.state
 unpublished_step parts s token c out served h step = elim (acts-or-same parts s token c out step) [
   | inl still ↦ subst HasNoContract (sym still) h
   | inr acts ↦ acts_unpublished s h parts c out served acts

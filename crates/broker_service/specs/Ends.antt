@@ -3,10 +3,10 @@ use Rattle.std.specs.Prelude.{◌≡◌, ◌⊎◌, true, false, IsTrue, Option,
 use Rattle.sqlite.specs.Tree.{Trees}
 use Rattle.sqlite.specs.Effect.{Database}
 use Rattle.sqlite.specs.State.{State}
-use Rattle.table_access.specs.declared.Fault.{Fault}
-use Rattle.table_access.specs.declared.Fault.TheVariants as fault
-use Rattle.table_access.specs.Calls.{LeavesCommit}
-use Rattle.table_access.specs.Keeps.{Keeps, IsUnsure}
+use Rattle.table_access.specs.declared.StoreFault.{StoreFault}
+use Rattle.table_access.specs.declared.StoreFault.TheVariants as fault
+use Rattle.table_access.specs.Calls.{KeepsLastCommit}
+use Rattle.table_access.specs.Durability.{HoldsDurably, HoldsEither}
 use Rattle.broker_core.specs.Text.{Text}
 use Rattle.broker_core.specs.State.{State as Broker}
 use Rattle.broker_core.specs.Machine.{Step, is_step}
@@ -15,7 +15,7 @@ use Rattle.broker_core.specs.declared.command.Command.{Command}
 use Rattle.broker_core.specs.declared.answer.Answer.{Answer}
 use Rattle.broker_core.specs.declared.answer.Answer.TheVariants.{Memory, Store}
 use Rattle.broker_tables.specs.Holds.{Holds}
-use Rattle.broker_service.specs.Parts.{the_parts}
+use Rattle.broker_service.specs.Primitives.{broker_primitives}
 use Rattle.broker_service.specs.Served.{HasNoContract}
 
 -- what a crash leaves, it left before
@@ -24,38 +24,38 @@ LeavesNothing old new = (trees : Trees) → new.may_leave trees → old.may_leav
 
 -- The database is as it was: what was last committed still is, a crash leaves nothing that it didn't leave before, and no transaction is open where none was.
 pub record IsAsBefore (old new : State) : Type 0 where
-  pub commit : LeavesCommit old new
+  pub commit : KeepsLastCommit old new
   pub left : LeavesNothing old new
   pub ended : old.in_transaction ≡ false → old.now ≡ old.committed → IsTrue new.is_open → (new.in_transaction ≡ false) × (new.now ≡ new.committed)
 
 module _ (s : Broker) (token : Option Text) (command : Command) where
   -- the database holds a state that the command leads to
   abbrev pub HoldsNext : Database → Type 0
-  HoldsNext db = (answer : Answer) × (t : Broker) × Step the_parts s token command (record { answer = answer; state = t }) × HasNoContract t × Holds db t
+  HoldsNext db = (answer : Answer) × (t : Broker) × Step broker_primitives s token command (record { answer = answer; state = t }) × HasNoContract t × Holds db t
 
   -- the answer is that of a step of the machine, and the connection keeps the next state: it holds it, and a crash leaves it
   pub record Steps (new : State) (answer : Answer) : Type 0 where
     pub next : Broker
-    pub step : Step the_parts s token command (record { answer = answer; state = next })
+    pub step : Step broker_primitives s token command (record { answer = answer; state = next })
     pub tells : is_step answer ≡ true
     pub unpublished : HasNoContract next
-    pub keeps : Keeps (λ db. Holds db next) new
+    pub keeps : HoldsDurably (λ db. Holds db next) new
 
   -- A step; or there was no memory, and the state is kept; or the database failed, and a crash may leave the state or the next one.
   abbrev pub Applies : State → Answer → Type 0
   Applies new answer =
       Steps new answer
-      ⊎ (((answer ≡ Memory) × Keeps (λ db. Holds db s) new)
-      ⊎ ((answer ≡ Store) × IsUnsure (λ db. Holds db s) HoldsNext new))
+      ⊎ (((answer ≡ Memory) × HoldsDurably (λ db. Holds db s) new)
+      ⊎ ((answer ≡ Store) × HoldsEither (λ db. Holds db s) HoldsNext new))
 
   -- the same of a transaction, before its failure is told
-  abbrev pub Ends : State → Result Answer Fault → Type 0
+  abbrev pub Ends : State → Result Answer StoreFault → Type 0
   Ends new (Ok answer) = Steps new answer
-  Ends new (Err fault.Memory) = Keeps (λ db. Holds db s) new
-  Ends new (Err fault.Store) = IsUnsure (λ db. Holds db s) HoldsNext new
+  Ends new (Err fault.Memory) = HoldsDurably (λ db. Holds db s) new
+  Ends new (Err fault.Store) = HoldsEither (λ db. Holds db s) HoldsNext new
 
 -- Whatever the database is: only Done and a failure of the database leave it otherwise than it was, and after that failure the last commit is the old one while the connection is open.
-abbrev pub Spares : State → State → Result Answer Fault → Type 0
+abbrev pub Spares : State → State → Result Answer StoreFault → Type 0
 Spares old new (Ok answer) = ¬ (IsDone answer) → IsAsBefore old new
 Spares old new (Err fault.Memory) = IsAsBefore old new
-Spares old new (Err fault.Store) = LeavesCommit old new
+Spares old new (Err fault.Store) = KeepsLastCommit old new

@@ -2,7 +2,7 @@
 use Rattle.std.specs.Prelude.{◌≡◌, ℕ, List, [], ◌∷◌, Option, Some, None, Bool, is_some, false, true, IsTrue}
 use Rattle.broker_core.specs.Text.{Text}
 use Rattle.broker_core.specs.State.{State as Broker}
-use Rattle.broker_core.specs.Machine.{Recognizes, Follows}
+use Rattle.broker_core.specs.Machine.{IsCallerOfDigest, StepOfCaller}
 use Rattle.broker_core.specs.Change.{Transition, is_text, on_branch}
 use Rattle.broker_core.specs.Limit.{has_room}
 use Rattle.broker_core.specs.Policy.{allows}
@@ -13,15 +13,15 @@ use Rattle.broker_core.specs.declared.policy.Caller.{Caller}
 use Rattle.broker_core.specs.declared.policy.Rule.{Rule}
 use Rattle.broker_core.specs.declared.policy.Rule.TheVariants.{A3, A7}
 use Rattle.broker_tables.specs.Numbers.{number_of}
-use Rattle.broker_service.specs.Parts.{the_parts}
+use Rattle.broker_service.specs.Primitives.{broker_primitives}
 
 -- the digest of the team, and who has this one
 abbrev pub FoundTeam : Broker → Text → Text → Option Text → Option Caller → Type 0
-FoundTeam s team digest old holder = (s.teams team ≡ old) × Recognizes s digest holder
+FoundTeam s team digest old holder = (s.teams team ≡ old) × IsCallerOfDigest s digest holder
 
 -- a caller puts the team with the token of this digest
 abbrev pub PutsTeam : Broker → Caller → Text → Text → Transition → Type 0
-PutsTeam s caller team digest out = (token : Text) → digest ≡ the_parts.digest_of token → Follows the_parts s caller (PutTeam team token) out
+PutsTeam s caller team digest out = (token : Text) → digest ≡ broker_primitives.digest_of token → StepOfCaller broker_primitives s caller (PutTeam team token) out
 
 -- whether the team is there, and the pacticipant's owner
 abbrev pub FoundPacticipant : Broker → Text → Text → Bool → Option Text → Type 0

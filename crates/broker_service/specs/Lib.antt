@@ -1,4 +1,4 @@
-pub mod Parts
+pub mod Primitives
 pub mod Served
 pub mod Serving
 pub mod Performs

@@ -2,10 +2,10 @@
 use Rattle.std.specs.Prelude.{◌≡◌, ◌≢◌, ◌⊎◌, ◌==◌, ℕ, if◌then◌else◌, Option, Some, None, Result, Ok, Err}
 use Rattle.sqlite.specs.Effect.{Database}
 use Rattle.sqlite.specs.State.{State}
-use Rattle.table_access.specs.declared.Fault.{Fault}
-use Rattle.table_access.specs.declared.Fault.TheVariants as fault
-use Rattle.table_access.specs.Calls.{LeavesCommit}
-use Rattle.table_access.specs.Keeps.{Keeps, IsUnsure}
+use Rattle.table_access.specs.declared.StoreFault.{StoreFault}
+use Rattle.table_access.specs.declared.StoreFault.TheVariants as fault
+use Rattle.table_access.specs.Calls.{KeepsLastCommit}
+use Rattle.table_access.specs.Durability.{HoldsDurably, HoldsEither}
 use Rattle.broker_tables.specs.Holds.{format}
 use Rattle.registry_tables.specs.Format.{IsOfFormat, IsForeign}
 use Rattle.broker_service.specs.Ends.{IsAsBefore}
@@ -13,31 +13,31 @@ use Rattle.broker_service.specs.declared.opening.OpenFault.{OpenFault}
 use Rattle.broker_service.specs.declared.opening.OpenFault.TheVariants.{NotEmpty, NotABroker, Format, Memory, Store}
 
 -- a failure of the database, as it is told
-abbrev pub open_fault : Fault → OpenFault
+abbrev pub open_fault : StoreFault → OpenFault
 open_fault fault.Memory = Memory
 open_fault fault.Store = Store
 
 -- A transaction that leads from a database of the first kind to one of the second, or fails.
-abbrev pub Turns : (Database → Type 0) → (Database → Type 0) → State → Result (Unit {0}) Fault → Type 0
-Turns P Q new (Ok u) = Keeps Q new
-Turns P Q new (Err fault.Memory) = Keeps P new
-Turns P Q new (Err fault.Store) = IsUnsure P Q new
+abbrev pub Turns : (Database → Type 0) → (Database → Type 0) → State → Result (Unit {0}) StoreFault → Type 0
+Turns P Q new (Ok u) = HoldsDurably Q new
+Turns P Q new (Err fault.Memory) = HoldsDurably P new
+Turns P Q new (Err fault.Store) = HoldsEither P Q new
 
 -- whatever the database is: it is as it was, or after a failure of the database the last commit is the old one
-abbrev pub Leaves : State → State → Result (Unit {0}) Fault → Type 0
-Leaves old new (Ok u) = Unit {0}
-Leaves old new (Err fault.Memory) = IsAsBefore old new
-Leaves old new (Err fault.Store) = LeavesCommit old new
+abbrev pub CallLeaves : State → State → Result (Unit {0}) StoreFault → Type 0
+CallLeaves old new (Ok u) = Unit {0}
+CallLeaves old new (Err fault.Memory) = IsAsBefore old new
+CallLeaves old new (Err fault.Store) = KeepsLastCommit old new
 
 -- the tables of a new broker weren't made: the connection keeps what it kept, or the database failed, and a crash may leave that or the new broker's
 abbrev pub Refuses : (Database → Type 0) → (Database → Type 0) → State → OpenFault → Type 0
-Refuses P Q new Memory = Keeps P new
-Refuses P Q new Store = IsUnsure P Q new
+Refuses P Q new Memory = HoldsDurably P new
+Refuses P Q new Store = HoldsEither P Q new
 Refuses P Q new _ = ⊥
 
 -- whatever the database is: where it is refused, it is as it was, or after a failure of the database the last commit is the old one
 abbrev pub Spared : State → State → OpenFault → Type 0
-Spared old new Store = LeavesCommit old new
+Spared old new Store = KeepsLastCommit old new
 Spared old new _ = IsAsBefore old new
 
 -- ---- what is told of a database

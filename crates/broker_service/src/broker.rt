@@ -3,15 +3,15 @@ ghost use Rattle.std.specs.Prelude.{◌≡◌, ◌≢◌, ◌↔◌, ◌≤◌, 
 ghost use Rattle.sqlite_trees.specs.View.{doubt};
 ghost use Rattle.sqlite.specs.State.{HasCleanDisk};
 ghost use Rattle.sqlite.specs.Held.{state};
-ghost use Rattle.table_access.specs.Calls.{LeavesCommit};
-ghost use Rattle.table_access.specs.Keeps.{Keeps};
+ghost use Rattle.table_access.specs.Calls.{KeepsLastCommit};
+ghost use Rattle.table_access.specs.Durability.{HoldsDurably};
 ghost use Rattle.broker_core.specs.Laws.{IsDone};
 ghost use Rattle.broker_core.specs.State.{State as BrokerState, opening};
 ghost use Rattle.broker_core.specs.declared.answer.Answer.TheVariants as told;
 ghost use Rattle.broker_tables.specs.Holds.{Holds};
 ghost use Rattle.broker_tables.specs.Schema.{no_schema};
 ghost use Rattle.broker_tables.specs.Making.{IsBlank, IsMarked};
-ghost use Rattle.broker_service.specs.Parts.{the_parts};
+ghost use Rattle.broker_service.specs.Primitives.{broker_primitives};
 ghost use Rattle.broker_service.specs.Opening.{Refuses, Spared, Judged, IsJudged};
 ghost use Rattle.broker_service.specs.Handed.{left_by, verdict};
 ghost use Rattle.broker_service.specs.Served.{IsServed, HasNoContract};
@@ -26,7 +26,7 @@ use broker_core::name::Token;
 use sqlite::{Alter, Connection};
 use std::alloc::Global;
 use std::marker::Model;
-use table_access::Fault;
+use table_access::StoreFault;
 
 /// A broker over its database. A contract sees its connection, and whether it is stopped.
 #[derive(Drop)]
@@ -62,8 +62,8 @@ impl<S: Alter> Broker<S> {
         conn: Connection<S>,
         office: &Token,
     ) -> Result<Broker<S>, Refused<S>>
-        ensures made { IfOk result (λ b. HasCleanDisk (state S.Store b.connection) → Keeps IsBlank (state S.Store conn) → Keeps (λ db. Holds db (opening (the_parts.digest_of office.now))) (state S.Store b.connection)) }
-        ensures refuses { IfErr result (λ r. HasCleanDisk (state S.Store r.connection) → Keeps IsBlank (state S.Store conn) → (state S.Store conn).now.schema ≡ no_schema → Refuses IsBlank (λ db. Holds db (opening (the_parts.digest_of office.now))) (state S.Store r.connection) r.fault) }
+        ensures made { IfOk result (λ b. HasCleanDisk (state S.Store b.connection) → HoldsDurably IsBlank (state S.Store conn) → HoldsDurably (λ db. Holds db (opening (broker_primitives.digest_of office.now))) (state S.Store b.connection)) }
+        ensures refuses { IfErr result (λ r. HasCleanDisk (state S.Store r.connection) → HoldsDurably IsBlank (state S.Store conn) → (state S.Store conn).now.schema ≡ no_schema → Refuses IsBlank (λ db. Holds db (opening (broker_primitives.digest_of office.now))) (state S.Store r.connection) r.fault) }
         ensures not_empty { IsErrAnd result (λ r. r.fault ≡ OpenFault.NotEmpty) ↔ (¬ ((state S.Store conn).now.schema ≡ no_schema)) }
         ensures same { IfErr result (λ r. r.fault ≡ OpenFault.NotEmpty → r.connection ≡ conn) }
         ensures spares { IfErr result (λ r. HasCleanDisk (state S.Store r.connection) → Spared (state S.Store conn) (state S.Store r.connection) r.fault) }
@@ -89,10 +89,10 @@ impl<S: Alter> Broker<S> {
     /// `Memory` and `Store` as of `create`; `Store` also where the format isn't a number from 0 to 2^32 - 1.
     pub fn open(conn: Connection<S>) -> Result<Broker<S>, Refused<S>>
         ensures judges { HasCleanDisk (state S.Store (left_by result)) → IsJudged (state S.Store conn).now (verdict result) }
-        ensures bare { HasCleanDisk (state S.Store (left_by result)) → Keeps IsBlank (state S.Store conn) → Judged None (verdict result) }
-        ensures marked { HasCleanDisk (state S.Store (left_by result)) → (n : ℕ) (office : List ℕ) → Keeps (IsMarked n office) (state S.Store conn) → Judged (Some n) (verdict result) }
+        ensures bare { HasCleanDisk (state S.Store (left_by result)) → HoldsDurably IsBlank (state S.Store conn) → Judged None (verdict result) }
+        ensures marked { HasCleanDisk (state S.Store (left_by result)) → (n : ℕ) (office : List ℕ) → HoldsDurably (IsMarked n office) (state S.Store conn) → Judged (Some n) (verdict result) }
         ensures kept { IfOk result (λ b. HasCleanDisk (state S.Store b.connection) → IsAsBefore (state S.Store conn) (state S.Store b.connection)) }
-        ensures holds { IfOk result (λ b. HasCleanDisk (state S.Store b.connection) → (s : BrokerState) → Keeps (λ db. Holds db s) (state S.Store conn) → Keeps (λ db. Holds db s) (state S.Store b.connection)) }
+        ensures holds { IfOk result (λ b. HasCleanDisk (state S.Store b.connection) → (s : BrokerState) → HoldsDurably (λ db. Holds db s) (state S.Store conn) → HoldsDurably (λ db. Holds db s) (state S.Store b.connection)) }
         ensures spares { IfErr result (λ r. HasCleanDisk (state S.Store r.connection) → Spared (state S.Store conn) (state S.Store r.connection) r.fault) }
         ensures left { HasCleanDisk (state S.Store (left_by result)) → LeavesNothing (state S.Store conn) (state S.Store (left_by result)) }
         ensures runs { IfOk result (λ b. b.is_stopped ≡ false) }
@@ -128,10 +128,10 @@ impl<S: Alter> Broker<S> {
     pub fn apply(&mut self, alloc: Global, token: Option<&str>, command: &Command) -> Answer
         requires { IsServed command.now }
         ensures stopped { IsTrue self.old.is_stopped → (result ≡ told.Stopped) × (self.new ≡ self.old) }
-        ensures applies { HasCleanDisk (state S.Store self.new.connection) → self.old.is_stopped ≡ false → (s : BrokerState) → HasNoContract s → Keeps (λ db. Holds db s) (state S.Store self.old.connection)
+        ensures applies { HasCleanDisk (state S.Store self.new.connection) → self.old.is_stopped ≡ false → (s : BrokerState) → HasNoContract s → HoldsDurably (λ db. Holds db s) (state S.Store self.old.connection)
             → Applies s (option_map (λ text. text.now) token.entry) command.now (state S.Store self.new.connection) result }
         ensures spares { HasCleanDisk (state S.Store self.new.connection) → self.old.is_stopped ≡ false → result ≢ told.Store → ¬ (IsDone result) → IsAsBefore (state S.Store self.old.connection) (state S.Store self.new.connection) }
-        ensures fails { HasCleanDisk (state S.Store self.new.connection) → result ≡ told.Store → LeavesCommit (state S.Store self.old.connection) (state S.Store self.new.connection) }
+        ensures fails { HasCleanDisk (state S.Store self.new.connection) → result ≡ told.Store → KeepsLastCommit (state S.Store self.old.connection) (state S.Store self.new.connection) }
         ensures stops { self.old.is_stopped ≡ false → (IsTrue self.new.is_stopped ↔ (result ≡ told.Store)) }
         ensures clean { doubt (state S.Store self.old.connection).is_clean ≤ doubt (state S.Store self.new.connection).is_clean }
     {
@@ -140,8 +140,8 @@ impl<S: Alter> Broker<S> {
         }
         let answer = match transact(alloc, &mut self.conn, token, command) {
             Ok(answer) => answer,
-            Err(Fault::Memory) => Answer::failed(Told::Memory),
-            Err(Fault::Store) => Answer::failed(Told::Store),
+            Err(StoreFault::Memory) => Answer::failed(Told::Memory),
+            Err(StoreFault::Store) => Answer::failed(Told::Store),
         };
         self.stopped = matches!(answer.told(), Told::Store);
         answer

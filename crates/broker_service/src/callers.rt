@@ -2,9 +2,9 @@
 
 ghost use Rattle.std.specs.Prelude.{◌≡◌, ℕ, List, Some, false, IsTrue, MatchOption, IfOk, string_bytes, option_map};
 ghost use Rattle.sqlite.specs.Held.{state};
-ghost use Rattle.broker_core.specs.Machine.{Recognizes, FindsCaller};
-ghost use Rattle.broker_tables.specs.Holds.{Reads};
-ghost use Rattle.broker_service.specs.Parts.{the_parts};
+ghost use Rattle.broker_core.specs.Machine.{IsCallerOfDigest, IsCallerOfToken};
+ghost use Rattle.broker_tables.specs.Holds.{Queries};
+ghost use Rattle.broker_service.specs.Primitives.{broker_primitives};
 
 use broker_core::name::{Name, NameFault};
 use broker_core::policy::Caller;
@@ -12,15 +12,15 @@ use content_store::{Sha256Digester, digest_text};
 use registry_tables::{office_digest, team_of_digest};
 use sqlite::{Alter, Connection};
 use std::alloc::Global;
-use table_access::Fault;
+use table_access::StoreFault;
 
 /// The digest of a token, by which it is known.
-pub(crate) fn digest_of(alloc: Global, token: &str) -> Result<String, Fault>
-    ensures { IfOk result (λ digest. string_bytes digest ≡ the_parts.digest_of token.now) }
+pub(crate) fn digest_of(alloc: Global, token: &str) -> Result<String, StoreFault>
+    ensures { IfOk result (λ digest. string_bytes digest ≡ broker_primitives.digest_of token.now) }
 {
     match digest_text(alloc, &Sha256Digester, token.as_bytes()) {
         Ok(text) => Ok(text),
-        Err(_) => Err(Fault::Memory),
+        Err(_) => Err(StoreFault::Memory),
     }
 }
 
@@ -33,13 +33,13 @@ fn is_same(a: &str, b: &str) -> bool
 }
 
 /// A name that stands in a table.
-pub(crate) fn stored_name(alloc: Global, text: &str) -> Result<Name, Fault>
+pub(crate) fn stored_name(alloc: Global, text: &str) -> Result<Name, StoreFault>
     ensures { IfOk result (λ name. name ≡ text.now) }
 {
     match Name::new(alloc, text) {
         Ok(name) => Ok(name),
-        Err(NameFault::BadName) => Err(Fault::Store),
-        Err(NameFault::Memory) => Err(Fault::Memory),
+        Err(NameFault::BadName) => Err(StoreFault::Store),
+        Err(NameFault::Memory) => Err(StoreFault::Memory),
     }
 }
 
@@ -48,8 +48,8 @@ fn team_with<S: Alter>(
     alloc: Global,
     conn: &mut Connection<S>,
     digest: &str,
-) -> Result<Option<Name>, Fault>
-    ensures { Reads (state S.Store conn.old) (state S.Store conn.new) result (λ team s. MatchOption team ((t : List ℕ) → ¬ (s.teams t ≡ Some digest.now)) (λ name. s.teams name ≡ Some digest.now)) }
+) -> Result<Option<Name>, StoreFault>
+    ensures { Queries (state S.Store conn.old) (state S.Store conn.new) result (λ team s. MatchOption team ((t : List ℕ) → ¬ (s.teams t ≡ Some digest.now)) (λ name. s.teams name ≡ Some digest.now)) }
 {
     match team_of_digest(conn, digest) {
         Ok(Some(team)) => match stored_name(alloc, team.as_str()) {
@@ -66,8 +66,8 @@ pub(crate) fn holder_of<S: Alter>(
     alloc: Global,
     conn: &mut Connection<S>,
     digest: &str,
-) -> Result<Option<Caller>, Fault>
-    ensures { Reads (state S.Store conn.old) (state S.Store conn.new) result (λ who s. Recognizes s digest.now who) }
+) -> Result<Option<Caller>, StoreFault>
+    ensures { Queries (state S.Store conn.old) (state S.Store conn.new) result (λ who s. IsCallerOfDigest s digest.now who) }
 {
     match office_digest(conn) {
         Ok(office) => if is_same(office.as_str(), digest) {
@@ -88,8 +88,8 @@ pub(crate) fn caller_of<S: Alter>(
     alloc: Global,
     conn: &mut Connection<S>,
     token: Option<&str>,
-) -> Result<Option<Caller>, Fault>
-    ensures { Reads (state S.Store conn.old) (state S.Store conn.new) result (λ who s. FindsCaller the_parts s (option_map (λ text. text.now) token.entry) who) }
+) -> Result<Option<Caller>, StoreFault>
+    ensures { Queries (state S.Store conn.old) (state S.Store conn.new) result (λ who s. IsCallerOfToken broker_primitives s (option_map (λ text. text.now) token.entry) who) }
 {
     match token {
         Some(token) => match digest_of(alloc, token) {

@@ -3,16 +3,16 @@ ghost use Rattle.std.specs.Prelude.{◌≡◌, ℕ, List, Option, Some, None, tr
 ghost use Rattle.sqlite.specs.Held.{state};
 ghost use Rattle.broker_core.specs.State.{State as BrokerState};
 ghost use Rattle.broker_core.specs.Text.{put_at, same_place};
-ghost use Rattle.broker_core.specs.Change.{told, done, instance_of, is_text};
+ghost use Rattle.broker_core.specs.Change.{unchanged_with, done, instance_of, is_text};
 ghost use Rattle.broker_core.specs.Request.{has_grant, is_known};
-ghost use Rattle.broker_core.specs.Machine.{Follows};
+ghost use Rattle.broker_core.specs.Machine.{StepOfCaller};
 ghost use Rattle.broker_core.specs.declared.command.Command.TheVariants.{Deploy};
 ghost use Rattle.broker_core.specs.declared.command.Version.{Version as VersionModel};
 ghost use Rattle.broker_core.specs.declared.policy.Caller.{Caller as Who};
 ghost use Rattle.broker_core.specs.declared.policy.Rule.TheVariants.{A7};
-ghost use Rattle.broker_tables.specs.Holds.{Reads};
+ghost use Rattle.broker_tables.specs.Holds.{Queries};
 ghost use Rattle.broker_tables.specs.Numbers.{number_of};
-ghost use Rattle.broker_service.specs.Parts.{the_parts};
+ghost use Rattle.broker_service.specs.Primitives.{broker_primitives};
 ghost use Rattle.broker_service.specs.Performs.{Performs};
 ghost use Rattle.broker_service.specs.Served.{HasNoContract};
 ghost use Rattle.broker_service.specs.Found.{FoundOwner, FoundStanding, FoundDeployment};
@@ -26,7 +26,7 @@ use deploy_tables::{is_deployed, record_deployed};
 use registry_tables::{gated, version_of};
 use sqlite::{Alter, Connection};
 use std::alloc::Global;
-use table_access::Fault;
+use table_access::StoreFault;
 
 /// What a deployment asks of the tables.
 #[derive(Clone, Copy)]
@@ -49,8 +49,8 @@ fn instance_text(instance: &Option<Name>) -> &str
 }
 
 /// Whether the environment is there.
-fn look_environment<S: Alter>(conn: &mut Connection<S>, environment: &Name) -> Result<bool, Fault>
-    ensures { Reads (state S.Store conn.old) (state S.Store conn.new) result (λ has s. is_some (s.environments environment.now) ≡ has) }
+fn look_environment<S: Alter>(conn: &mut Connection<S>, environment: &Name) -> Result<bool, StoreFault>
+    ensures { Queries (state S.Store conn.old) (state S.Store conn.new) result (λ has s. is_some (s.environments environment.now) ≡ has) }
 {
     match gated(conn, environment.as_str()) {
         Ok(gated) => Ok(gated.is_some()),
@@ -65,8 +65,8 @@ fn look_rights<S: Alter>(
     caller: &Caller,
     environment: &Name,
     pacticipant: &Name,
-) -> Result<(bool, bool), Fault>
-    ensures { Reads (state S.Store conn.old) (state S.Store conn.new) result (λ found s. FoundOwner s caller.now A7 pacticipant.now (has_grant s caller.now (Some environment.now)) found.0 found.1) }
+) -> Result<(bool, bool), StoreFault>
+    ensures { Queries (state S.Store conn.old) (state S.Store conn.new) result (λ found s. FoundOwner s caller.now A7 pacticipant.now (has_grant s caller.now (Some environment.now)) found.0 found.1) }
 {
     match look_grant(conn, caller, environment) {
         Ok(granted) => look_owner(alloc, conn, caller, Rule::A7, pacticipant, granted),
@@ -80,8 +80,8 @@ fn look_standing<S: Alter>(
     environment: &Name,
     version: &Version,
     instance: &str,
-) -> Result<(Option<u32>, bool), Fault>
-    ensures { Reads (state S.Store conn.old) (state S.Store conn.new) result (λ found s. FoundStanding s environment.now version.now instance.now found.0 found.1) }
+) -> Result<(Option<u32>, bool), StoreFault>
+    ensures { Queries (state S.Store conn.old) (state S.Store conn.new) result (λ found s. FoundStanding s environment.now version.now instance.now found.0 found.1) }
 {
     match version_of(conn, version.pacticipant.as_str(), version.name.as_str()) {
         Ok(Some(number)) => match is_deployed(
@@ -106,8 +106,8 @@ fn look_sides<S: Alter>(
     caller: &Caller,
     environment: &Name,
     pacticipant: &Name,
-) -> Result<(bool, bool, bool), Fault>
-    ensures { Reads (state S.Store conn.old) (state S.Store conn.new) result (λ found s. (is_some (s.environments environment.now) ≡ found.0) × FoundOwner s caller.now A7 pacticipant.now (has_grant s caller.now (Some environment.now)) found.1 found.2) }
+) -> Result<(bool, bool, bool), StoreFault>
+    ensures { Queries (state S.Store conn.old) (state S.Store conn.new) result (λ found s. (is_some (s.environments environment.now) ≡ found.0) × FoundOwner s caller.now A7 pacticipant.now (has_grant s caller.now (Some environment.now)) found.1 found.2) }
 {
     match look_environment(conn, environment) {
         Ok(has) => match look_rights(alloc, conn, caller, environment, pacticipant) {
@@ -125,8 +125,8 @@ fn look<S: Alter>(
     environment: &Name,
     version: &Version,
     instance: &str,
-) -> Result<Found, Fault>
-    ensures { Reads (state S.Store conn.old) (state S.Store conn.new) result (λ found s. FoundDeployment s caller.now environment.now version.now instance.now found.environment found.pacticipant found.may found.number found.stands) }
+) -> Result<Found, StoreFault>
+    ensures { Queries (state S.Store conn.old) (state S.Store conn.new) result (λ found s. FoundDeployment s caller.now environment.now version.now instance.now found.environment found.pacticipant found.may found.number found.stands) }
 {
     match look_sides(alloc, conn, caller, environment, &version.pacticipant) {
         Ok((environment_is, pacticipant, may)) => match look_standing(
@@ -150,9 +150,9 @@ fn look<S: Alter>(
 
 /// The number of the version that is recorded, or the answer where nothing changes.
 fn decide(found: Found) -> Result<u32, Answer>
-    ensures told { IfErr result (λ answer. (s : BrokerState) (caller : Who) (e : List ℕ) (v : VersionModel) (instance : Option (List ℕ)) → HasNoContract s → FoundDeployment s caller e v (instance_of instance) found.environment found.pacticipant found.may found.number found.stands → Follows the_parts s caller (Deploy e v instance) (told s answer)) }
+    ensures told { IfErr result (λ answer. (s : BrokerState) (caller : Who) (e : List ℕ) (v : VersionModel) (instance : Option (List ℕ)) → HasNoContract s → FoundDeployment s caller e v (instance_of instance) found.environment found.pacticipant found.may found.number found.stands → StepOfCaller broker_primitives s caller (Deploy e v instance) (told s answer)) }
     ensures free { IfOk result (λ number. (s : BrokerState) (caller : Who) (e : List ℕ) (v : VersionModel) (instance : Option (List ℕ)) → HasNoContract s → FoundDeployment s caller e v (instance_of instance) found.environment found.pacticipant found.may found.number found.stands
-        → Follows the_parts s caller (Deploy e v instance) (done (record s { deployed = put_at same_place s.deployed (e, v.pacticipant, instance_of instance) (Some v.name) }))) }
+        → StepOfCaller broker_primitives s caller (Deploy e v instance) (done (record s { deployed = put_at same_place s.deployed (e, v.pacticipant, instance_of instance) (Some v.name) }))) }
     ensures counted { IfOk result (λ number. found.number ≡ Some number) }
     ensures there { IfOk result (λ _. IsTrue found.environment × IsTrue found.pacticipant) }
 {
@@ -182,8 +182,8 @@ fn deploy_as<S: Alter>(
     environment: &Name,
     version: &Version,
     instance: &str,
-) -> Result<Answer, Fault>
-    ensures { Performs (state S.Store conn.old) (state S.Store conn.new) (λ s out. HasNoContract s → (name : Option (List ℕ)) → instance_of name ≡ instance.now → Follows the_parts s caller.now (Deploy environment.now version.now name) out) result }
+) -> Result<Answer, StoreFault>
+    ensures { Performs (state S.Store conn.old) (state S.Store conn.new) (λ s out. HasNoContract s → (name : Option (List ℕ)) → instance_of name ≡ instance.now → StepOfCaller broker_primitives s caller.now (Deploy environment.now version.now name) out) result }
 {
     match look(alloc, conn, caller, environment, version, instance) {
         Ok(found) => match decide(found) {
@@ -211,8 +211,8 @@ pub(crate) fn deploy<S: Alter>(
     environment: &Name,
     version: &Version,
     instance: &Option<Name>,
-) -> Result<Answer, Fault>
-    ensures { Performs (state S.Store conn.old) (state S.Store conn.new) (λ s out. HasNoContract s → Follows the_parts s caller.now (Deploy environment.now version.now instance.now) out) result }
+) -> Result<Answer, StoreFault>
+    ensures { Performs (state S.Store conn.old) (state S.Store conn.new) (λ s out. HasNoContract s → StepOfCaller broker_primitives s caller.now (Deploy environment.now version.now instance.now) out) result }
 {
     deploy_as(
         alloc,

@@ -5,29 +5,29 @@ ghost use Rattle.broker_core.specs.declared.command.Marks.{Marks as MarksModel};
 ghost use Rattle.broker_core.specs.declared.policy.Caller.{Caller as Who};
 ghost use Rattle.broker_core.specs.State.{State as BrokerState};
 ghost use Rattle.broker_core.specs.Text.{put_at, same_text};
-ghost use Rattle.broker_core.specs.Change.{told, done};
-ghost use Rattle.broker_core.specs.Machine.{Follows, fault_of_marks};
+ghost use Rattle.broker_core.specs.Change.{unchanged_with, done};
+ghost use Rattle.broker_core.specs.Machine.{StepOfCaller, fault_of_marks};
 ghost use Rattle.broker_core.specs.declared.command.Command.TheVariants.{PutEnvironment};
-ghost use Rattle.broker_tables.specs.Holds.{Reads};
-ghost use Rattle.broker_service.specs.Parts.{the_parts};
+ghost use Rattle.broker_tables.specs.Holds.{Queries};
+ghost use Rattle.broker_service.specs.Primitives.{broker_primitives};
 ghost use Rattle.broker_service.specs.Performs.{Performs};
 
 use crate::rules::is_office;
 use broker_core::answer::{Answer, Clash, Detail};
-use broker_core::command::{Fault as FormFault, Marks};
+use broker_core::command::{FormFault, Marks};
 use broker_core::name::{Name, Text};
 use broker_core::policy::{Caller, Rule};
 use registry_tables::{add_environment, gated, strict_of};
 use sqlite::{Alter, Connection};
 use std::alloc::Global;
-use table_access::Fault;
+use table_access::StoreFault;
 
 /// The marks of an environment, none where it isn't there.
 pub(crate) fn marks_of<S: Alter>(
     conn: &mut Connection<S>,
     environment: &Name,
-) -> Result<Option<Marks>, Fault>
-    ensures { Reads (state S.Store conn.old) (state S.Store conn.new) result (λ marks s. marks ≡ s.environments environment.now) }
+) -> Result<Option<Marks>, StoreFault>
+    ensures { Queries (state S.Store conn.old) (state S.Store conn.new) result (λ marks s. marks ≡ s.environments environment.now) }
 {
     match gated(conn, environment.as_str()) {
         Ok(gated) => match strict_of(conn, environment.as_str()) {
@@ -49,13 +49,13 @@ fn both_marks(gated: Option<bool>, strict: Option<bool>) -> Option<Marks>
 }
 
 /// What is told of marks that no environment may have.
-fn form_of(alloc: Global, marks: Marks) -> Result<Option<Answer>, Fault>
-    ensures { IfOk result (λ o. IfSome o (λ answer. (s : BrokerState) (e : List ℕ) (caller : Who) → Follows the_parts s caller (PutEnvironment e marks) (told s answer)) × IfNone o (fault_of_marks marks ≡ None)) }
+fn form_of(alloc: Global, marks: Marks) -> Result<Option<Answer>, StoreFault>
+    ensures { IfOk result (λ o. IfSome o (λ answer. (s : BrokerState) (e : List ℕ) (caller : Who) → StepOfCaller broker_primitives s caller (PutEnvironment e marks) (told s answer)) × IfNone o (fault_of_marks marks ≡ None)) }
 {
     if marks.strict && !marks.gated {
         match String::from_str(alloc, "strict") {
             Ok(field) => Ok(Some(Answer::BadForm(FormFault::Field(Text::new(field))))),
-            Err(_) => Err(Fault::Memory),
+            Err(_) => Err(StoreFault::Memory),
         }
     } else {
         Ok(None)
@@ -64,9 +64,9 @@ fn form_of(alloc: Global, marks: Marks) -> Result<Option<Answer>, Fault>
 
 /// The answer where nothing changes; none where the environment is added.
 fn decide(alloc: Global, caller: &Caller, old: Option<Marks>, marks: Marks) -> Option<Answer>
-    ensures told { IfSome result (λ answer. (s : BrokerState) (e : List ℕ) → fault_of_marks marks ≡ None → s.environments e ≡ old → Follows the_parts s caller.now (PutEnvironment e marks) (told s answer)) }
+    ensures told { IfSome result (λ answer. (s : BrokerState) (e : List ℕ) → fault_of_marks marks ≡ None → s.environments e ≡ old → StepOfCaller broker_primitives s caller.now (PutEnvironment e marks) (told s answer)) }
     ensures free { IfNone result ((s : BrokerState) (e : List ℕ) → fault_of_marks marks ≡ None → s.environments e ≡ old
-        → (s.environments e ≡ None) × Follows the_parts s caller.now (PutEnvironment e marks) (done (record s { environments = put_at same_text s.environments e (Some marks) }))) }
+        → (s.environments e ≡ None) × StepOfCaller broker_primitives s caller.now (PutEnvironment e marks) (done (record s { environments = put_at same_text s.environments e (Some marks) }))) }
 {
     if !is_office(alloc, caller) {
         return Some(Answer::Denied(Rule::A2));
@@ -88,9 +88,9 @@ fn put_marks<S: Alter>(
     caller: &Caller,
     environment: &Name,
     marks: Marks,
-) -> Result<Answer, Fault>
+) -> Result<Answer, StoreFault>
     requires { fault_of_marks marks ≡ None }
-    ensures { Performs (state S.Store conn.old) (state S.Store conn.new) (λ s out. Follows the_parts s caller.now (PutEnvironment environment.now marks) out) result }
+    ensures { Performs (state S.Store conn.old) (state S.Store conn.new) (λ s out. StepOfCaller broker_primitives s caller.now (PutEnvironment environment.now marks) out) result }
 {
     match marks_of(conn, environment) {
         Ok(old) => match decide(alloc, caller, old, marks) {
@@ -111,8 +111,8 @@ pub(crate) fn put_environment<S: Alter>(
     caller: &Caller,
     environment: &Name,
     marks: Marks,
-) -> Result<Answer, Fault>
-    ensures { Performs (state S.Store conn.old) (state S.Store conn.new) (λ s out. Follows the_parts s caller.now (PutEnvironment environment.now marks) out) result }
+) -> Result<Answer, StoreFault>
+    ensures { Performs (state S.Store conn.old) (state S.Store conn.new) (λ s out. StepOfCaller broker_primitives s caller.now (PutEnvironment environment.now marks) out) result }
 {
     match form_of(alloc, marks) {
         Ok(Some(answer)) => Ok(answer),

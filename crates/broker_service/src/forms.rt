@@ -1,7 +1,7 @@
 //! What is told of a command whose form is at fault.
 ghost use Rattle.std.specs.Prelude.{◌≡◌, IfOk};
 
-use broker_core::command::Fault;
+use broker_core::command::FormFault;
 use broker_core::name::Text;
 use std::alloc::{AllocError, Global};
 
@@ -12,18 +12,18 @@ fn copied(alloc: Global, text: &Text) -> Result<Text, AllocError>
 }
 
 /// The same fault.
-pub(crate) fn same_fault(alloc: Global, fault: &Fault) -> Result<Fault, AllocError>
+pub(crate) fn same_fault(alloc: Global, fault: &FormFault) -> Result<FormFault, AllocError>
     ensures { IfOk result (λ copy. copy ≡ fault.now) }
 {
     match fault {
-        Fault::Name => Ok(Fault::Name),
-        Fault::Json => Ok(Fault::Json),
-        Fault::Field(field) => Ok(Fault::Field(copied(alloc, field)?)),
-        Fault::Query(key) => Ok(Fault::Query(copied(alloc, key)?)),
-        Fault::Token => Ok(Fault::Token),
-        Fault::Names => Ok(Fault::Names),
-        Fault::Pact(place) => Ok(Fault::Pact(copied(alloc, place)?)),
-        Fault::Replies(place) => Ok(Fault::Replies(copied(alloc, place)?)),
-        Fault::UnknownReply => Ok(Fault::UnknownReply),
+        FormFault::Name => Ok(FormFault::Name),
+        FormFault::Json => Ok(FormFault::Json),
+        FormFault::Field(field) => Ok(FormFault::Field(copied(alloc, field)?)),
+        FormFault::Query(key) => Ok(FormFault::Query(copied(alloc, key)?)),
+        FormFault::Token => Ok(FormFault::Token),
+        FormFault::Names => Ok(FormFault::Names),
+        FormFault::Pact(place) => Ok(FormFault::Pact(copied(alloc, place)?)),
+        FormFault::Replies(place) => Ok(FormFault::Replies(copied(alloc, place)?)),
+        FormFault::UnknownReply => Ok(FormFault::UnknownReply),
     }
 }

@@ -3,11 +3,11 @@ ghost use Rattle.std.specs.Prelude.{◌≡◌, ℕ, List, Some, None, true, fals
 ghost use Rattle.sqlite.specs.Held.{state};
 ghost use Rattle.broker_core.specs.State.{State as BrokerState};
 ghost use Rattle.broker_core.specs.Text.{put_at, same_text, same_pair};
-ghost use Rattle.broker_core.specs.Change.{told, done};
-ghost use Rattle.broker_core.specs.Machine.{Follows};
+ghost use Rattle.broker_core.specs.Change.{unchanged_with, done};
+ghost use Rattle.broker_core.specs.Machine.{StepOfCaller};
 ghost use Rattle.broker_core.specs.declared.command.Command.TheVariants.{PutGrant, DeleteGrant};
-ghost use Rattle.broker_tables.specs.Holds.{Reads};
-ghost use Rattle.broker_service.specs.Parts.{the_parts};
+ghost use Rattle.broker_tables.specs.Holds.{Queries};
+ghost use Rattle.broker_service.specs.Primitives.{broker_primitives};
 ghost use Rattle.broker_service.specs.Performs.{Performs};
 ghost use Rattle.broker_service.specs.Found.{FoundGrant};
 
@@ -18,7 +18,7 @@ use broker_core::policy::{Caller, Rule};
 use registry_tables::{add_grant, gated, granted, has_team, remove_grant};
 use sqlite::{Alter, Connection};
 use std::alloc::Global;
-use table_access::Fault;
+use table_access::StoreFault;
 
 /// Whether a team, an environment and the team's grant for it are there.
 #[derive(Clone, Copy)]
@@ -33,8 +33,8 @@ fn look_sides<S: Alter>(
     conn: &mut Connection<S>,
     team: &Name,
     environment: &Name,
-) -> Result<(bool, bool), Fault>
-    ensures { Reads (state S.Store conn.old) (state S.Store conn.new) result (λ found s. (is_some (s.teams team.now) ≡ found.0) × (is_some (s.environments environment.now) ≡ found.1)) }
+) -> Result<(bool, bool), StoreFault>
+    ensures { Queries (state S.Store conn.old) (state S.Store conn.new) result (λ found s. (is_some (s.teams team.now) ≡ found.0) × (is_some (s.environments environment.now) ≡ found.1)) }
 {
     match has_team(conn, team.as_str()) {
         Ok(has_team) => match gated(conn, environment.as_str()) {
@@ -45,8 +45,8 @@ fn look_sides<S: Alter>(
     }
 }
 
-fn look<S: Alter>(conn: &mut Connection<S>, team: &Name, environment: &Name) -> Result<Found, Fault>
-    ensures { Reads (state S.Store conn.old) (state S.Store conn.new) result (λ found s. FoundGrant s team.now environment.now found.team found.environment found.grant) }
+fn look<S: Alter>(conn: &mut Connection<S>, team: &Name, environment: &Name) -> Result<Found, StoreFault>
+    ensures { Queries (state S.Store conn.old) (state S.Store conn.new) result (λ found s. FoundGrant s team.now environment.now found.team found.environment found.grant) }
 {
     match look_sides(conn, team, environment) {
         Ok((team_is, environment_is)) => match granted(conn, team.as_str(), environment.as_str()) {
@@ -63,9 +63,9 @@ fn look<S: Alter>(conn: &mut Connection<S>, team: &Name, environment: &Name) -> 
 
 /// The answer where no grant is added; none where it is.
 fn decide_put(alloc: Global, caller: &Caller, found: Found) -> Option<Answer>
-    ensures told { IfSome result (λ answer. (s : BrokerState) (team e : List ℕ) → FoundGrant s team e found.team found.environment found.grant → Follows the_parts s caller.now (PutGrant team e) (told s answer)) }
+    ensures told { IfSome result (λ answer. (s : BrokerState) (team e : List ℕ) → FoundGrant s team e found.team found.environment found.grant → StepOfCaller broker_primitives s caller.now (PutGrant team e) (told s answer)) }
     ensures free { IfNone result ((s : BrokerState) (team e : List ℕ) → FoundGrant s team e found.team found.environment found.grant
-        → IsTrue found.team × IsTrue found.environment × (found.grant ≡ false) × Follows the_parts s caller.now (PutGrant team e) (done (record s { grants = put_at (same_pair same_text same_text) s.grants (team, e) true }))) }
+        → IsTrue found.team × IsTrue found.environment × (found.grant ≡ false) × StepOfCaller broker_primitives s caller.now (PutGrant team e) (done (record s { grants = put_at (same_pair same_text same_text) s.grants (team, e) true }))) }
 {
     if !found.team {
         return Some(Answer::Unknown(Missing::Team));
@@ -84,9 +84,9 @@ fn decide_put(alloc: Global, caller: &Caller, found: Found) -> Option<Answer>
 
 /// The answer where no grant is taken; none where it is.
 fn decide_delete(alloc: Global, caller: &Caller, found: Found) -> Option<Answer>
-    ensures told { IfSome result (λ answer. (s : BrokerState) (team e : List ℕ) → FoundGrant s team e found.team found.environment found.grant → Follows the_parts s caller.now (DeleteGrant team e) (told s answer)) }
+    ensures told { IfSome result (λ answer. (s : BrokerState) (team e : List ℕ) → FoundGrant s team e found.team found.environment found.grant → StepOfCaller broker_primitives s caller.now (DeleteGrant team e) (told s answer)) }
     ensures free { IfNone result ((s : BrokerState) (team e : List ℕ) → FoundGrant s team e found.team found.environment found.grant
-        → (found.grant ≡ true) × Follows the_parts s caller.now (DeleteGrant team e) (done (record s { grants = put_at (same_pair same_text same_text) s.grants (team, e) false }))) }
+        → (found.grant ≡ true) × StepOfCaller broker_primitives s caller.now (DeleteGrant team e) (done (record s { grants = put_at (same_pair same_text same_text) s.grants (team, e) false }))) }
 {
     if !found.team {
         return Some(Answer::Unknown(Missing::Team));
@@ -110,8 +110,8 @@ pub(crate) fn put_grant<S: Alter>(
     caller: &Caller,
     team: &Name,
     environment: &Name,
-) -> Result<Answer, Fault>
-    ensures { Performs (state S.Store conn.old) (state S.Store conn.new) (λ s out. Follows the_parts s caller.now (PutGrant team.now environment.now) out) result }
+) -> Result<Answer, StoreFault>
+    ensures { Performs (state S.Store conn.old) (state S.Store conn.new) (λ s out. StepOfCaller broker_primitives s caller.now (PutGrant team.now environment.now) out) result }
 {
     match look(conn, team, environment) {
         Ok(found) => match decide_put(alloc, caller, found) {
@@ -132,8 +132,8 @@ pub(crate) fn delete_grant<S: Alter>(
     caller: &Caller,
     team: &Name,
     environment: &Name,
-) -> Result<Answer, Fault>
-    ensures { Performs (state S.Store conn.old) (state S.Store conn.new) (λ s out. Follows the_parts s caller.now (DeleteGrant team.now environment.now) out) result }
+) -> Result<Answer, StoreFault>
+    ensures { Performs (state S.Store conn.old) (state S.Store conn.new) (λ s out. StepOfCaller broker_primitives s caller.now (DeleteGrant team.now environment.now) out) result }
 {
     match look(conn, team, environment) {
         Ok(found) => match decide_delete(alloc, caller, found) {

@@ -1,13 +1,13 @@
 //! The listing of an environment.
 ghost use Rattle.std.specs.Prelude.{◌≡◌, ℕ, List, Some, IsTrue};
 ghost use Rattle.sqlite.specs.Held.{state};
-ghost use Rattle.broker_core.specs.Change.{told};
+ghost use Rattle.broker_core.specs.Change.{unchanged_with};
 ghost use Rattle.broker_core.specs.declared.policy.Caller.{Caller as Who};
 ghost use Rattle.broker_core.specs.Listing.{Lists};
-ghost use Rattle.broker_core.specs.Machine.{Follows, deployed_cmp, version_cmp};
+ghost use Rattle.broker_core.specs.Machine.{StepOfCaller, deployed_cmp, version_cmp};
 ghost use Rattle.broker_core.specs.declared.command.Command.TheVariants.{GetEnvironment};
-ghost use Rattle.broker_tables.specs.Holds.{Reads};
-ghost use Rattle.broker_service.specs.Parts.{the_parts};
+ghost use Rattle.broker_tables.specs.Holds.{Queries};
+ghost use Rattle.broker_service.specs.Primitives.{broker_primitives};
 ghost use Rattle.broker_service.specs.Performs.{Performs};
 
 use crate::environments::marks_of;
@@ -18,15 +18,15 @@ use broker_core::policy::Caller;
 use deploy_tables::{deployed, released};
 use sqlite::{Alter, Connection};
 use std::alloc::Global;
-use table_access::Fault;
+use table_access::StoreFault;
 
 /// What is deployed and what is released in an environment.
 fn look<S: Alter>(
     alloc: Global,
     conn: &mut Connection<S>,
     environment: &Name,
-) -> Result<(Vec<DeployedItem>, Vec<Version>), Fault>
-    ensures { Reads (state S.Store conn.old) (state S.Store conn.new) result (λ found s. Lists deployed_cmp (λ x. s.deployed (environment.now, x.pacticipant, x.instance) ≡ Some x.version) found.0.items × Lists version_cmp (λ v. IsTrue (s.released (environment.now, v))) found.1.items) }
+) -> Result<(Vec<DeployedItem>, Vec<Version>), StoreFault>
+    ensures { Queries (state S.Store conn.old) (state S.Store conn.new) result (λ found s. Lists deployed_cmp (λ x. s.deployed (environment.now, x.pacticipant, x.instance) ≡ Some x.version) found.0.items × Lists version_cmp (λ v. IsTrue (s.released (environment.now, v))) found.1.items) }
 {
     match deployed(alloc, conn, environment.as_str()) {
         Ok(items) => match released(alloc, conn, environment.as_str()) {
@@ -43,8 +43,8 @@ fn list<S: Alter>(
     conn: &mut Connection<S>,
     environment: &Name,
     marks: Marks,
-) -> Result<Answer, Fault>
-    ensures { Reads (state S.Store conn.old) (state S.Store conn.new) result (λ answer s. (caller : Who) → s.environments environment.now ≡ Some marks → Follows the_parts s caller (GetEnvironment environment.now) (told s answer)) }
+) -> Result<Answer, StoreFault>
+    ensures { Queries (state S.Store conn.old) (state S.Store conn.new) result (λ answer s. (caller : Who) → s.environments environment.now ≡ Some marks → StepOfCaller broker_primitives s caller (GetEnvironment environment.now) (told s answer)) }
 {
     match look(alloc, conn, environment) {
         Ok((deployed, released)) => match environment.clone() {
@@ -54,7 +54,7 @@ fn list<S: Alter>(
                 deployed: DeployedItems::new(deployed),
                 released: Versions::new(released),
             })),
-            Err(_) => Err(Fault::Memory),
+            Err(_) => Err(StoreFault::Memory),
         },
         Err(fault) => Err(fault),
     }
@@ -66,8 +66,8 @@ pub(crate) fn get_environment<S: Alter>(
     conn: &mut Connection<S>,
     caller: &Caller,
     environment: &Name,
-) -> Result<Answer, Fault>
-    ensures { Performs (state S.Store conn.old) (state S.Store conn.new) (λ s out. Follows the_parts s caller.now (GetEnvironment environment.now) out) result }
+) -> Result<Answer, StoreFault>
+    ensures { Performs (state S.Store conn.old) (state S.Store conn.new) (λ s out. StepOfCaller broker_primitives s caller.now (GetEnvironment environment.now) out) result }
 {
     match marks_of(conn, environment) {
         Ok(Some(marks)) => list(alloc, conn, environment, marks),

@@ -3,24 +3,24 @@ ghost use Rattle.std.specs.Prelude.{◌≡◌, ◌↔◌, ◌≤◌, ◌++◌, �
 ghost use Rattle.sqlite_trees.specs.View.{doubt};
 ghost use Rattle.sqlite.specs.State.{HasCleanDisk};
 ghost use Rattle.sqlite.specs.Held.{state};
-ghost use Rattle.table_access.specs.Calls.{Statement};
-ghost use Rattle.table_access.specs.Keeps.{Keeps};
+ghost use Rattle.table_access.specs.Calls.{CallsStore};
+ghost use Rattle.table_access.specs.Durability.{HoldsDurably};
 ghost use Rattle.table_access.specs.Statements.{MakesIndexes};
 ghost use Rattle.broker_core.specs.State.{opening};
 ghost use Rattle.broker_tables.specs.Schema.{no_schema, registry_part, contents, contract_part, all_tables, all_indexes, schema_of};
 ghost use Rattle.broker_tables.specs.Holds.{Holds, format};
 ghost use Rattle.broker_tables.specs.Making.{IsBlank, HasTables, IsMarked};
-ghost use Rattle.broker_service.specs.Parts.{the_parts};
+ghost use Rattle.broker_service.specs.Primitives.{broker_primitives};
 ghost use Rattle.broker_service.specs.Ends.{IsAsBefore, LeavesNothing};
 ghost use Rattle.broker_service.specs.Opening as spec;
-ghost use Rattle.broker_service.specs.Opening.{Turns, Leaves, Refuses, Spared, Judged, IsJudged, judgement};
+ghost use Rattle.broker_service.specs.Opening.{Turns, CallLeaves, Refuses, Spared, Judged, IsJudged, judgement};
 
 use crate::callers::digest_of;
 use broker_core::name::Token;
 use registry_tables::{format_of, is_blank, make_strict_environments};
 use sqlite::{Alter, Connection};
 use std::alloc::Global;
-use table_access::{Fault, commit, enter, leave};
+use table_access::{StoreFault, commit, begin, rollback};
 use thiserror::Error;
 
 /// Why a database isn't made or opened as a broker's.
@@ -43,18 +43,18 @@ pub enum OpenFault {
     Store,
 }
 
-fn open_fault(fault: Fault) -> OpenFault
+fn open_fault(fault: StoreFault) -> OpenFault
     ensures { result ≡ spec.open_fault fault }
 {
     match fault {
-        Fault::Memory => OpenFault::Memory,
-        Fault::Store => OpenFault::Store,
+        StoreFault::Memory => OpenFault::Memory,
+        StoreFault::Store => OpenFault::Store,
     }
 }
 
 /// Makes the tables of the registry, of contents and of contracts.
-fn make_first<S: Alter>(conn: &mut Connection<S>, digest: &str) -> Result<(), Fault>
-    ensures { Statement (state S.Store conn.old) (state S.Store conn.new) result (λ _. IsBlank (state S.Store conn.old).now → HasTables (registry_part ++ contents ∷ contract_part) format digest.now (state S.Store conn.new).now) }
+fn make_first<S: Alter>(conn: &mut Connection<S>, digest: &str) -> Result<(), StoreFault>
+    ensures { CallsStore (state S.Store conn.old) (state S.Store conn.new) result (λ _. IsBlank (state S.Store conn.old).now → HasTables (registry_part ++ contents ∷ contract_part) format digest.now (state S.Store conn.new).now) }
 {
     match registry_tables::make_tables(conn, 2, digest) {
         Ok(()) => match content_store::make_tables(conn) {
@@ -66,8 +66,8 @@ fn make_first<S: Alter>(conn: &mut Connection<S>, digest: &str) -> Result<(), Fa
 }
 
 /// Makes the tables of what stands where, of evidence and of strict environments.
-fn make_rest<S: Alter>(conn: &mut Connection<S>) -> Result<(), Fault>
-    ensures { Statement (state S.Store conn.old) (state S.Store conn.new) result (λ _. (office : List ℕ) → HasTables (registry_part ++ contents ∷ contract_part) format office (state S.Store conn.old).now → HasTables all_tables format office (state S.Store conn.new).now) }
+fn make_rest<S: Alter>(conn: &mut Connection<S>) -> Result<(), StoreFault>
+    ensures { CallsStore (state S.Store conn.old) (state S.Store conn.new) result (λ _. (office : List ℕ) → HasTables (registry_part ++ contents ∷ contract_part) format office (state S.Store conn.old).now → HasTables all_tables format office (state S.Store conn.new).now) }
 {
     match deploy_tables::make_tables(conn) {
         Ok(()) => match contract_tables::make_checked_results(conn) {
@@ -79,8 +79,8 @@ fn make_rest<S: Alter>(conn: &mut Connection<S>) -> Result<(), Fault>
 }
 
 /// Makes the indexes, once all tables are made.
-fn make_indexes<S: Alter>(conn: &mut Connection<S>) -> Result<(), Fault>
-    ensures { Statement (state S.Store conn.old) (state S.Store conn.new) result (λ _. (state S.Store conn.old).now.schema ≡ schema_of all_tables → MakesIndexes all_indexes (state S.Store conn.old).now (state S.Store conn.new).now) }
+fn make_indexes<S: Alter>(conn: &mut Connection<S>) -> Result<(), StoreFault>
+    ensures { CallsStore (state S.Store conn.old) (state S.Store conn.new) result (λ _. (state S.Store conn.old).now.schema ≡ schema_of all_tables → MakesIndexes all_indexes (state S.Store conn.old).now (state S.Store conn.new).now) }
 {
     match content_store::make_index(conn) {
         Ok(()) => match contract_tables::make_indexes(conn) {
@@ -92,8 +92,8 @@ fn make_indexes<S: Alter>(conn: &mut Connection<S>) -> Result<(), Fault>
 }
 
 /// Makes all tables, and then the indexes.
-fn make_all<S: Alter>(conn: &mut Connection<S>, digest: &str) -> Result<(), Fault>
-    ensures { Statement (state S.Store conn.old) (state S.Store conn.new) result (λ _. IsBlank (state S.Store conn.old).now → Holds (state S.Store conn.new).now (opening digest.now)) }
+fn make_all<S: Alter>(conn: &mut Connection<S>, digest: &str) -> Result<(), StoreFault>
+    ensures { CallsStore (state S.Store conn.old) (state S.Store conn.new) result (λ _. IsBlank (state S.Store conn.old).now → Holds (state S.Store conn.new).now (opening digest.now)) }
 {
     match make_first(conn, digest) {
         Ok(()) => match make_rest(conn) {
@@ -105,22 +105,22 @@ fn make_all<S: Alter>(conn: &mut Connection<S>, digest: &str) -> Result<(), Faul
 }
 
 /// Makes all tables in one transaction.
-fn make<S: Alter>(conn: &mut Connection<S>, digest: &str) -> Result<(), Fault>
-    ensures turns { HasCleanDisk (state S.Store conn.new) → Keeps IsBlank (state S.Store conn.old) → Turns IsBlank (λ db. Holds db (opening digest.now)) (state S.Store conn.new) result }
-    ensures leaves { HasCleanDisk (state S.Store conn.new) → Leaves (state S.Store conn.old) (state S.Store conn.new) result }
+fn make<S: Alter>(conn: &mut Connection<S>, digest: &str) -> Result<(), StoreFault>
+    ensures turns { HasCleanDisk (state S.Store conn.new) → HoldsDurably IsBlank (state S.Store conn.old) → Turns IsBlank (λ db. Holds db (opening digest.now)) (state S.Store conn.new) result }
+    ensures leaves { HasCleanDisk (state S.Store conn.new) → CallLeaves (state S.Store conn.old) (state S.Store conn.new) result }
     ensures clean { doubt (state S.Store conn.old).is_clean ≤ doubt (state S.Store conn.new).is_clean }
 {
-    match enter(conn) {
+    match begin(conn) {
         Ok(()) => match make_all(conn, digest) {
             Ok(()) => if commit(conn) {
                 Ok(())
             } else {
-                Err(Fault::Store)
+                Err(StoreFault::Store)
             },
-            Err(fault) => if leave(conn) {
+            Err(fault) => if rollback(conn) {
                 Err(fault)
             } else {
-                Err(Fault::Store)
+                Err(StoreFault::Store)
             },
         },
         Err(fault) => Err(fault),
@@ -133,8 +133,8 @@ pub(crate) fn create<S: Alter>(
     conn: &mut Connection<S>,
     office: &Token,
 ) -> Result<(), OpenFault>
-    ensures made { HasCleanDisk (state S.Store conn.new) → Keeps IsBlank (state S.Store conn.old) → OnOk result (Keeps (λ db. Holds db (opening (the_parts.digest_of office.now))) (state S.Store conn.new)) }
-    ensures refuses { HasCleanDisk (state S.Store conn.new) → Keeps IsBlank (state S.Store conn.old) → (state S.Store conn.old).now.schema ≡ no_schema → IfErr result (Refuses IsBlank (λ db. Holds db (opening (the_parts.digest_of office.now))) (state S.Store conn.new)) }
+    ensures made { HasCleanDisk (state S.Store conn.new) → HoldsDurably IsBlank (state S.Store conn.old) → OnOk result (HoldsDurably (λ db. Holds db (opening (broker_primitives.digest_of office.now))) (state S.Store conn.new)) }
+    ensures refuses { HasCleanDisk (state S.Store conn.new) → HoldsDurably IsBlank (state S.Store conn.old) → (state S.Store conn.old).now.schema ≡ no_schema → IfErr result (Refuses IsBlank (λ db. Holds db (opening (broker_primitives.digest_of office.now))) (state S.Store conn.new)) }
     ensures not_empty { (result ≡ Err OpenFault.NotEmpty) ↔ (¬ ((state S.Store conn.old).now.schema ≡ no_schema)) }
     ensures same { result ≡ Err OpenFault.NotEmpty → conn.new ≡ conn.old }
     ensures spares { HasCleanDisk (state S.Store conn.new) → IfErr result (Spared (state S.Store conn.old) (state S.Store conn.new)) }
@@ -166,21 +166,21 @@ fn judge(found: Option<u32>) -> Result<(), OpenFault>
 /// Looks for a broker's tables of this format, and changes nothing. A broker makes `meta` before each other table.
 pub(crate) fn open<S: Alter>(conn: &mut Connection<S>) -> Result<(), OpenFault>
     ensures judges { HasCleanDisk (state S.Store conn.new) → IsJudged (state S.Store conn.old).now result }
-    ensures bare { HasCleanDisk (state S.Store conn.new) → Keeps IsBlank (state S.Store conn.old) → Judged None result }
-    ensures marked { HasCleanDisk (state S.Store conn.new) → (n : ℕ) (office : List ℕ) → Keeps (IsMarked n office) (state S.Store conn.old) → Judged (Some n) result }
+    ensures bare { HasCleanDisk (state S.Store conn.new) → HoldsDurably IsBlank (state S.Store conn.old) → Judged None result }
+    ensures marked { HasCleanDisk (state S.Store conn.new) → (n : ℕ) (office : List ℕ) → HoldsDurably (IsMarked n office) (state S.Store conn.old) → Judged (Some n) result }
     ensures kept { HasCleanDisk (state S.Store conn.new) → OnOk result (IsAsBefore (state S.Store conn.old) (state S.Store conn.new)) }
     ensures spares { HasCleanDisk (state S.Store conn.new) → IfErr result (Spared (state S.Store conn.old) (state S.Store conn.new)) }
     ensures left { HasCleanDisk (state S.Store conn.new) → LeavesNothing (state S.Store conn.old) (state S.Store conn.new) }
     ensures clean { doubt (state S.Store conn.old).is_clean ≤ doubt (state S.Store conn.new).is_clean }
 {
-    match enter(conn) {
+    match begin(conn) {
         Ok(()) => match format_of(conn) {
-            Ok(found) => if leave(conn) {
+            Ok(found) => if rollback(conn) {
                 judge(found)
             } else {
                 Err(OpenFault::Store)
             },
-            Err(fault) => if leave(conn) {
+            Err(fault) => if rollback(conn) {
                 Err(open_fault(fault))
             } else {
                 Err(OpenFault::Store)

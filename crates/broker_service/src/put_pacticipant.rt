@@ -4,10 +4,10 @@ ghost use Rattle.std.specs.Prelude.{◌≡◌, ℕ, List, Some, None, IfSome, If
 ghost use Rattle.sqlite.specs.Held.{state};
 ghost use Rattle.broker_core.specs.State.{State as BrokerState};
 ghost use Rattle.broker_core.specs.Text.{put_at, same_text};
-ghost use Rattle.broker_core.specs.Change.{told, done};
-ghost use Rattle.broker_core.specs.Machine.{Follows};
-ghost use Rattle.broker_tables.specs.Holds.{Reads};
-ghost use Rattle.broker_service.specs.Parts.{the_parts};
+ghost use Rattle.broker_core.specs.Change.{unchanged_with, done};
+ghost use Rattle.broker_core.specs.Machine.{StepOfCaller};
+ghost use Rattle.broker_tables.specs.Holds.{Queries};
+ghost use Rattle.broker_service.specs.Primitives.{broker_primitives};
 ghost use Rattle.broker_service.specs.Performs.{Performs};
 ghost use Rattle.broker_service.specs.Found.{FoundPacticipant};
 ghost use Rattle.broker_core.specs.declared.command.Command.TheVariants.{PutPacticipant};
@@ -18,15 +18,15 @@ use broker_core::policy::{Ask, Caller, Rule, allowed};
 use registry_tables::{add_pacticipant, has_team, owner_of};
 use sqlite::{Alter, Connection};
 use std::alloc::Global;
-use table_access::Fault;
+use table_access::StoreFault;
 
 /// Whether the team is there, and the pacticipant's owner.
 fn look<S: Alter>(
     conn: &mut Connection<S>,
     pacticipant: &Name,
     team: &Name,
-) -> Result<(bool, Option<String>), Fault>
-    ensures { Reads (state S.Store conn.old) (state S.Store conn.new) result (λ found s. FoundPacticipant s pacticipant.now team.now found.0 (option_map string_bytes found.1)) }
+) -> Result<(bool, Option<String>), StoreFault>
+    ensures { Queries (state S.Store conn.old) (state S.Store conn.new) result (λ found s. FoundPacticipant s pacticipant.now team.now found.0 (option_map string_bytes found.1)) }
 {
     match has_team(conn, team.as_str()) {
         Ok(has) => match owner_of(conn, pacticipant.as_str()) {
@@ -45,9 +45,9 @@ fn decide(
     owner: &Option<String>,
     team: &Name,
 ) -> Option<Answer>
-    ensures told { IfSome result (λ answer. (s : BrokerState) (p : List ℕ) → FoundPacticipant s p team.now has_team (option_map string_bytes owner.now) → Follows the_parts s caller.now (PutPacticipant p team.now) (told s answer)) }
+    ensures told { IfSome result (λ answer. (s : BrokerState) (p : List ℕ) → FoundPacticipant s p team.now has_team (option_map string_bytes owner.now) → StepOfCaller broker_primitives s caller.now (PutPacticipant p team.now) (told s answer)) }
     ensures free { IfNone result ((s : BrokerState) (p : List ℕ) → FoundPacticipant s p team.now has_team (option_map string_bytes owner.now)
-        → (s.pacticipants p ≡ None) × IsTrue (is_some (s.teams team.now)) × Follows the_parts s caller.now (PutPacticipant p team.now) (done (record s { pacticipants = put_at same_text s.pacticipants p (Some team.now) }))) }
+        → (s.pacticipants p ≡ None) × IsTrue (is_some (s.teams team.now)) × StepOfCaller broker_primitives s caller.now (PutPacticipant p team.now) (done (record s { pacticipants = put_at same_text s.pacticipants p (Some team.now) }))) }
 {
     if !has_team {
         return Some(Answer::Unknown(Missing::Team));
@@ -77,8 +77,8 @@ pub(crate) fn put_pacticipant<S: Alter>(
     caller: &Caller,
     pacticipant: &Name,
     team: &Name,
-) -> Result<Answer, Fault>
-    ensures { Performs (state S.Store conn.old) (state S.Store conn.new) (λ s out. Follows the_parts s caller.now (PutPacticipant pacticipant.now team.now) out) result }
+) -> Result<Answer, StoreFault>
+    ensures { Performs (state S.Store conn.old) (state S.Store conn.new) (λ s out. StepOfCaller broker_primitives s caller.now (PutPacticipant pacticipant.now team.now) out) result }
 {
     match look(conn, pacticipant, team) {
         Ok((has, owner)) => match decide(alloc, caller, has, &owner, team) {

@@ -4,10 +4,10 @@ ghost use Rattle.std.specs.Prelude.{◌≡◌, ℕ, List, Some, None, IfSome, If
 ghost use Rattle.sqlite.specs.Held.{state};
 ghost use Rattle.broker_core.specs.State.{State as BrokerState};
 ghost use Rattle.broker_core.specs.Text.{put_at, same_text};
-ghost use Rattle.broker_core.specs.Change.{told, done};
-ghost use Rattle.broker_core.specs.Machine.{Recognizes, Follows};
-ghost use Rattle.broker_tables.specs.Holds.{Reads};
-ghost use Rattle.broker_service.specs.Parts.{the_parts};
+ghost use Rattle.broker_core.specs.Change.{unchanged_with, done};
+ghost use Rattle.broker_core.specs.Machine.{IsCallerOfDigest, StepOfCaller};
+ghost use Rattle.broker_tables.specs.Holds.{Queries};
+ghost use Rattle.broker_service.specs.Primitives.{broker_primitives};
 ghost use Rattle.broker_service.specs.Performs.{Performs};
 ghost use Rattle.broker_service.specs.Found.{FoundTeam, PutsTeam};
 ghost use Rattle.broker_core.specs.declared.command.Command.TheVariants.{PutTeam};
@@ -20,7 +20,7 @@ use broker_core::policy::{Caller, Rule};
 use registry_tables::add_team;
 use sqlite::{Alter, Connection};
 use std::alloc::Global;
-use table_access::Fault;
+use table_access::StoreFault;
 
 /// The digest of the team's token, and who has the new one.
 fn look<S: Alter>(
@@ -28,8 +28,8 @@ fn look<S: Alter>(
     conn: &mut Connection<S>,
     team: &Name,
     digest: &str,
-) -> Result<(Option<String>, Option<Caller>), Fault>
-    ensures { Reads (state S.Store conn.old) (state S.Store conn.new) result (λ found s. FoundTeam s team.now digest.now (option_map string_bytes found.0) found.1) }
+) -> Result<(Option<String>, Option<Caller>), StoreFault>
+    ensures { Queries (state S.Store conn.old) (state S.Store conn.new) result (λ found s. FoundTeam s team.now digest.now (option_map string_bytes found.0) found.1) }
 {
     match registry_tables::digest_of(conn, team.as_str()) {
         Ok(old) => match holder_of(alloc, conn, digest) {
@@ -51,7 +51,7 @@ fn decide(
     ensures told { IfSome result (λ answer. (s : BrokerState) (team : List ℕ) → FoundTeam s team digest.now (option_map string_bytes old.now) holder.now → PutsTeam s caller.now team digest.now (told s answer)) }
     ensures free { IfNone result ((s : BrokerState) (team : List ℕ) → FoundTeam s team digest.now (option_map string_bytes old.now) holder.now
         → (s.teams team ≡ None) × PutsTeam s caller.now team digest.now (done (record s { teams = put_at same_text s.teams team (Some digest.now) }))) }
-    ensures unused { IfNone result ((s : BrokerState) → Recognizes s digest.now holder.now → (team : List ℕ) → ¬ (s.teams team ≡ Some digest.now)) }
+    ensures unused { IfNone result ((s : BrokerState) → IsCallerOfDigest s digest.now holder.now → (team : List ℕ) → ¬ (s.teams team ≡ Some digest.now)) }
 {
     if !is_office(alloc, caller) {
         return Some(Answer::Denied(Rule::A2));
@@ -76,7 +76,7 @@ fn put_digest<S: Alter>(
     caller: &Caller,
     team: &Name,
     digest: &str,
-) -> Result<Answer, Fault>
+) -> Result<Answer, StoreFault>
     ensures { Performs (state S.Store conn.old) (state S.Store conn.new) (λ s out. PutsTeam s caller.now team.now digest.now out) result }
 {
     match look(alloc, conn, team, digest) {
@@ -98,8 +98,8 @@ pub(crate) fn put_team<S: Alter>(
     caller: &Caller,
     team: &Name,
     token: &Token,
-) -> Result<Answer, Fault>
-    ensures { Performs (state S.Store conn.old) (state S.Store conn.new) (λ s out. Follows the_parts s caller.now (PutTeam team.now token.now) out) result }
+) -> Result<Answer, StoreFault>
+    ensures { Performs (state S.Store conn.old) (state S.Store conn.new) (λ s out. StepOfCaller broker_primitives s caller.now (PutTeam team.now token.now) out) result }
 {
     match digest_of(alloc, token.as_str()) {
         Ok(digest) => put_digest(alloc, conn, caller, team, digest.as_str()),

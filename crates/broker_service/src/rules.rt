@@ -3,7 +3,7 @@ ghost use Rattle.std.specs.Prelude.{◌≡◌, [], IfOk, option_map, string_byte
 ghost use Rattle.sqlite.specs.Held.{state};
 ghost use Rattle.broker_core.specs.Policy.{allows, is_office};
 ghost use Rattle.broker_core.specs.Request.{has_grant};
-ghost use Rattle.broker_tables.specs.Holds.{Reads};
+ghost use Rattle.broker_tables.specs.Holds.{Queries};
 ghost use Rattle.broker_service.specs.Found.{owners_of, FoundOwner};
 
 use crate::callers::stored_name;
@@ -12,7 +12,7 @@ use broker_core::policy::{Ask, Caller, Rule, allowed};
 use registry_tables::{granted, owner_of};
 use sqlite::{Alter, Connection};
 use std::alloc::Global;
-use table_access::Fault;
+use table_access::StoreFault;
 
 /// Whether the caller is the office.
 pub(crate) fn is_office(alloc: Global, caller: &Caller) -> bool
@@ -27,14 +27,14 @@ pub(crate) fn is_office(alloc: Global, caller: &Caller) -> bool
 }
 
 /// The team that owns a pacticipant, as the policy asks for it.
-fn owners(alloc: Global, owner: &Option<String>) -> Result<Vec<Name>, Fault>
+fn owners(alloc: Global, owner: &Option<String>) -> Result<Vec<Name>, StoreFault>
     ensures { IfOk result (λ owners. owners.items ≡ owners_of (option_map string_bytes owner.now)) }
 {
     let mut owners = Vec::new(alloc);
     if let Some(owner) = owner {
         let owner = stored_name(alloc, owner.as_str())?;
         if owners.push(owner).is_err() {
-            return Err(Fault::Memory);
+            return Err(StoreFault::Memory);
         }
     }
     Ok(owners)
@@ -47,7 +47,7 @@ fn may(
     rule: Rule,
     owner: &Option<String>,
     granted: bool,
-) -> Result<bool, Fault>
+) -> Result<bool, StoreFault>
     ensures { IfOk result (λ may. may ≡ allows rule caller.now (owners_of (option_map string_bytes owner.now)) granted) }
 {
     let owners = owners(alloc, owner)?;
@@ -67,8 +67,8 @@ pub(crate) fn look_owner<S: Alter>(
     rule: Rule,
     pacticipant: &Name,
     granted: bool,
-) -> Result<(bool, bool), Fault>
-    ensures { Reads (state S.Store conn.old) (state S.Store conn.new) result (λ found s. FoundOwner s caller.now rule pacticipant.now granted found.0 found.1) }
+) -> Result<(bool, bool), StoreFault>
+    ensures { Queries (state S.Store conn.old) (state S.Store conn.new) result (λ found s. FoundOwner s caller.now rule pacticipant.now granted found.0 found.1) }
 {
     match owner_of(conn, pacticipant.as_str()) {
         Ok(owner) => match may(alloc, caller, rule, &owner, granted) {
@@ -84,8 +84,8 @@ pub(crate) fn look_grant<S: Alter>(
     conn: &mut Connection<S>,
     caller: &Caller,
     environment: &Name,
-) -> Result<bool, Fault>
-    ensures { Reads (state S.Store conn.old) (state S.Store conn.new) result (λ has s. has ≡ has_grant s caller.now (Some environment.now)) }
+) -> Result<bool, StoreFault>
+    ensures { Queries (state S.Store conn.old) (state S.Store conn.new) result (λ has s. has ≡ has_grant s caller.now (Some environment.now)) }
 {
     match caller {
         Caller::Team(team) => granted(conn, team.as_str(), environment.as_str()),

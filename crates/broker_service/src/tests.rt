@@ -3,7 +3,7 @@ ghost use Rattle.std.specs.Prelude.{IfOk};
 ghost use Rattle.broker_service.specs.Served.{IsServed};
 
 use crate::{Broker, OpenFault, Refused};
-use broker_core::command::{Command, Fault as FormFault, Marks, Version};
+use broker_core::command::{Command, FormFault, Marks, Version};
 use broker_core::name::{Name, Text, Token};
 use sqlite::{Alter, Connection, MemStore};
 use std::alloc::Global;

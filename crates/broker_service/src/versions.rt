@@ -1,18 +1,18 @@
 //! Naming of a version, and putting it on a branch.
 ghost use Rattle.std.specs.Prelude.{◌≡◌, ℕ, List, Option, Some, None, true, false, IfSome, IfNone, IfOk, IsTrue, is_some, option_map};
 ghost use Rattle.sqlite.specs.Held.{state};
-ghost use Rattle.table_access.specs.Calls.{Statement};
+ghost use Rattle.table_access.specs.Calls.{CallsStore};
 ghost use Rattle.broker_core.specs.State.{State as BrokerState};
 ghost use Rattle.broker_core.specs.Limit.{has_room};
-ghost use Rattle.broker_core.specs.Change.{told, done, named, joined, on_branch};
+ghost use Rattle.broker_core.specs.Change.{unchanged_with, done, named, joined, on_branch};
 ghost use Rattle.broker_core.specs.Request.{is_known};
-ghost use Rattle.broker_core.specs.Machine.{Follows};
+ghost use Rattle.broker_core.specs.Machine.{StepOfCaller};
 ghost use Rattle.broker_core.specs.declared.command.Command.TheVariants.{PutVersion};
 ghost use Rattle.broker_core.specs.declared.command.Version.{Version as VersionModel};
 ghost use Rattle.broker_core.specs.declared.policy.Caller.{Caller as Who};
-ghost use Rattle.broker_tables.specs.Holds.{Holds, Reads, Gives};
+ghost use Rattle.broker_tables.specs.Holds.{Holds, Queries, ChangesAndAnswers};
 ghost use Rattle.broker_tables.specs.Numbers.{number_of};
-ghost use Rattle.broker_service.specs.Parts.{the_parts};
+ghost use Rattle.broker_service.specs.Primitives.{broker_primitives};
 ghost use Rattle.broker_service.specs.Performs.{Performs};
 ghost use Rattle.broker_service.specs.Found.{FoundOwner, FoundPlace, FoundNaming, CanJoin};
 
@@ -25,7 +25,7 @@ use broker_core::policy::{Caller, Rule};
 use registry_tables::{add_branch, add_version, on_branch, version_count, version_of};
 use sqlite::{Alter, Connection};
 use std::alloc::Global;
-use table_access::Fault;
+use table_access::StoreFault;
 
 /// What naming a version asks of the tables.
 #[derive(Clone, Copy)]
@@ -42,8 +42,8 @@ fn look_branch<S: Alter>(
     conn: &mut Connection<S>,
     number: u32,
     branch: &Option<Name>,
-) -> Result<bool, Fault>
-    ensures { Reads (state S.Store conn.old) (state S.Store conn.new) result (λ on s. (v : VersionModel) → number_of s.versions v ≡ Some number → on_branch s v branch.now ≡ on) }
+) -> Result<bool, StoreFault>
+    ensures { Queries (state S.Store conn.old) (state S.Store conn.new) result (λ on s. (v : VersionModel) → number_of s.versions v ≡ Some number → on_branch s v branch.now ≡ on) }
 {
     match branch {
         Some(branch) => on_branch(conn, number, branch.as_str()),
@@ -56,8 +56,8 @@ fn look_place<S: Alter>(
     conn: &mut Connection<S>,
     version: &Version,
     branch: &Option<Name>,
-) -> Result<(Option<u32>, bool), Fault>
-    ensures { Reads (state S.Store conn.old) (state S.Store conn.new) result (λ found s. FoundPlace s version.now branch.now found.0 found.1) }
+) -> Result<(Option<u32>, bool), StoreFault>
+    ensures { Queries (state S.Store conn.old) (state S.Store conn.new) result (λ found s. FoundPlace s version.now branch.now found.0 found.1) }
 {
     match version_of(conn, version.pacticipant.as_str(), version.name.as_str()) {
         Ok(Some(number)) => match look_branch(conn, number, branch) {
@@ -70,8 +70,8 @@ fn look_place<S: Alter>(
 }
 
 /// Whether one more version may be numbered.
-fn look_room<S: Alter>(conn: &mut Connection<S>) -> Result<bool, Fault>
-    ensures { Reads (state S.Store conn.old) (state S.Store conn.new) result (λ found s. has_room s.versions ≡ found) }
+fn look_room<S: Alter>(conn: &mut Connection<S>) -> Result<bool, StoreFault>
+    ensures { Queries (state S.Store conn.old) (state S.Store conn.new) result (λ found s. has_room s.versions ≡ found) }
 {
     match version_count(conn) {
         Ok(count) => Ok(room(count)),
@@ -84,8 +84,8 @@ fn look_numbers<S: Alter>(
     conn: &mut Connection<S>,
     version: &Version,
     branch: &Option<Name>,
-) -> Result<(Option<u32>, bool, bool), Fault>
-    ensures { Reads (state S.Store conn.old) (state S.Store conn.new) result (λ found s. FoundPlace s version.now branch.now found.0 found.1 × (has_room s.versions ≡ found.2)) }
+) -> Result<(Option<u32>, bool, bool), StoreFault>
+    ensures { Queries (state S.Store conn.old) (state S.Store conn.new) result (λ found s. FoundPlace s version.now branch.now found.0 found.1 × (has_room s.versions ≡ found.2)) }
 {
     match look_place(conn, version, branch) {
         Ok((number, on)) => match look_room(conn) {
@@ -102,8 +102,8 @@ fn look<S: Alter>(
     caller: &Caller,
     version: &Version,
     branch: &Option<Name>,
-) -> Result<Found, Fault>
-    ensures { Reads (state S.Store conn.old) (state S.Store conn.new) result (λ found s. FoundNaming s caller.now version.now branch.now found.pacticipant found.may found.number found.on found.room) }
+) -> Result<Found, StoreFault>
+    ensures { Queries (state S.Store conn.old) (state S.Store conn.new) result (λ found s. FoundNaming s caller.now version.now branch.now found.pacticipant found.may found.number found.on found.room) }
 {
     match look_owner(alloc, conn, caller, Rule::A3, &version.pacticipant, false) {
         Ok((pacticipant, may)) => match look_numbers(conn, version, branch) {
@@ -122,9 +122,9 @@ fn look<S: Alter>(
 
 /// The answer where nothing changes; none where the version is named or put on the branch.
 fn decide(found: Found) -> Option<Answer>
-    ensures told { IfSome result (λ answer. (s : BrokerState) (caller : Who) (v : VersionModel) (branch : Option (List ℕ)) → FoundNaming s caller v branch found.pacticipant found.may found.number found.on found.room → Follows the_parts s caller (PutVersion v branch) (told s answer)) }
+    ensures told { IfSome result (λ answer. (s : BrokerState) (caller : Who) (v : VersionModel) (branch : Option (List ℕ)) → FoundNaming s caller v branch found.pacticipant found.may found.number found.on found.room → StepOfCaller broker_primitives s caller (PutVersion v branch) (told s answer)) }
     ensures free { IfNone result ((s : BrokerState) (caller : Who) (v : VersionModel) (branch : Option (List ℕ)) → FoundNaming s caller v branch found.pacticipant found.may found.number found.on found.room
-        → CanJoin s v branch found.number × Follows the_parts s caller (PutVersion v branch) (done (joined (named s v) v branch))) }
+        → CanJoin s v branch found.number × StepOfCaller broker_primitives s caller (PutVersion v branch) (done (joined (named s v) v branch))) }
 {
     if !found.pacticipant {
         return Some(Answer::Unknown(Missing::Pacticipant));
@@ -150,8 +150,8 @@ fn number<S: Alter>(
     version: &Version,
     branch: &Option<Name>,
     number: Option<u32>,
-) -> Result<u32, Fault>
-    ensures { Gives (state S.Store conn.old) (state S.Store conn.new) result (λ s. CanJoin s version.now branch.now number) (λ n s t. (t ≡ named s version.now) × (number_of t.versions version.now ≡ Some n) × ((b : List ℕ) → branch.now ≡ Some b → t.branches (version.now, b) ≡ false)) }
+) -> Result<u32, StoreFault>
+    ensures { ChangesAndAnswers (state S.Store conn.old) (state S.Store conn.new) result (λ s. CanJoin s version.now branch.now number) (λ n s t. (t ≡ named s version.now) × (number_of t.versions version.now ≡ Some n) × ((b : List ℕ) → branch.now ≡ Some b → t.branches (version.now, b) ≡ false)) }
 {
     match number {
         Some(number) => Ok(number),
@@ -160,8 +160,8 @@ fn number<S: Alter>(
 }
 
 /// Puts the version with this number on the branch, if there is one.
-fn join<S: Alter>(conn: &mut Connection<S>, number: u32, branch: &Option<Name>) -> Result<(), Fault>
-    ensures { Statement (state S.Store conn.old) (state S.Store conn.new) result (λ _. (s : BrokerState) → Holds (state S.Store conn.old).now s → (v : VersionModel) → number_of s.versions v ≡ Some number → ((b : List ℕ) → branch.now ≡ Some b → s.branches (v, b) ≡ false) → Holds (state S.Store conn.new).now (joined s v branch.now)) }
+fn join<S: Alter>(conn: &mut Connection<S>, number: u32, branch: &Option<Name>) -> Result<(), StoreFault>
+    ensures { CallsStore (state S.Store conn.old) (state S.Store conn.new) result (λ _. (s : BrokerState) → Holds (state S.Store conn.old).now s → (v : VersionModel) → number_of s.versions v ≡ Some number → ((b : List ℕ) → branch.now ≡ Some b → s.branches (v, b) ≡ false) → Holds (state S.Store conn.new).now (joined s v branch.now)) }
 {
     match branch {
         Some(branch) => add_branch(conn, number, branch.as_str()),
@@ -175,8 +175,8 @@ fn put<S: Alter>(
     version: &Version,
     branch: &Option<Name>,
     old: Option<u32>,
-) -> Result<(), Fault>
-    ensures { Statement (state S.Store conn.old) (state S.Store conn.new) result (λ _. (s : BrokerState) → Holds (state S.Store conn.old).now s → CanJoin s version.now branch.now old → Holds (state S.Store conn.new).now (joined (named s version.now) version.now branch.now)) }
+) -> Result<(), StoreFault>
+    ensures { CallsStore (state S.Store conn.old) (state S.Store conn.new) result (λ _. (s : BrokerState) → Holds (state S.Store conn.old).now s → CanJoin s version.now branch.now old → Holds (state S.Store conn.new).now (joined (named s version.now) version.now branch.now)) }
 {
     match number(conn, version, branch, old) {
         Ok(number) => join(conn, number, branch),
@@ -191,8 +191,8 @@ pub(crate) fn put_version<S: Alter>(
     caller: &Caller,
     version: &Version,
     branch: &Option<Name>,
-) -> Result<Answer, Fault>
-    ensures { Performs (state S.Store conn.old) (state S.Store conn.new) (λ s out. Follows the_parts s caller.now (PutVersion version.now branch.now) out) result }
+) -> Result<Answer, StoreFault>
+    ensures { Performs (state S.Store conn.old) (state S.Store conn.new) (λ s out. StepOfCaller broker_primitives s caller.now (PutVersion version.now branch.now) out) result }
 {
     match look(alloc, conn, caller, version, branch) {
         Ok(found) => match decide(found) {

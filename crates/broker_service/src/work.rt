@@ -3,12 +3,12 @@ ghost use Rattle.std.specs.Prelude.{◌≡◌, ◌≤◌, ◌↔◌, IsTrue, opt
 ghost use Rattle.sqlite_trees.specs.View.{doubt};
 ghost use Rattle.sqlite.specs.State.{HasCleanDisk};
 ghost use Rattle.sqlite.specs.Held.{state};
-ghost use Rattle.table_access.specs.Keeps.{Keeps};
+ghost use Rattle.table_access.specs.Durability.{HoldsDurably};
 ghost use Rattle.broker_core.specs.State.{State as BrokerState};
 ghost use Rattle.broker_core.specs.Laws.{IsDone};
-ghost use Rattle.broker_core.specs.Machine.{Follows, Step};
+ghost use Rattle.broker_core.specs.Machine.{StepOfCaller, Step};
 ghost use Rattle.broker_tables.specs.Holds.{Holds};
-ghost use Rattle.broker_service.specs.Parts.{the_parts};
+ghost use Rattle.broker_service.specs.Primitives.{broker_primitives};
 ghost use Rattle.broker_service.specs.Performs.{Performs};
 ghost use Rattle.broker_service.specs.Served.{IsServed, HasNoContract};
 ghost use Rattle.broker_service.specs.Ends.{Ends, Spares};
@@ -28,7 +28,7 @@ use broker_core::command::Command;
 use broker_core::policy::{Caller, Rule};
 use sqlite::{Alter, Connection};
 use std::alloc::Global;
-use table_access::{Fault, commit, enter, leave};
+use table_access::{StoreFault, commit, begin, rollback};
 
 /// What a known caller's command does.
 fn follow<S: Alter>(
@@ -36,9 +36,9 @@ fn follow<S: Alter>(
     conn: &mut Connection<S>,
     caller: &Caller,
     command: &Command,
-) -> Result<Told, Fault>
+) -> Result<Told, StoreFault>
     requires { IsServed command.now }
-    ensures { Performs (state S.Store conn.old) (state S.Store conn.new) (λ s out. HasNoContract s → Follows the_parts s caller.now command.now out) result }
+    ensures { Performs (state S.Store conn.old) (state S.Store conn.new) (λ s out. HasNoContract s → StepOfCaller broker_primitives s caller.now command.now out) result }
 {
     match command {
         Command::PutTeam { team, token } => put_team(alloc, conn, caller, team, token),
@@ -86,9 +86,9 @@ fn follow<S: Alter>(
         ),
         Command::Malformed(fault) => match same_fault(alloc, fault) {
             Ok(fault) => Ok(Told::BadForm(fault)),
-            Err(_) => Err(Fault::Memory),
+            Err(_) => Err(StoreFault::Memory),
         },
-        _ => Err(Fault::Store),
+        _ => Err(StoreFault::Store),
     }
 }
 
@@ -98,9 +98,9 @@ fn told<S: Alter>(
     conn: &mut Connection<S>,
     token: Option<&str>,
     command: &Command,
-) -> Result<Told, Fault>
+) -> Result<Told, StoreFault>
     requires { IsServed command.now }
-    ensures { Performs (state S.Store conn.old) (state S.Store conn.new) (λ s out. HasNoContract s → Step the_parts s (option_map (λ text. text.now) token.entry) command.now out) result }
+    ensures { Performs (state S.Store conn.old) (state S.Store conn.new) (λ s out. HasNoContract s → Step broker_primitives s (option_map (λ text. text.now) token.entry) command.now out) result }
 {
     match caller_of(alloc, conn, token) {
         Ok(Some(caller)) => follow(alloc, conn, &caller, command),
@@ -115,14 +115,14 @@ fn work<S: Alter>(
     conn: &mut Connection<S>,
     token: Option<&str>,
     command: &Command,
-) -> Result<Answer, Fault>
+) -> Result<Answer, StoreFault>
     requires { IsServed command.now }
-    ensures { Performs (state S.Store conn.old) (state S.Store conn.new) (λ s out. HasNoContract s → Step the_parts s (option_map (λ text. text.now) token.entry) command.now out) result }
+    ensures { Performs (state S.Store conn.old) (state S.Store conn.new) (λ s out. HasNoContract s → Step broker_primitives s (option_map (λ text. text.now) token.entry) command.now out) result }
 {
     match told(alloc, conn, token, command) {
         Ok(told) => match Answer::new(alloc, told) {
             Ok(answer) => Ok(answer),
-            Err(_) => Err(Fault::Memory),
+            Err(_) => Err(StoreFault::Memory),
         },
         Err(fault) => Err(fault),
     }
@@ -141,32 +141,32 @@ pub(crate) fn transact<S: Alter>(
     conn: &mut Connection<S>,
     token: Option<&str>,
     command: &Command,
-) -> Result<Answer, Fault>
+) -> Result<Answer, StoreFault>
     requires { IsServed command.now }
-    ensures ends { HasCleanDisk (state S.Store conn.new) → (s : BrokerState) → HasNoContract s → Keeps (λ db. Holds db s) (state S.Store conn.old)
+    ensures ends { HasCleanDisk (state S.Store conn.new) → (s : BrokerState) → HasNoContract s → HoldsDurably (λ db. Holds db s) (state S.Store conn.old)
         → Ends s (option_map (λ text. text.now) token.entry) command.now (state S.Store conn.new) result }
     ensures spares { HasCleanDisk (state S.Store conn.new) → Spares (state S.Store conn.old) (state S.Store conn.new) result }
     ensures clean { doubt (state S.Store conn.old).is_clean ≤ doubt (state S.Store conn.new).is_clean }
 {
-    match enter(conn) {
+    match begin(conn) {
         Ok(()) => match work(alloc, conn, token, command) {
             Ok(answer) => if is_done(&answer) {
                 if commit(conn) {
                     Ok(answer)
                 } else {
-                    Err(Fault::Store)
+                    Err(StoreFault::Store)
                 }
             } else {
-                if leave(conn) {
+                if rollback(conn) {
                     Ok(answer)
                 } else {
-                    Err(Fault::Store)
+                    Err(StoreFault::Store)
                 }
             },
-            Err(fault) => if leave(conn) {
+            Err(fault) => if rollback(conn) {
                 Err(fault)
             } else {
-                Err(Fault::Store)
+                Err(StoreFault::Store)
             },
         },
         Err(fault) => Err(fault),

@@ -7,8 +7,8 @@ use Rattle.sqlite.specs.Effect.{Database}
 use Rattle.sqlite.specs.State.{State}
 use Rattle.sha2.specs.Sha256.{sha256}
 use Rattle.hex.specs.Hex.{encode_lower}
-use Rattle.table_access.specs.declared.Fault.{Fault}
-use Rattle.table_access.specs.Calls.{Call, Statement}
+use Rattle.table_access.specs.declared.StoreFault.{StoreFault}
+use Rattle.table_access.specs.Calls.{CallsTables, CallsStore}
 use Rattle.table_access.specs.Columns.{text, text_cmp, whole_at, by_both}
 use Rattle.table_access.specs.Sound.{IsKept}
 use Rattle.broker_core.specs.declared.command.Version.{Version}
@@ -154,17 +154,17 @@ abbrev pub IsRead : {A : Type 0} → State → State → (A → Broker → Type 
 IsRead old new P a = (s : Broker) → Holds old.now s → P a s × Holds new.now s
 
 -- a query, where there may be no room for its answer
-abbrev pub Reads : {A : Type 0} → State → State → Result A Fault → (A → Broker → Type 0) → Type 0
-Reads old new r P = Call old new r (IsRead old new P)
+abbrev pub Queries : {A : Type 0} → State → State → Result A StoreFault → (A → Broker → Type 0) → Type 0
+Queries old new r P = CallsTables old new r (IsRead old new P)
 
 -- a query whose answer takes no memory
-abbrev pub ReadsInPlace : {A : Type 0} → State → State → Result A Fault → (A → Broker → Type 0) → Type 0
-ReadsInPlace old new r P = Statement old new r (IsRead old new P)
+abbrev pub QueriesInPlace : {A : Type 0} → State → State → Result A StoreFault → (A → Broker → Type 0) → Type 0
+QueriesInPlace old new r P = CallsStore old new r (IsRead old new P)
 
 -- the state that the database holds leads to another, which it holds now
-abbrev pub Changes : State → State → Result (Unit {0}) Fault → (Broker → Broker → Type 0) → Type 0
-Changes old new r Next = Statement old new r (λ _. (s : Broker) → Holds old.now s → (t : Broker) → Next s t → Holds new.now t)
+abbrev pub Changes : State → State → Result (Unit {0}) StoreFault → (Broker → Broker → Type 0) → Type 0
+Changes old new r Next = CallsStore old new r (λ _. (s : Broker) → Holds old.now s → (t : Broker) → Next s t → Holds new.now t)
 
 -- where the state that the database holds allows it, an answer, and another state that the database holds now
-abbrev pub Gives : {A : Type 0} → State → State → Result A Fault → (Broker → Type 0) → (A → Broker → Broker → Type 0) → Type 0
-Gives old new r Allows Next = Statement old new r (λ a. (s : Broker) → Holds old.now s → Allows s → (t : Broker) × Next a s t × Holds new.now t)
+abbrev pub ChangesAndAnswers : {A : Type 0} → State → State → Result A StoreFault → (Broker → Type 0) → (A → Broker → Broker → Type 0) → Type 0
+ChangesAndAnswers old new r Allows Next = CallsStore old new r (λ a. (s : Broker) → Holds old.now s → Allows s → (t : Broker) × Next a s t × Holds new.now t)

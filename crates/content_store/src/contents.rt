@@ -5,7 +5,7 @@ ghost use Rattle.sqlite.specs.Held.{state};
 ghost use Rattle.sqlite.specs.Order.{column};
 ghost use Rattle.sqlite.specs.declared.types.Value.TheVariants.{Int};
 ghost use Rattle.hex.specs.Hex.{encode_lower};
-ghost use Rattle.table_access.specs.Calls.{Call, Statement};
+ghost use Rattle.table_access.specs.Calls.{CallsTables, CallsStore};
 ghost use Rattle.table_access.specs.Columns.{text};
 ghost use Rattle.broker_core.specs.Text.{Text, same_text};
 ghost use Rattle.content_store.specs.Contents.{hex_of, found_in, text_in, IsReadBy, IsReadByAny, IsPutBy, IsPutUnder, IsNewBy};
@@ -13,14 +13,14 @@ ghost use Rattle.content_store.specs.Contents.{hex_of, found_in, text_in, IsRead
 use crate::digester::{Digester, digest_digits};
 use sqlite::types::{ToSql, ValueRef};
 use sqlite::{Alter, Connection, Row, params};
-use table_access::{Fault, change, number_in, number_of, select, text_at, text_of};
+use table_access::{StoreFault, change, number_in, number_of, select, text_at, text_of};
 
 /// The text with this number, or `None` where there is none.
 ///
 /// # Errors
-/// `Fault::Memory` for want of memory; `Fault::Store` where the database refused the query, or for a number above 2^63 - 1, which no row can have.
-pub fn get<S: Alter>(conn: &mut Connection<S>, number: u64) -> Result<Option<String>, Fault>
-    ensures { Call (state S.Store conn.old) (state S.Store conn.new) result (IsReadByAny (state S.Store conn.old) (state S.Store conn.new) (λ found texts. option_map string_bytes found ≡ text_in texts number)) }
+/// `StoreFault::Memory` for want of memory; `StoreFault::Store` where the database refused the query, or for a number above 2^63 - 1, which no row can have.
+pub fn get<S: Alter>(conn: &mut Connection<S>, number: u64) -> Result<Option<String>, StoreFault>
+    ensures { CallsTables (state S.Store conn.old) (state S.Store conn.new) result (IsReadByAny (state S.Store conn.old) (state S.Store conn.new) (λ found texts. option_map string_bytes found ≡ text_in texts number)) }
 {
     match i64::try_from(number) {
         Ok(number) => text_of(
@@ -28,16 +28,16 @@ pub fn get<S: Alter>(conn: &mut Connection<S>, number: u64) -> Result<Option<Str
             "SELECT body FROM contents WHERE number = ?1",
             params![number],
         ),
-        Err(_) => Err(Fault::Store),
+        Err(_) => Err(StoreFault::Store),
     }
 }
 
 /// How many texts there are: the number of the newest, or 0.
 ///
 /// # Errors
-/// `Fault::Memory` for want of memory; `Fault::Store` where the database refused the query or holds no number there.
-pub fn content_count<S: Alter>(conn: &mut Connection<S>) -> Result<u64, Fault>
-    ensures { Statement (state S.Store conn.old) (state S.Store conn.new) result (IsReadByAny (state S.Store conn.old) (state S.Store conn.new) (λ count texts. count ≡ length texts)) }
+/// `StoreFault::Memory` for want of memory; `StoreFault::Store` where the database refused the query or holds no number there.
+pub fn content_count<S: Alter>(conn: &mut Connection<S>) -> Result<u64, StoreFault>
+    ensures { CallsStore (state S.Store conn.old) (state S.Store conn.new) result (IsReadByAny (state S.Store conn.old) (state S.Store conn.new) (λ count texts. count ≡ length texts)) }
 {
     match number_of(
         conn,
@@ -49,21 +49,21 @@ pub fn content_count<S: Alter>(conn: &mut Connection<S>) -> Result<u64, Fault>
     }
 }
 
-/// Whether this is the row's text. `Fault::Store` where the row has none.
-fn has_text(row: &Row, body: &str) -> Result<bool, Fault>
+/// Whether this is the row's text. `StoreFault::Store` where the row has none.
+fn has_text(row: &Row, body: &str) -> Result<bool, StoreFault>
     ensures ok { IfOk result (λ has. has ≡ same_text body.now (text 1 row.now)) }
-    ensures store { IfErr result (λ f. f ≡ Fault.Store) }
+    ensures store { IfErr result (λ f. f ≡ StoreFault.Store) }
 {
     match text_at(row, 1) {
         Some(found) => Ok(body == found),
-        None => Err(Fault::Store),
+        None => Err(StoreFault::Store),
     }
 }
 
-/// The number in the first row that has this text, if one has it. `Fault::Store` where a row has no text, or no number.
-fn number_among(rows: &[Row], body: &str) -> Result<Option<u32>, Fault>
+/// The number in the first row that has this text, if one has it. `StoreFault::Store` where a row has no text, or no number.
+fn number_among(rows: &[Row], body: &str) -> Result<Option<u32>, StoreFault>
     ensures ok { IfOk result (λ found. option_map (λ n. Int (pos n)) found ≡ option_map (λ row. column row 0) (first (λ row. same_text body.now (text 1 row)) rows.now)) }
-    ensures store { IfErr result (λ f. f ≡ Fault.Store) }
+    ensures store { IfErr result (λ f. f ≡ StoreFault.Store) }
 {
     for row in rows {
         match has_text(row, body) {
@@ -83,8 +83,8 @@ fn find_beside<S: Alter>(
     conn: &mut Connection<S>,
     digest: &[u8],
     body: &str,
-) -> Result<Option<u32>, Fault>
-    ensures { Statement (state S.Store conn.old) (state S.Store conn.new) result (λ found. (by : Text → Text) → by body.now ≡ digest.now → IsReadBy by (state S.Store conn.old) (state S.Store conn.new) (λ found texts. found ≡ found_in texts body.now) found) }
+) -> Result<Option<u32>, StoreFault>
+    ensures { CallsStore (state S.Store conn.old) (state S.Store conn.new) result (λ found. (by : Text → Text) → by body.now ≡ digest.now → IsReadBy by (state S.Store conn.old) (state S.Store conn.new) (λ found texts. found ≡ found_in texts body.now) found) }
 {
     match select(
         conn,
@@ -99,13 +99,13 @@ fn find_beside<S: Alter>(
 /// The number of the text, or `None` where it isn't stored.
 ///
 /// # Errors
-/// `Fault::Memory` for want of memory; `Fault::Store` where the database refused the query, or where a row has no number below 2^32.
+/// `StoreFault::Memory` for want of memory; `StoreFault::Store` where the database refused the query, or where a row has no number below 2^32.
 pub fn find<S: Alter, D: Digester>(
     conn: &mut Connection<S>,
     digester: &D,
     body: &str,
-) -> Result<Option<u64>, Fault>
-    ensures { Statement (state S.Store conn.old) (state S.Store conn.new) result (IsReadBy (hex_of D.digest_of) (state S.Store conn.old) (state S.Store conn.new) (λ found texts. found ≡ found_in texts body.now)) }
+) -> Result<Option<u64>, StoreFault>
+    ensures { CallsStore (state S.Store conn.old) (state S.Store conn.new) result (IsReadBy (hex_of D.digest_of) (state S.Store conn.old) (state S.Store conn.new) (λ found texts. found ≡ found_in texts body.now)) }
 {
     let digest = digest_digits(digester, body.as_bytes());
     match find_beside(conn, &digest, body) {
@@ -133,8 +133,8 @@ fn put_under<'a, S: Alter>(
     number: u32,
     digest: &'a [u8],
     body: &'a str,
-) -> Result<(), Fault>
-    ensures { Statement (state S.Store conn.old) (state S.Store conn.new) result (λ _. (by : Text → Text) → by body.now ≡ digest.now → IsPutUnder by body.now (state S.Store conn.old) (state S.Store conn.new) number) }
+) -> Result<(), StoreFault>
+    ensures { CallsStore (state S.Store conn.old) (state S.Store conn.new) result (λ _. (by : Text → Text) → by body.now ≡ digest.now → IsPutUnder by body.now (state S.Store conn.old) (state S.Store conn.new) number) }
 {
     change(
         conn,
@@ -144,8 +144,8 @@ fn put_under<'a, S: Alter>(
 }
 
 /// Adds a text that isn't there, with this digest, and answers its number, which is the next one.
-fn add<S: Alter>(conn: &mut Connection<S>, digest: &[u8], body: &str) -> Result<u32, Fault>
-    ensures { Statement (state S.Store conn.old) (state S.Store conn.new) result (λ number. (by : Text → Text) → by body.now ≡ digest.now → IsNewBy by body.now (state S.Store conn.old) (state S.Store conn.new) number) }
+fn add<S: Alter>(conn: &mut Connection<S>, digest: &[u8], body: &str) -> Result<u32, StoreFault>
+    ensures { CallsStore (state S.Store conn.old) (state S.Store conn.new) result (λ number. (by : Text → Text) → by body.now ≡ digest.now → IsNewBy by body.now (state S.Store conn.old) (state S.Store conn.new) number) }
 {
     match content_count(conn) {
         Ok(count) => match next_number(count) {
@@ -153,7 +153,7 @@ fn add<S: Alter>(conn: &mut Connection<S>, digest: &[u8], body: &str) -> Result<
                 Ok(()) => Ok(number),
                 Err(fault) => Err(fault),
             },
-            None => Err(Fault::Store),
+            None => Err(StoreFault::Store),
         },
         Err(fault) => Err(fault),
     }
@@ -162,13 +162,13 @@ fn add<S: Alter>(conn: &mut Connection<S>, digest: &[u8], body: &str) -> Result<
 /// The number of the text, which is stored under the next one where it isn't stored yet. Each text that is there was stored by this digester.
 ///
 /// # Errors
-/// `Fault::Memory` for want of memory; `Fault::Store` where the database refused a statement, or where the numbers are used up.
+/// `StoreFault::Memory` for want of memory; `StoreFault::Store` where the database refused a statement, or where the numbers are used up.
 pub fn put<S: Alter, D: Digester>(
     conn: &mut Connection<S>,
     digester: &D,
     body: &str,
-) -> Result<u64, Fault>
-    ensures { Statement (state S.Store conn.old) (state S.Store conn.new) result (IsPutBy (hex_of D.digest_of) body.now (state S.Store conn.old) (state S.Store conn.new)) }
+) -> Result<u64, StoreFault>
+    ensures { CallsStore (state S.Store conn.old) (state S.Store conn.new) result (IsPutBy (hex_of D.digest_of) body.now (state S.Store conn.old) (state S.Store conn.new)) }
 {
     let digest = digest_digits(digester, body.as_bytes());
     match find_beside(conn, &digest, body) {

@@ -4,7 +4,7 @@ use super::*;
 use sqlite::{Connection, MemStore};
 use std::alloc::Global;
 use std::test::Fail;
-use table_access::{Fault, enter};
+use table_access::{StoreFault, begin};
 
 /// The vector for `abc` of FIPS 180-4.
 #[test]
@@ -28,17 +28,17 @@ impl Digester for Zeros {
     }
 }
 
-fn told(fault: Fault) -> Fail {
+fn told(fault: StoreFault) -> Fail {
     match fault {
-        Fault::Memory => Fail::from("memory"),
-        Fault::Store => Fail::from("store"),
+        StoreFault::Memory => Fail::from("memory"),
+        StoreFault::Store => Fail::from("store"),
     }
 }
 
 /// A new database with the table, in a transaction.
 fn made(alloc: Global) -> Result<Connection<MemStore>, Fail> {
     let mut conn = Connection::open_in_memory(alloc)?;
-    enter(&mut conn).map_err(told)?;
+    begin(&mut conn).map_err(told)?;
     make_tables(&mut conn).map_err(told)?;
     Ok(conn)
 }
@@ -73,7 +73,7 @@ fn gets_by_number(rt: HostRuntime) -> Result<(), Fail> {
     );
     assert_eq!(rt;
         get(&mut conn, 9_223_372_036_854_775_808).map(|_| ()),
-        Err(Fault::Store)
+        Err(StoreFault::Store)
     );
     Ok(())
 }

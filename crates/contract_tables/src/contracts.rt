@@ -3,22 +3,22 @@ ghost use Rattle.std.specs.Prelude.{◌≡◌, Some};
 ghost use Rattle.sqlite.specs.Held.{state};
 ghost use Rattle.broker_core.specs.declared.command.Version.{Version as VersionModel};
 ghost use Rattle.broker_tables.specs.Numbers.{number_of as number_in};
-ghost use Rattle.broker_tables.specs.Holds.{ReadsInPlace, Changes};
+ghost use Rattle.broker_tables.specs.Holds.{QueriesInPlace, Changes};
 ghost use Rattle.contract_tables.specs.Verified.{AddsContract};
 
 use sqlite::{Alter, Connection, params};
-use table_access::{Fault, change, number_of};
+use table_access::{StoreFault, change, number_of};
 
 /// The number of the content that the version of this number has for the provider, or `None` where it has no contract with it.
 ///
 /// # Errors
-/// `Fault::Memory` for want of memory; `Fault::Store` where the database refused the query or holds no number there.
+/// `StoreFault::Memory` for want of memory; `StoreFault::Store` where the database refused the query or holds no number there.
 pub fn contract_of<S: Alter>(
     conn: &mut Connection<S>,
     version_number: u32,
     provider: &str,
-) -> Result<Option<u32>, Fault>
-    ensures { ReadsInPlace (state S.Store conn.old) (state S.Store conn.new) result (λ found s. (v : VersionModel) → number_in s.versions v ≡ Some version_number → found ≡ s.contracts (v, provider.now)) }
+) -> Result<Option<u32>, StoreFault>
+    ensures { QueriesInPlace (state S.Store conn.old) (state S.Store conn.new) result (λ found s. (v : VersionModel) → number_in s.versions v ≡ Some version_number → found ≡ s.contracts (v, provider.now)) }
 {
     number_of(
         conn,
@@ -30,13 +30,13 @@ pub fn contract_of<S: Alter>(
 /// Gives the version of this number a contract with a provider, with which it has none.
 ///
 /// # Errors
-/// `Fault::Memory` for want of memory; `Fault::Store` where the database refused the row.
+/// `StoreFault::Memory` for want of memory; `StoreFault::Store` where the database refused the row.
 pub fn add_contract<S: Alter>(
     conn: &mut Connection<S>,
     version_number: u32,
     provider: &str,
     content: u32,
-) -> Result<(), Fault>
+) -> Result<(), StoreFault>
     ensures { Changes (state S.Store conn.old) (state S.Store conn.new) result (AddsContract version_number provider.now content) }
 {
     change(

@@ -1,8 +1,8 @@
 //! The results of verifications, those that the broker checked itself, and the latest one for each content and each version of a provider.
 ghost use Rattle.std.specs.Prelude.{◌≡◌, option_map, Some, None};
 ghost use Rattle.sqlite.specs.Held.{state};
-ghost use Rattle.table_access.specs.Calls.{Statement};
-ghost use Rattle.broker_tables.specs.Holds.{IsBroker, ReadsInPlace, Changes};
+ghost use Rattle.table_access.specs.Calls.{CallsStore};
+ghost use Rattle.broker_tables.specs.Holds.{IsBroker, QueriesInPlace, Changes};
 ghost use Rattle.broker_core.specs.declared.command.Version.{Version as VersionModel};
 ghost use Rattle.broker_core.specs.State.{latest_result};
 ghost use Rattle.broker_tables.specs.Numbers.{number_of as number_in};
@@ -11,7 +11,7 @@ ghost use Rattle.std.specs.Prelude.{pos, ◌∷◌, []};
 ghost use Rattle.sqlite.specs.declared.types.Value.TheVariants.{Int, Null};
 
 use sqlite::{Alter, Connection, params};
-use table_access::{Fault, change, number_of};
+use table_access::{StoreFault, change, number_of};
 
 /// Puts in the row of a result of a run.
 fn put_run<S: Alter>(
@@ -22,8 +22,8 @@ fn put_run<S: Alter>(
     version_number: u32,
     pass: bool,
     run: &str,
-) -> Result<(), Fault>
-    ensures { Statement (state S.Store conn.old) (state S.Store conn.new) result (λ _. IsBroker (state S.Store conn.old).now → PutsRow 17 (result_row number content provider.now version_number pass (Some run.now)) (state S.Store conn.old) (state S.Store conn.new)) }
+) -> Result<(), StoreFault>
+    ensures { CallsStore (state S.Store conn.old) (state S.Store conn.new) result (λ _. IsBroker (state S.Store conn.old).now → PutsRow 17 (result_row number content provider.now version_number pass (Some run.now)) (state S.Store conn.old) (state S.Store conn.new)) }
 {
     change(
         conn,
@@ -40,8 +40,8 @@ fn put_plain<S: Alter>(
     provider: &str,
     version_number: u32,
     pass: bool,
-) -> Result<(), Fault>
-    ensures { Statement (state S.Store conn.old) (state S.Store conn.new) result (λ _. IsBroker (state S.Store conn.old).now → PutsRow 17 (result_row number content provider.now version_number pass None) (state S.Store conn.old) (state S.Store conn.new)) }
+) -> Result<(), StoreFault>
+    ensures { CallsStore (state S.Store conn.old) (state S.Store conn.new) result (λ _. IsBroker (state S.Store conn.old).now → PutsRow 17 (result_row number content provider.now version_number pass None) (state S.Store conn.old) (state S.Store conn.new)) }
 {
     change(
         conn,
@@ -59,8 +59,8 @@ fn put_result<S: Alter>(
     version_number: u32,
     pass: bool,
     run: Option<&str>,
-) -> Result<(), Fault>
-    ensures { Statement (state S.Store conn.old) (state S.Store conn.new) result (λ _. IsBroker (state S.Store conn.old).now → PutsRow 17 (result_row number content provider.now version_number pass (option_map (λ text. text.now) run.entry)) (state S.Store conn.old) (state S.Store conn.new)) }
+) -> Result<(), StoreFault>
+    ensures { CallsStore (state S.Store conn.old) (state S.Store conn.new) result (λ _. IsBroker (state S.Store conn.old).now → PutsRow 17 (result_row number content provider.now version_number pass (option_map (λ text. text.now) run.entry)) (state S.Store conn.old) (state S.Store conn.new)) }
 {
     match run {
         Some(run) => put_run(conn, number, content, provider, version_number, pass, run),
@@ -69,8 +69,8 @@ fn put_result<S: Alter>(
 }
 
 /// Marks a result as checked.
-fn mark_checked<S: Alter>(conn: &mut Connection<S>, number: u32) -> Result<(), Fault>
-    ensures { Statement (state S.Store conn.old) (state S.Store conn.new) result (λ _. IsBroker (state S.Store conn.old).now → PutsRow 25 (Int (pos number) ∷ Null ∷ []) (state S.Store conn.old) (state S.Store conn.new)) }
+fn mark_checked<S: Alter>(conn: &mut Connection<S>, number: u32) -> Result<(), StoreFault>
+    ensures { CallsStore (state S.Store conn.old) (state S.Store conn.new) result (λ _. IsBroker (state S.Store conn.old).now → PutsRow 25 (Int (pos number) ∷ Null ∷ []) (state S.Store conn.old) (state S.Store conn.new)) }
 {
     change(
         conn,
@@ -80,8 +80,8 @@ fn mark_checked<S: Alter>(conn: &mut Connection<S>, number: u32) -> Result<(), F
 }
 
 /// Marks a result as checked where it was.
-fn mark<S: Alter>(conn: &mut Connection<S>, number: u32, checked: bool) -> Result<(), Fault>
-    ensures { Statement (state S.Store conn.old) (state S.Store conn.new) result (λ _. IsBroker (state S.Store conn.old).now → Marks checked number (state S.Store conn.old) (state S.Store conn.new)) }
+fn mark<S: Alter>(conn: &mut Connection<S>, number: u32, checked: bool) -> Result<(), StoreFault>
+    ensures { CallsStore (state S.Store conn.old) (state S.Store conn.new) result (λ _. IsBroker (state S.Store conn.old).now → Marks checked number (state S.Store conn.old) (state S.Store conn.new)) }
 {
     if checked {
         mark_checked(conn, number)
@@ -96,8 +96,8 @@ fn point_latest<S: Alter>(
     content: u32,
     version_number: u32,
     number: u32,
-) -> Result<(), Fault>
-    ensures { Statement (state S.Store conn.old) (state S.Store conn.new) result (λ _. IsBroker (state S.Store conn.old).now → Points content version_number number (state S.Store conn.old) (state S.Store conn.new)) }
+) -> Result<(), StoreFault>
+    ensures { CallsStore (state S.Store conn.old) (state S.Store conn.new) result (λ _. IsBroker (state S.Store conn.old).now → Points content version_number number (state S.Store conn.old) (state S.Store conn.new)) }
 {
     change(
         conn,
@@ -109,7 +109,7 @@ fn point_latest<S: Alter>(
 /// Records the result of verifying a content with a version of its provider, under the next number: it is the latest one for them.
 ///
 /// # Errors
-/// `Fault::Memory` for want of memory; `Fault::Store` where the database refused a row.
+/// `StoreFault::Memory` for want of memory; `StoreFault::Store` where the database refused a row.
 pub fn record_result<S: Alter>(
     conn: &mut Connection<S>,
     number: u32,
@@ -119,7 +119,7 @@ pub fn record_result<S: Alter>(
     pass: bool,
     checked: bool,
     run: Option<&str>,
-) -> Result<(), Fault>
+) -> Result<(), StoreFault>
     ensures { Changes (state S.Store conn.old) (state S.Store conn.new) result (RecordsResult number content provider.now version_number pass checked (option_map (λ text. text.now) run.entry)) }
 {
     match put_result(conn, number, content, provider, version_number, pass, run) {
@@ -134,13 +134,13 @@ pub fn record_result<S: Alter>(
 /// The number of the latest result for a content and the version of this number, or `None` where there is none.
 ///
 /// # Errors
-/// `Fault::Memory` for want of memory; `Fault::Store` where the database refused the query or holds no number there.
+/// `StoreFault::Memory` for want of memory; `StoreFault::Store` where the database refused the query or holds no number there.
 pub fn latest_number<S: Alter>(
     conn: &mut Connection<S>,
     content: u32,
     version_number: u32,
-) -> Result<Option<u32>, Fault>
-    ensures { ReadsInPlace (state S.Store conn.old) (state S.Store conn.new) result (λ found s. (v : VersionModel) → number_in s.versions v ≡ Some version_number → found ≡ option_map (λ e. e.0) (latest_result s content v)) }
+) -> Result<Option<u32>, StoreFault>
+    ensures { QueriesInPlace (state S.Store conn.old) (state S.Store conn.new) result (λ found s. (v : VersionModel) → number_in s.versions v ≡ Some version_number → found ≡ option_map (λ e. e.0) (latest_result s content v)) }
 {
     number_of(
         conn,

@@ -5,22 +5,22 @@ ghost use Rattle.sqlite.specs.Held.{state};
 ghost use Rattle.broker_core.specs.declared.command.Version.{Version as VersionModel};
 ghost use Rattle.broker_core.specs.Text.{version as version_named};
 ghost use Rattle.broker_tables.specs.Numbers.{number_of as number_in};
-ghost use Rattle.broker_tables.specs.Holds.{Reads, ReadsInPlace};
+ghost use Rattle.broker_tables.specs.Holds.{Queries, QueriesInPlace};
 ghost use Rattle.deploy_tables.specs.Needs.{HaveNumbers, consumer_in};
 
 use crate::needs::{ConsumerContract, StandingVersion};
 use broker_core::name::Name;
 use sqlite::{Alter, Connection, params};
 use std::alloc::Global;
-use table_access::{Fault, number_of};
+use table_access::{StoreFault, number_of};
 
 /// The number of the content of the contract that the version of that number has with the provider.
 fn contract_of<S: Alter>(
     conn: &mut Connection<S>,
     number: u32,
     provider: &str,
-) -> Result<Option<u32>, Fault>
-    ensures { ReadsInPlace (state S.Store conn.old) (state S.Store conn.new) result (λ found s. (v : VersionModel) → number_in s.versions v ≡ Some number → found ≡ s.contracts (v, provider.now)) }
+) -> Result<Option<u32>, StoreFault>
+    ensures { QueriesInPlace (state S.Store conn.old) (state S.Store conn.new) result (λ found s. (v : VersionModel) → number_in s.versions v ≡ Some number → found ≡ s.contracts (v, provider.now)) }
 {
     number_of(
         conn,
@@ -33,7 +33,7 @@ fn contract_of<S: Alter>(
 fn consumer_contract(
     other: &StandingVersion,
     content: Option<u32>,
-) -> Result<Option<ConsumerContract>, Fault>
+) -> Result<Option<ConsumerContract>, StoreFault>
     ensures { IfOk result (λ found. found ≡ option_map (λ content. record { consumer = other.now.pacticipant; consumer_version = other.now.name; content = content }) content) }
 {
     let Some(content) = content else {
@@ -45,7 +45,7 @@ fn consumer_contract(
             consumer_version,
             content,
         })),
-        _ => Err(Fault::Memory),
+        _ => Err(StoreFault::Memory),
     }
 }
 
@@ -54,8 +54,8 @@ fn contract_with<S: Alter>(
     conn: &mut Connection<S>,
     pacticipant: &Name,
     other: &StandingVersion,
-) -> Result<Option<ConsumerContract>, Fault>
-    ensures { Reads (state S.Store conn.old) (state S.Store conn.new) result (λ found s. number_in s.versions (version_named other.now.pacticipant other.now.name) ≡ Some other.now.number → found ≡ consumer_in s pacticipant.now other.now) }
+) -> Result<Option<ConsumerContract>, StoreFault>
+    ensures { Queries (state S.Store conn.old) (state S.Store conn.new) result (λ found s. number_in s.versions (version_named other.now.pacticipant other.now.name) ≡ Some other.now.number → found ≡ consumer_in s pacticipant.now other.now) }
 {
     if other.pacticipant == *pacticipant {
         return Ok(None);
@@ -67,13 +67,13 @@ fn contract_with<S: Alter>(
 }
 
 /// Puts the contract at the end, where there is one.
-fn keep(found: &mut Vec<ConsumerContract>, contract: Option<ConsumerContract>) -> Result<(), Fault>
+fn keep(found: &mut Vec<ConsumerContract>, contract: Option<ConsumerContract>) -> Result<(), StoreFault>
     ensures { IfOk result (λ _. found.new.items ≡ found.old.items ++ cons_option contract []) }
 {
     match contract {
         Some(contract) => match found.push(contract) {
             Ok(()) => Ok(()),
-            Err(_) => Err(Fault::Memory),
+            Err(_) => Err(StoreFault::Memory),
         },
         None => Ok(()),
     }
@@ -82,14 +82,14 @@ fn keep(found: &mut Vec<ConsumerContract>, contract: Option<ConsumerContract>) -
 /// The contracts that these versions have with the pacticipant, its own aside.
 ///
 /// # Errors
-/// `Fault::Memory` for want of memory; `Fault::Store` where the database refused a query.
+/// `StoreFault::Memory` for want of memory; `StoreFault::Store` where the database refused a query.
 pub fn consumer_contracts<S: Alter>(
     alloc: Global,
     conn: &mut Connection<S>,
     pacticipant: &Name,
     standing: &[StandingVersion],
-) -> Result<Vec<ConsumerContract>, Fault>
-    ensures { Reads (state S.Store conn.old) (state S.Store conn.new) result (λ found s. HaveNumbers s standing.now → found.items ≡ filter_map (consumer_in s pacticipant.now) standing.now) }
+) -> Result<Vec<ConsumerContract>, StoreFault>
+    ensures { Queries (state S.Store conn.old) (state S.Store conn.new) result (λ found s. HaveNumbers s standing.now → found.items ≡ filter_map (consumer_in s pacticipant.now) standing.now) }
 {
     let mut found = Vec::new(alloc);
     for other in standing {

@@ -4,25 +4,25 @@ ghost use Rattle.std.specs.Option.{option_map_or};
 ghost use Rattle.sqlite.specs.Held.{state};
 ghost use Rattle.broker_core.specs.declared.command.Version.{Version as VersionModel};
 ghost use Rattle.broker_core.specs.Change.{is_text};
-ghost use Rattle.broker_tables.specs.Holds.{ReadsInPlace, Changes};
+ghost use Rattle.broker_tables.specs.Holds.{QueriesInPlace, Changes};
 ghost use Rattle.broker_tables.specs.Numbers.{number_of as number_in};
 ghost use Rattle.deploy_tables.specs.Deployments.{RecordsDeployed};
 
 use sqlite::{Alter, Connection, params};
-use table_access::{Fault, change, number_of};
+use table_access::{StoreFault, change, number_of};
 
 /// Whether the version of that number, one of the pacticipant, is deployed in the environment as that instance.
 ///
 /// # Errors
-/// `Fault::Memory` for want of memory; `Fault::Store` where the database refused the query, or where the row holds no number of a version.
+/// `StoreFault::Memory` for want of memory; `StoreFault::Store` where the database refused the query, or where the row holds no number of a version.
 pub fn is_deployed<S: Alter>(
     conn: &mut Connection<S>,
     environment: &str,
     pacticipant: &str,
     instance: &str,
     number: u32,
-) -> Result<bool, Fault>
-    ensures { ReadsInPlace (state S.Store conn.old) (state S.Store conn.new) result (λ has s. (v : VersionModel) → number_in s.versions v ≡ Some number → v.pacticipant ≡ pacticipant.now → has ≡ is_text v.name (s.deployed (environment.now, pacticipant.now, instance.now))) }
+) -> Result<bool, StoreFault>
+    ensures { QueriesInPlace (state S.Store conn.old) (state S.Store conn.new) result (λ has s. (v : VersionModel) → number_in s.versions v ≡ Some number → v.pacticipant ≡ pacticipant.now → has ≡ is_text v.name (s.deployed (environment.now, pacticipant.now, instance.now))) }
 {
     match number_of(
         conn,
@@ -48,14 +48,14 @@ fn is_number(found: Option<u32>, number: u32) -> bool
 /// The version is one of the pacticipant, and the environment is there.
 ///
 /// # Errors
-/// `Fault::Memory` for want of memory; `Fault::Store` where the database refused the row.
+/// `StoreFault::Memory` for want of memory; `StoreFault::Store` where the database refused the row.
 pub fn record_deployed<S: Alter>(
     conn: &mut Connection<S>,
     environment: &str,
     pacticipant: &str,
     instance: &str,
     number: u32,
-) -> Result<(), Fault>
+) -> Result<(), StoreFault>
     ensures { Changes (state S.Store conn.old) (state S.Store conn.new) result (RecordsDeployed environment.now pacticipant.now instance.now number) }
 {
     change(

@@ -6,7 +6,7 @@ ghost use Rattle.sqlite.specs.declared.types.Value.TheVariants.{Text as SqlText}
 ghost use Rattle.table_access.specs.Reading.{IsTextAt};
 ghost use Rattle.broker_core.specs.Listing.{Lists};
 ghost use Rattle.broker_core.specs.Machine.{deployed_cmp, version_cmp};
-ghost use Rattle.broker_tables.specs.Holds.{Reads};
+ghost use Rattle.broker_tables.specs.Holds.{Queries};
 ghost use Rattle.deploy_tables.specs.Listings.{IsDeployedRow, IsReleasedRow, IsNameAt, ReadsAsDeployed, ReadsAsReleased};
 
 use broker_core::answer::DeployedItem;
@@ -14,34 +14,34 @@ use broker_core::command::Version;
 use broker_core::name::{Name, NameFault, Text};
 use sqlite::{Alter, Connection, Row, params};
 use std::alloc::Global;
-use table_access::{Fault, ReadRow, list_of, text_at};
+use table_access::{StoreFault, ReadRow, list_of, text_at};
 
 /// The text in a column.
-fn text_in(alloc: Global, row: &Row, at: usize) -> Result<String, Fault>
+fn text_in(alloc: Global, row: &Row, at: usize) -> Result<String, StoreFault>
     ensures ok { IfOk result (λ text. column row.now at ≡ SqlText (string_bytes text)) }
-    ensures told { IfErr result (λ f. f ≡ Fault.Store → ¬ IsTextAt at row.now) }
+    ensures told { IfErr result (λ f. f ≡ StoreFault.Store → ¬ IsTextAt at row.now) }
 {
     match text_at(row, at) {
         Some(text) => match String::from_str(alloc, text) {
             Ok(text) => Ok(text),
-            Err(_) => Err(Fault::Memory),
+            Err(_) => Err(StoreFault::Memory),
         },
-        None => Err(Fault::Store),
+        None => Err(StoreFault::Store),
     }
 }
 
 /// The name in a column.
-pub(crate) fn name_in(alloc: Global, row: &Row, at: usize) -> Result<Name, Fault>
+pub(crate) fn name_in(alloc: Global, row: &Row, at: usize) -> Result<Name, StoreFault>
     ensures ok { IfOk result (λ name. column row.now at ≡ SqlText name) }
-    ensures told { IfErr result (λ f. f ≡ Fault.Store → ¬ IsNameAt at row.now) }
+    ensures told { IfErr result (λ f. f ≡ StoreFault.Store → ¬ IsNameAt at row.now) }
 {
     match text_at(row, at) {
         Some(text) => match Name::new(alloc, text) {
             Ok(name) => Ok(name),
-            Err(NameFault::Memory) => Err(Fault::Memory),
-            Err(NameFault::BadName) => Err(Fault::Store),
+            Err(NameFault::Memory) => Err(StoreFault::Memory),
+            Err(NameFault::BadName) => Err(StoreFault::Store),
         },
-        None => Err(Fault::Store),
+        None => Err(StoreFault::Store),
     }
 }
 
@@ -55,7 +55,7 @@ impl ReadRow for DeployedRow {
 
     ghost is_readable = { ReadsAsDeployed };
 
-    fn read(alloc: Global, row: &Row) -> Result<DeployedItem, Fault> {
+    fn read(alloc: Global, row: &Row) -> Result<DeployedItem, StoreFault> {
         let pacticipant = name_in(alloc, row, 0)?;
         let instance = text_in(alloc, row, 1)?;
         let version = name_in(alloc, row, 2)?;
@@ -77,7 +77,7 @@ impl ReadRow for ReleasedRow {
 
     ghost is_readable = { ReadsAsReleased };
 
-    fn read(alloc: Global, row: &Row) -> Result<Version, Fault> {
+    fn read(alloc: Global, row: &Row) -> Result<Version, StoreFault> {
         let pacticipant = name_in(alloc, row, 0)?;
         let name = name_in(alloc, row, 1)?;
         Ok(Version { pacticipant, name })
@@ -87,13 +87,13 @@ impl ReadRow for ReleasedRow {
 /// What is deployed in the environment, each once, in the order of pacticipants and instances.
 ///
 /// # Errors
-/// `Fault::Memory` for want of memory; `Fault::Store` where the database refused the query, or where a row holds a text that is no name.
+/// `StoreFault::Memory` for want of memory; `StoreFault::Store` where the database refused the query, or where a row holds a text that is no name.
 pub fn deployed<S: Alter>(
     alloc: Global,
     conn: &mut Connection<S>,
     environment: &str,
-) -> Result<Vec<DeployedItem>, Fault>
-    ensures { Reads (state S.Store conn.old) (state S.Store conn.new) result (λ items s. Lists deployed_cmp (λ x. s.deployed (environment.now, x.pacticipant, x.instance) ≡ Some x.version) items.items) }
+) -> Result<Vec<DeployedItem>, StoreFault>
+    ensures { Queries (state S.Store conn.old) (state S.Store conn.new) result (λ items s. Lists deployed_cmp (λ x. s.deployed (environment.now, x.pacticipant, x.instance) ≡ Some x.version) items.items) }
 {
     list_of::<DeployedRow, S>(
         alloc,
@@ -106,13 +106,13 @@ pub fn deployed<S: Alter>(
 /// The versions that are released in the environment, each once, in the order of pacticipants and versions.
 ///
 /// # Errors
-/// `Fault::Memory` for want of memory; `Fault::Store` where the database refused the query, or where a row holds a text that is no name.
+/// `StoreFault::Memory` for want of memory; `StoreFault::Store` where the database refused the query, or where a row holds a text that is no name.
 pub fn released<S: Alter>(
     alloc: Global,
     conn: &mut Connection<S>,
     environment: &str,
-) -> Result<Vec<Version>, Fault>
-    ensures { Reads (state S.Store conn.old) (state S.Store conn.new) result (λ items s. Lists version_cmp (λ v. IsTrue (s.released (environment.now, v))) items.items) }
+) -> Result<Vec<Version>, StoreFault>
+    ensures { Queries (state S.Store conn.old) (state S.Store conn.new) result (λ items s. Lists version_cmp (λ v. IsTrue (s.released (environment.now, v))) items.items) }
 {
     list_of::<ReleasedRow, S>(
         alloc,

@@ -2,23 +2,23 @@
 ghost use Rattle.std.specs.Prelude.{◌≡◌, Some};
 ghost use Rattle.sqlite.specs.Held.{state};
 ghost use Rattle.broker_core.specs.declared.command.Version.{Version as VersionModel};
-ghost use Rattle.broker_tables.specs.Holds.{ReadsInPlace, Changes, Gives};
+ghost use Rattle.broker_tables.specs.Holds.{QueriesInPlace, Changes, ChangesAndAnswers};
 ghost use Rattle.broker_tables.specs.Numbers.{number_of as number_in};
 ghost use Rattle.deploy_tables.specs.Releases.{IsVersion, RecordsReleased, EndsSupport};
 
 use sqlite::{Alter, Connection, params};
-use table_access::{Fault, change, has_row};
+use table_access::{StoreFault, change, has_row};
 
 /// Whether the version of that number is released in the environment.
 ///
 /// # Errors
-/// `Fault::Memory` for want of memory; `Fault::Store` where the database refused the query.
+/// `StoreFault::Memory` for want of memory; `StoreFault::Store` where the database refused the query.
 pub fn is_released<S: Alter>(
     conn: &mut Connection<S>,
     environment: &str,
     number: u32,
-) -> Result<bool, Fault>
-    ensures { ReadsInPlace (state S.Store conn.old) (state S.Store conn.new) result (λ has s. (v : VersionModel) → number_in s.versions v ≡ Some number → has ≡ s.released (environment.now, v)) }
+) -> Result<bool, StoreFault>
+    ensures { QueriesInPlace (state S.Store conn.old) (state S.Store conn.new) result (λ has s. (v : VersionModel) → number_in s.versions v ≡ Some number → has ≡ s.released (environment.now, v)) }
 {
     has_row(
         conn,
@@ -30,12 +30,12 @@ pub fn is_released<S: Alter>(
 /// Releases the version of that number in the environment, which is there; it isn't released there yet.
 ///
 /// # Errors
-/// `Fault::Memory` for want of memory; `Fault::Store` where the database refused the row.
+/// `StoreFault::Memory` for want of memory; `StoreFault::Store` where the database refused the row.
 pub fn record_released<S: Alter>(
     conn: &mut Connection<S>,
     environment: &str,
     number: u32,
-) -> Result<(), Fault>
+) -> Result<(), StoreFault>
     ensures { Changes (state S.Store conn.old) (state S.Store conn.new) result (RecordsReleased environment.now number) }
 {
     change(
@@ -50,7 +50,7 @@ fn remove_released<S: Alter>(
     conn: &mut Connection<S>,
     environment: &str,
     number: u32,
-) -> Result<(), Fault>
+) -> Result<(), StoreFault>
     ensures { Changes (state S.Store conn.old) (state S.Store conn.new) result (EndsSupport environment.now number) }
 {
     change(
@@ -63,13 +63,13 @@ fn remove_released<S: Alter>(
 /// Ends the support of the version of that number in the environment, and answers whether it was released there. All other releases stay.
 ///
 /// # Errors
-/// `Fault::Memory` for want of memory; `Fault::Store` where the database refused the query or the change.
+/// `StoreFault::Memory` for want of memory; `StoreFault::Store` where the database refused the query or the change.
 pub fn end_support<S: Alter>(
     conn: &mut Connection<S>,
     environment: &str,
     number: u32,
-) -> Result<bool, Fault>
-    ensures { Gives (state S.Store conn.old) (state S.Store conn.new) result (IsVersion number) (λ stood s t. EndsSupport environment.now number s t × ((v : VersionModel) → number_in s.versions v ≡ Some number → stood ≡ s.released (environment.now, v))) }
+) -> Result<bool, StoreFault>
+    ensures { ChangesAndAnswers (state S.Store conn.old) (state S.Store conn.new) result (IsVersion number) (λ stood s t. EndsSupport environment.now number s t × ((v : VersionModel) → number_in s.versions v ≡ Some number → stood ≡ s.released (environment.now, v))) }
 {
     match is_released(conn, environment, number) {
         Ok(stood) => match remove_released(conn, environment, number) {

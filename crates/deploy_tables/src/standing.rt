@@ -1,7 +1,7 @@
 //! The versions that stand in an environment, with their numbers.
 ghost use Rattle.std.specs.Prelude.{Contains, ◌↔◌};
 ghost use Rattle.sqlite.specs.Held.{state};
-ghost use Rattle.broker_tables.specs.Holds.{Reads};
+ghost use Rattle.broker_tables.specs.Holds.{Queries};
 ghost use Rattle.deploy_tables.specs.declared.needs.StandingVersion.{StandingVersion as StandingModel};
 ghost use Rattle.deploy_tables.specs.Needs.{IsDeployedThere, AreDeployedNumbered, IsStandingRow, ReadsAsStanding};
 
@@ -9,7 +9,7 @@ use crate::listings::name_in;
 use crate::needs::StandingVersion;
 use sqlite::{Alter, Connection, Row, params};
 use std::alloc::Global;
-use table_access::{Fault, ReadRow, list_of, number_in};
+use table_access::{StoreFault, ReadRow, list_of, number_in};
 
 /// A version's number, its pacticipant and its name.
 struct StandingRow;
@@ -21,7 +21,7 @@ impl ReadRow for StandingRow {
 
     ghost is_readable = { ReadsAsStanding };
 
-    fn read(alloc: Global, row: &Row) -> Result<StandingVersion, Fault> {
+    fn read(alloc: Global, row: &Row) -> Result<StandingVersion, StoreFault> {
         let number = number_in(row)?;
         let pacticipant = name_in(alloc, row, 1)?;
         let name = name_in(alloc, row, 2)?;
@@ -36,13 +36,13 @@ impl ReadRow for StandingRow {
 /// The versions that are deployed in the environment, in any instance, with their numbers; one that is in two instances stands twice.
 ///
 /// # Errors
-/// `Fault::Memory` for want of memory; `Fault::Store` where the database refused the query, or where a row doesn't read.
+/// `StoreFault::Memory` for want of memory; `StoreFault::Store` where the database refused the query, or where a row doesn't read.
 pub fn deployed_versions<S: Alter>(
     alloc: Global,
     conn: &mut Connection<S>,
     environment: &str,
-) -> Result<Vec<StandingVersion>, Fault>
-    ensures { Reads (state S.Store conn.old) (state S.Store conn.new) result (λ items s. ((x : StandingModel) → Contains items.items x ↔ IsDeployedThere s environment.now x) × AreDeployedNumbered s environment.now) }
+) -> Result<Vec<StandingVersion>, StoreFault>
+    ensures { Queries (state S.Store conn.old) (state S.Store conn.new) result (λ items s. ((x : StandingModel) → Contains items.items x ↔ IsDeployedThere s environment.now x) × AreDeployedNumbered s environment.now) }
 {
     list_of::<StandingRow, S>(
         alloc,

@@ -5,12 +5,12 @@ use broker_tables::create::{
 use sqlite::{Connection, MemStore, params};
 use std::alloc::Global;
 use std::test::Fail;
-use table_access::{Fault, commit, enter};
+use table_access::{StoreFault, commit, begin};
 
-fn told(fault: Fault) -> Fail {
+fn told(fault: StoreFault) -> Fail {
     match fault {
-        Fault::Memory => Fail::from("memory"),
-        Fault::Store => Fail::from("store"),
+        StoreFault::Memory => Fail::from("memory"),
+        StoreFault::Store => Fail::from("store"),
     }
 }
 
@@ -70,7 +70,7 @@ fn shown(
 fn deploys(rt: HostRuntime) -> Result<(), Fail> {
     let alloc = rt.alloc();
     let mut conn = database(alloc)?;
-    enter(&mut conn).map_err(told)?;
+    begin(&mut conn).map_err(told)?;
     make_tables(&mut conn).map_err(told)?;
     assert_eq!(rt; shown(alloc, &mut conn, "live")?.as_str(), "");
     record_deployed(&mut conn, "live", "shop", "", 1).map_err(told)?;
@@ -93,11 +93,11 @@ fn deploys(rt: HostRuntime) -> Result<(), Fail> {
     assert_eq!(rt; shown(alloc, &mut conn, "dev")?.as_str(), "shop//2;");
     assert_eq!(rt;
         record_deployed(&mut conn, "away", "shop", "", 2),
-        Err(Fault::Store)
+        Err(StoreFault::Store)
     );
     assert_eq!(rt;
         record_deployed(&mut conn, "live", "shop", "", 4),
-        Err(Fault::Store)
+        Err(StoreFault::Store)
     );
     assert!(rt; commit(&mut conn));
     Ok(())
@@ -108,7 +108,7 @@ fn deploys(rt: HostRuntime) -> Result<(), Fail> {
 fn releases(rt: HostRuntime) -> Result<(), Fail> {
     let alloc = rt.alloc();
     let mut conn = database(alloc)?;
-    enter(&mut conn).map_err(told)?;
+    begin(&mut conn).map_err(told)?;
     make_tables(&mut conn).map_err(told)?;
     for number in [1, 2, 3] {
         record_released(&mut conn, "live", number).map_err(told)?;
@@ -122,7 +122,7 @@ fn releases(rt: HostRuntime) -> Result<(), Fail> {
     assert!(rt; !end_support(&mut conn, "live", 2).map_err(told)?);
     assert!(rt; is_released(&mut conn, "live", 1).map_err(told)?);
     assert!(rt; !is_released(&mut conn, "dev", 3).map_err(told)?);
-    assert_eq!(rt; record_released(&mut conn, "live", 1), Err(Fault::Store));
+    assert_eq!(rt; record_released(&mut conn, "live", 1), Err(StoreFault::Store));
     assert_eq!(rt;
         listed(alloc, &mut conn)?.as_str(),
         "a \"b\" é/it's;shop/2;"
@@ -134,7 +134,7 @@ fn releases(rt: HostRuntime) -> Result<(), Fail> {
     record_released(&mut conn, "live", 4).map_err(told)?;
     assert_eq!(rt;
         released(alloc, &mut conn, "live").map(|_| ()),
-        Err(Fault::Store)
+        Err(StoreFault::Store)
     );
     Ok(())
 }

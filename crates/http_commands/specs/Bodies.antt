@@ -5,8 +5,8 @@ use Rattle.serde_json.specs.Find.{get, as_str, as_bool, as_object}
 use Rattle.serde_json.specs.Read.{read as read_text}
 use Rattle.broker_core.specs.Name.{IsToken}
 use Rattle.broker_core.specs.Text.{Text}
-use Rattle.broker_core.specs.declared.command.Fault.{Fault}
-use Rattle.broker_core.specs.declared.command.Fault.TheVariants as fault
+use Rattle.broker_core.specs.declared.command.FormFault.{FormFault}
+use Rattle.broker_core.specs.declared.command.FormFault.TheVariants as fault
 use Rattle.http_commands.specs.Names.{IsNamed, named_or}
 
 -- the JSON value that the bytes are, if they are one
@@ -43,50 +43,50 @@ IsTextNamed None name = name ≡ None
 IsTextNamed (Some text) name = IsNamed text name
 
 -- a name that must be there
-abbrev pub IsNameField : Text → Option Data → Result Text Fault → Type 0
+abbrev pub IsNameField : Text → Option Data → Result Text FormFault → Type 0
 IsNameField key None r = r ≡ Err fault.Json
 IsNameField key (Some d) r = (name : Option Text) × IsTextNamed (option_and_then as_str (get key d)) name × (r ≡ named_or (fault.Field key) name)
 
 -- the name that is found, or this fault
-abbrev pub some_or : Fault → Option Text → Result (Option Text) Fault
+abbrev pub some_or : FormFault → Option Text → Result (Option Text) FormFault
 some_or fault None = Err fault
 some_or fault (Some name) = Ok (Some name)
 
 -- a name where a value is given
-abbrev pub IsGivenName : Text → Option Data → Result (Option Text) Fault → Type 0
+abbrev pub IsGivenName : Text → Option Data → Result (Option Text) FormFault → Type 0
 IsGivenName key None r = r ≡ Ok None
 IsGivenName key (Some value) r = (name : Option Text) × IsTextNamed (as_str value) name × (r ≡ some_or (fault.Field key) name)
 
 -- a name that may be absent or null
-abbrev pub IsOptionalName : Text → Option Data → Result (Option Text) Fault → Type 0
+abbrev pub IsOptionalName : Text → Option Data → Result (Option Text) FormFault → Type 0
 IsOptionalName key None r = r ≡ Err fault.Json
 IsOptionalName key (Some d) r = IsGivenName key (given (get key d)) r
 
 -- the token that a text is: a text of a wrong form is another fault than none
-abbrev pub IsTokenText : Option Text → Result Text Fault → Type 0
+abbrev pub IsTokenText : Option Text → Result Text FormFault → Type 0
 IsTokenText None r = r ≡ Err (fault.Field (codes "token"))
 IsTokenText (Some text) (Ok token) = (token ≡ text) × IsToken text
 IsTokenText (Some text) (Err f) = (f ≡ fault.Token) × (¬ (IsToken text))
 
-abbrev pub IsTokenField : Option Data → Result Text Fault → Type 0
+abbrev pub IsTokenField : Option Data → Result Text FormFault → Type 0
 IsTokenField None r = r ≡ Err fault.Json
 IsTokenField (Some d) r = IsTokenText (option_and_then as_str (get (codes "token") d)) r
 
 -- a truth value that is found, or this fault
-abbrev pub truth_or : Fault → Option Bool → Result Bool Fault
+abbrev pub truth_or : FormFault → Option Bool → Result Bool FormFault
 truth_or fault None = Err fault
 truth_or fault (Some b) = Ok b
 
 -- a truth value that must be there
-abbrev pub truth_field : Text → Option Data → Result Bool Fault
+abbrev pub truth_field : Text → Option Data → Result Bool FormFault
 truth_field key None = Err fault.Json
 truth_field key (Some d) = truth_or (fault.Field key) (option_and_then as_bool (get key d))
 
-abbrev pub given_truth : Text → Option Data → Result Bool Fault
+abbrev pub given_truth : Text → Option Data → Result Bool FormFault
 given_truth key None = Ok false
 given_truth key (Some value) = truth_or (fault.Field key) (as_bool value)
 
 -- a truth value that may be absent or null, which counts as false
-abbrev pub optional_truth : Text → Option Data → Result Bool Fault
+abbrev pub optional_truth : Text → Option Data → Result Bool FormFault
 optional_truth key None = Err fault.Json
 optional_truth key (Some d) = given_truth key (given (get key d))

@@ -4,7 +4,7 @@ use Rattle.serde_json.specs.Data.{Data}
 use Rattle.broker_core.specs.Text.{Text, version}
 use Rattle.broker_core.specs.declared.command.Command.{Command}
 use Rattle.broker_core.specs.declared.command.Command.TheVariants as command
-use Rattle.broker_core.specs.declared.command.Fault.{Fault}
+use Rattle.broker_core.specs.declared.command.FormFault.{FormFault}
 use Rattle.broker_core.specs.declared.command.Marks.{Marks}
 use Rattle.broker_core.specs.declared.command.PactPath.{PactPath}
 use Rattle.broker_core.specs.declared.command.Report.{Report}
@@ -16,22 +16,22 @@ use Rattle.http_commands.specs.Queries.{IsQueryName}
 use Rattle.http_commands.specs.Bodies.{IsObject, or_empty, IsNameField, IsOptionalName, IsTokenField, truth_field, optional_truth}
 
 -- of one part, or its fault
-abbrev pub map_ok : {A B : Type 0} → (A → B) → Result A Fault → Result B Fault
+abbrev pub map_ok : {A B : Type 0} → (A → B) → Result A FormFault → Result B FormFault
 map_ok f (Err e) = Err e
 map_ok f (Ok a) = Ok (f a)
 
 -- of two parts, or the first fault
-abbrev pub map2 : {A B C : Type 0} → (A → B → C) → Result A Fault → Result B Fault → Result C Fault
+abbrev pub map2 : {A B C : Type 0} → (A → B → C) → Result A FormFault → Result B FormFault → Result C FormFault
 map2 f (Err e) b = Err e
 map2 f (Ok a) b = map_ok (f a) b
 
 -- of three parts, or the first fault
-abbrev pub map3 : {A B C D : Type 0} → (A → B → C → D) → Result A Fault → Result B Fault → Result C Fault → Result D Fault
+abbrev pub map3 : {A B C D : Type 0} → (A → B → C → D) → Result A FormFault → Result B FormFault → Result C FormFault → Result D FormFault
 map3 f (Err e) b c = Err e
 map3 f (Ok a) b c = map2 (f a) b c
 
 -- of four parts, or the first fault
-abbrev pub map4 : {A B C D E : Type 0} → (A → B → C → D → E) → Result A Fault → Result B Fault → Result C Fault → Result D Fault → Result E Fault
+abbrev pub map4 : {A B C D E : Type 0} → (A → B → C → D → E) → Result A FormFault → Result B FormFault → Result C FormFault → Result D FormFault → Result E FormFault
 map4 f (Err e) b c d = Err e
 map4 f (Ok a) b c d = map3 (f a) b c d
 
@@ -45,60 +45,60 @@ abbrev pub report : Text → Option Text → Report
 report version run = record { provider_version = version; run = run }
 
 -- the contract that the path names: provider, consumer, version
-abbrev pub IsPactPath : Text → Result PactPath Fault → Type 0
-IsPactPath path r = (provider : Result Text Fault) × (consumer : Result Text Fault) × (v : Result Text Fault)
+abbrev pub IsPactPath : Text → Result PactPath FormFault → Type 0
+IsPactPath path r = (provider : Result Text FormFault) × (consumer : Result Text FormFault) × (v : Result Text FormFault)
     × IsPathName 3 path provider × IsPathName 5 path consumer × IsPathName 7 path v × (r ≡ map3 pact_path provider consumer v)
 
 -- the version that the body's fields name
-abbrev pub IsVersionFields : Option Data → Result Version Fault → Type 0
-IsVersionFields fields r = (pacticipant : Result Text Fault) × (v : Result Text Fault)
+abbrev pub IsVersionFields : Option Data → Result Version FormFault → Type 0
+IsVersionFields fields r = (pacticipant : Result Text FormFault) × (v : Result Text FormFault)
     × IsNameField (codes "pacticipant") fields pacticipant × IsNameField (codes "version") fields v × (r ≡ map2 version pacticipant v)
 
 -- the version that the query names
-abbrev pub IsVersionQuery : Text → Result Version Fault → Type 0
-IsVersionQuery query r = (pacticipant : Result Text Fault) × (v : Result Text Fault)
+abbrev pub IsVersionQuery : Text → Result Version FormFault → Type 0
+IsVersionQuery query r = (pacticipant : Result Text FormFault) × (v : Result Text FormFault)
     × IsQueryName (codes "pacticipant") query pacticipant × IsQueryName (codes "version") query v × (r ≡ map2 version pacticipant v)
 
-abbrev pub IsPutTeam : Text → Text → Result Command Fault → Type 0
-IsPutTeam path body r = (team : Result Text Fault) × (fields : Option Data) × (token : Result Text Fault)
+abbrev pub IsPutTeam : Text → Text → Result Command FormFault → Type 0
+IsPutTeam path body r = (team : Result Text FormFault) × (fields : Option Data) × (token : Result Text FormFault)
     × IsPathName 2 path team × IsObject body fields × IsTokenField fields token × (r ≡ map2 command.PutTeam team token)
 
-abbrev pub IsPutPacticipant : Text → Text → Result Command Fault → Type 0
-IsPutPacticipant path body r = (pacticipant : Result Text Fault) × (fields : Option Data) × (team : Result Text Fault)
+abbrev pub IsPutPacticipant : Text → Text → Result Command FormFault → Type 0
+IsPutPacticipant path body r = (pacticipant : Result Text FormFault) × (fields : Option Data) × (team : Result Text FormFault)
     × IsPathName 2 path pacticipant × IsObject body fields × IsNameField (codes "team") fields team × (r ≡ map2 command.PutPacticipant pacticipant team)
 
-abbrev pub IsPutEnvironment : Text → Text → Result Command Fault → Type 0
-IsPutEnvironment path body r = (environment : Result Text Fault) × (fields : Option Data)
+abbrev pub IsPutEnvironment : Text → Text → Result Command FormFault → Type 0
+IsPutEnvironment path body r = (environment : Result Text FormFault) × (fields : Option Data)
     × IsPathName 2 path environment × IsObject body fields
     × (r ≡ map2 command.PutEnvironment environment (map2 marks (truth_field (codes "gated") fields) (optional_truth (codes "strict") fields)))
 
-abbrev pub IsGrant : (Text → Text → Command) → Text → Result Command Fault → Type 0
-IsGrant make path r = (team : Result Text Fault) × (environment : Result Text Fault)
+abbrev pub IsGrant : (Text → Text → Command) → Text → Result Command FormFault → Type 0
+IsGrant make path r = (team : Result Text FormFault) × (environment : Result Text FormFault)
     × IsPathName 3 path team × IsPathName 5 path environment × (r ≡ map2 make team environment)
 
 abbrev pub version_command : Text → Text → Option Text → Command
 version_command pacticipant name branch = command.PutVersion (version pacticipant name) branch
 
-abbrev pub IsPutVersion : Text → Text → Result Command Fault → Type 0
-IsPutVersion path body r = (pacticipant : Result Text Fault) × (v : Result Text Fault) × (fields : Option Data) × (branch : Result (Option Text) Fault)
+abbrev pub IsPutVersion : Text → Text → Result Command FormFault → Type 0
+IsPutVersion path body r = (pacticipant : Result Text FormFault) × (v : Result Text FormFault) × (fields : Option Data) × (branch : Result (Option Text) FormFault)
     × IsPathName 2 path pacticipant × IsPathName 4 path v × IsObject (or_empty body) fields × IsOptionalName (codes "branch") fields branch
     × (r ≡ map3 version_command pacticipant v branch)
 
-abbrev pub IsPutPact : Text → Text → Result Command Fault → Type 0
-IsPutPact path body r = (of : Result PactPath Fault) × IsPactPath path of × (r ≡ map_ok (λ p. command.PutPact p body) of)
+abbrev pub IsPutPact : Text → Text → Result Command FormFault → Type 0
+IsPutPact path body r = (of : Result PactPath FormFault) × IsPactPath path of × (r ≡ map_ok (λ p. command.PutPact p body) of)
 
-abbrev pub IsGetPact : Text → Result Command Fault → Type 0
-IsGetPact path r = (of : Result PactPath Fault) × IsPactPath path of × (r ≡ map_ok command.GetPact of)
+abbrev pub IsGetPact : Text → Result Command FormFault → Type 0
+IsGetPact path r = (of : Result PactPath FormFault) × IsPactPath path of × (r ≡ map_ok command.GetPact of)
 
-abbrev pub IsGetBranchPact : Text → Result Command Fault → Type 0
-IsGetBranchPact path r = (provider : Result Text Fault) × (consumer : Result Text Fault) × (branch : Result Text Fault)
+abbrev pub IsGetBranchPact : Text → Result Command FormFault → Type 0
+IsGetBranchPact path r = (provider : Result Text FormFault) × (consumer : Result Text FormFault) × (branch : Result Text FormFault)
     × IsPathName 3 path provider × IsPathName 5 path consumer × IsPathName 7 path branch × (r ≡ map3 command.GetBranchPact provider consumer branch)
 
 abbrev pub result_command : PactPath → Text → Bool → Option Text → Command
 result_command of v success run = command.PostResult of (report v run) success
 
-abbrev pub IsPostResult : Text → Text → Result Command Fault → Type 0
-IsPostResult path body r = (of : Result PactPath Fault) × (fields : Option Data) × (v : Result Text Fault) × (run : Result (Option Text) Fault)
+abbrev pub IsPostResult : Text → Text → Result Command FormFault → Type 0
+IsPostResult path body r = (of : Result PactPath FormFault) × (fields : Option Data) × (v : Result Text FormFault) × (run : Result (Option Text) FormFault)
     × IsPactPath path of × IsObject body fields
     × IsNameField (codes "providerApplicationVersion") fields v × IsOptionalName (codes "run") fields run
     × (r ≡ map4 result_command of v (truth_field (codes "success") fields) run)
@@ -106,35 +106,35 @@ IsPostResult path body r = (of : Result PactPath Fault) × (fields : Option Data
 abbrev pub replies_command : Text → PactPath → Text → Option Text → Command
 replies_command body of v run = command.PostReplies of (report v run) body
 
-abbrev pub IsPostReplies : Text → Text → Result Command Fault → Type 0
-IsPostReplies path body r = (of : Result PactPath Fault) × (fields : Option Data) × (v : Result Text Fault) × (run : Result (Option Text) Fault)
+abbrev pub IsPostReplies : Text → Text → Result Command FormFault → Type 0
+IsPostReplies path body r = (of : Result PactPath FormFault) × (fields : Option Data) × (v : Result Text FormFault) × (run : Result (Option Text) FormFault)
     × IsPactPath path of × IsObject body fields
     × IsNameField (codes "providerApplicationVersion") fields v × IsOptionalName (codes "run") fields run
     × (r ≡ map3 (replies_command body) of v run)
 
 -- what a version does in an environment's instance
-abbrev pub IsMove : (Text → Version → Option Text → Command) → Text → Text → Result Command Fault → Type 0
-IsMove make path body r = (environment : Result Text Fault) × (fields : Option Data) × (v : Result Version Fault) × (instance : Result (Option Text) Fault)
+abbrev pub IsMove : (Text → Version → Option Text → Command) → Text → Text → Result Command FormFault → Type 0
+IsMove make path body r = (environment : Result Text FormFault) × (fields : Option Data) × (v : Result Version FormFault) × (instance : Result (Option Text) FormFault)
     × IsPathName 2 path environment × IsObject body fields × IsVersionFields fields v × IsOptionalName (codes "instance") fields instance
     × (r ≡ map3 make environment v instance)
 
 -- what is said of a version in an environment
-abbrev pub IsSupport : (Text → Version → Command) → Text → Text → Result Command Fault → Type 0
-IsSupport make path body r = (environment : Result Text Fault) × (fields : Option Data) × (v : Result Version Fault)
+abbrev pub IsSupport : (Text → Version → Command) → Text → Text → Result Command FormFault → Type 0
+IsSupport make path body r = (environment : Result Text FormFault) × (fields : Option Data) × (v : Result Version FormFault)
     × IsPathName 2 path environment × IsObject body fields × IsVersionFields fields v × (r ≡ map2 make environment v)
 
-abbrev pub IsGetEnvironment : Text → Result Command Fault → Type 0
-IsGetEnvironment path r = (environment : Result Text Fault) × IsPathName 2 path environment × (r ≡ map_ok command.GetEnvironment environment)
+abbrev pub IsGetEnvironment : Text → Result Command FormFault → Type 0
+IsGetEnvironment path r = (environment : Result Text FormFault) × IsPathName 2 path environment × (r ≡ map_ok command.GetEnvironment environment)
 
-abbrev pub IsCanIDeploy : Text → Result Command Fault → Type 0
-IsCanIDeploy query r = (v : Result Version Fault) × (environment : Result Text Fault)
+abbrev pub IsCanIDeploy : Text → Result Command FormFault → Type 0
+IsCanIDeploy query r = (v : Result Version FormFault) × (environment : Result Text FormFault)
     × IsVersionQuery query v × IsQueryName (codes "environment") query environment × (r ≡ map2 command.CanIDeploy v environment)
 
-abbrev pub IsGetMatrix : Text → Result Command Fault → Type 0
-IsGetMatrix query r = (v : Result Version Fault) × IsVersionQuery query v × (r ≡ map_ok command.GetMatrix v)
+abbrev pub IsGetMatrix : Text → Result Command FormFault → Type 0
+IsGetMatrix query r = (v : Result Version FormFault) × IsVersionQuery query v × (r ≡ map_ok command.GetMatrix v)
 
 -- the command that a task asks of a path, a query and a body, or its first fault
-abbrev pub IsRead : Task → (path query body : Text) → Result Command Fault → Type 0
+abbrev pub IsRead : Task → (path query body : Text) → Result Command FormFault → Type 0
 IsRead task.PutTeam path query body r = IsPutTeam path body r
 IsRead task.PutPacticipant path query body r = IsPutPacticipant path body r
 IsRead task.PutEnvironment path query body r = IsPutEnvironment path body r
@@ -155,10 +155,10 @@ IsRead task.CanIDeploy path query body r = IsCanIDeploy query r
 IsRead task.GetMatrix path query body r = IsGetMatrix query r
 
 -- a command that can't be read is malformed
-abbrev pub or_malformed : Result Command Fault → Command
+abbrev pub or_malformed : Result Command FormFault → Command
 or_malformed (Ok c) = c
 or_malformed (Err f) = command.Malformed f
 
 -- the command of a task
 abbrev pub IsCommand : Task → (path query body : Text) → Command → Type 0
-IsCommand task path query body c = (r : Result Command Fault) × IsRead task path query body r × (c ≡ or_malformed r)
+IsCommand task path query body c = (r : Result Command FormFault) × IsRead task path query body r × (c ≡ or_malformed r)

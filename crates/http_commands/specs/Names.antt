@@ -3,8 +3,8 @@ use Rattle.std.specs.Prelude.{◌≡◌, ℕ, List, IsUtf8, Option, Some, None, 
 use Rattle.percent_encoding.specs.Percent.{percent_decode}
 use Rattle.broker_core.specs.Name.{IsName}
 use Rattle.broker_core.specs.Text.{Text}
-use Rattle.broker_core.specs.declared.command.Fault.{Fault}
-use Rattle.broker_core.specs.declared.command.Fault.TheVariants as fault
+use Rattle.broker_core.specs.declared.command.FormFault.{FormFault}
+use Rattle.broker_core.specs.declared.command.FormFault.TheVariants as fault
 use Rattle.http_routes.specs.Routes.{segment}
 
 -- the name that a text is, if it is one; bytes that aren't UTF-8 are none
@@ -13,10 +13,10 @@ IsNamed text (Some name) = (name ≡ text) × IsUtf8 text × IsName text
 IsNamed text None = IsUtf8 text → ¬ (IsName text)
 
 -- the name, or this fault
-abbrev pub named_or : Fault → Option Text → Result Text Fault
+abbrev pub named_or : FormFault → Option Text → Result Text FormFault
 named_or fault None = Err fault
 named_or fault (Some name) = Ok name
 
 -- the name that a segment of a path stands for, its escapes decoded
-abbrev pub IsPathName : ℕ → Text → Result Text Fault → Type 0
+abbrev pub IsPathName : ℕ → Text → Result Text FormFault → Type 0
 IsPathName place path r = (name : Option Text) × IsNamed (percent_decode (segment place path)) name × (r ≡ named_or fault.Name name)

@@ -4,8 +4,8 @@ use Rattle.std.specs.String.{string_bytes}
 use Rattle.std.specs.Str.Lossy.{utf8_lossy}
 use Rattle.form_urlencoded.specs.Form.{raw_pairs, decode}
 use Rattle.broker_core.specs.Text.{Text}
-use Rattle.broker_core.specs.declared.command.Fault.{Fault}
-use Rattle.broker_core.specs.declared.command.Fault.TheVariants as fault
+use Rattle.broker_core.specs.declared.command.FormFault.{FormFault}
+use Rattle.broker_core.specs.declared.command.FormFault.TheVariants as fault
 use Rattle.http_commands.specs.Names.{IsNamed, named_or}
 use Rattle.http_commands.specs.declared.queries.Values.{Values}
 use Rattle.http_commands.specs.declared.queries.Values.TheVariants.{Absent, Once, Repeated}
@@ -31,5 +31,5 @@ IsOnce (value ∷ []) name = IsNamed value name
 IsOnce (value ∷ other ∷ values) name = name ≡ None
 
 -- the name under a key, which must be there exactly once
-abbrev pub IsQueryName : Text → Text → Result Text Fault → Type 0
+abbrev pub IsQueryName : Text → Text → Result Text FormFault → Type 0
 IsQueryName key query r = (name : Option Text) × IsOnce (values_at key (raw_pairs query)) name × (r ≡ named_or (fault.Query key) name)

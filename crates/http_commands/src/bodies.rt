@@ -8,7 +8,7 @@ ghost use Rattle.http_commands.specs.Views.{object_in};
 ghost use Rattle.http_commands.specs.Bodies.{IsData, IsObject, IsTextNamed, IsNameField, IsGivenName, IsOptionalName, IsTokenText, IsTokenField, given, given_truth, optional_truth, or_empty, some_or, truth_field, truth_or};
 
 use crate::names::{named, named_or};
-use broker_core::command::Fault;
+use broker_core::command::FormFault;
 use broker_core::name::{Name, Text, Token, TokenFault};
 use serde_json::Value;
 use std::alloc::{AllocError, Global};
@@ -38,10 +38,10 @@ pub(crate) fn or_empty(body: &[u8]) -> &[u8]
 }
 
 /// The fault of a field.
-fn field_fault(alloc: Global, key: &str) -> Result<Fault, AllocError>
-    ensures { IfOk result (λ fault. fault ≡ Fault.Field key.now) }
+fn field_fault(alloc: Global, key: &str) -> Result<FormFault, AllocError>
+    ensures { IfOk result (λ fault. fault ≡ FormFault.Field key.now) }
 {
-    Ok(Fault::Field(Text::new(String::from_str(alloc, key)?)))
+    Ok(FormFault::Field(Text::new(String::from_str(alloc, key)?)))
 }
 
 /// The name that a text is, if there is one.
@@ -55,7 +55,7 @@ fn text_named(alloc: Global, text: Option<&str>) -> Result<Option<Name>, AllocEr
 }
 
 /// The name that is found, or this fault.
-fn some_or(fault: Fault, name: Option<Name>) -> Result<Option<Name>, Fault>
+fn some_or(fault: FormFault, name: Option<Name>) -> Result<Option<Name>, FormFault>
     ensures { result ≡ some_or fault name }
 {
     match name {
@@ -65,7 +65,7 @@ fn some_or(fault: Fault, name: Option<Name>) -> Result<Option<Name>, Fault>
 }
 
 /// The truth value that is found, or this fault.
-fn truth_or(fault: Fault, truth: Option<bool>) -> Result<bool, Fault>
+fn truth_or(fault: FormFault, truth: Option<bool>) -> Result<bool, FormFault>
     ensures { result ≡ truth_or fault truth }
 {
     match truth {
@@ -85,7 +85,7 @@ fn given(value: Option<&Value>) -> Option<&Value>
 }
 
 /// The token that a text is.
-fn token_of(alloc: Global, text: Option<&str>) -> Result<Result<Token, Fault>, AllocError>
+fn token_of(alloc: Global, text: Option<&str>) -> Result<Result<Token, FormFault>, AllocError>
     ensures { IfOk result (IsTokenText (option_map (λ t. t.now) text.entry)) }
 {
     let Some(text) = text else {
@@ -93,7 +93,7 @@ fn token_of(alloc: Global, text: Option<&str>) -> Result<Result<Token, Fault>, A
     };
     match Token::new(alloc, text) {
         Ok(token) => Ok(Ok(token)),
-        Err(TokenFault::BadToken) => Ok(Err(Fault::Token)),
+        Err(TokenFault::BadToken) => Ok(Err(FormFault::Token)),
         Err(TokenFault::Memory) => Err(AllocError),
     }
 }
@@ -103,7 +103,7 @@ fn given_name(
     alloc: Global,
     value: Option<&Value>,
     key: &str,
-) -> Result<Result<Option<Name>, Fault>, AllocError>
+) -> Result<Result<Option<Name>, FormFault>, AllocError>
     ensures { IfOk result (IsGivenName key.now (option_map (λ v. view v.now) value.entry)) }
 {
     let Some(value) = value else {
@@ -118,7 +118,7 @@ fn given_truth(
     alloc: Global,
     value: Option<&Value>,
     key: &str,
-) -> Result<Result<bool, Fault>, AllocError>
+) -> Result<Result<bool, FormFault>, AllocError>
     ensures { IfOk result (λ r. r ≡ given_truth key.now (option_map (λ v. view v.now) value.entry)) }
 {
     let Some(value) = value else {
@@ -140,11 +140,11 @@ impl Fields {
     }
 
     /// A name that must be there.
-    pub(crate) fn name(&self, alloc: Global, key: &str) -> Result<Result<Name, Fault>, AllocError>
+    pub(crate) fn name(&self, alloc: Global, key: &str) -> Result<Result<Name, FormFault>, AllocError>
         ensures { IfOk result (IsNameField key.now (object_in self.now)) }
     {
         let Some(object) = &self.object else {
-            return Ok(Err(Fault::Json));
+            return Ok(Err(FormFault::Json));
         };
         let name = text_named(alloc, object.get(key).and_then(Value::as_str))?;
         Ok(named_or(field_fault(alloc, key)?, name))
@@ -155,31 +155,31 @@ impl Fields {
         &self,
         alloc: Global,
         key: &str,
-    ) -> Result<Result<Option<Name>, Fault>, AllocError>
+    ) -> Result<Result<Option<Name>, FormFault>, AllocError>
         ensures { IfOk result (IsOptionalName key.now (object_in self.now)) }
     {
         let Some(object) = &self.object else {
-            return Ok(Err(Fault::Json));
+            return Ok(Err(FormFault::Json));
         };
         given_name(alloc, given(object.get(key)), key)
     }
 
     /// The token.
-    pub(crate) fn token(&self, alloc: Global) -> Result<Result<Token, Fault>, AllocError>
+    pub(crate) fn token(&self, alloc: Global) -> Result<Result<Token, FormFault>, AllocError>
         ensures { IfOk result (IsTokenField (object_in self.now)) }
     {
         let Some(object) = &self.object else {
-            return Ok(Err(Fault::Json));
+            return Ok(Err(FormFault::Json));
         };
         token_of(alloc, object.get("token").and_then(Value::as_str))
     }
 
     /// A truth value that must be there.
-    pub(crate) fn truth(&self, alloc: Global, key: &str) -> Result<Result<bool, Fault>, AllocError>
+    pub(crate) fn truth(&self, alloc: Global, key: &str) -> Result<Result<bool, FormFault>, AllocError>
         ensures { IfOk result (λ r. r ≡ truth_field key.now (object_in self.now)) }
     {
         let Some(object) = &self.object else {
-            return Ok(Err(Fault::Json));
+            return Ok(Err(FormFault::Json));
         };
         Ok(truth_or(
             field_fault(alloc, key)?,
@@ -192,11 +192,11 @@ impl Fields {
         &self,
         alloc: Global,
         key: &str,
-    ) -> Result<Result<bool, Fault>, AllocError>
+    ) -> Result<Result<bool, FormFault>, AllocError>
         ensures { IfOk result (λ r. r ≡ optional_truth key.now (object_in self.now)) }
     {
         let Some(object) = &self.object else {
-            return Ok(Err(Fault::Json));
+            return Ok(Err(FormFault::Json));
         };
         given_truth(alloc, given(object.get(key)), key)
     }

@@ -3,11 +3,11 @@ ghost use Rattle.std.specs.Prelude.{◌≡◌};
 ghost use Rattle.broker_core.specs.Text.{version};
 ghost use Rattle.http_commands.specs.Commands.{map_ok, map2, map3, map4, marks, pact_path, replies_command, result_command, version_command};
 
-use broker_core::command::{Command, Fault, Marks, PactPath, Report, Version};
+use broker_core::command::{Command, FormFault, Marks, PactPath, Report, Version};
 use broker_core::name::{Body, Name, Token};
 
 /// What is read of a part of a command.
-pub(crate) type Part<T> = Result<T, Fault>;
+pub(crate) type Part<T> = Result<T, FormFault>;
 
 pub(crate) fn pact_path(
     provider: Part<Name>,

@@ -3,7 +3,7 @@ ghost use Rattle.std.specs.Prelude.{◌≡◌, IfOk};
 ghost use Rattle.percent_encoding.specs.Percent.{percent_decode};
 ghost use Rattle.http_commands.specs.Names.{IsNamed, IsPathName, named_or};
 
-use broker_core::command::Fault;
+use broker_core::command::FormFault;
 use broker_core::name::{Name, NameFault};
 use http_routes::segment;
 use percent_encoding::{DecodeError, percent_decode};
@@ -21,7 +21,7 @@ pub(crate) fn named(alloc: Global, text: &str) -> Result<Option<Name>, AllocErro
 }
 
 /// The name, or this fault.
-pub(crate) fn named_or(fault: Fault, name: Option<Name>) -> Result<Name, Fault>
+pub(crate) fn named_or(fault: FormFault, name: Option<Name>) -> Result<Name, FormFault>
     ensures { result ≡ named_or fault name }
 {
     match name {
@@ -46,9 +46,9 @@ pub(crate) fn path_name(
     alloc: Global,
     path: &[u8],
     place: usize,
-) -> Result<Result<Name, Fault>, AllocError>
+) -> Result<Result<Name, FormFault>, AllocError>
     ensures { IfOk result (IsPathName place path.now) }
 {
     let name = decoded(alloc, segment(path, place))?;
-    Ok(named_or(Fault::Name, name))
+    Ok(named_or(FormFault::Name, name))
 }

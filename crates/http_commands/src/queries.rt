@@ -4,7 +4,7 @@ ghost use Rattle.form_urlencoded.specs.Form.{raw_pairs};
 ghost use Rattle.http_commands.specs.Queries.{values_at, AreValues, IsOnce, IsQueryName};
 
 use crate::names::{named, named_or};
-use broker_core::command::Fault;
+use broker_core::command::FormFault;
 use broker_core::name::{Name, Text};
 use form_urlencoded::{decode, raw_pairs};
 use std::alloc::{AllocError, Global};
@@ -51,11 +51,11 @@ pub(crate) fn query_name(
     alloc: Global,
     query: &[u8],
     key: &str,
-) -> Result<Result<Name, Fault>, AllocError>
+) -> Result<Result<Name, FormFault>, AllocError>
     ensures { IfOk result (IsQueryName key.now query.now) }
 {
     let values = values_at(alloc, query, key)?;
     let name = only_name(alloc, values)?;
-    let fault = Fault::Query(Text::new(String::from_str(alloc, key)?));
+    let fault = FormFault::Query(Text::new(String::from_str(alloc, key)?));
     Ok(named_or(fault, name))
 }

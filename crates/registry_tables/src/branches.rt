@@ -8,23 +8,23 @@ ghost use Rattle.broker_core.specs.Listing.{Lists};
 ghost use Rattle.sqlite.specs.Held.{state};
 ghost use Rattle.broker_core.specs.declared.command.Version.{Version as VersionModel};
 ghost use Rattle.broker_tables.specs.Numbers.{number_of as number_at};
-ghost use Rattle.broker_tables.specs.Holds.{Reads, ReadsInPlace, Changes};
+ghost use Rattle.broker_tables.specs.Holds.{Queries, QueriesInPlace, Changes};
 ghost use Rattle.registry_tables.specs.Registry.{AddsBranch, IsBranchNumber};
 
 use sqlite::{Alter, Connection, Row, params};
 use std::alloc::Global;
-use table_access::{Fault, ReadRow, change, has_row, list_of, number_in};
+use table_access::{StoreFault, ReadRow, change, has_row, list_of, number_in};
 
 /// Whether the version with this number is on the branch.
 ///
 /// # Errors
-/// `Fault::Memory` for want of memory; `Fault::Store` where the database refused the query.
+/// `StoreFault::Memory` for want of memory; `StoreFault::Store` where the database refused the query.
 pub fn on_branch<S: Alter>(
     conn: &mut Connection<S>,
     number: u32,
     branch: &str,
-) -> Result<bool, Fault>
-    ensures { ReadsInPlace (state S.Store conn.old) (state S.Store conn.new) result (λ has s. (v : VersionModel) → number_at s.versions v ≡ Some number → has ≡ s.branches (v, branch.now)) }
+) -> Result<bool, StoreFault>
+    ensures { QueriesInPlace (state S.Store conn.old) (state S.Store conn.new) result (λ has s. (v : VersionModel) → number_at s.versions v ≡ Some number → has ≡ s.branches (v, branch.now)) }
 {
     has_row(
         conn,
@@ -36,12 +36,12 @@ pub fn on_branch<S: Alter>(
 /// Puts the version with this number on a branch that it isn't on.
 ///
 /// # Errors
-/// `Fault::Memory` for want of memory; `Fault::Store` where the database refused the row.
+/// `StoreFault::Memory` for want of memory; `StoreFault::Store` where the database refused the row.
 pub fn add_branch<S: Alter>(
     conn: &mut Connection<S>,
     number: u32,
     branch: &str,
-) -> Result<(), Fault>
+) -> Result<(), StoreFault>
     ensures { Changes (state S.Store conn.old) (state S.Store conn.new) result (AddsBranch number branch.now) }
 {
     change(
@@ -61,7 +61,7 @@ impl ReadRow for NumberRow {
 
     ghost is_readable = { IsNumberRow };
 
-    fn read(_alloc: Global, row: &Row) -> Result<u32, Fault> {
+    fn read(_alloc: Global, row: &Row) -> Result<u32, StoreFault> {
         number_in(row)
     }
 }
@@ -69,14 +69,14 @@ impl ReadRow for NumberRow {
 /// The numbers of the pacticipant's versions that are on the branch, each once, the greatest first.
 ///
 /// # Errors
-/// `Fault::Memory` for want of memory; `Fault::Store` where the database refused the query or holds no number there.
+/// `StoreFault::Memory` for want of memory; `StoreFault::Store` where the database refused the query or holds no number there.
 pub fn branch_numbers<S: Alter>(
     alloc: Global,
     conn: &mut Connection<S>,
     pacticipant: &str,
     branch: &str,
-) -> Result<Vec<u32>, Fault>
-    ensures { Reads (state S.Store conn.old) (state S.Store conn.new) result (λ numbers s. Lists (flip_args nat_cmp) (IsBranchNumber s pacticipant.now branch.now) numbers.items) }
+) -> Result<Vec<u32>, StoreFault>
+    ensures { Queries (state S.Store conn.old) (state S.Store conn.new) result (λ numbers s. Lists (flip_args nat_cmp) (IsBranchNumber s pacticipant.now branch.now) numbers.items) }
 {
     list_of::<NumberRow, S>(
         alloc,

@@ -2,31 +2,31 @@
 ghost use Rattle.std.specs.Prelude.{◌≡◌, ◌==◌, ◌<◌, false, IfOk, IfErr, IsSomeAnd, Some, option_map};
 ghost use Rattle.sqlite.specs.Held.{state};
 ghost use Rattle.broker_core.specs.declared.command.Marks.{Marks as MarksModel};
-ghost use Rattle.broker_tables.specs.Holds.{ReadsInPlace, Changes};
+ghost use Rattle.broker_tables.specs.Holds.{QueriesInPlace, Changes};
 ghost use Rattle.registry_tables.specs.Registry.{AddsEnvironment, marks, MakesStrict};
 
 use sqlite::{Alter, Connection, params};
-use table_access::{Fault, change, has_row, number_of};
+use table_access::{StoreFault, change, has_row, number_of};
 
 /// The truth value that a number stands for: 0 is false, and 1 true.
-fn truth_of(found: Option<u32>) -> Result<Option<bool>, Fault>
+fn truth_of(found: Option<u32>) -> Result<Option<bool>, StoreFault>
     ensures ok { IfOk result (λ truth. truth ≡ option_map (λ n. n == 1) found) }
-    ensures told { IfErr result (λ fault. (fault ≡ Fault.Store) × IsSomeAnd found (λ n. 1 < n)) }
+    ensures told { IfErr result (λ fault. (fault ≡ StoreFault.Store) × IsSomeAnd found (λ n. 1 < n)) }
 {
     match found {
         None => Ok(None),
         Some(0) => Ok(Some(false)),
         Some(1) => Ok(Some(true)),
-        Some(_) => Err(Fault::Store),
+        Some(_) => Err(StoreFault::Store),
     }
 }
 
 /// Whether the environment is gated, or `None` where there is no such environment.
 ///
 /// # Errors
-/// `Fault::Memory` for want of memory; `Fault::Store` where the database refused the query or holds no truth value there.
-pub fn gated<S: Alter>(conn: &mut Connection<S>, environment: &str) -> Result<Option<bool>, Fault>
-    ensures { ReadsInPlace (state S.Store conn.old) (state S.Store conn.new) result (λ found s. found ≡ option_map (λ m. m.gated) (s.environments environment.now)) }
+/// `StoreFault::Memory` for want of memory; `StoreFault::Store` where the database refused the query or holds no truth value there.
+pub fn gated<S: Alter>(conn: &mut Connection<S>, environment: &str) -> Result<Option<bool>, StoreFault>
+    ensures { QueriesInPlace (state S.Store conn.old) (state S.Store conn.new) result (λ found s. found ≡ option_map (λ m. m.gated) (s.environments environment.now)) }
 {
     match number_of(
         conn,
@@ -39,8 +39,8 @@ pub fn gated<S: Alter>(conn: &mut Connection<S>, environment: &str) -> Result<Op
 }
 
 /// Whether an environment that is there is strict.
-fn is_strict<S: Alter>(conn: &mut Connection<S>, environment: &str) -> Result<bool, Fault>
-    ensures { ReadsInPlace (state S.Store conn.old) (state S.Store conn.new) result (λ strict s. (m : MarksModel) → s.environments environment.now ≡ Some m → strict ≡ m.strict) }
+fn is_strict<S: Alter>(conn: &mut Connection<S>, environment: &str) -> Result<bool, StoreFault>
+    ensures { QueriesInPlace (state S.Store conn.old) (state S.Store conn.new) result (λ strict s. (m : MarksModel) → s.environments environment.now ≡ Some m → strict ≡ m.strict) }
 {
     has_row(
         conn,
@@ -52,12 +52,12 @@ fn is_strict<S: Alter>(conn: &mut Connection<S>, environment: &str) -> Result<bo
 /// Whether the environment is strict, or `None` where there is no such environment.
 ///
 /// # Errors
-/// `Fault::Memory` for want of memory; `Fault::Store` where the database refused a query or holds no truth value there.
+/// `StoreFault::Memory` for want of memory; `StoreFault::Store` where the database refused a query or holds no truth value there.
 pub fn strict_of<S: Alter>(
     conn: &mut Connection<S>,
     environment: &str,
-) -> Result<Option<bool>, Fault>
-    ensures { ReadsInPlace (state S.Store conn.old) (state S.Store conn.new) result (λ found s. found ≡ option_map (λ m. m.strict) (s.environments environment.now)) }
+) -> Result<Option<bool>, StoreFault>
+    ensures { QueriesInPlace (state S.Store conn.old) (state S.Store conn.new) result (λ found s. found ≡ option_map (λ m. m.strict) (s.environments environment.now)) }
 {
     match gated(conn, environment) {
         Ok(Some(_)) => match is_strict(conn, environment) {
@@ -81,7 +81,7 @@ fn put_environment<S: Alter>(
     conn: &mut Connection<S>,
     environment: &str,
     mark: u32,
-) -> Result<(), Fault>
+) -> Result<(), StoreFault>
     ensures { Changes (state S.Store conn.old) (state S.Store conn.new) result (AddsEnvironment environment.now (marks (mark == 1) false)) }
 {
     change(
@@ -92,7 +92,7 @@ fn put_environment<S: Alter>(
 }
 
 /// Makes an environment strict.
-fn put_strict<S: Alter>(conn: &mut Connection<S>, environment: &str) -> Result<(), Fault>
+fn put_strict<S: Alter>(conn: &mut Connection<S>, environment: &str) -> Result<(), StoreFault>
     ensures { Changes (state S.Store conn.old) (state S.Store conn.new) result (MakesStrict environment.now) }
 {
     change(
@@ -105,13 +105,13 @@ fn put_strict<S: Alter>(conn: &mut Connection<S>, environment: &str) -> Result<(
 /// Adds an environment of a new name with its two marks.
 ///
 /// # Errors
-/// `Fault::Memory` for want of memory; `Fault::Store` where the database refused a row.
+/// `StoreFault::Memory` for want of memory; `StoreFault::Store` where the database refused a row.
 pub fn add_environment<S: Alter>(
     conn: &mut Connection<S>,
     environment: &str,
     gated: bool,
     strict: bool,
-) -> Result<(), Fault>
+) -> Result<(), StoreFault>
     ensures { Changes (state S.Store conn.old) (state S.Store conn.new) result (AddsEnvironment environment.now (marks gated strict)) }
 {
     match put_environment(conn, environment, number_for(gated)) {

@@ -4,7 +4,7 @@ ghost use Rattle.sqlite.specs.Held.{state};
 ghost use Rattle.sqlite.specs.Table.{Table as SqlTable};
 ghost use Rattle.sqlite.specs.Order.{column};
 ghost use Rattle.sqlite.specs.declared.types.Value.TheVariants.{Int};
-ghost use Rattle.table_access.specs.Calls.{Statement};
+ghost use Rattle.table_access.specs.Calls.{CallsStore};
 ghost use Rattle.broker_tables.specs.Schema.{meta, numbers};
 ghost use Rattle.registry_tables.specs.Format.{IsMetaTable, Finds};
 
@@ -12,7 +12,7 @@ use sqlite::{Alter, Connection, Row};
 use sqlite_schema::schema::{Column, Kind, Table};
 use sqlite_value::keys::Collation;
 use sqlite_value::value::Value;
-use table_access::{Fault, number_in, select};
+use table_access::{StoreFault, number_in, select};
 
 /// Whether a column has this name, and takes values of this kind alone.
 fn is_column(column: &Column, name: &[u8], kind: Kind) -> bool
@@ -61,9 +61,9 @@ fn has_meta<S: Alter>(conn: &Connection<S>) -> bool
 }
 
 /// The number in the first column of the one row. `None` where there isn't just one.
-fn one_number(rows: &[Row]) -> Result<Option<u32>, Fault>
+fn one_number(rows: &[Row]) -> Result<Option<u32>, StoreFault>
     ensures ok { IfOk result (λ found. MatchOption found (length rows.now ≢ 1) (λ n. map (λ row. column row 0) rows.now ≡ Int (pos n) ∷ [])) }
-    ensures told { IfErr result (λ fault. fault ≡ Fault.Store) }
+    ensures told { IfErr result (λ fault. fault ≡ StoreFault.Store) }
 {
     match rows {
         [row] => match number_in(row) {
@@ -77,9 +77,9 @@ fn one_number(rows: &[Row]) -> Result<Option<u32>, Fault>
 /// The format of the broker's tables, or `None` where the first table isn't `meta` with one row.
 ///
 /// # Errors
-/// `Fault::Memory` where the database has no memory; `Fault::Store` where it refused the query or holds no number there.
-pub fn format_of<S: Alter>(conn: &mut Connection<S>) -> Result<Option<u32>, Fault>
-    ensures { Statement (state S.Store conn.old) (state S.Store conn.new) result (λ found. Finds (state S.Store conn.old).now found) }
+/// `StoreFault::Memory` where the database has no memory; `StoreFault::Store` where it refused the query or holds no number there.
+pub fn format_of<S: Alter>(conn: &mut Connection<S>) -> Result<Option<u32>, StoreFault>
+    ensures { CallsStore (state S.Store conn.old) (state S.Store conn.new) result (λ found. Finds (state S.Store conn.old).now found) }
 {
     if !has_meta(conn) {
         return Ok(None);

@@ -1,22 +1,22 @@
 //! Grants: the teams that may change what stands in an environment.
 ghost use Rattle.std.specs.Prelude.{◌≡◌};
 ghost use Rattle.sqlite.specs.Held.{state};
-ghost use Rattle.broker_tables.specs.Holds.{ReadsInPlace, Changes};
+ghost use Rattle.broker_tables.specs.Holds.{QueriesInPlace, Changes};
 ghost use Rattle.registry_tables.specs.Registry.{AddsGrant, RemovesGrant};
 
 use sqlite::{Alter, Connection, params};
-use table_access::{Fault, change, has_row};
+use table_access::{StoreFault, change, has_row};
 
 /// Whether the team has a grant for the environment.
 ///
 /// # Errors
-/// `Fault::Memory` for want of memory; `Fault::Store` where the database refused the query.
+/// `StoreFault::Memory` for want of memory; `StoreFault::Store` where the database refused the query.
 pub fn granted<S: Alter>(
     conn: &mut Connection<S>,
     team: &str,
     environment: &str,
-) -> Result<bool, Fault>
-    ensures { ReadsInPlace (state S.Store conn.old) (state S.Store conn.new) result (λ has s. has ≡ s.grants (team.now, environment.now)) }
+) -> Result<bool, StoreFault>
+    ensures { QueriesInPlace (state S.Store conn.old) (state S.Store conn.new) result (λ has s. has ≡ s.grants (team.now, environment.now)) }
 {
     has_row(
         conn,
@@ -28,12 +28,12 @@ pub fn granted<S: Alter>(
 /// Grants a team the change of an environment, both of which are there; it has no such grant yet.
 ///
 /// # Errors
-/// `Fault::Memory` for want of memory; `Fault::Store` where the database refused the row.
+/// `StoreFault::Memory` for want of memory; `StoreFault::Store` where the database refused the row.
 pub fn add_grant<S: Alter>(
     conn: &mut Connection<S>,
     team: &str,
     environment: &str,
-) -> Result<(), Fault>
+) -> Result<(), StoreFault>
     ensures { Changes (state S.Store conn.old) (state S.Store conn.new) result (AddsGrant team.now environment.now) }
 {
     change(
@@ -46,12 +46,12 @@ pub fn add_grant<S: Alter>(
 /// Takes back a grant that stands. All other grants stay.
 ///
 /// # Errors
-/// `Fault::Memory` for want of memory; `Fault::Store` where the database refused the statement.
+/// `StoreFault::Memory` for want of memory; `StoreFault::Store` where the database refused the statement.
 pub fn remove_grant<S: Alter>(
     conn: &mut Connection<S>,
     team: &str,
     environment: &str,
-) -> Result<(), Fault>
+) -> Result<(), StoreFault>
     ensures { Changes (state S.Store conn.old) (state S.Store conn.new) result (RemovesGrant team.now environment.now) }
 {
     change(

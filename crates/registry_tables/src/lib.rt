@@ -1,7 +1,7 @@
 //! The tables of who and what is registered: the office, teams, pacticipants, versions and their branches, environments, and grants.
 //!
 //! Each call is made inside a transaction. It answers a fact of the broker's state that the database holds, or changes that state in one place; where it fails, nothing of it is committed, and the transaction is to be given up.
-//! `Fault::Memory` comes where the database has no memory or a growth was refused, and `Fault::Store` where it refused a statement for another cause, or where a row breaks the tables' rules.
+//! `StoreFault::Memory` comes where the database has no memory or a growth was refused, and `StoreFault::Store` where it refused a statement for another cause, or where a row breaks the tables' rules.
 #![tactic(auto)]
 
 mod branches;

@@ -2,21 +2,21 @@
 ghost use Rattle.std.specs.Prelude.{◌≡◌, ◌↔◌, IsTrue, string_bytes};
 ghost use Rattle.sqlite.specs.Held.{state};
 ghost use Rattle.broker_tables.specs.Schema.{no_schema};
-ghost use Rattle.broker_tables.specs.Holds.{Reads};
+ghost use Rattle.broker_tables.specs.Holds.{Queries};
 
 use sqlite::{Alter, Connection};
-use table_access::{Fault, text_of};
+use table_access::{StoreFault, text_of};
 
 /// The digest of the office's token.
 ///
 /// # Errors
-/// `Fault::Memory` for want of memory; `Fault::Store` where the database refused the query or has no such row.
-pub fn office_digest<S: Alter>(conn: &mut Connection<S>) -> Result<String, Fault>
-    ensures { Reads (state S.Store conn.old) (state S.Store conn.new) result (λ digest s. string_bytes digest ≡ s.office) }
+/// `StoreFault::Memory` for want of memory; `StoreFault::Store` where the database refused the query or has no such row.
+pub fn office_digest<S: Alter>(conn: &mut Connection<S>) -> Result<String, StoreFault>
+    ensures { Queries (state S.Store conn.old) (state S.Store conn.new) result (λ digest s. string_bytes digest ≡ s.office) }
 {
     match text_of(conn, "SELECT office_digest FROM meta", &[]) {
         Ok(Some(digest)) => Ok(digest),
-        Ok(None) => Err(Fault::Store),
+        Ok(None) => Err(StoreFault::Store),
         Err(fault) => Err(fault),
     }
 }

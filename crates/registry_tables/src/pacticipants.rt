@@ -1,21 +1,21 @@
 //! Pacticipants, and the teams that own them.
 ghost use Rattle.std.specs.Prelude.{◌≡◌, option_map, string_bytes};
 ghost use Rattle.sqlite.specs.Held.{state};
-ghost use Rattle.broker_tables.specs.Holds.{Reads, Changes};
+ghost use Rattle.broker_tables.specs.Holds.{Queries, Changes};
 ghost use Rattle.registry_tables.specs.Registry.{AddsPacticipant};
 
 use sqlite::{Alter, Connection, params};
-use table_access::{Fault, change, text_of};
+use table_access::{StoreFault, change, text_of};
 
 /// The team that owns a pacticipant, or `None` where there is no such pacticipant.
 ///
 /// # Errors
-/// `Fault::Memory` for want of memory; `Fault::Store` where the database refused the query.
+/// `StoreFault::Memory` for want of memory; `StoreFault::Store` where the database refused the query.
 pub fn owner_of<S: Alter>(
     conn: &mut Connection<S>,
     pacticipant: &str,
-) -> Result<Option<String>, Fault>
-    ensures { Reads (state S.Store conn.old) (state S.Store conn.new) result (λ owner s. option_map string_bytes owner ≡ s.pacticipants pacticipant.now) }
+) -> Result<Option<String>, StoreFault>
+    ensures { Queries (state S.Store conn.old) (state S.Store conn.new) result (λ owner s. option_map string_bytes owner ≡ s.pacticipants pacticipant.now) }
 {
     text_of(
         conn,
@@ -27,12 +27,12 @@ pub fn owner_of<S: Alter>(
 /// Adds a pacticipant of a new name, owned by a team that is there.
 ///
 /// # Errors
-/// `Fault::Memory` for want of memory; `Fault::Store` where the database refused the row.
+/// `StoreFault::Memory` for want of memory; `StoreFault::Store` where the database refused the row.
 pub fn add_pacticipant<S: Alter>(
     conn: &mut Connection<S>,
     pacticipant: &str,
     team: &str,
-) -> Result<(), Fault>
+) -> Result<(), StoreFault>
     ensures { Changes (state S.Store conn.old) (state S.Store conn.new) result (AddsPacticipant pacticipant.now team.now) }
 {
     change(

@@ -1,20 +1,20 @@
 //! Teams, and the digests of their tokens.
 ghost use Rattle.std.specs.Prelude.{◌≡◌, ℕ, List, Some, None, MatchOption, option_map, string_bytes, is_some};
 ghost use Rattle.sqlite.specs.Held.{state};
-ghost use Rattle.broker_tables.specs.Holds.{Reads, ReadsInPlace, Changes};
+ghost use Rattle.broker_tables.specs.Holds.{Queries, QueriesInPlace, Changes};
 ghost use Rattle.registry_tables.specs.Registry.{AddsTeam};
 
 use sqlite::{Alter, Connection, params};
-use table_access::{Fault, change, has_row, text_of};
+use table_access::{StoreFault, change, has_row, text_of};
 
 const DIGEST_OF_TEAM: &str = "SELECT token_digest FROM teams WHERE name = ?1";
 
 /// The digest of a team's token, or `None` where there is no such team.
 ///
 /// # Errors
-/// `Fault::Memory` for want of memory; `Fault::Store` where the database refused the query.
-pub fn digest_of<S: Alter>(conn: &mut Connection<S>, team: &str) -> Result<Option<String>, Fault>
-    ensures { Reads (state S.Store conn.old) (state S.Store conn.new) result (λ digest s. option_map string_bytes digest ≡ s.teams team.now) }
+/// `StoreFault::Memory` for want of memory; `StoreFault::Store` where the database refused the query.
+pub fn digest_of<S: Alter>(conn: &mut Connection<S>, team: &str) -> Result<Option<String>, StoreFault>
+    ensures { Queries (state S.Store conn.old) (state S.Store conn.new) result (λ digest s. option_map string_bytes digest ≡ s.teams team.now) }
 {
     text_of(conn, DIGEST_OF_TEAM, params![team])
 }
@@ -22,9 +22,9 @@ pub fn digest_of<S: Alter>(conn: &mut Connection<S>, team: &str) -> Result<Optio
 /// Whether there is such a team.
 ///
 /// # Errors
-/// `Fault::Memory` for want of memory; `Fault::Store` where the database refused the query.
-pub fn has_team<S: Alter>(conn: &mut Connection<S>, team: &str) -> Result<bool, Fault>
-    ensures { ReadsInPlace (state S.Store conn.old) (state S.Store conn.new) result (λ has s. has ≡ is_some (s.teams team.now)) }
+/// `StoreFault::Memory` for want of memory; `StoreFault::Store` where the database refused the query.
+pub fn has_team<S: Alter>(conn: &mut Connection<S>, team: &str) -> Result<bool, StoreFault>
+    ensures { QueriesInPlace (state S.Store conn.old) (state S.Store conn.new) result (λ has s. has ≡ is_some (s.teams team.now)) }
 {
     has_row(conn, DIGEST_OF_TEAM, params![team])
 }
@@ -32,12 +32,12 @@ pub fn has_team<S: Alter>(conn: &mut Connection<S>, team: &str) -> Result<bool, 
 /// The team whose token has this digest, or `None` where no team's has.
 ///
 /// # Errors
-/// `Fault::Memory` for want of memory; `Fault::Store` where the database refused the query.
+/// `StoreFault::Memory` for want of memory; `StoreFault::Store` where the database refused the query.
 pub fn team_of_digest<S: Alter>(
     conn: &mut Connection<S>,
     digest: &str,
-) -> Result<Option<String>, Fault>
-    ensures { Reads (state S.Store conn.old) (state S.Store conn.new) result (λ team s. MatchOption team ((t : List ℕ) → ¬ (s.teams t ≡ Some digest.now)) (λ name. s.teams (string_bytes name) ≡ Some digest.now)) }
+) -> Result<Option<String>, StoreFault>
+    ensures { Queries (state S.Store conn.old) (state S.Store conn.new) result (λ team s. MatchOption team ((t : List ℕ) → ¬ (s.teams t ≡ Some digest.now)) (λ name. s.teams (string_bytes name) ≡ Some digest.now)) }
 {
     text_of(
         conn,
@@ -49,8 +49,8 @@ pub fn team_of_digest<S: Alter>(
 /// Adds a team of a new name, whose token's digest no other team has.
 ///
 /// # Errors
-/// `Fault::Memory` for want of memory; `Fault::Store` where the database refused the row.
-pub fn add_team<S: Alter>(conn: &mut Connection<S>, team: &str, digest: &str) -> Result<(), Fault>
+/// `StoreFault::Memory` for want of memory; `StoreFault::Store` where the database refused the row.
+pub fn add_team<S: Alter>(conn: &mut Connection<S>, team: &str, digest: &str) -> Result<(), StoreFault>
     ensures { Changes (state S.Store conn.old) (state S.Store conn.new) result (AddsTeam team.now digest.now) }
 {
     change(

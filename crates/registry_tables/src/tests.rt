@@ -2,17 +2,17 @@ use super::*;
 use sqlite::{Alter, Connection, MemStore};
 use std::alloc::Global;
 use std::test::Fail;
-use table_access::{Fault, enter};
+use table_access::{StoreFault, begin};
 
-fn told(fault: Fault) -> Fail {
+fn told(fault: StoreFault) -> Fail {
     match fault {
-        Fault::Memory => Fail::from("memory"),
-        Fault::Store => Fail::from("store"),
+        StoreFault::Memory => Fail::from("memory"),
+        StoreFault::Store => Fail::from("store"),
     }
 }
 
-fn make_all<S: Alter>(conn: &mut Connection<S>) -> Result<(), Fault> {
-    enter(conn)?;
+fn make_all<S: Alter>(conn: &mut Connection<S>) -> Result<(), StoreFault> {
+    begin(conn)?;
     make_tables(conn, 2, "office digest")?;
     make_strict_environments(conn)
 }
@@ -25,7 +25,7 @@ fn made(alloc: Global) -> Result<Connection<MemStore>, Fail> {
 }
 
 /// Two teams, a pacticipant of the first, and an environment.
-fn fill<S: Alter>(conn: &mut Connection<S>) -> Result<(), Fault> {
+fn fill<S: Alter>(conn: &mut Connection<S>) -> Result<(), StoreFault> {
     add_team(conn, "red", "digest of red")?;
     add_team(conn, "blue", "digest of blue")?;
     add_pacticipant(conn, "shop", "red")?;
@@ -60,7 +60,7 @@ fn makes_tables(rt: HostRuntime) -> Result<(), Fail> {
 fn tells_a_missing_row(rt: HostRuntime) -> Result<(), Fail> {
     let mut conn = made(rt.alloc())?;
     let _ = conn.execute("DELETE FROM meta", &[])?;
-    assert_eq!(rt; office_digest(&mut conn).map(|_| ()), Err(Fault::Store));
+    assert_eq!(rt; office_digest(&mut conn).map(|_| ()), Err(StoreFault::Store));
     Ok(())
 }
 
@@ -95,10 +95,10 @@ fn keeps_teams(rt: HostRuntime) -> Result<(), Fail> {
 #[test]
 fn refuses_a_second_team(rt: HostRuntime) -> Result<(), Fail> {
     let mut conn = filled(rt.alloc())?;
-    assert_eq!(rt; add_team(&mut conn, "red", "another"), Err(Fault::Store));
+    assert_eq!(rt; add_team(&mut conn, "red", "another"), Err(StoreFault::Store));
     assert_eq!(rt;
         add_team(&mut conn, "green", "digest of red"),
-        Err(Fault::Store)
+        Err(StoreFault::Store)
     );
     assert_eq!(rt; add_team(&mut conn, "green", "another"), Ok(()));
     Ok(())
@@ -143,7 +143,7 @@ fn keeps_owners(rt: HostRuntime) -> Result<(), Fail> {
     );
     assert_eq!(rt;
         add_pacticipant(&mut conn, "stock", "green"),
-        Err(Fault::Store)
+        Err(StoreFault::Store)
     );
     Ok(())
 }
@@ -159,7 +159,7 @@ fn numbers_versions(rt: HostRuntime) -> Result<(), Fail> {
     assert_eq!(rt; version_of(&mut conn, "shop", "9"), Ok(Some(3)));
     assert_eq!(rt; version_of(&mut conn, "stock", "9"), Ok(None));
     assert_eq!(rt; version_count(&mut conn), Ok(3));
-    assert_eq!(rt; add_version(&mut conn, "shop", "10"), Err(Fault::Store));
+    assert_eq!(rt; add_version(&mut conn, "shop", "10"), Err(StoreFault::Store));
     Ok(())
 }
 
@@ -173,8 +173,8 @@ fn keeps_branches(rt: HostRuntime) -> Result<(), Fail> {
     add_branch(&mut conn, 1, "next").map_err(told)?;
     assert_eq!(rt; on_branch(&mut conn, 1, "main"), Ok(true));
     assert_eq!(rt; on_branch(&mut conn, 2, "main"), Ok(false));
-    assert_eq!(rt; add_branch(&mut conn, 1, "main"), Err(Fault::Store));
-    assert_eq!(rt; add_branch(&mut conn, 2, "main"), Err(Fault::Store));
+    assert_eq!(rt; add_branch(&mut conn, 1, "main"), Err(StoreFault::Store));
+    assert_eq!(rt; add_branch(&mut conn, 2, "main"), Err(StoreFault::Store));
     Ok(())
 }
 
@@ -243,6 +243,6 @@ fn keeps_grants(rt: HostRuntime) -> Result<(), Fail> {
     assert_eq!(rt; granted(&mut conn, "red", "live"), Ok(false));
     assert_eq!(rt; granted(&mut conn, "red", "dev"), Ok(true));
     assert_eq!(rt; granted(&mut conn, "blue", "live"), Ok(true));
-    assert_eq!(rt; add_grant(&mut conn, "green", "live"), Err(Fault::Store));
+    assert_eq!(rt; add_grant(&mut conn, "green", "live"), Err(StoreFault::Store));
     Ok(())
 }

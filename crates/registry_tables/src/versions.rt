@@ -4,22 +4,22 @@ ghost use Rattle.sqlite.specs.Held.{state};
 ghost use Rattle.broker_core.specs.Text.{version as version_named};
 ghost use Rattle.broker_core.specs.Request.{is_known};
 ghost use Rattle.broker_tables.specs.Numbers.{number_of as number_in};
-ghost use Rattle.broker_tables.specs.Holds.{ReadsInPlace, Changes, Gives};
+ghost use Rattle.broker_tables.specs.Holds.{QueriesInPlace, Changes, ChangesAndAnswers};
 ghost use Rattle.registry_tables.specs.Registry.{AllowsVersion, AddsVersion, PutsVersion};
 
 use sqlite::{Alter, Connection, params};
-use table_access::{Fault, change, number_of};
+use table_access::{StoreFault, change, number_of};
 
 /// The number of a version, by its pacticipant and its name, or `None` where there is no such version.
 ///
 /// # Errors
-/// `Fault::Memory` for want of memory; `Fault::Store` where the database refused the query or holds no number there.
+/// `StoreFault::Memory` for want of memory; `StoreFault::Store` where the database refused the query or holds no number there.
 pub fn version_of<S: Alter>(
     conn: &mut Connection<S>,
     pacticipant: &str,
     version: &str,
-) -> Result<Option<u32>, Fault>
-    ensures { ReadsInPlace (state S.Store conn.old) (state S.Store conn.new) result (λ found s. (found ≡ number_in s.versions (version_named pacticipant.now version.now)) × (is_some found ≡ is_known s (version_named pacticipant.now version.now))) }
+) -> Result<Option<u32>, StoreFault>
+    ensures { QueriesInPlace (state S.Store conn.old) (state S.Store conn.new) result (λ found s. (found ≡ number_in s.versions (version_named pacticipant.now version.now)) × (is_some found ≡ is_known s (version_named pacticipant.now version.now))) }
 {
     number_of(
         conn,
@@ -31,9 +31,9 @@ pub fn version_of<S: Alter>(
 /// How many versions there are: the number of the newest, or 0.
 ///
 /// # Errors
-/// `Fault::Memory` for want of memory; `Fault::Store` where the database refused the query or holds no number there.
-pub fn version_count<S: Alter>(conn: &mut Connection<S>) -> Result<u64, Fault>
-    ensures { ReadsInPlace (state S.Store conn.old) (state S.Store conn.new) result (λ count s. count ≡ length s.versions) }
+/// `StoreFault::Memory` for want of memory; `StoreFault::Store` where the database refused the query or holds no number there.
+pub fn version_count<S: Alter>(conn: &mut Connection<S>) -> Result<u64, StoreFault>
+    ensures { QueriesInPlace (state S.Store conn.old) (state S.Store conn.new) result (λ count s. count ≡ length s.versions) }
 {
     match number_of(
         conn,
@@ -63,7 +63,7 @@ fn put_version<S: Alter>(
     number: u32,
     pacticipant: &str,
     version: &str,
-) -> Result<(), Fault>
+) -> Result<(), StoreFault>
     ensures { Changes (state S.Store conn.old) (state S.Store conn.new) result (PutsVersion number (version_named pacticipant.now version.now)) }
 {
     change(
@@ -76,13 +76,13 @@ fn put_version<S: Alter>(
 /// Adds a version of a pacticipant that is there, under a new name, and answers its number, which is the next one.
 ///
 /// # Errors
-/// `Fault::Memory` for want of memory; `Fault::Store` where the database refused the query or the row.
+/// `StoreFault::Memory` for want of memory; `StoreFault::Store` where the database refused the query or the row.
 pub fn add_version<S: Alter>(
     conn: &mut Connection<S>,
     pacticipant: &str,
     version: &str,
-) -> Result<u32, Fault>
-    ensures { Gives (state S.Store conn.old) (state S.Store conn.new) result (AllowsVersion (version_named pacticipant.now version.now)) (AddsVersion (version_named pacticipant.now version.now)) }
+) -> Result<u32, StoreFault>
+    ensures { ChangesAndAnswers (state S.Store conn.old) (state S.Store conn.new) result (AllowsVersion (version_named pacticipant.now version.now)) (AddsVersion (version_named pacticipant.now version.now)) }
 {
     match version_count(conn) {
         Ok(count) => match next_number(count) {
@@ -90,7 +90,7 @@ pub fn add_version<S: Alter>(
                 Ok(()) => Ok(number),
                 Err(fault) => Err(fault),
             },
-            None => Err(Fault::Store),
+            None => Err(StoreFault::Store),
         },
         Err(fault) => Err(fault),
     }

@@ -12,17 +12,17 @@ use Rattle.sqlite.proofs.StateLemmas.{survives_then}
 use Rattle.sqlite_trees.specs.declared.error.StoreError.{StoreError}
 use Rattle.sqlite_trees.specs.declared.error.StoreError.TheVariants.{OutOfMemory, Io, Corrupt, Full, Broken, Unstorable}
 use Rattle.table_access.specs.Unit.{IsLeft}
-use Rattle.table_access.specs.declared.Fault.{Fault}
-use Rattle.table_access.specs.declared.Fault.TheVariants.{Memory, Store}
-use Rattle.table_access.specs.Calls.{LeavesCommit, Call, GoesOn, IsEnded, FailsAs, TellsMemory, Statement, fault_of}
+use Rattle.table_access.specs.declared.StoreFault.{StoreFault}
+use Rattle.table_access.specs.declared.StoreFault.TheVariants.{Memory, Store}
+use Rattle.table_access.specs.Calls.{KeepsLastCommit, CallsTables, GoesOn, IsEnded, FailsAs, TellsMemory, CallsStore, fault_of}
 use Rattle.table_access.proofs.Refusals.{read_told}
 use Rattle.table_access.proofs.Texts.{IsRefused, caused, no_statement_told, command_told}
 
-pub left_commit : (a b : State) → IsLeft a b → LeavesCommit a b
+pub left_commit : (a b : State) → IsLeft a b → KeepsLastCommit a b
 left_commit a b (inl same) = record { was_open = λ _. same.0.was_open; committed = λ _. same.0.committed_is }
 left_commit a b (inr back) = record { was_open = back.was_open; committed = λ now. (back.undone now).1 }
 
-pub shows_commit : (a b : State) → Shows a b b.now a.committed true → LeavesCommit a b
+pub shows_commit : (a b : State) → Shows a b b.now a.committed true → KeepsLastCommit a b
 shows_commit a b same = record { was_open = λ _. same.was_open; committed = λ _. same.committed_is }
 
 rows_inside : (old new : State) (sql : List ℕ) (c : Compiled) (params : Row) (rows : List Row) (returning : Option Returning) → ShowsRows old new sql c params rows returning → IsTrue old.in_transaction → Shows old new new.now old.committed true
@@ -52,12 +52,12 @@ refused_left old new e (inl same) = inl same.0
 refused_left old new e (inr fails) = inr fails.3
 
 -- a statement that is refused leaves the transaction, or the store failed
-pub refused_fails : (old new : State) (e : Error) (fault : Fault) → fault ≡ fault_of e → IsRefused old new e → IsTrue old.in_transaction → FailsAs old new fault
+pub refused_fails : (old new : State) (e : Error) (fault : StoreFault) → fault ≡ fault_of e → IsRefused old new e → IsTrue old.in_transaction → FailsAs old new fault
 refused_fails old new e fault is (inl same) inside = inl (same.0.0.mode ∙ inside, λ _. same.0.0.is_open)
 refused_fails old new e fault is (inr fails) inside = inr (record { cause = fails.0; told = is ∙ ap fault_of fails.1; has = fails.2; over = fails.3.autocommit; blamed = fails.4 })
 
 -- want of memory ended the transaction
-pub refused_short : (old new : State) (e : Error) (fault : Fault) → fault ≡ fault_of e → IsRefused old new e → fault ≡ Memory → IsEnded old new Memory
+pub refused_short : (old new : State) (e : Error) (fault : StoreFault) → fault ≡ fault_of e → IsRefused old new e → fault ≡ Memory → IsEnded old new Memory
 refused_short old new e fault is (inl same) short = absurd (let clash : Memory ≡ Store = sym short ∙ is ∙ same.1 in cc)
 refused_short old new e fault is (inr fails) short = record { cause = fails.0; told = sym short ∙ is ∙ ap fault_of fails.1; has = fails.2; over = fails.3.autocommit; blamed = fails.4 }
 
@@ -67,29 +67,29 @@ shows_outside sql params old db h = h.3.0
 
 -- ---- calls
 
-pub call_with : {A : Type 0} (old new : State) (r : Result A Fault) (P Q : A → Type 0) → ((a : A) → P a → Q a) → Call old new r P → Call old new r Q
+pub call_with : {A : Type 0} (old new : State) (r : Result A StoreFault) (P Q : A → Type 0) → ((a : A) → P a → Q a) → CallsTables old new r P → CallsTables old new r Q
 call_with old new (Ok a) P Q more it = record { ok = λ clean. more a (it.ok clean); goes_on = it.goes_on; fails = it.fails; commits = it.commits; survives = it.survives }
 call_with old new (Err e) P Q more it = record { ok = it.ok; goes_on = it.goes_on; fails = it.fails; commits = it.commits; survives = it.survives }
 
 -- another answer, computed from the first
-pub then_ok : {A B : Type 0} (old new : State) (a : A) (b : B) (P : A → Type 0) (Q : B → Type 0) → (P a → Q b) → Call old new (Ok a) P → Call old new (Ok b) Q
+pub then_ok : {A B : Type 0} (old new : State) (a : A) (b : B) (P : A → Type 0) (Q : B → Type 0) → (P a → Q b) → CallsTables old new (Ok a) P → CallsTables old new (Ok b) Q
 then_ok old new a b P Q more it = record { ok = λ clean. more (it.ok clean); goes_on = it.goes_on; fails = it.fails; commits = it.commits; survives = it.survives }
 
 -- the failure of a call, handed on
-pub then_err : {A B : Type 0} (old new : State) (e : Fault) (P : A → Type 0) (Q : B → Type 0) → Call old new (Err e) P → Call old new (Err e) Q
+pub then_err : {A B : Type 0} (old new : State) (e : StoreFault) (P : A → Type 0) (Q : B → Type 0) → CallsTables old new (Err e) P → CallsTables old new (Err e) Q
 then_err old new e P Q it = record { ok = it.ok; goes_on = it.goes_on; fails = it.fails; commits = it.commits; survives = it.survives }
 
 -- a row that breaks the rules, or a growth that is refused, after a call
-pub then_stop : {A B : Type 0} (old new : State) (a : A) (e : Fault) (P : A → Type 0) (Q : B → Type 0) → Call old new (Ok a) P → Call old new (Err e) Q
+pub then_stop : {A B : Type 0} (old new : State) (a : A) (e : StoreFault) (P : A → Type 0) (Q : B → Type 0) → CallsTables old new (Ok a) P → CallsTables old new (Err e) Q
 then_stop old new a e P Q it = record { ok = λ _. tt; goes_on = λ _ _. tt; fails = λ clean inside. inl (it.goes_on clean inside); commits = it.commits; survives = it.survives }
 
 -- a computation that may fail, after a call
-pub then_result : {A B : Type 0} (old new : State) (a : A) (r : Result B Fault) (P : A → Type 0) (Q : B → Type 0) → IfOk r (λ b. P a → Q b) → Call old new (Ok a) P → Call old new r Q
+pub then_result : {A B : Type 0} (old new : State) (a : A) (r : Result B StoreFault) (P : A → Type 0) (Q : B → Type 0) → IfOk r (λ b. P a → Q b) → CallsTables old new (Ok a) P → CallsTables old new r Q
 then_result old new a (Ok b) P Q more it = then_ok old new a b P Q more it
 then_result old new a (Err e) P Q more it = then_stop old new a e P Q it
 
 -- nothing is called
-pub idle : {A : Type 0} (c : State) (r : Result A Fault) (P : A → Type 0) → IfOk r P → Call c c r P
+pub idle : {A : Type 0} (c : State) (r : Result A StoreFault) (P : A → Type 0) → IfOk r P → CallsTables c c r P
 idle {A} c r P h = record {
   ok = λ _. h;
   goes_on = λ _ inside. goes r inside;
@@ -98,11 +98,11 @@ idle {A} c r P h = record {
   survives = record { clean = omega arith; shield = λ h. h; counts = omega arith; limit = refl; closes = λ _ h. inl h; crash = λ _ db h. inl h };
 }
   where
-    goes : (x : Result A Fault) → IsTrue c.in_transaction → OnOk x (GoesOn c c)
+    goes : (x : Result A StoreFault) → IsTrue c.in_transaction → OnOk x (GoesOn c c)
     goes (Ok a) inside = (inside, λ h. h)
     goes (Err e) inside = tt
 
-    stops : (x : Result A Fault) → IsTrue c.in_transaction → IfErr x (FailsAs c c)
+    stops : (x : Result A StoreFault) → IsTrue c.in_transaction → IfErr x (FailsAs c c)
     stops (Ok a) inside = tt
     stops (Err e) inside = inl (inside, λ h. h)
 
@@ -112,7 +112,7 @@ was_outside a b stays outside = elim (cases_Bool a.in_transaction) [ inl in_one 
 was_shut : (a b : State) → (IsTrue a.is_open → IsTrue b.is_open) → b.is_open ≡ false → a.is_open ≡ false
 was_shut a b stays shut = elim (cases_Bool a.is_open) [ inl is_open ↦ absurd (let e = stays is_open in cc) | inr none ↦ none ]
 
-commits_then : (a b c : State) → LeavesCommit a b → LeavesCommit b c → LeavesCommit a c
+commits_then : (a b c : State) → KeepsLastCommit a b → KeepsLastCommit b c → KeepsLastCommit a c
 commits_then a b c one two = record { was_open = λ now. one.was_open (two.was_open now); committed = λ now. two.committed now ∙ one.committed (two.was_open now) }
 
 -- a cause of a later call is one of both
@@ -124,15 +124,15 @@ has_since a b c Full stays up h = omega (arith, up, h)
 has_since a b c Broken stays up h = was_shut a b stays h
 has_since a b c Unstorable stays up h = tt
 
-ended_since : (a b c : State) (e : Fault) → GoesOn a b → a.faults ≤ b.faults → IsEnded b c e → IsEnded a c e
+ended_since : (a b c : State) (e : StoreFault) → GoesOn a b → a.faults ≤ b.faults → IsEnded b c e → IsEnded a c e
 ended_since a b c e on up ended = record { cause = ended.cause; told = ended.told; has = has_since a b c ended.cause on.1 up ended.has; over = ended.over; blamed = ended.blamed }
 
-fails_since : (a b c : State) (e : Fault) → GoesOn a b → a.faults ≤ b.faults → FailsAs b c e → FailsAs a c e
+fails_since : (a b c : State) (e : StoreFault) → GoesOn a b → a.faults ≤ b.faults → FailsAs b c e → FailsAs a c e
 fails_since a b c e on up (inl goes) = inl (goes.0, λ h. goes.1 (on.1 h))
 fails_since a b c e on up (inr ended) = inr (ended_since a b c e on up ended)
 
 -- one call after another: Q of the last answer is had from P of the first
-pub seq : {A B : Type 0} (old mid new : State) (a : A) (r : Result B Fault) (P : A → Type 0) (Q R : B → Type 0) → (P a → (b : B) → Q b → R b) → Call old mid (Ok a) P → Call mid new r Q → Call old new r R
+pub seq : {A B : Type 0} (old mid new : State) (a : A) (r : Result B StoreFault) (P : A → Type 0) (Q R : B → Type 0) → (P a → (b : B) → Q b → R b) → CallsTables old mid (Ok a) P → CallsTables mid new r Q → CallsTables old new r R
 seq {A} {B} old mid new a r P Q R more one two = record {
   ok = λ clean. both r (one.ok (mid_clean clean)) (two.ok clean);
   goes_on = λ clean inside. let first = one.goes_on (mid_clean clean) inside in goes r first (two.goes_on clean first.0);
@@ -144,20 +144,20 @@ seq {A} {B} old mid new a r P Q R more one two = record {
     mid_clean : HasCleanDisk new → HasCleanDisk mid
     mid_clean clean = omega (arith, two.survives.clean, clean)
 
-    goes : (x : Result B Fault) → GoesOn old mid → OnOk x (GoesOn mid new) → OnOk x (GoesOn old new)
+    goes : (x : Result B StoreFault) → GoesOn old mid → OnOk x (GoesOn mid new) → OnOk x (GoesOn old new)
     goes (Ok b) first second = (second.0, λ h. second.1 (first.1 h))
     goes (Err e) first second = tt
 
-    stops : (x : Result B Fault) → GoesOn old mid → IfErr x (FailsAs mid new) → IfErr x (FailsAs old new)
+    stops : (x : Result B StoreFault) → GoesOn old mid → IfErr x (FailsAs mid new) → IfErr x (FailsAs old new)
     stops (Ok b) first second = tt
     stops (Err e) first second = fails_since old mid new e first one.survives.counts second
 
-    both : (x : Result B Fault) → P a → IfOk x Q → IfOk x R
+    both : (x : Result B StoreFault) → P a → IfOk x Q → IfOk x R
     both (Ok b) p q = more p b q
     both (Err e) p q = tt
 
 -- a call that failed after another
-pub failed_then : {A B C : Type 0} (old mid new : State) (a : A) (e : Fault) (P : A → Type 0) (Q : B → Type 0) (R : C → Type 0) → Call old mid (Ok a) P → Call mid new (Err e) Q → Call old new (Err e) R
+pub failed_then : {A B C : Type 0} (old mid new : State) (a : A) (e : StoreFault) (P : A → Type 0) (Q : B → Type 0) (R : C → Type 0) → CallsTables old mid (Ok a) P → CallsTables mid new (Err e) Q → CallsTables old new (Err e) R
 failed_then {A} {B} {C} old mid new a e P Q R one two = then_err old new e Q R (seq old mid new a (Err e) P Q Q (λ p b q. q) one two)
 
 -- ---- calls that take no memory of their own
@@ -166,30 +166,30 @@ pub short_ok : {A : Type 0} (old new : State) (a : A) → TellsMemory old new (O
 short_ok old new a clean inside is = absurd (cc)
 
 -- the want of memory of a call, handed on
-pub short_err : {A B : Type 0} (old new : State) (e : Fault) → TellsMemory {A = A} old new (Err e) → TellsMemory {A = B} old new (Err e)
+pub short_err : {A B : Type 0} (old new : State) (e : StoreFault) → TellsMemory {A = A} old new (Err e) → TellsMemory {A = B} old new (Err e)
 short_err old new e short clean inside is = short clean inside (let same : e ≡ Memory = (let h = is in cc) in ap Err same)
 
-pub short_store : {A : Type 0} (old new : State) (e : Fault) → e ≡ Store → TellsMemory {A = A} old new (Err e)
+pub short_store : {A : Type 0} (old new : State) (e : StoreFault) → e ≡ Store → TellsMemory {A = A} old new (Err e)
 short_store old new e store clean inside is = absurd (let clash : Store ≡ Memory = (let same : e ≡ Memory = (let h = is in cc) in sym store ∙ same) in cc)
 
-pub statement_with : {A : Type 0} (old new : State) (r : Result A Fault) (P Q : A → Type 0) → ((a : A) → P a → Q a) → Statement old new r P → Statement old new r Q
+pub statement_with : {A : Type 0} (old new : State) (r : Result A StoreFault) (P Q : A → Type 0) → ((a : A) → P a → Q a) → CallsStore old new r P → CallsStore old new r Q
 statement_with old new r P Q more it = record { call = call_with old new r P Q more it.call; short = it.short }
 
 -- another answer, computed from the first
-pub statement_ok : {A B : Type 0} (old new : State) (a : A) (b : B) (P : A → Type 0) (Q : B → Type 0) → (P a → Q b) → Statement old new (Ok a) P → Statement old new (Ok b) Q
+pub statement_ok : {A B : Type 0} (old new : State) (a : A) (b : B) (P : A → Type 0) (Q : B → Type 0) → (P a → Q b) → CallsStore old new (Ok a) P → CallsStore old new (Ok b) Q
 statement_ok old new a b P Q more it = record { call = then_ok old new a b P Q more it.call; short = short_ok old new b }
 
 -- the failure of a statement, handed on
-pub statement_err : {A B : Type 0} (old new : State) (e : Fault) (P : A → Type 0) (Q : B → Type 0) → Statement old new (Err e) P → Statement old new (Err e) Q
+pub statement_err : {A B : Type 0} (old new : State) (e : StoreFault) (P : A → Type 0) (Q : B → Type 0) → CallsStore old new (Err e) P → CallsStore old new (Err e) Q
 statement_err old new e P Q it = record { call = then_err old new e P Q it.call; short = short_err old new e it.short }
 
 -- a computation that fails only where a row breaks the rules, after a statement
-pub statement_result : {A B : Type 0} (old new : State) (a : A) (r : Result B Fault) (P : A → Type 0) (Q : B → Type 0) → IfOk r (λ b. P a → Q b) → IfErr r (λ e. e ≡ Store) → Statement old new (Ok a) P → Statement old new r Q
+pub statement_result : {A B : Type 0} (old new : State) (a : A) (r : Result B StoreFault) (P : A → Type 0) (Q : B → Type 0) → IfOk r (λ b. P a → Q b) → IfErr r (λ e. e ≡ Store) → CallsStore old new (Ok a) P → CallsStore old new r Q
 statement_result old new a (Ok b) P Q more store it = statement_ok old new a b P Q more it
 statement_result old new a (Err e) P Q more store it = record { call = then_stop old new a e P Q it.call; short = short_store old new e store }
 
 -- one after another
-pub statement_seq : {A B : Type 0} (old mid new : State) (a : A) (r : Result B Fault) (P : A → Type 0) (Q R : B → Type 0) → (P a → (b : B) → Q b → R b) → Statement old mid (Ok a) P → Statement mid new r Q → Statement old new r R
+pub statement_seq : {A B : Type 0} (old mid new : State) (a : A) (r : Result B StoreFault) (P : A → Type 0) (Q R : B → Type 0) → (P a → (b : B) → Q b → R b) → CallsStore old mid (Ok a) P → CallsStore mid new r Q → CallsStore old new r R
 statement_seq old mid new a r P Q R more one two = record {
   call = seq old mid new a r P Q R more one.call two.call;
   short = λ clean inside is.

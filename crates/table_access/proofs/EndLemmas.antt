@@ -4,11 +4,11 @@ use Rattle.sqlite.specs.Tree.{Trees}
 use Rattle.sqlite.specs.Effect.{Database, IsDatabase}
 use Rattle.sqlite.specs.State.{State, HasCleanDisk, Survives, Commits, IsLive}
 use Rattle.table_access.specs.Unit.{Begins}
-use Rattle.table_access.specs.declared.Fault.{Fault}
-use Rattle.table_access.specs.Calls.{Call, LeavesCommit}
-use Rattle.table_access.specs.Keeps.{Keeps, Stored, IsUnsure}
+use Rattle.table_access.specs.declared.StoreFault.{StoreFault}
+use Rattle.table_access.specs.Calls.{CallsTables, KeepsLastCommit}
+use Rattle.table_access.specs.Durability.{HoldsDurably, IsOnDisk, HoldsEither}
 
-stored : (P : Database → Type 0) (db : Database) (trees : Trees) → IsDatabase db → P db → trees ≡ db.trees → Stored P trees
+stored : (P : Database → Type 0) (db : Database) (trees : Trees) → IsDatabase db → P db → trees ≡ db.trees → IsOnDisk P trees
 stored P db trees sound has is = record {
   schema = db.schema;
   sound = subst (λ t. IsDatabase (record { schema = db.schema; trees = t })) (sym is) sound;
@@ -16,11 +16,11 @@ stored P db trees sound has is = record {
 }
 
 -- what was held is seen as the transaction begins
-pub begins : (P : Database → Type 0) (old mid : State) → Begins old mid → Keeps P old → P mid.now
+pub begins : (P : Database → Type 0) (old mid : State) → Begins old mid → HoldsDurably P old → P mid.now
 begins P old mid begun keeps = let was = keeps.held begun.1.was_open in subst P (sym (begun.1.now_is ∙ was.same)) was.has
 
 -- it is committed
-pub commits : (Q : Database → Type 0) (done new : State) → Commits done new → IsLive done → ((db : Trees) → IsTrue new.is_open → new.may_leave db → db ≡ new.committed.trees) → Q done.now → Keeps Q new
+pub commits : (Q : Database → Type 0) (done new : State) → Commits done new → IsLive done → ((db : Trees) → IsTrue new.is_open → new.may_leave db → db ≡ new.committed.trees) → Q done.now → HoldsDurably Q new
 commits Q done new it live law has =
     let sound : IsDatabase new.committed = subst IsDatabase (sym it.0.committed_is) (live it.0.was_open).0 in
     let now : Q new.committed = subst Q (sym it.0.committed_is) has in
@@ -29,21 +29,21 @@ commits Q done new it live law has =
       left = λ trees may. stored Q new.committed trees sound now (law trees it.0.is_open may);
     }
 
-module _ {A : Type 0} (P : Database → Type 0) (old mid done : State) (r : Result A Fault) (X : A → Type 0) (keeps : Keeps P old) (begun : Begins old mid) (s : Survives old mid (λ _. ⊥)) (work : Call mid done r X) (clean : HasCleanDisk done) where
+module _ {A : Type 0} (P : Database → Type 0) (old mid done : State) (r : Result A StoreFault) (X : A → Type 0) (keeps : HoldsDurably P old) (begun : Begins old mid) (s : Survives old mid (λ _. ⊥)) (work : CallsTables mid done r X) (clean : HasCleanDisk done) where
   -- what a crash leaves before the end, it left before the transaction
-  left_before : (trees : Trees) → done.may_leave trees → Stored P trees
+  left_before : (trees : Trees) → done.may_leave trees → IsOnDisk P trees
   left_before trees may = elim (work.survives.crash clean trees may) [
     | inl mids ↦ elim (s.crash (omega (arith, work.survives.clean, clean)) trees mids) [ inl olds ↦ keeps.left trees olds | inr never ↦ absurd never ]
     | inr outside ↦ absurd (let inside = begun.1.mode in cc)
   ]
 
   -- nothing is committed in the transaction
-  before : LeavesCommit mid done
+  before : KeepsLastCommit mid done
   before = work.commits clean begun.1.mode
 
   -- the commit is refused
-  pub refused : (new : State) (Q : Database → Type 0) → IsTrue done.is_open → IsLive done → ((db : Trees) → IsTrue new.is_open → new.may_leave db → db ≡ new.committed.trees) → LeavesCommit done new → HasCleanDisk new
-      → Survives done new (λ db. db ≡ done.now.trees) → Q done.now → IsUnsure P Q new
+  pub refused : (new : State) (Q : Database → Type 0) → IsTrue done.is_open → IsLive done → ((db : Trees) → IsTrue new.is_open → new.may_leave db → db ≡ new.committed.trees) → KeepsLastCommit done new → HasCleanDisk new
+      → Survives done new (λ db. db ≡ done.now.trees) → Q done.now → HoldsEither P Q new
   refused new Q is_open live law it now_clean t has =
       let same : IsTrue new.is_open → new.committed ≡ old.committed = λ now. it.committed now ∙ before.committed (it.was_open now) ∙ begun.1.committed_is in
       let was = keeps.held begun.1.was_open in
@@ -57,7 +57,7 @@ module _ {A : Type 0} (P : Database → Type 0) (old mid done : State) (r : Resu
       }
 
   -- it is rolled back
-  pub undone : (new : State) → (IsTrue new.is_open → (new.in_transaction ≡ false) × (new.now ≡ new.committed)) → LeavesCommit done new → HasCleanDisk new → Survives done new (λ _. ⊥) → Keeps P new
+  pub undone : (new : State) → (IsTrue new.is_open → (new.in_transaction ≡ false) × (new.now ≡ new.committed)) → KeepsLastCommit done new → HasCleanDisk new → Survives done new (λ _. ⊥) → HoldsDurably P new
   undone new ended it now_clean t = record {
     held = λ now.
         let same = it.committed now ∙ before.committed (it.was_open now) ∙ begun.1.committed_is in
@@ -66,5 +66,5 @@ module _ {A : Type 0} (P : Database → Type 0) (old mid done : State) (r : Resu
     left = λ trees may. elim (t.crash now_clean trees may) [ inl dones ↦ left_before trees dones | inr never ↦ absurd never ];
   }
 
-pub keeps_unsure : (P Q : Database → Type 0) (c : State) → Keeps P c → IsUnsure P Q c
+pub keeps_unsure : (P Q : Database → Type 0) (c : State) → HoldsDurably P c → HoldsEither P Q c
 keeps_unsure P Q c keeps = record { committed = λ now. (keeps.held now).has; left_open = λ _. keeps.left; left = λ trees may. inl (keeps.left trees may) }

@@ -36,7 +36,7 @@ use Rattle.sqlite.specs.Effect.{Database, RefusesQuery, RefusesSource, RefusesTo
 use Rattle.sqlite.specs.Rows.{Part, Gives, Refuses, Then, Queried, Sourced, Edited, Written, Task, CounterIn, Counter, CountsIn, Counts, Updates, Deletes, Inserts, Puts, Clears, Resolves, Meets, Upserts, Judged, Tries, TriesEach, InsertsOr, sequence, counting}
 use Rattle.sqlite.specs.Does.{Tally, no_rows, AtPlace, MakesTable, MakesSequence, MakesIndex, MakesView, Leaves, Counted, Defines, Tested, Shows, Returns, Concludes, WritesRows, OnRows, Empties, UncountsIn, HoldWithout, Drops, OnTable, Redefines, Does}
 use Rattle.table_access.specs.Calls.{fault_of}
-use Rattle.table_access.specs.declared.Fault.TheVariants.{Store}
+use Rattle.table_access.specs.declared.StoreFault.TheVariants.{Store}
 
 -- each refusal of this part is told as Store
 record Calm {A : Type 0} (P : Part A) : Type 0 where

@@ -8,7 +8,7 @@ use Rattle.sqlite.specs.Table.{Table}
 use Rattle.sqlite.specs.Schema.{Schema}
 use Rattle.sqlite.specs.Tree.{rowid, IsAscending}
 use Rattle.sqlite_schema.specs.declared.schema.Index.{Index}
-use Rattle.sqlite_schema.specs.declared.schema.View.{View as Stored}
+use Rattle.sqlite_schema.specs.declared.schema.View.{View as IsOnDisk}
 use Rattle.sqlite_schema.specs.Names.{same_name}
 use Rattle.sqlite_rules.specs.Lists.{Has}
 use Rattle.sqlite_rules.proofs.ListLemmas.{all_has}
@@ -86,4 +86,4 @@ one_schema objects a b p q none =
     let indexes : a.indexes ≡ b.indexes = zip_same (IsIndexRow a.tables) _ a.indexes b.indexes (same_index a.tables p.listed.named) p.listed.indexes rows in
     let views : b.views ≡ [] = zip_none IsViewRow _ b.views (rw none at p.listed.views) q.listed.views in
     ap (λ (x : List Table). record a { tables = x }) tables ∙ ap (λ (x : List Index). record a { tables = b.tables; indexes = x }) indexes
-    ∙ ap (λ (x : List Stored). record b { views = x }) (none ∙ sym views)
+    ∙ ap (λ (x : List IsOnDisk). record b { views = x }) (none ∙ sym views)

@@ -19,7 +19,7 @@ use Rattle.sqlite_trees.specs.declared.error.StoreError.TheVariants.{OutOfMemory
 use Rattle.sqlite.proofs.Callers.{IsPlain, command_of}
 use Rattle.table_access.specs.Unit.{IsLeft}
 use Rattle.table_access.specs.Calls.{fault_of}
-use Rattle.table_access.specs.declared.Fault.TheVariants.{Store}
+use Rattle.table_access.specs.declared.StoreFault.TheVariants.{Store}
 use Rattle.table_access.proofs.Refusals.{does_told}
 
 pub begin_is : (schema : Schema) → (command_of (understood schema (codes "BEGIN")) ≡ Begin) × IsPlain (understood schema (codes "BEGIN"))

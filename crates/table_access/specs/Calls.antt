@@ -6,16 +6,16 @@ use Rattle.sqlite.specs.declared.error.Error.TheVariants.{SqliteFailure}
 use Rattle.sqlite.specs.State.{State, HasCleanDisk, Survives, HasCause, store_error}
 use Rattle.sqlite_trees.specs.declared.error.StoreError.{StoreError}
 use Rattle.sqlite_trees.specs.View.{Tells}
-use Rattle.table_access.specs.declared.Fault.{Fault}
-use Rattle.table_access.specs.declared.Fault.TheVariants.{Memory, Store}
+use Rattle.table_access.specs.declared.StoreFault.{StoreFault}
+use Rattle.table_access.specs.declared.StoreFault.TheVariants.{Memory, Store}
 
 -- an error of the database, as it is told
-abbrev pub fault_of : Error → Fault
+abbrev pub fault_of : Error → StoreFault
 fault_of (SqliteFailure code.OutOfMemory) = Memory
 fault_of _ = Store
 
 -- nothing is committed
-pub record LeavesCommit (old new : State) : Type 0 where
+pub record KeepsLastCommit (old new : State) : Type 0 where
   pub was_open : IsTrue new.is_open → IsTrue old.is_open
   pub committed : IsTrue new.is_open → new.committed ≡ old.committed
 
@@ -24,7 +24,7 @@ abbrev pub GoesOn : State → State → Type 0
 GoesOn old new = IsTrue new.in_transaction × (IsTrue old.is_open → IsTrue new.is_open)
 
 -- the store failed, which ended the transaction, and the fault tells its cause
-pub record IsEnded (old new : State) (fault : Fault) : Type 0 where
+pub record IsEnded (old new : State) (fault : StoreFault) : Type 0 where
   pub cause : StoreError
   pub told : fault ≡ fault_of (store_error cause)
   pub has : HasCause old new ⊤ cause
@@ -32,22 +32,22 @@ pub record IsEnded (old new : State) (fault : Fault) : Type 0 where
   pub blamed : Tells new.blamed cause
 
 -- A statement was refused, a row broke the rules or a growth was refused, and the transaction is still open; or the store failed.
-abbrev pub FailsAs : State → State → Fault → Type 0
+abbrev pub FailsAs : State → State → StoreFault → Type 0
 FailsAs old new fault = GoesOn old new ⊎ IsEnded old new fault
 
 -- Memory is told only where the store had none, which ended the transaction.
-abbrev pub TellsMemory : {A : Type 0} → State → State → Result A Fault → Type 0
+abbrev pub TellsMemory : {A : Type 0} → State → State → Result A StoreFault → Type 0
 TellsMemory old new r = HasCleanDisk new → IsTrue old.in_transaction → r ≡ Err Memory → IsEnded old new Memory
 
 -- P of the answer, in a transaction that goes on, or a failure. Nothing is committed, and a crash leaves what it left before.
-pub record Call {A : Type 0} (old new : State) (r : Result A Fault) (P : A → Type 0) : Type 0 where
+pub record CallsTables {A : Type 0} (old new : State) (r : Result A StoreFault) (P : A → Type 0) : Type 0 where
   pub ok : HasCleanDisk new → IfOk r P
   pub goes_on : HasCleanDisk new → IsTrue old.in_transaction → OnOk r (GoesOn old new)
   pub fails : HasCleanDisk new → IsTrue old.in_transaction → IfErr r (FailsAs old new)
-  pub commits : HasCleanDisk new → IsTrue old.in_transaction → LeavesCommit old new
+  pub commits : HasCleanDisk new → IsTrue old.in_transaction → KeepsLastCommit old new
   pub survives : Survives old new (λ _. old.in_transaction ≡ false)
 
 -- A call that takes no memory of its own, as a statement, or some in turn: want of memory is the store's.
-pub record Statement {A : Type 0} (old new : State) (r : Result A Fault) (P : A → Type 0) : Type 0 where
-  pub call : Call old new r P
+pub record CallsStore {A : Type 0} (old new : State) (r : Result A StoreFault) (P : A → Type 0) : Type 0 where
+  pub call : CallsTables old new r P
   pub short : TellsMemory old new r

@@ -4,5 +4,5 @@ pub mod Statements
 pub mod Unit
 pub mod Writes
 pub mod Calls
-pub mod Keeps
+pub mod Durability
 pub mod Reading

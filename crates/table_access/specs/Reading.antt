@@ -5,8 +5,8 @@ use Rattle.sqlite.specs.declared.types.Value.TheVariants.{Int, Text}
 use Rattle.sqlite.specs.State.{State, Shown, FailsToQuery}
 use Rattle.sqlite.specs.declared.error.Error.{Error}
 use Rattle.sqlite_rules.specs.Lists.{Has}
-use Rattle.table_access.specs.declared.Fault.{Fault}
-use Rattle.table_access.specs.declared.Fault.TheVariants.{Memory, Store}
+use Rattle.table_access.specs.declared.StoreFault.{StoreFault}
+use Rattle.table_access.specs.declared.StoreFault.TheVariants.{Memory, Store}
 use Rattle.table_access.specs.Calls.{fault_of}
 
 -- each row is read into the item at its place, and there are no others
@@ -17,17 +17,17 @@ AreRead reads (r ∷ rows) [] = ⊥
 AreRead reads (r ∷ rows) (x ∷ items) = reads r x × AreRead reads rows items
 
 -- the query was refused, and that is told
-abbrev pub IsRefusedAs : List ℕ → Row → State → State → Fault → Type 0
+abbrev pub IsRefusedAs : List ℕ → Row → State → State → StoreFault → Type 0
 IsRefusedAs sql params old new fault = (e : Error) × (fault ≡ fault_of e) × FailsToQuery sql params old new e
 
 -- Why a list isn't read: the query was refused, or a row that was shown doesn't read, or there was no room for it.
-abbrev pub FailsToRead : (Row → Type 0) → List ℕ → Row → State → State → Fault → Type 0
+abbrev pub FailsToRead : (Row → Type 0) → List ℕ → Row → State → State → StoreFault → Type 0
 FailsToRead is_readable sql params old new fault =
     IsRefusedAs sql params old new fault
     ⊎ ((rows : List Row) × Shown sql params old new rows × (row : Row) × Has rows row × (fault ≡ Store → ¬ is_readable row))
 
 -- Why the first row isn't read: the query was refused, or this is told of that row.
-abbrev pub FailsToTake : (Row → Fault → Type 0) → List ℕ → Row → State → State → Fault → Type 0
+abbrev pub FailsToTake : (Row → StoreFault → Type 0) → List ℕ → Row → State → State → StoreFault → Type 0
 FailsToTake Tells sql params old new fault =
     IsRefusedAs sql params old new fault ⊎ ((rows : List Row) × Shown sql params old new rows × (row : Row) × (slice_get rows 0 ≡ Some row) × Tells row fault)
 
@@ -40,9 +40,9 @@ abbrev pub IsNumberRow : Row → Type 0
 IsNumberRow row = (0 < length row) × ((n : ℕ) × (column row 0 ≡ Int (pos n)) × (n < 2 ^ 32))
 
 -- Store where there is no text, and Memory where there is one, and no room for it
-abbrev pub TellsText : Row → Fault → Type 0
+abbrev pub TellsText : Row → StoreFault → Type 0
 TellsText row fault = ((fault ≡ Store) × (¬ IsTextAt 0 row)) ⊎ ((fault ≡ Memory) × IsTextAt 0 row)
 
 -- Store, where there is no number
-abbrev pub TellsNumber : Row → Fault → Type 0
+abbrev pub TellsNumber : Row → StoreFault → Type 0
 TellsNumber row fault = (fault ≡ Store) × (¬ IsNumberRow row)

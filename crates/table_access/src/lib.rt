@@ -1,8 +1,8 @@
 //! Statements on the tables of a database, and the transaction round them.
 //!
 //! The crate knows SQL and no table: a caller gives the text, and its contract says what the text does under the schema that is there.
-//! Each call on tables leaves the same promise, `Call`: what it answers, that it commits nothing, how it fails, and that a crash leaves what it left before;
-//! one that takes no memory of its own leaves `Statement`, by which want of memory is the store's too.
+//! Each call on tables leaves the same promise, `CallsTables`: what it answers, that it commits nothing, how it fails, and that a crash leaves what it left before;
+//! one that takes no memory of its own leaves `CallsStore`, by which want of memory is the store's too.
 #![tactic(auto)]
 
 ghost use Rattle.std.specs.Prelude.{◌≡◌, ℕ, Ok, Err, false, [], List, IsTrue, IfOk, IfErr, OnOk, OnErr, codes};
@@ -12,7 +12,7 @@ ghost use Rattle.sqlite.specs.Held.{state};
 ghost use Rattle.sqlite.specs.Values.{bound};
 ghost use Rattle.sqlite_resolve.specs.Compile.{first};
 ghost use Rattle.table_access.specs.Unit.{Begins, IsLeft};
-ghost use Rattle.table_access.specs.Calls.{LeavesCommit, Statement};
+ghost use Rattle.table_access.specs.Calls.{KeepsLastCommit, CallsStore};
 ghost use Rattle.table_access.specs.Calls as spec;
 ghost use Rattle.table_access.specs.Reading.{IsRefusedAs};
 ghost use Rattle.table_access.specs.Writes.{IsWriteText};
@@ -28,7 +28,7 @@ pub use rows::{ReadRow, count_of, has_row, list_of, number_in, number_of, text_a
 
 /// Why a call on the tables failed.
 #[derive(Clone, Copy, Debug, PartialEq, Eq)]
-pub enum Fault {
+pub enum StoreFault {
     /// The database answered that it has no memory, or a growth was refused.
     Memory,
     /// The database refused for any other cause, or a row was met that breaks the rules of its table.
@@ -36,25 +36,25 @@ pub enum Fault {
 }
 
 /// How an error of the database is told: want of memory as `Memory`, each other as `Store`.
-fn fault_of(error: Error) -> Fault
+fn fault_of(error: Error) -> StoreFault
     ensures { result ≡ spec.fault_of error }
 {
     match error {
-        Error::SqliteFailure(ErrorCode::OutOfMemory) => Fault::Memory,
-        _ => Fault::Store,
+        Error::SqliteFailure(ErrorCode::OutOfMemory) => StoreFault::Memory,
+        _ => StoreFault::Store,
     }
 }
 
-impl From<Error> for Fault {
+impl From<Error> for StoreFault {
     ghost from_gives = { λ e f. f ≡ spec.fault_of e };
 
-    fn from(error: Error) -> Fault {
+    fn from(error: Error) -> StoreFault {
         fault_of(error)
     }
 }
 
 /// Runs BEGIN.
-fn begin<S: Alter>(conn: &mut Connection<S>) -> Result<usize, Error>
+fn run_begin<S: Alter>(conn: &mut Connection<S>) -> Result<usize, Error>
     ensures begun { HasCleanDisk (state S.Store conn.new) → OnOk result (Begins (state S.Store conn.old) (state S.Store conn.new)) }
     ensures refused { HasCleanDisk (state S.Store conn.new) → OnErr result (IsLeft (state S.Store conn.old) (state S.Store conn.new)) }
     ensures told { HasCleanDisk (state S.Store conn.new) → IfErr result (λ e. Executes (codes "BEGIN") [] (state S.Store conn.old) (state S.Store conn.new) (Err e)) }
@@ -64,7 +64,7 @@ fn begin<S: Alter>(conn: &mut Connection<S>) -> Result<usize, Error>
 }
 
 /// Runs COMMIT. Where it is refused, the transaction is rolled back, or there was none.
-fn commit_text<S: Alter>(conn: &mut Connection<S>) -> Result<usize, Error>
+fn run_commit<S: Alter>(conn: &mut Connection<S>) -> Result<usize, Error>
     ensures done { HasCleanDisk (state S.Store conn.new) → OnOk result (IsTrue (state S.Store conn.old).in_transaction × Commits (state S.Store conn.old) (state S.Store conn.new)) }
     ensures refused { HasCleanDisk (state S.Store conn.new) → OnErr result (IsLeft (state S.Store conn.old) (state S.Store conn.new)) }
     ensures survives { Survives (state S.Store conn.old) (state S.Store conn.new) (λ db. db ≡ (state S.Store conn.old).now.trees) }
@@ -73,7 +73,7 @@ fn commit_text<S: Alter>(conn: &mut Connection<S>) -> Result<usize, Error>
 }
 
 /// Runs ROLLBACK.
-fn rollback<S: Alter>(conn: &mut Connection<S>) -> Result<usize, Error>
+fn run_rollback<S: Alter>(conn: &mut Connection<S>) -> Result<usize, Error>
     ensures undone { HasCleanDisk (state S.Store conn.new) → OnOk result (IsRolledBack (state S.Store conn.old) (state S.Store conn.new)) }
     ensures refused { HasCleanDisk (state S.Store conn.new) → OnErr result (IsLeft (state S.Store conn.old) (state S.Store conn.new)) }
     ensures told { HasCleanDisk (state S.Store conn.new) → IfErr result (λ e. Executes (codes "ROLLBACK") [] (state S.Store conn.old) (state S.Store conn.new) (Err e)) }
@@ -83,13 +83,13 @@ fn rollback<S: Alter>(conn: &mut Connection<S>) -> Result<usize, Error>
 }
 
 /// Begins a transaction, where none is open. After an error none is begun, and what is committed is as it was.
-pub fn enter<S: Alter>(conn: &mut Connection<S>) -> Result<(), Fault>
+pub fn begin<S: Alter>(conn: &mut Connection<S>) -> Result<(), StoreFault>
     ensures begun { HasCleanDisk (state S.Store conn.new) → OnOk result (Begins (state S.Store conn.old) (state S.Store conn.new)) }
     ensures refused { HasCleanDisk (state S.Store conn.new) → OnErr result (IsLeft (state S.Store conn.old) (state S.Store conn.new)) }
     ensures told { HasCleanDisk (state S.Store conn.new) → IfErr result (λ f. (e : SqlError) × (f ≡ spec.fault_of e) × Executes (codes "BEGIN") [] (state S.Store conn.old) (state S.Store conn.new) (Err e)) }
     ensures survives { Survives (state S.Store conn.old) (state S.Store conn.new) (λ _. ⊥) }
 {
-    match begin(conn) {
+    match run_begin(conn) {
         Ok(_) => Ok(()),
         Err(error) => Err(fault_of(error)),
     }
@@ -97,14 +97,14 @@ pub fn enter<S: Alter>(conn: &mut Connection<S>) -> Result<(), Fault>
 
 /// Ends the transaction without committing, and says whether none is open any more.
 /// A statement that failed for memory or the disk may have ended it already. What is committed stays as it was. `false` comes only where the database refused ROLLBACK.
-pub fn leave<S: Alter>(conn: &mut Connection<S>) -> bool
+pub fn rollback<S: Alter>(conn: &mut Connection<S>) -> bool
     ensures left { HasCleanDisk (state S.Store conn.new) → IsTrue result → IsTrue (state S.Store conn.new).is_open
         → ((state S.Store conn.new).in_transaction ≡ false) × ((state S.Store conn.new).now ≡ (state S.Store conn.new).committed) }
-    ensures commit { HasCleanDisk (state S.Store conn.new) → LeavesCommit (state S.Store conn.old) (state S.Store conn.new) }
+    ensures commit { HasCleanDisk (state S.Store conn.new) → KeepsLastCommit (state S.Store conn.old) (state S.Store conn.new) }
     ensures told { HasCleanDisk (state S.Store conn.new) → result ≡ false → (e : SqlError) × Executes (codes "ROLLBACK") [] (state S.Store conn.old) (state S.Store conn.new) (Err e) }
     ensures survives { Survives (state S.Store conn.old) (state S.Store conn.new) (λ _. ⊥) }
 {
-    conn.is_autocommit() || rollback(conn).is_ok()
+    conn.is_autocommit() || run_rollback(conn).is_ok()
 }
 
 /// Commits the transaction, and says whether it did. Where the commit was refused, the transaction is rolled back, and
@@ -112,14 +112,14 @@ pub fn leave<S: Alter>(conn: &mut Connection<S>) -> bool
 pub fn commit<S: Alter>(conn: &mut Connection<S>) -> bool
     ensures live { IsLive (state S.Store conn.old) }
     ensures done { HasCleanDisk (state S.Store conn.new) → IsTrue result → Commits (state S.Store conn.old) (state S.Store conn.new) }
-    ensures refused { HasCleanDisk (state S.Store conn.new) → result ≡ false → LeavesCommit (state S.Store conn.old) (state S.Store conn.new) }
+    ensures refused { HasCleanDisk (state S.Store conn.new) → result ≡ false → KeepsLastCommit (state S.Store conn.old) (state S.Store conn.new) }
     ensures survives { Survives (state S.Store conn.old) (state S.Store conn.new) (λ db. db ≡ (state S.Store conn.old).now.trees) }
 {
     let _schema = conn.schema();
-    if commit_text(conn).is_ok() {
+    if run_commit(conn).is_ok() {
         return true;
     }
-    let _ = leave(conn);
+    let _ = rollback(conn);
     false
 }
 
@@ -129,9 +129,9 @@ pub fn change<S: Alter>(
     conn: &mut Connection<S>,
     sql: &str,
     params: &[ValueRef<'_>],
-) -> Result<(), Fault>
+) -> Result<(), StoreFault>
     requires { IsWriteText (first sql.now) }
-    ensures leaves { Statement (state S.Store conn.old) (state S.Store conn.new) result (λ _. (count : ℕ) × Executes sql.now (bound params.now) (state S.Store conn.old) (state S.Store conn.new) (Ok count)) }
+    ensures leaves { CallsStore (state S.Store conn.old) (state S.Store conn.new) result (λ _. (count : ℕ) × Executes sql.now (bound params.now) (state S.Store conn.old) (state S.Store conn.new) (Ok count)) }
     ensures told { HasCleanDisk (state S.Store conn.new) → IfErr result (λ f. (e : SqlError) × (f ≡ spec.fault_of e) × Executes sql.now (bound params.now) (state S.Store conn.old) (state S.Store conn.new) (Err e)) }
 {
     match conn.execute(sql, params) {
@@ -145,8 +145,8 @@ pub fn select<S: Alter>(
     conn: &mut Connection<S>,
     sql: &str,
     params: &[ValueRef<'_>],
-) -> Result<Vec<Row>, Fault>
-    ensures leaves { Statement (state S.Store conn.old) (state S.Store conn.new) result (λ rows. Shown sql.now (bound params.now) (state S.Store conn.old) (state S.Store conn.new) rows.items) }
+) -> Result<Vec<Row>, StoreFault>
+    ensures leaves { CallsStore (state S.Store conn.old) (state S.Store conn.new) result (λ rows. Shown sql.now (bound params.now) (state S.Store conn.old) (state S.Store conn.new) rows.items) }
     ensures told { HasCleanDisk (state S.Store conn.new) → IfErr result (IsRefusedAs sql.now (bound params.now) (state S.Store conn.old) (state S.Store conn.new)) }
 {
     match conn.query_all(sql, params) {

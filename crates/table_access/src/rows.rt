@@ -7,11 +7,11 @@ ghost use Rattle.sqlite.specs.Values.{bound};
 ghost use Rattle.sqlite.specs.Order.{Row as SqlRow, column};
 ghost use Rattle.sqlite_rules.specs.Lists.{Has};
 ghost use Rattle.sqlite.specs.declared.types.Value.TheVariants.{Int, Text as SqlText};
-ghost use Rattle.table_access.specs.Calls.{Call, Statement};
+ghost use Rattle.table_access.specs.Calls.{CallsTables, CallsStore};
 ghost use Rattle.table_access.specs.Columns.{text};
 ghost use Rattle.table_access.specs.Reading.{AreRead, IsRefusedAs, FailsToRead, FailsToTake, IsTextAt, TellsText, TellsNumber};
 
-use crate::{Fault, fault_of, select};
+use crate::{StoreFault, fault_of, select};
 use sqlite::types::ValueRef;
 use sqlite::{Alter, Connection, Row};
 use std::alloc::Global;
@@ -25,23 +25,23 @@ pub trait ReadRow {
 
     ghost is_readable: { SqlRow → Type 0 };
 
-    /// Reads a row. `Fault::Store` is answered only where the row doesn't read, `Fault::Memory` only where memory was refused.
-    fn read(alloc: Global, row: &Row) -> Result<Self::Item, Fault>
+    /// Reads a row. `StoreFault::Store` is answered only where the row doesn't read, `StoreFault::Memory` only where memory was refused.
+    fn read(alloc: Global, row: &Row) -> Result<Self::Item, StoreFault>
         ensures ok { IfOk result (reads_as row.now) }
-        ensures told { IfErr result (λ f. f ≡ Fault.Store → ¬ is_readable row.now) };
+        ensures told { IfErr result (λ f. f ≡ StoreFault.Store → ¬ is_readable row.now) };
 }
 
 /// Reads each row.
-fn read_all<R: ReadRow>(alloc: Global, rows: &[Row]) -> Result<Vec<R::Item>, Fault>
+fn read_all<R: ReadRow>(alloc: Global, rows: &[Row]) -> Result<Vec<R::Item>, StoreFault>
     ensures ok { IfOk result (λ items. AreRead R.reads_as rows.now items.items) }
-    ensures told { IfErr result (λ f. (row : SqlRow) × Has rows.now row × (f ≡ Fault.Store → ¬ R.is_readable row)) }
+    ensures told { IfErr result (λ f. (row : SqlRow) × Has rows.now row × (f ≡ StoreFault.Store → ¬ R.is_readable row)) }
 {
     let mut items = Vec::new(alloc);
     for row in rows {
         match R::read(alloc, row) {
             Ok(item) => match items.push(item) {
                 Ok(()) => {}
-                Err(_) => return Err(Fault::Memory),
+                Err(_) => return Err(StoreFault::Memory),
             },
             Err(fault) => return Err(fault),
         }
@@ -55,8 +55,8 @@ pub fn list_of<R: ReadRow, S: Alter>(
     conn: &mut Connection<S>,
     sql: &str,
     params: &[ValueRef<'_>],
-) -> Result<Vec<R::Item>, Fault>
-    ensures leaves { Call (state S.Store conn.old) (state S.Store conn.new) result (λ items. (rows : List SqlRow) × Shown sql.now (bound params.now) (state S.Store conn.old) (state S.Store conn.new) rows × AreRead R.reads_as rows items.items) }
+) -> Result<Vec<R::Item>, StoreFault>
+    ensures leaves { CallsTables (state S.Store conn.old) (state S.Store conn.new) result (λ items. (rows : List SqlRow) × Shown sql.now (bound params.now) (state S.Store conn.old) (state S.Store conn.new) rows × AreRead R.reads_as rows items.items) }
     ensures told { HasCleanDisk (state S.Store conn.new) → IfErr result (FailsToRead R.is_readable sql.now (bound params.now) (state S.Store conn.old) (state S.Store conn.new)) }
 {
     match select(conn, sql, params) {
@@ -70,8 +70,8 @@ pub fn count_of<S: Alter>(
     conn: &mut Connection<S>,
     sql: &str,
     params: &[ValueRef<'_>],
-) -> Result<usize, Fault>
-    ensures leaves { Statement (state S.Store conn.old) (state S.Store conn.new) result (λ count. (rows : List SqlRow) × Shown sql.now (bound params.now) (state S.Store conn.old) (state S.Store conn.new) rows × (count ≡ length rows)) }
+) -> Result<usize, StoreFault>
+    ensures leaves { CallsStore (state S.Store conn.old) (state S.Store conn.new) result (λ count. (rows : List SqlRow) × Shown sql.now (bound params.now) (state S.Store conn.old) (state S.Store conn.new) rows × (count ≡ length rows)) }
     ensures told { HasCleanDisk (state S.Store conn.new) → IfErr result (IsRefusedAs sql.now (bound params.now) (state S.Store conn.old) (state S.Store conn.new)) }
 {
     match select(conn, sql, params) {
@@ -85,8 +85,8 @@ pub fn has_row<S: Alter>(
     conn: &mut Connection<S>,
     sql: &str,
     params: &[ValueRef<'_>],
-) -> Result<bool, Fault>
-    ensures leaves { Statement (state S.Store conn.old) (state S.Store conn.new) result (λ has. (rows : List SqlRow) × Shown sql.now (bound params.now) (state S.Store conn.old) (state S.Store conn.new) rows × (has ≡ is_some (slice_get rows 0))) }
+) -> Result<bool, StoreFault>
+    ensures leaves { CallsStore (state S.Store conn.old) (state S.Store conn.new) result (λ has. (rows : List SqlRow) × Shown sql.now (bound params.now) (state S.Store conn.old) (state S.Store conn.new) rows × (has ≡ is_some (slice_get rows 0))) }
     ensures told { HasCleanDisk (state S.Store conn.new) → IfErr result (IsRefusedAs sql.now (bound params.now) (state S.Store conn.old) (state S.Store conn.new)) }
 {
     match select(conn, sql, params) {
@@ -106,8 +106,8 @@ pub fn text_at(row: &Row, at: usize) -> Option<&str>
     }
 }
 
-/// The text in the first column of the first row, if there is a row. `Fault::Store` where there is no text, and `Fault::Memory` where there is one and no room for it.
-fn first_text(alloc: Global, rows: &[Row]) -> Result<Option<String>, Fault>
+/// The text in the first column of the first row, if there is a row. `StoreFault::Store` where there is no text, and `StoreFault::Memory` where there is one and no room for it.
+fn first_text(alloc: Global, rows: &[Row]) -> Result<Option<String>, StoreFault>
     ensures ok { IfOk result (λ found. option_map string_bytes found ≡ option_map (text 0) (slice_get rows.now 0)) }
     ensures told { IfErr result (λ f. (row : SqlRow) × (slice_get rows.now 0 ≡ Some row) × TellsText row f) }
 {
@@ -116,29 +116,29 @@ fn first_text(alloc: Global, rows: &[Row]) -> Result<Option<String>, Fault>
         Some(row) => match text_at(row, 0) {
             Some(text) => match String::from_str(alloc, text) {
                 Ok(text) => Ok(Some(text)),
-                Err(_) => Err(Fault::Memory),
+                Err(_) => Err(StoreFault::Memory),
             },
-            None => Err(Fault::Store),
+            None => Err(StoreFault::Store),
         },
     }
 }
 
-/// The whole number in the first column. `Fault::Store` where there is no number from 0 to 2^32 - 1.
-pub fn number_in(row: &Row) -> Result<u32, Fault>
+/// The whole number in the first column. `StoreFault::Store` where there is no number from 0 to 2^32 - 1.
+pub fn number_in(row: &Row) -> Result<u32, StoreFault>
     ensures ok { IfOk result (λ n. column row.now 0 ≡ Int (pos n)) }
     ensures told { IfErr result (TellsNumber row.now) }
 {
     match row.get_ref(0) {
         Ok(ValueRef::Int(number)) => match u32::try_from(number) {
             Ok(number) => Ok(number),
-            Err(_) => Err(Fault::Store),
+            Err(_) => Err(StoreFault::Store),
         },
-        _ => Err(Fault::Store),
+        _ => Err(StoreFault::Store),
     }
 }
 
-/// The whole number in the first column of the first row, if there is a row. `Fault::Store` where there is no number from 0 to 2^32 - 1.
-fn first_number(rows: &[Row]) -> Result<Option<u32>, Fault>
+/// The whole number in the first column of the first row, if there is a row. `StoreFault::Store` where there is no number from 0 to 2^32 - 1.
+fn first_number(rows: &[Row]) -> Result<Option<u32>, StoreFault>
     ensures ok { IfOk result (λ found. option_map (λ n. Int (pos n)) found ≡ option_map (λ row. column row 0) (slice_get rows.now 0)) }
     ensures told { IfErr result (λ f. (row : SqlRow) × (slice_get rows.now 0 ≡ Some row) × TellsNumber row f) }
 {
@@ -156,8 +156,8 @@ pub fn text_of<S: Alter>(
     conn: &mut Connection<S>,
     sql: &str,
     params: &[ValueRef<'_>],
-) -> Result<Option<String>, Fault>
-    ensures leaves { Call (state S.Store conn.old) (state S.Store conn.new) result (λ found.
+) -> Result<Option<String>, StoreFault>
+    ensures leaves { CallsTables (state S.Store conn.old) (state S.Store conn.new) result (λ found.
         (rows : List SqlRow) × Shown sql.now (bound params.now) (state S.Store conn.old) (state S.Store conn.new) rows × (option_map string_bytes found ≡ option_map (text 0) (slice_get rows 0))) }
     ensures told { HasCleanDisk (state S.Store conn.new) → IfErr result (FailsToTake TellsText sql.now (bound params.now) (state S.Store conn.old) (state S.Store conn.new)) }
 {
@@ -167,13 +167,13 @@ pub fn text_of<S: Alter>(
     }
 }
 
-/// The whole number in the first column of the first row that a query shows. None where it shows no row; `Fault::Store` where there is no number from 0 to 2^32 - 1.
+/// The whole number in the first column of the first row that a query shows. None where it shows no row; `StoreFault::Store` where there is no number from 0 to 2^32 - 1.
 pub fn number_of<S: Alter>(
     conn: &mut Connection<S>,
     sql: &str,
     params: &[ValueRef<'_>],
-) -> Result<Option<u32>, Fault>
-    ensures leaves { Statement (state S.Store conn.old) (state S.Store conn.new) result (λ found.
+) -> Result<Option<u32>, StoreFault>
+    ensures leaves { CallsStore (state S.Store conn.old) (state S.Store conn.new) result (λ found.
         (rows : List SqlRow) × Shown sql.now (bound params.now) (state S.Store conn.old) (state S.Store conn.new) rows × (option_map (λ n. Int (pos n)) found ≡ option_map (λ row. column row 0) (slice_get rows 0))) }
     ensures told { HasCleanDisk (state S.Store conn.new) → IfErr result (FailsToTake TellsNumber sql.now (bound params.now) (state S.Store conn.old) (state S.Store conn.new)) }
 {

@@ -7,7 +7,7 @@ use sqlite_disk::{Disk, Fuse, Memory};
 use std::alloc::Global;
 use std::test::Fail;
 
-fn make<S: Alter>(conn: &mut Connection<S>) -> Result<(), Fault> {
+fn make<S: Alter>(conn: &mut Connection<S>) -> Result<(), StoreFault> {
     change(
         conn,
         "CREATE TABLE word (number INTEGER PRIMARY KEY, text TEXT NOT NULL UNIQUE) STRICT",
@@ -15,7 +15,7 @@ fn make<S: Alter>(conn: &mut Connection<S>) -> Result<(), Fault> {
     )
 }
 
-fn put<S: Alter>(conn: &mut Connection<S>, number: u32, text: &str) -> Result<(), Fault> {
+fn put<S: Alter>(conn: &mut Connection<S>, number: u32, text: &str) -> Result<(), StoreFault> {
     change(
         conn,
         "INSERT INTO word (number, text) VALUES (?1, ?2)",
@@ -32,17 +32,17 @@ impl ReadRow for Word {
 
     ghost is_readable = { λ row. ⊥ };
 
-    fn read(_: Global, row: &Row) -> Result<(u32, String), Fault> {
+    fn read(_: Global, row: &Row) -> Result<(u32, String), StoreFault> {
         let number = row.get(0)?;
         let text = row.get(1)?;
         Ok((number, text))
     }
 }
 
-fn told(fault: Fault) -> Fail {
+fn told(fault: StoreFault) -> Fail {
     match fault {
-        Fault::Memory => Fail::from("memory"),
-        Fault::Store => Fail::from("store"),
+        StoreFault::Memory => Fail::from("memory"),
+        StoreFault::Store => Fail::from("store"),
     }
 }
 
@@ -67,7 +67,7 @@ fn texts<S: Alter>(alloc: Global, conn: &mut Connection<S>) -> Result<String, Fa
 fn reads_and_writes(rt: HostRuntime) -> Result<(), Fail> {
     let alloc = rt.alloc();
     let mut conn = Connection::open_in_memory(alloc)?;
-    enter(&mut conn).map_err(told)?;
+    begin(&mut conn).map_err(told)?;
     make(&mut conn).map_err(told)?;
     put(&mut conn, 4294967295, "it's \"x\" é").map_err(told)?;
     put(&mut conn, 1, "").map_err(told)?;
@@ -121,11 +121,11 @@ fn reads_and_writes(rt: HostRuntime) -> Result<(), Fail> {
     );
     assert!(rt; commit(&mut conn));
     assert!(rt; !commit(&mut conn));
-    enter(&mut conn).map_err(told)?;
+    begin(&mut conn).map_err(told)?;
     put(&mut conn, 2, "b").map_err(told)?;
     assert_eq!(rt; texts(alloc, &mut conn)?.as_str(), "it's \"x\" é b  ");
-    assert!(rt; leave(&mut conn));
-    assert!(rt; leave(&mut conn));
+    assert!(rt; rollback(&mut conn));
+    assert!(rt; rollback(&mut conn));
     assert_eq!(rt; texts(alloc, &mut conn)?.as_str(), "it's \"x\" é  ");
     Ok(())
 }
@@ -135,33 +135,33 @@ fn reads_and_writes(rt: HostRuntime) -> Result<(), Fail> {
 fn tells_store(rt: HostRuntime) -> Result<(), Fail> {
     let alloc = rt.alloc();
     let mut conn = Connection::open_in_memory(alloc)?;
-    assert_eq!(rt; put(&mut conn, 1, "a"), Err(Fault::Store));
-    enter(&mut conn).map_err(told)?;
-    assert_eq!(rt; enter(&mut conn), Err(Fault::Store));
+    assert_eq!(rt; put(&mut conn, 1, "a"), Err(StoreFault::Store));
+    begin(&mut conn).map_err(told)?;
+    assert_eq!(rt; begin(&mut conn), Err(StoreFault::Store));
     make(&mut conn).map_err(told)?;
-    assert_eq!(rt; make(&mut conn), Err(Fault::Store));
+    assert_eq!(rt; make(&mut conn), Err(StoreFault::Store));
     put(&mut conn, 1, "a").map_err(told)?;
-    assert_eq!(rt; put(&mut conn, 2, "a"), Err(Fault::Store));
-    assert_eq!(rt; put(&mut conn, 1, "b"), Err(Fault::Store));
+    assert_eq!(rt; put(&mut conn, 2, "a"), Err(StoreFault::Store));
+    assert_eq!(rt; put(&mut conn, 1, "b"), Err(StoreFault::Store));
     assert_eq!(rt;
         number_of(&mut conn, "SELECT text FROM word", &[]),
-        Err(Fault::Store)
+        Err(StoreFault::Store)
     );
     assert_eq!(rt;
         number_of(&mut conn, "SELECT number - 2 FROM word", &[]),
-        Err(Fault::Store)
+        Err(StoreFault::Store)
     );
     assert_eq!(rt;
         number_of(&mut conn, "SELECT 4294967296", &[]),
-        Err(Fault::Store)
+        Err(StoreFault::Store)
     );
     assert_eq!(rt;
         text_of(&mut conn, "SELECT number FROM word", &[]).map(|_| ()),
-        Err(Fault::Store)
+        Err(StoreFault::Store)
     );
     assert_eq!(rt;
         count_of(&mut conn, "SELECT number FROM words", &[]),
-        Err(Fault::Store)
+        Err(StoreFault::Store)
     );
     assert!(rt; !conn.is_autocommit());
     assert!(rt; commit(&mut conn));
@@ -170,8 +170,8 @@ fn tells_store(rt: HostRuntime) -> Result<(), Fail> {
 }
 
 /// Makes the table in a transaction. False where the commit was refused.
-fn attempt<S: Alter>(conn: &mut Connection<S>) -> Result<bool, Fault> {
-    enter(conn)?;
+fn attempt<S: Alter>(conn: &mut Connection<S>) -> Result<bool, StoreFault> {
+    begin(conn)?;
     make(conn)?;
     Ok(commit(conn))
 }
@@ -187,9 +187,9 @@ fn broken(alloc: Global) -> Result<(u64, u64, u64), Fail> {
         if let Ok(mut conn) = Connection::open_files(alloc, files, Options::new(7)) {
             for _ in 0..3 {
                 match attempt(&mut conn) {
-                    Err(Fault::Store) => counts.0 = counts.0.saturating_add(1),
+                    Err(StoreFault::Store) => counts.0 = counts.0.saturating_add(1),
                     Ok(false) => counts.1 = counts.1.saturating_add(1),
-                    Err(Fault::Memory) => counts.2 = counts.2.saturating_add(1),
+                    Err(StoreFault::Memory) => counts.2 = counts.2.saturating_add(1),
                     Ok(true) => {}
                 }
             }
@@ -230,16 +230,16 @@ fn close<D: Disk + Drop>(conn: Connection<FileStore<D>>) -> Result<D, Fail>
 }
 
 /// Commits a first word. False where the commit was refused.
-fn commit_word<S: Alter>(conn: &mut Connection<S>) -> Result<bool, Fault> {
-    enter(conn)?;
+fn commit_word<S: Alter>(conn: &mut Connection<S>) -> Result<bool, StoreFault> {
+    begin(conn)?;
     make(conn)?;
     put(conn, 1, "a")?;
     Ok(commit(conn))
 }
 
 /// A second word, which is not committed.
-fn begin_another<S: Alter>(conn: &mut Connection<S>) -> Result<(), Fault> {
-    enter(conn)?;
+fn begin_another<S: Alter>(conn: &mut Connection<S>) -> Result<(), StoreFault> {
+    begin(conn)?;
     put(conn, 2, "b")
 }
 

@@ -3,7 +3,7 @@ use Rattle.table_access.proofs.Texts.{refused_by}
 use Rattle.table_access.proofs.WriteLemmas.{commits_outside, executes_inside}
 use Rattle.table_access.proofs.CallLemmas.{left_commit, shows_commit, refused_left, refused_fails, refused_short, short_ok}
 use Rattle.std.proofs.Common.{◌≡◌}
-use Rattle.table_access.specs.declared.Fault.TheVariants.{Memory}
+use Rattle.table_access.specs.declared.StoreFault.TheVariants.{Memory}
 use Rattle.table_access.proofs.change.Goals as goal
 
 pub returns-in-Ok-clause-leaves : goal.returns-in-Ok-clause-leaves

@@ -1,7 +1,7 @@
 use Rattle.sqlite.proofs.StateLemmas.{survives_weaker}
 use Rattle.table_access.proofs.CallLemmas.{left_commit, shows_commit, shown_inside, query_by, refused_left, refused_fails, refused_short, short_ok, shows_outside}
 use Rattle.std.proofs.Common.{◌≡◌}
-use Rattle.table_access.specs.declared.Fault.TheVariants.{Memory}
+use Rattle.table_access.specs.declared.StoreFault.TheVariants.{Memory}
 use Rattle.table_access.proofs.select.Goals as goal
 
 pub returns-in-Ok-clause-leaves : goal.returns-in-Ok-clause-leaves

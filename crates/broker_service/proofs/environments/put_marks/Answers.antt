@@ -2,18 +2,18 @@ use Rattle.std.proofs.Common.{Some, true, false, sym, ◌∙◌, ap, refl}
 use Rattle.std.specs.Option.{is_some}
 use Rattle.sqlite.specs.Held.{state}
 use Rattle.broker_core.specs.Text.{put_at, same_text, same_pair, Text}
-use Rattle.broker_core.specs.Machine.{Follows}
+use Rattle.broker_core.specs.Machine.{StepOfCaller}
 use Rattle.broker_core.specs.declared.command.Command.TheVariants.{PutEnvironment}
 use Rattle.broker_core.specs.declared.answer.Answer.TheVariants.{Done}
 use Rattle.broker_core.specs.declared.answer.Detail.TheVariants.{Plain}
-use Rattle.broker_service.specs.Parts.{the_parts}
+use Rattle.broker_service.specs.Primitives.{broker_primitives}
 use Rattle.broker_service.proofs.PerformLemmas.{changed_then}
 use Rattle.broker_service.proofs.environments.put_marks.Goals as goal
 
 pub returns-in-Ok-add_environment : goal.returns-in-Ok-add_environment
 returns-in-Ok-add_environment g c =
     changed_then (state g.S.Store c.args.conn.now) (state g.S.Store c.marks_of.new.conn) (state g.S.Store c.add_environment.new.conn) c.in-Ok.old c.in-Ok-add_environment.field-0 (Done Plain) _ _
-    (λ s out. Follows the_parts s c.args.caller.now (PutEnvironment c.args.environment.now c.args.marks) out)
+    (λ s out. StepOfCaller broker_primitives s c.args.caller.now (PutEnvironment c.args.environment.now c.args.marks) out)
     (λ s h. let it = c.in-None.ensures.free s c.args.environment.now c.requires (sym h) in (
       record s { environments = put_at same_text s.environments c.args.environment.now (Some c.args.marks) },
       (ap s.environments c.as_str.ensures ∙ it.0, ap (λ (e : Text). record s { environments = put_at same_text s.environments e (Some c.args.marks) }) (sym c.as_str.ensures)),

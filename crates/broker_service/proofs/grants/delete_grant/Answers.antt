@@ -2,18 +2,18 @@ use Rattle.std.proofs.Common.{◌≡◌, Some, true, false, sym, ◌∙◌, ap, 
 use Rattle.std.specs.Option.{is_some}
 use Rattle.sqlite.specs.Held.{state}
 use Rattle.broker_core.specs.Text.{put_at, same_text, same_pair, Text}
-use Rattle.broker_core.specs.Machine.{Follows}
+use Rattle.broker_core.specs.Machine.{StepOfCaller}
 use Rattle.broker_core.specs.declared.command.Command.TheVariants.{DeleteGrant}
 use Rattle.broker_core.specs.declared.answer.Answer.TheVariants.{Done}
 use Rattle.broker_core.specs.declared.answer.Detail.TheVariants.{Plain}
-use Rattle.broker_service.specs.Parts.{the_parts}
+use Rattle.broker_service.specs.Primitives.{broker_primitives}
 use Rattle.broker_service.proofs.PerformLemmas.{changed_then}
 use Rattle.broker_service.proofs.grants.delete_grant.Goals as goal
 
 pub returns-in-Ok-remove_grant : goal.returns-in-Ok-remove_grant
 returns-in-Ok-remove_grant g c =
     changed_then (state g.S.Store c.args.conn.now) (state g.S.Store c.look.new.conn) (state g.S.Store c.remove_grant.new.conn) c.in-Ok.found c.in-Ok-remove_grant.field-0 (Done Plain) _ _
-    (λ s out. Follows the_parts s c.args.caller.now (DeleteGrant c.args.team.now c.args.environment.now) out)
+    (λ s out. StepOfCaller broker_primitives s c.args.caller.now (DeleteGrant c.args.team.now c.args.environment.now) out)
     (λ s h. let it = c.in-None.ensures.free s c.args.team.now c.args.environment.now h in
     let grant_is : s.grants (c.as_str.result.now, c.as_str-in-None.result.now) ≡ true = ap (λ (k : Text × Text). s.grants k) (λ i. (c.as_str.ensures i, c.as_str-in-None.ensures i)) ∙ h.grant_is ∙ it.0 in (
       record s { grants = put_at (same_pair same_text same_text) s.grants (c.args.team.now, c.args.environment.now) false },

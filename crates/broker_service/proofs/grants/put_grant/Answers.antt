@@ -2,18 +2,18 @@ use Rattle.std.proofs.Common.{◌≡◌, Some, true, false, sym, ◌∙◌, ap, 
 use Rattle.std.specs.Option.{is_some}
 use Rattle.sqlite.specs.Held.{state}
 use Rattle.broker_core.specs.Text.{put_at, same_text, same_pair, Text}
-use Rattle.broker_core.specs.Machine.{Follows}
+use Rattle.broker_core.specs.Machine.{StepOfCaller}
 use Rattle.broker_core.specs.declared.command.Command.TheVariants.{PutGrant}
 use Rattle.broker_core.specs.declared.answer.Answer.TheVariants.{Done}
 use Rattle.broker_core.specs.declared.answer.Detail.TheVariants.{Plain}
-use Rattle.broker_service.specs.Parts.{the_parts}
+use Rattle.broker_service.specs.Primitives.{broker_primitives}
 use Rattle.broker_service.proofs.PerformLemmas.{changed_then}
 use Rattle.broker_service.proofs.grants.put_grant.Goals as goal
 
 pub returns-in-Ok-add_grant : goal.returns-in-Ok-add_grant
 returns-in-Ok-add_grant g c =
     changed_then (state g.S.Store c.args.conn.now) (state g.S.Store c.look.new.conn) (state g.S.Store c.add_grant.new.conn) c.in-Ok.found c.in-Ok-add_grant.field-0 (Done Plain) _ _
-    (λ s out. Follows the_parts s c.args.caller.now (PutGrant c.args.team.now c.args.environment.now) out)
+    (λ s out. StepOfCaller broker_primitives s c.args.caller.now (PutGrant c.args.team.now c.args.environment.now) out)
     (λ s h. let it = c.in-None.ensures.free s c.args.team.now c.args.environment.now h in
     let team_is : is_some (s.teams c.as_str.result.now) ≡ true = ap (λ t. is_some (s.teams t)) c.as_str.ensures ∙ h.team_is ∙ it.0 in
     let environment_is : is_some (s.environments c.as_str-in-None.result.now) ≡ true = ap (λ e. is_some (s.environments e)) c.as_str-in-None.ensures ∙ h.environment_is ∙ it.1 in

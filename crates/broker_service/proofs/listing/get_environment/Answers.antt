@@ -1,12 +1,12 @@
 use Rattle.std.proofs.Common.{Some, sym}
 use Rattle.sqlite.specs.Held.{state}
-use Rattle.broker_core.specs.Machine.{Follows}
+use Rattle.broker_core.specs.Machine.{StepOfCaller}
 use Rattle.broker_core.specs.declared.command.Command.TheVariants.{GetEnvironment}
-use Rattle.broker_service.specs.Parts.{the_parts}
+use Rattle.broker_service.specs.Primitives.{broker_primitives}
 use Rattle.broker_service.proofs.PerformLemmas.{shown_then}
 use Rattle.broker_service.proofs.listing.get_environment.Goals as goal
 
 pub returns-in-Ok-Some : goal.returns-in-Ok-Some
 returns-in-Ok-Some g c =
-    shown_then (state g.S.Store c.args.conn.now) (state g.S.Store c.marks_of.new.conn) (state g.S.Store c.list.new.conn) (Some c.in-Ok-Some.marks) c.list.result _ _ (λ s out. Follows the_parts s c.args.caller.now (GetEnvironment c.args.environment.now) out)
+    shown_then (state g.S.Store c.args.conn.now) (state g.S.Store c.marks_of.new.conn) (state g.S.Store c.list.new.conn) (Some c.in-Ok-Some.marks) c.list.result _ _ (λ s out. StepOfCaller broker_primitives s c.args.caller.now (GetEnvironment c.args.environment.now) out)
     (λ s is answer h. h c.args.caller.now (sym is)) (rw c.in-Ok-Some.field-0-is at c.in-Ok-Some.ensures) c.list.ensures

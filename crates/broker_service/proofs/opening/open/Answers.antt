@@ -8,33 +8,33 @@ use Rattle.broker_service.specs.Opening.{IsJudged, judgement}
 use Rattle.broker_service.proofs.Judgements.{judged, blank_none, marked_some}
 use Rattle.broker_service.proofs.opening.open.Goals as goal
 
-pub returns-then-leave-clause-judges : goal.returns-then-leave-clause-judges
-returns-then-leave-clause-judges g c clean =
+pub returns-then-rollback-clause-judges : goal.returns-then-rollback-clause-judges
+returns-then-rollback-clause-judges g c clean =
     let old = state g.S.Store c.args.conn.now in
-    let mid = state g.S.Store c.enter.new.conn in
+    let mid = state g.S.Store c.begin.new.conn in
     let done = state g.S.Store c.format_of.new.conn in
-    let done_clean : HasCleanDisk done = omega (arith, c.leave.ensures.survives.clean, clean) in
+    let done_clean : HasCleanDisk done = omega (arith, c.rollback.ensures.survives.clean, clean) in
     let mid_clean : HasCleanDisk mid = omega (arith, c.format_of.ensures.call.survives.clean, done_clean) in
     let begun = c.in-Ok.ensures.begun mid_clean in
     let told = judged mid.now c.in-Ok-format_of.found (c.in-Ok-format_of.ensures.call.ok done_clean) in
     subst (λ (db : Database). IsJudged db c.judge.result) begun.1.now_is (subst (IsJudged mid.now) (sym c.judge.ensures) told)
 
-pub returns-then-leave-clause-bare : goal.returns-then-leave-clause-bare
-returns-then-leave-clause-bare g c clean keeps =
+pub returns-then-rollback-clause-bare : goal.returns-then-rollback-clause-bare
+returns-then-rollback-clause-bare g c clean keeps =
     let old = state g.S.Store c.args.conn.now in
-    let mid = state g.S.Store c.enter.new.conn in
+    let mid = state g.S.Store c.begin.new.conn in
     let done = state g.S.Store c.format_of.new.conn in
-    let done_clean : HasCleanDisk done = omega (arith, c.leave.ensures.survives.clean, clean) in
+    let done_clean : HasCleanDisk done = omega (arith, c.rollback.ensures.survives.clean, clean) in
     let mid_clean : HasCleanDisk mid = omega (arith, c.format_of.ensures.call.survives.clean, done_clean) in
     let blank = begins IsBlank old mid (c.in-Ok.ensures.begun mid_clean) keeps in
     inl (c.judge.ensures ∙ ap judgement (blank_none mid.now c.in-Ok-format_of.found blank.schema (c.in-Ok-format_of.ensures.call.ok done_clean)))
 
-pub returns-then-leave-clause-marked : goal.returns-then-leave-clause-marked
-returns-then-leave-clause-marked g c clean n office keeps =
+pub returns-then-rollback-clause-marked : goal.returns-then-rollback-clause-marked
+returns-then-rollback-clause-marked g c clean n office keeps =
     let old = state g.S.Store c.args.conn.now in
-    let mid = state g.S.Store c.enter.new.conn in
+    let mid = state g.S.Store c.begin.new.conn in
     let done = state g.S.Store c.format_of.new.conn in
-    let done_clean : HasCleanDisk done = omega (arith, c.leave.ensures.survives.clean, clean) in
+    let done_clean : HasCleanDisk done = omega (arith, c.rollback.ensures.survives.clean, clean) in
     let mid_clean : HasCleanDisk mid = omega (arith, c.format_of.ensures.call.survives.clean, done_clean) in
     let marked = begins (IsMarked n office) old mid (c.in-Ok.ensures.begun mid_clean) keeps in
     inl (c.judge.ensures ∙ ap judgement (marked_some n office mid.now c.in-Ok-format_of.found marked (c.in-Ok-format_of.ensures.call.ok done_clean)))

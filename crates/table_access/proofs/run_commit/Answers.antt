@@ -6,7 +6,7 @@ use Rattle.sqlite.proofs.Callers.{runs_as}
 use Rattle.sqlite.proofs.StateLemmas.{survives_weaker}
 use Rattle.table_access.specs.Unit.{IsLeft}
 use Rattle.table_access.proofs.Texts.{commit_is, refused_leaves, commit_commits}
-use Rattle.table_access.proofs.commit_text.Goals as goal
+use Rattle.table_access.proofs.run_commit.Goals as goal
 
 committed : (old new : State) (r : Result ℕ Error) → Executes (codes "COMMIT") [] old new r → OnOk r (IsTrue old.in_transaction × Commits old new) × OnErr r (IsLeft old new)
 committed old new (Ok count) h = let is = commit_is old.now.schema in let ran = runs_as (codes "COMMIT") [] old new _ refl Commit is.0 is.1 count h in ((ran.0, (ran.1, ran.2, ran.4)), tt)

@@ -6,26 +6,26 @@ use Rattle.sqlite.specs.Effect.{Database, IsDatabase}
 use Rattle.sqlite.specs.State.{State}
 
 -- the trees, with the schema that they list, are such a database
-pub record Stored (P : Database → Type 0) (trees : Trees) : Type 0 where
+pub record IsOnDisk (P : Database → Type 0) (trees : Trees) : Type 0 where
   pub schema : Schema
   pub sound : IsDatabase (record { schema = schema; trees = trees })
   pub has : P (record { schema = schema; trees = trees })
 
 -- no transaction is open, and the database is such a one
-pub record Settled (P : Database → Type 0) (c : State) : Type 0 where
+pub record IsCommitted (P : Database → Type 0) (c : State) : Type 0 where
   pub autocommit : c.in_transaction ≡ false
   pub same : c.now ≡ c.committed
   pub sound : IsDatabase c.committed
   pub has : P c.committed
 
 -- The connection holds such a database, unless a fault of the disk has shut it, and a crash leaves such a one.
-pub record Keeps (P : Database → Type 0) (c : State) : Type 0 where
-  pub held : IsTrue c.is_open → Settled P c
-  pub left : (trees : Trees) → c.may_leave trees → Stored P trees
+pub record HoldsDurably (P : Database → Type 0) (c : State) : Type 0 where
+  pub held : IsTrue c.is_open → IsCommitted P c
+  pub left : (trees : Trees) → c.may_leave trees → IsOnDisk P trees
 
 -- A commit was refused. While the connection is open, the last commit is still of the first kind, and a crash leaves it.
 -- Where a fault of the disk has shut the connection, a crash leaves one of the first kind or of the second.
-pub record IsUnsure (P Q : Database → Type 0) (c : State) : Type 0 where
+pub record HoldsEither (P Q : Database → Type 0) (c : State) : Type 0 where
   pub committed : IsTrue c.is_open → P c.committed
-  pub left_open : IsTrue c.is_open → (trees : Trees) → c.may_leave trees → Stored P trees
-  pub left : (trees : Trees) → c.may_leave trees → Stored P trees ⊎ Stored Q trees
+  pub left_open : IsTrue c.is_open → (trees : Trees) → c.may_leave trees → IsOnDisk P trees
+  pub left : (trees : Trees) → c.may_leave trees → IsOnDisk P trees ⊎ IsOnDisk Q trees

@@ -6,7 +6,7 @@ use Rattle.sqlite.proofs.Callers.{runs_as}
 use Rattle.sqlite.proofs.StateLemmas.{survives_weaker}
 use Rattle.table_access.specs.Unit.{IsLeft}
 use Rattle.table_access.proofs.Texts.{rollback_is, refused_leaves, rollback_commits, on_error}
-use Rattle.table_access.proofs.rollback.Goals as goal
+use Rattle.table_access.proofs.run_rollback.Goals as goal
 
 undone : (old new : State) (r : Result ℕ Error) → Executes (codes "ROLLBACK") [] old new r → OnOk r (IsRolledBack old new) × OnErr r (IsLeft old new)
 undone old new (Ok count) h = let is = rollback_is old.now.schema in let ran = runs_as (codes "ROLLBACK") [] old new _ refl Rollback is.0 is.1 count h in (ran.1, tt)
