@@ -4,7 +4,7 @@ use Rattle.broker_core.specs.declared.answer.Answer.{Answer}
 use Rattle.broker_core.specs.declared.answer.Answer.TheVariants.{Done, Already, Shown, Denied, Unknown, BadForm, Taken, Full, NotPermitted, Pattern, Memory, Store, Stopped}
 use Rattle.broker_core.specs.Machine.{is_step}
 
-pub only_stopped : (told : Answer) → is_step told ≡ false → ¬ (told ≡ Pattern) → ¬ (told ≡ Memory) → ¬ (told ≡ Store) → told ≡ Stopped
+pub only_stopped : (answer : Answer) → is_step answer ≡ false → ¬ (answer ≡ Pattern) → ¬ (answer ≡ Memory) → ¬ (answer ≡ Store) → answer ≡ Stopped
 only_stopped (Done d) fails p m s = absurd (cc)
 only_stopped (Already d) fails p m s = absurd (cc)
 only_stopped (Shown x) fails p m s = absurd (cc)

@@ -1,5 +1,5 @@
 -- Values made of items without floats have none.
-use Rattle.std.proofs.Common.{◌≡◌, ℕ, List, [], ◌∷◌, map, Bool, true, false, Option, Some, None, ◌||◌, refl, ap, ◌∙◌}
+use Rattle.std.proofs.Common.{◌≡◌, List, [], ◌∷◌, map, Bool, true, false, Option, Some, None, ◌||◌, refl, ap, ◌∙◌}
 use Rattle.serde_json.specs.Data.{Data, string}
 use Rattle.serde_json.specs.View.{items_of}
 use Rattle.serde_json.specs.Written.{has_float, items_have_float}
@@ -10,7 +10,7 @@ use Rattle.broker_core.specs.declared.command.Marks.{Marks}
 use Rattle.broker_core.specs.declared.command.Version.{Version}
 use Rattle.broker_core.specs.declared.need.PairFault.{PairFault}
 use Rattle.broker_core.specs.Text.{Text}
-use Rattle.answer_texts.specs.Data.{or_null, whole, pair_fault, matrix_row, deployed_item, version_item, environment_data, gate_data}
+use Rattle.answer_texts.specs.Data.{or_null, pair_fault, matrix_row, deployed_item, version_item, environment_data, gate_data}
 
 pub whole_items : {A : Type 0} (f : A → Data) (xs : List A) → ((x : A) → has_float (f x) ≡ false) → items_have_float (items_of (map f xs)) ≡ false
 whole_items f [] h = refl

@@ -1,7 +1,6 @@
 -- the bodies and the statuses of answers (this project's own choice): compact JSON without a newline
-use Rattle.std.specs.Prelude.{◌≡◌, ℕ, [], ◌∷◌, codes, Option, MatchOption, String, string_bytes, false}
+use Rattle.std.specs.Prelude.{◌≡◌, ℕ, [], codes, Option, MatchOption, String, string_bytes, false}
 use Rattle.std.specs.declared.alloc.Global.{Global}
-use Rattle.serde_json.specs.Data.{string}
 use Rattle.serde_json.specs.Written.{compact_text}
 use Rattle.broker_core.specs.declared.answer.Answer.{Answer}
 use Rattle.broker_core.specs.declared.answer.Answer.TheVariants as answer
@@ -11,25 +10,25 @@ use Rattle.broker_core.specs.declared.policy.Rule.TheVariants.{A1}
 use Rattle.broker_core.specs.Text.{Text}
 use Rattle.broker_core.specs.Words.{rule_text, missing_text, clash_text, fault_text}
 use Rattle.broker_core.specs.Machine.{is_step}
-use Rattle.answer_texts.specs.Data.{says, items, pair_fault, matrix_row, detail_fields, environment_data, gate_data}
+use Rattle.answer_texts.specs.Data.{says, word_data, form_data, faults_data, matrix_data, detail_data, environment_data, gate_data}
 
 -- a pact is shown as its normal text
 abbrev pub shown_text : Shown → Text
 shown_text (shown.Pact text) = text
 shown_text (shown.Environment e marks deployed released) = compact_text (environment_data e marks deployed released)
 shown_text (shown.Gate e marks permitted faults) = compact_text (gate_data e marks permitted faults)
-shown_text (shown.Matrix rows) = compact_text (says (codes "shown") ((codes "rows", items matrix_row rows) ∷ []))
+shown_text (shown.Matrix rows) = compact_text (matrix_data rows)
 
 abbrev pub answer_text : Answer → Text
-answer_text (answer.Done d) = compact_text (says (codes "done") (detail_fields d))
-answer_text (answer.Already d) = compact_text (says (codes "already") (detail_fields d))
+answer_text (answer.Done d) = compact_text (detail_data (codes "done") d)
+answer_text (answer.Already d) = compact_text (detail_data (codes "already") d)
 answer_text (answer.Shown x) = shown_text x
-answer_text (answer.Denied rule) = compact_text (says (codes "denied") ((codes "rule", string (rule_text rule)) ∷ []))
-answer_text (answer.Unknown what) = compact_text (says (codes "unknown") ((codes "what", string (missing_text what)) ∷ []))
-answer_text (answer.BadForm f) = compact_text (says (codes "bad form") ((codes "fault", string (fault_text f)) ∷ []))
-answer_text (answer.Taken what) = compact_text (says (codes "taken") ((codes "what", string (clash_text what)) ∷ []))
+answer_text (answer.Denied rule) = compact_text (word_data (codes "denied") (codes "rule") (rule_text rule))
+answer_text (answer.Unknown what) = compact_text (word_data (codes "unknown") (codes "what") (missing_text what))
+answer_text (answer.BadForm f) = compact_text (form_data (fault_text f))
+answer_text (answer.Taken what) = compact_text (word_data (codes "taken") (codes "what") (clash_text what))
 answer_text answer.Full = compact_text (says (codes "full") [])
-answer_text (answer.NotPermitted faults) = compact_text (says (codes "not permitted") ((codes "faults", items pair_fault faults) ∷ []))
+answer_text (answer.NotPermitted faults) = compact_text (faults_data faults)
 answer_text answer.Pattern = compact_text (says (codes "pattern") [])
 answer_text answer.Memory = compact_text (says (codes "memory") [])
 answer_text answer.Store = compact_text (says (codes "store") [])
@@ -54,4 +53,4 @@ status_of answer.Stopped = 503
 
 -- the text that was made is the answer's; none is made for an answer that is no step, whose text is constant
 abbrev pub IsMade : Option (String Global) → Answer → Type 0
-IsMade made told = MatchOption made (is_step told ≡ false) (λ text. string_bytes text ≡ answer_text told)
+IsMade made outcome = MatchOption made (is_step outcome ≡ false) (λ text. string_bytes text ≡ answer_text outcome)

@@ -1,13 +1,14 @@
 -- answers as JSON values (this project's own choice): the members of an object stand in the order of their keys' bytes
-use Rattle.std.specs.Prelude.{ℕ, List, [], ◌∷◌, map, Bool, true, false, Option, if◌then◌else◌, codes}
+use Rattle.std.specs.Prelude.{◌≡◌, String, string_bytes, ℕ, List, [], ◌∷◌, map, Bool, true, false, Option, codes}
 use Rattle.std.specs.Option.{option_map_or}
+use Rattle.std.specs.declared.alloc.Global.{Global}
+use Rattle.serde_json.specs.Written.{compact_text}
 use Rattle.serde_json.specs.Data.{unsigned, Data, null, boolean, number, string, array, object, Members, no_members, member}
 use Rattle.serde_json.specs.View.{items_of}
 use Rattle.broker_core.specs.declared.answer.Detail.{Detail}
 use Rattle.broker_core.specs.declared.answer.Detail.TheVariants as detail
 use Rattle.broker_core.specs.declared.answer.DeployedItem.{DeployedItem}
 use Rattle.broker_core.specs.declared.answer.MatrixRow.{MatrixRow}
-use Rattle.broker_core.specs.declared.answer.Verified.{Verified}
 use Rattle.broker_core.specs.declared.command.Marks.{Marks}
 use Rattle.broker_core.specs.declared.command.Version.{Version}
 use Rattle.broker_core.specs.declared.need.PairFault.{PairFault}
@@ -41,7 +42,9 @@ pair_fault f = fields (
     ∷ [])
 
 abbrev pub deployed_item : DeployedItem → Data
-deployed_item x = fields ((codes "instance", string x.instance) ∷ (codes "pacticipant", string x.pacticipant) ∷ (codes "version", string x.version) ∷ [])
+deployed_item x =
+    fields ((codes "instance", string x.instance) ∷ (codes "pacticipant", string x.pacticipant) ∷
+    (codes "version", string x.version) ∷ [])
 
 abbrev pub version_item : Version → Data
 version_item v = fields ((codes "pacticipant", string v.pacticipant) ∷ (codes "version", string v.name) ∷ [])
@@ -66,12 +69,33 @@ matrix_row x = fields (
 abbrev pub says : Text → List (Text × Data) → Data
 says word fs = fields ((codes "answer", string word) ∷ fs)
 
--- what Done and Already tell beside the word
+-- an object of one more member, a text
+abbrev pub word_data : Text → Text → Text → Data
+word_data word key text = says word ((key, string text) ∷ [])
+
+abbrev pub form_data : Text → Data
+form_data text = says (codes "bad form") ((codes "fault", string text) ∷ [])
+
+abbrev pub faults_data : List PairFault → Data
+faults_data faults = says (codes "not permitted") ((codes "faults", items pair_fault faults) ∷ [])
+
+abbrev pub matrix_data : List MatrixRow → Data
+matrix_data rows = says (codes "shown") ((codes "rows", items matrix_row rows) ∷ [])
+
+-- the compact text of the value
+abbrev pub IsJsonText : Data → String Global → Type 0
+IsJsonText value text = string_bytes text ≡ compact_text value
+
+-- what Done and Already show beside the word
 abbrev pub detail_fields : Detail → List (Text × Data)
 detail_fields detail.Plain = []
 detail_fields (detail.Content n) = (codes "content", whole n) ∷ []
 detail_fields (detail.Result n) = (codes "result", whole n) ∷ []
-detail_fields (detail.Replies failing n success) = (codes "failing", items whole failing) ∷ (codes "result", whole n) ∷ (codes "success", boolean success) ∷ []
+detail_fields (detail.Replies failing n success) =
+    (codes "failing", items whole failing) ∷ (codes "result", whole n) ∷ (codes "success", boolean success) ∷ []
+
+abbrev pub detail_data : Text → Detail → Data
+detail_data word d = says word (detail_fields d)
 
 -- the last member, in a strict environment alone
 abbrev pub strict_field : Bool → List (Text × Data)

@@ -6,88 +6,90 @@ ghost use Rattle.answer_texts.specs.AnswerText as spec;
 use crate::texts::{
     detail_text, faults_text, form_text, plain_text, rule_text, shown_text, what_text,
 };
-use broker_core::answer::Answer as Told;
+use broker_core::answer::Answer as Outcome;
 use broker_core::policy::Rule;
 use std::alloc::{AllocError, Global};
 use std::marker::Model;
 
-/// What is told, with the text of its body. A contract sees what is told.
+/// What came of a command, with the text of its body. A contract sees what came of it.
 #[derive(Drop)]
 pub struct Answer {
-    told: Told,
+    outcome: Outcome,
     made: Option<String>,
 }
 
 impl Model for Answer {
-    ghost use Rattle.broker_core.specs.declared.answer.Answer.{Answer as ToldAnswer};
+    ghost use Rattle.broker_core.specs.declared.answer.Answer.{Answer as OutcomeAnswer};
     ghost use Rattle.answer_texts.specs.AnswerText.{IsMade};
 
-    ghost Value = { ToldAnswer };
+    ghost Value = { OutcomeAnswer };
 
-    ghost view = { λ a. a.told };
+    ghost view = { λ a. a.outcome };
 
-    ghost invariant = { λ a. IsMade a.made a.told };
+    ghost invariant = { λ a. IsMade a.made a.outcome };
 }
 
 /// The body of an answer, made.
-fn made_text(alloc: Global, told: &Told) -> Result<String, AllocError>
-    ensures { IfOk result (λ text. string_bytes text ≡ spec.answer_text told.now) }
+fn made_text(alloc: Global, outcome: &Outcome) -> Result<String, AllocError>
+    ensures { IfOk result (λ text. string_bytes text ≡ spec.answer_text outcome.now) }
 {
-    match told {
-        Told::Done(detail) => detail_text(alloc, "done", detail),
-        Told::Already(detail) => detail_text(alloc, "already", detail),
-        Told::Shown(shown) => shown_text(alloc, shown),
-        Told::Denied(rule) => rule_text(alloc, rule.as_str()),
-        Told::Unknown(what) => what_text(alloc, "unknown", what.as_str()),
-        Told::BadForm(fault) => form_text(alloc, fault),
-        Told::Taken(what) => what_text(alloc, "taken", what.as_str()),
-        Told::Full => plain_text(alloc, "full"),
-        Told::NotPermitted(faults) => faults_text(alloc, faults.as_slice()),
-        Told::Pattern => plain_text(alloc, "pattern"),
-        Told::Memory => plain_text(alloc, "memory"),
-        Told::Store => plain_text(alloc, "store"),
-        Told::Stopped => plain_text(alloc, "stopped"),
+    match outcome {
+        Outcome::Done(detail) => detail_text(alloc, "done", detail),
+        Outcome::Already(detail) => detail_text(alloc, "already", detail),
+        Outcome::Shown(shown) => shown_text(alloc, shown),
+        Outcome::Denied(rule) => rule_text(alloc, rule.as_str()),
+        Outcome::Unknown(what) => what_text(alloc, "unknown", what.as_str()),
+        Outcome::BadForm(fault) => form_text(alloc, fault),
+        Outcome::Taken(what) => what_text(alloc, "taken", what.as_str()),
+        Outcome::Full => plain_text(alloc, "full"),
+        Outcome::NotPermitted(faults) => faults_text(alloc, faults.as_slice()),
+        Outcome::Pattern => plain_text(alloc, "pattern"),
+        Outcome::Memory => plain_text(alloc, "memory"),
+        Outcome::Store => plain_text(alloc, "store"),
+        Outcome::Stopped => plain_text(alloc, "stopped"),
     }
 }
 
-/// The body of an answer that tells no step.
-fn fixed_text(told: &Told) -> &'static str
-    requires { is_step told.now ≡ false }
-    ensures { result.now ≡ spec.answer_text told.now }
+/// The body of an answer that is no step.
+fn fixed_text(outcome: &Outcome) -> &'static str
+    requires { is_step outcome.now ≡ false }
+    ensures { result.now ≡ spec.answer_text outcome.now }
 {
-    match told {
-        Told::Pattern => "{\"answer\":\"pattern\"}",
-        Told::Memory => "{\"answer\":\"memory\"}",
-        Told::Store => "{\"answer\":\"store\"}",
+    match outcome {
+        Outcome::Pattern => "{\"answer\":\"pattern\"}",
+        Outcome::Memory => "{\"answer\":\"memory\"}",
+        Outcome::Store => "{\"answer\":\"store\"}",
         _ => "{\"answer\":\"stopped\"}",
     }
 }
 
 impl Answer {
-    /// The answer that tells this, with its body. Without memory for the body there is none.
-    pub fn new(alloc: Global, told: Told) -> Result<Answer, AllocError>
-        ensures { IfOk result (λ answer. answer ≡ told) }
+    /// The answer of this outcome, with its body. Without memory for the body there is none.
+    pub fn new(alloc: Global, outcome: Outcome) -> Result<Answer, AllocError>
+        ensures { IfOk result (λ answer. answer ≡ outcome) }
     {
-        let text = made_text(alloc, &told)?;
+        let text = made_text(alloc, &outcome)?;
         Ok(Answer {
-            told,
+            outcome,
             made: Some(text),
         })
     }
 
-    /// The answer that tells why there was no step. Its body is constant, so that it takes no memory.
-    pub fn failed(told: Told) -> Answer
-        requires { is_step told ≡ false }
-        ensures { result ≡ told }
+    /// The answer that says why there was no step. Its body is constant, so that it takes no
+    /// memory.
+    pub fn failed(outcome: Outcome) -> Answer
+        requires { is_step outcome ≡ false }
+        ensures { result ≡ outcome }
     {
-        Answer { told, made: None }
+        let made = None;
+        Answer { outcome, made }
     }
 
-    /// What is told.
-    pub fn told(&self) -> &Told
+    /// What came of the command.
+    pub fn outcome(&self) -> &Outcome
         ensures { result.now ≡ self.now }
     {
-        &self.told
+        &self.outcome
     }
 
     /// The body: compact JSON without a newline, with the keys of objects in byte order.
@@ -96,7 +98,7 @@ impl Answer {
     {
         match &self.made {
             Some(text) => text.as_str(),
-            None => fixed_text(&self.told),
+            None => fixed_text(&self.outcome),
         }
     }
 
@@ -104,15 +106,15 @@ impl Answer {
     pub fn status(&self) -> u16
         ensures { result ≡ spec.status_of self.now }
     {
-        match &self.told {
-            Told::Done(_) | Told::Already(_) | Told::Shown(_) => 200,
-            Told::Denied(Rule::A1) => 401,
-            Told::Denied(_) => 403,
-            Told::Unknown(_) => 404,
-            Told::BadForm(_) => 422,
-            Told::Taken(_) | Told::Full | Told::NotPermitted(_) => 409,
-            Told::Pattern | Told::Store => 500,
-            Told::Memory | Told::Stopped => 503,
+        match &self.outcome {
+            Outcome::Done(_) | Outcome::Already(_) | Outcome::Shown(_) => 200,
+            Outcome::Denied(Rule::A1) => 401,
+            Outcome::Denied(_) => 403,
+            Outcome::Unknown(_) => 404,
+            Outcome::BadForm(_) => 422,
+            Outcome::Taken(_) | Outcome::Full | Outcome::NotPermitted(_) => 409,
+            Outcome::Pattern | Outcome::Store => 500,
+            Outcome::Memory | Outcome::Stopped => 503,
         }
     }
 }

@@ -59,7 +59,8 @@ fn version_value(alloc: Global, version: &Version) -> Result<Value, AllocError>
 }
 
 fn verified_value(alloc: Global, row: &MatrixRow, verified: &Verified) -> Result<Value, AllocError>
-    ensures { IfOk result (λ v. view v ≡ spec.matrix_row (record row.now { verified = Some verified.now })) }
+    ensures { IfOk result (λ v. view v ≡ spec.matrix_row
+        (record row.now { verified = Some verified.now })) }
 {
     json!(in alloc; {
         "consumer": row.consumer.as_str(),

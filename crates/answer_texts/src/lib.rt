@@ -3,8 +3,6 @@
 
 mod answer;
 mod items;
-#[cfg(test)]
-mod tests;
 mod texts;
 
 pub use answer::Answer;

@@ -1,11 +1,12 @@
-//! The bodies of answers as texts, by what is told.
+//! The bodies of answers as texts.
 ghost use Rattle.std.specs.Prelude.{◌≡◌, IfOk, false, [], ◌∷◌, codes, string_bytes};
-ghost use Rattle.serde_json.specs.Data.{string, boolean};
+ghost use Rattle.serde_json.specs.Data.{string};
 ghost use Rattle.serde_json.specs.View.{view};
 ghost use Rattle.serde_json.specs.Written.{has_float, compact_text};
 ghost use Rattle.broker_core.specs.Words.{fault_text};
 ghost use Rattle.answer_texts.specs.Data as spec;
 ghost use Rattle.answer_texts.specs.AnswerText as bodies;
+ghost use Rattle.answer_texts.specs.Data.{IsJsonText};
 
 use crate::items::{deployed_list, fault_list, place_list, row_list, version_list};
 use broker_core::answer::{DeployedItem, Detail, MatrixRow, Shown};
@@ -17,19 +18,19 @@ use std::alloc::{AllocError, Global};
 /// The compact text of a value.
 fn text_of(alloc: Global, value: Value) -> Result<String, AllocError>
     requires { has_float (view value) ≡ false }
-    ensures { IfOk result (λ text. string_bytes text ≡ compact_text (view value)) }
+    ensures { IfOk result (IsJsonText (view value)) }
 {
     value.to_string(alloc)
 }
 
 pub(crate) fn plain_text(alloc: Global, word: &str) -> Result<String, AllocError>
-    ensures { IfOk result (λ text. string_bytes text ≡ compact_text (spec.says word.now [])) }
+    ensures { IfOk result (IsJsonText (spec.says word.now [])) }
 {
     text_of(alloc, json!(in alloc; { "answer": word })?)
 }
 
 fn content_text(alloc: Global, word: &str, content: u64) -> Result<String, AllocError>
-    ensures { IfOk result (λ text. string_bytes text ≡ compact_text (spec.says word.now ((codes "content", spec.whole content) ∷ []))) }
+    ensures { IfOk result (IsJsonText (spec.detail_data word.now (Detail.Content content))) }
 {
     text_of(
         alloc,
@@ -38,7 +39,7 @@ fn content_text(alloc: Global, word: &str, content: u64) -> Result<String, Alloc
 }
 
 fn result_text(alloc: Global, word: &str, number: u64) -> Result<String, AllocError>
-    ensures { IfOk result (λ text. string_bytes text ≡ compact_text (spec.says word.now ((codes "result", spec.whole number) ∷ []))) }
+    ensures { IfOk result (IsJsonText (spec.detail_data word.now (Detail.Result number))) }
 {
     text_of(
         alloc,
@@ -53,7 +54,8 @@ fn replies_value(
     number: u64,
     success: bool,
 ) -> Result<Value, AllocError>
-    ensures { IfOk result (λ v. view v ≡ spec.says word.now ((codes "failing", spec.items spec.whole failing.now) ∷ (codes "result", spec.whole number) ∷ (codes "success", boolean success) ∷ [])) }
+    ensures { IfOk result (λ v. view v ≡ spec.detail_data word.now
+        (Detail.Replies failing.now number success)) }
 {
     let failing = place_list(alloc, failing)?;
     json!(in alloc; {
@@ -71,14 +73,14 @@ fn replies_text(
     number: u64,
     success: bool,
 ) -> Result<String, AllocError>
-    ensures { IfOk result (λ text. string_bytes text ≡ compact_text (spec.says word.now (
-        (codes "failing", spec.items spec.whole failing.now) ∷ (codes "result", spec.whole number) ∷ (codes "success", boolean success) ∷ []))) }
+    ensures { IfOk result (IsJsonText
+        (spec.detail_data word.now (Detail.Replies failing.now number success))) }
 {
     text_of(alloc, replies_value(alloc, word, failing, number, success)?)
 }
 
 pub(crate) fn detail_text(alloc: Global, word: &str, detail: &Detail) -> Result<String, AllocError>
-    ensures { IfOk result (λ text. string_bytes text ≡ compact_text (spec.says word.now (spec.detail_fields detail.now))) }
+    ensures { IfOk result (IsJsonText (spec.detail_data word.now detail.now)) }
 {
     match detail {
         Detail::Plain => plain_text(alloc, word),
@@ -93,7 +95,7 @@ pub(crate) fn detail_text(alloc: Global, word: &str, detail: &Detail) -> Result<
 }
 
 pub(crate) fn rule_text(alloc: Global, rule: &str) -> Result<String, AllocError>
-    ensures { IfOk result (λ text. string_bytes text ≡ compact_text (spec.says (codes "denied") ((codes "rule", string rule.now) ∷ []))) }
+    ensures { IfOk result (IsJsonText (spec.word_data (codes "denied") (codes "rule") rule.now)) }
 {
     text_of(
         alloc,
@@ -102,13 +104,14 @@ pub(crate) fn rule_text(alloc: Global, rule: &str) -> Result<String, AllocError>
 }
 
 pub(crate) fn what_text(alloc: Global, word: &str, what: &str) -> Result<String, AllocError>
-    ensures { IfOk result (λ text. string_bytes text ≡ compact_text (spec.says word.now ((codes "what", string what.now) ∷ []))) }
+    ensures { IfOk result (IsJsonText (spec.word_data word.now (codes "what") what.now)) }
 {
     text_of(alloc, json!(in alloc; { "answer": word, "what": what })?)
 }
 
 pub(crate) fn form_text(alloc: Global, fault: &FormFault) -> Result<String, AllocError>
-    ensures { IfOk result (λ text. string_bytes text ≡ compact_text (spec.says (codes "bad form") ((codes "fault", string (fault_text fault.now)) ∷ []))) }
+    ensures { IfOk result (λ text. string_bytes text ≡ compact_text
+        (spec.says (codes "bad form") ((codes "fault", string (fault_text fault.now)) ∷ []))) }
 {
     let fault = fault.to_string(alloc)?;
     text_of(
@@ -118,27 +121,27 @@ pub(crate) fn form_text(alloc: Global, fault: &FormFault) -> Result<String, Allo
 }
 
 fn faults_value(alloc: Global, faults: &[PairFault]) -> Result<Value, AllocError>
-    ensures { IfOk result (λ v. view v ≡ spec.says (codes "not permitted") ((codes "faults", spec.items spec.pair_fault faults.now) ∷ [])) }
+    ensures { IfOk result (λ v. view v ≡ spec.faults_data faults.now) }
 {
     let faults = fault_list(alloc, faults)?;
     json!(in alloc; { "answer": "not permitted", "faults": faults })
 }
 
 pub(crate) fn faults_text(alloc: Global, faults: &[PairFault]) -> Result<String, AllocError>
-    ensures { IfOk result (λ text. string_bytes text ≡ compact_text (spec.says (codes "not permitted") ((codes "faults", spec.items spec.pair_fault faults.now) ∷ []))) }
+    ensures { IfOk result (IsJsonText (spec.faults_data faults.now)) }
 {
     text_of(alloc, faults_value(alloc, faults)?)
 }
 
 fn matrix_value(alloc: Global, rows: &[MatrixRow]) -> Result<Value, AllocError>
-    ensures { IfOk result (λ v. view v ≡ spec.says (codes "shown") ((codes "rows", spec.items spec.matrix_row rows.now) ∷ [])) }
+    ensures { IfOk result (λ v. view v ≡ spec.matrix_data rows.now) }
 {
     let rows = row_list(alloc, rows)?;
     json!(in alloc; { "answer": "shown", "rows": rows })
 }
 
 fn matrix_text(alloc: Global, rows: &[MatrixRow]) -> Result<String, AllocError>
-    ensures { IfOk result (λ text. string_bytes text ≡ compact_text (spec.says (codes "shown") ((codes "rows", spec.items spec.matrix_row rows.now) ∷ []))) }
+    ensures { IfOk result (IsJsonText (spec.matrix_data rows.now)) }
 {
     text_of(alloc, matrix_value(alloc, rows)?)
 }
@@ -151,7 +154,8 @@ fn environment_value(
     deployed: &[DeployedItem],
     released: &[Version],
 ) -> Result<Value, AllocError>
-    ensures { IfOk result (λ v. view v ≡ spec.environment_data environment.now marks deployed.now released.now) }
+    ensures { IfOk result (λ v. view v ≡ spec.environment_data environment.now marks deployed.now
+        released.now) }
 {
     let deployed = deployed_list(alloc, deployed)?;
     let released = version_list(alloc, released)?;
@@ -182,7 +186,8 @@ fn environment_text(
     deployed: &[DeployedItem],
     released: &[Version],
 ) -> Result<String, AllocError>
-    ensures { IfOk result (λ text. string_bytes text ≡ compact_text (spec.environment_data environment.now marks deployed.now released.now)) }
+    ensures { IfOk result (IsJsonText
+        (spec.environment_data environment.now marks deployed.now released.now)) }
 {
     text_of(
         alloc,
@@ -228,7 +233,7 @@ fn gate_text(
     permitted: bool,
     faults: &[PairFault],
 ) -> Result<String, AllocError>
-    ensures { IfOk result (λ text. string_bytes text ≡ compact_text (spec.gate_data environment.now marks permitted faults.now)) }
+    ensures { IfOk result (IsJsonText (spec.gate_data environment.now marks permitted faults.now)) }
 {
     text_of(
         alloc,

@@ -110,6 +110,13 @@ no_rows = record { contracts = []; deployed = []; released = [] }
 abbrev pub pact_rows : Rows
 pact_rows = record no_rows { contracts = ((version shop one, stock), 1) ∷ [] }
 
+-- no team's token is the office's
+pub red_is_no_office : ¬ (office_token ≡ red_token)
+red_is_no_office = other_text office_token red_token refl
+
+pub blue_is_no_office : ¬ (office_token ≡ blue_token)
+blue_is_no_office = other_text office_token blue_token refl
+
 -- no one has a digest that no token of the table has
 pub put_other : (table : Text → Option Text) (key value x : Text) → value ≢ x → ((q : Text) → table q ≢ Some x) → (q : Text) → put_at same_text table key (Some value) q ≢ Some x
 put_other table key value x other none q e =

@@ -17,7 +17,8 @@ use Rattle.broker_core.specs.Gate.{Judges}
 use Rattle.broker_core.specs.Request.{refusal}
 use Rattle.broker_core.specs.Change.{Transition, unchanged_with, already, done, deploy, release, instance_of, is_text}
 use Rattle.broker_core.specs.Machine.{Primitives, IsCallerOfToken, StepOfCaller, FindsFault, Step, TakesEffect}
-use Rattle.broker_core.specs.Laws.{HasOneCaller, IsJudged, DeploysAsJudged, ReleasesAsJudged}
+use Rattle.broker_core.specs.Laws.{TeamsDiffer, IsJudged, DeploysAsJudged, ReleasesAsJudged}
+use Rattle.broker_core.proofs.Lists.{some_is}
 use Rattle.broker_core.proofs.Judgement.{text_is}
 use Rattle.broker_core.proofs.Locality.{calls_same}
 use Rattle.broker_core.proofs.Retry.{put_at-same, place-refl, mark-refl}
@@ -63,7 +64,7 @@ released_stands s e v = by_old (s.released (e, v)) refl
 
 -- a command that is let through up to the gate does what it does there
 acts_of : (parts : Primitives) (s : State) (token : Option Text) (caller : Caller) (command : Command) (out : Transition)
-    → HasOneCaller s → IsCallerOfToken parts s token (Some caller) → ((f : Option FormFault) → FindsFault parts command f → f ≡ None) → refusal s caller command ≡ None
+    → TeamsDiffer s → IsCallerOfToken parts s token (Some caller) → ((f : Option FormFault) → FindsFault parts command f → f ≡ None) → refusal s caller command ≡ None
     → Step parts s token command out → TakesEffect parts s command out
 acts_of parts s token caller command out one known formed free step = by_who step.0 (calls_same parts s s token one (λ digest c. (λ k. k, λ k. k)) step.0 (Some caller) step.1 known) step.2
   where
@@ -78,10 +79,7 @@ acts_of parts s token caller command out one known formed free step = by_who ste
 
     by_who : (who : Option Caller) → who ≡ Some caller → MatchOption who (out ≡ unchanged_with s (Denied A1)) (λ c. StepOfCaller parts s c command out) → TakesEffect parts s command out
     by_who None is h = absurd (cc)
-    by_who (Some c) is h = by_found c (inside c is) h.0 (formed h.0 h.1) h.2
-      where
-        inside : (x : Caller) → Some x ≡ Some caller → x ≡ caller
-        inside x e = cc
+    by_who (Some c) is h = by_found c (some_is c caller is) h.0 (formed h.0 h.1) h.2
 
 -- what is recorded where the gate permits it is judged
 judged : (s : State) (e : Text) (v : Version) (IsRecorded : State → Type 0) (recorded out : Transition)

@@ -21,5 +21,4 @@ pub mod Sorting
 pub mod Listings
 pub mod Matrix
 pub mod Exists
-pub mod LastRow
 pub mod StepLemmas

@@ -13,38 +13,38 @@ use Rattle.broker_core.specs.Change.{end_support}
 use Rattle.broker_core.proofs.Judgement.{Rows, row_keys}
 use Rattle.broker_core.proofs.Listings.{deployed_listed, released_listed}
 use Rattle.broker_core.proofs.Matrix.{row, matrix_listed}
-use Rattle.broker_core.proofs.Fixture.{shop, stock, Answers, red_token, blue_token, red, blue, live, one, two, gated, published, pact_rows}
+use Rattle.broker_core.proofs.Fixture.{blue_is_no_office, red_is_no_office, shop, stock, Answers, red_token, blue_token, red, blue, live, one, two, gated, published, pact_rows}
 use Rattle.broker_core.proofs.GateExamples.{both_standing, standing_rows, two_instances, instance_rows, passed_again, stock_rows, both_passed}
 
 an_environment_lists_what_stands : Answers both_standing blue_token (GetEnvironment live) (Shown (shown.Environment live gated
     (record { pacticipant = shop; instance = []; version = two } ∷ record { pacticipant = stock; instance = []; version = one } ∷ []) (version shop one ∷ [])))
-an_environment_lists_what_stands = (_, (Some (Team blue), refl, (None, refl, (gated, refl, (_, deployed_listed both_standing (row_keys both_standing standing_rows) live, (_, released_listed both_standing (row_keys both_standing standing_rows) live, refl))))), refl)
+an_environment_lists_what_stands = (_, (Some (Team blue), (blue_is_no_office, refl), (None, refl, (gated, refl, (_, deployed_listed both_standing (row_keys both_standing standing_rows) live, (_, released_listed both_standing (row_keys both_standing standing_rows) live, refl))))), refl)
 
 instances_are_listed_in_order : Answers two_instances red_token (GetEnvironment live) (Shown (shown.Environment live gated
     (record { pacticipant = stock; instance = codes "a"; version = one } ∷ record { pacticipant = stock; instance = codes "b"; version = two } ∷ []) []))
-instances_are_listed_in_order = (_, (Some (Team red), refl, (None, refl, (gated, refl, (_, deployed_listed two_instances (row_keys two_instances instance_rows) live, (_, released_listed two_instances (row_keys two_instances instance_rows) live, refl))))), refl)
+instances_are_listed_in_order = (_, (Some (Team red), (red_is_no_office, refl), (None, refl, (gated, refl, (_, deployed_listed two_instances (row_keys two_instances instance_rows) live, (_, released_listed two_instances (row_keys two_instances instance_rows) live, refl))))), refl)
 
 a_version_is_taken_out_of_its_own_instance_alone : Answers two_instances blue_token (Undeploy live (version stock two) (Some (codes "a"))) (Unknown missing.Deployed)
-a_version_is_taken_out_of_its_own_instance_alone = (_, (Some (Team blue), refl, (None, refl, refl)), refl)
+a_version_is_taken_out_of_its_own_instance_alone = (_, (Some (Team blue), (blue_is_no_office, refl), (None, refl, refl)), refl)
 
 a_deployed_version_is_taken_out : Answers two_instances blue_token (Undeploy live (version stock two) (Some (codes "b"))) (Done Plain)
-a_deployed_version_is_taken_out = (_, (Some (Team blue), refl, (None, refl, refl)), refl)
+a_deployed_version_is_taken_out = (_, (Some (Team blue), (blue_is_no_office, refl), (None, refl, refl)), refl)
 
 the_support_of_a_release_ends_once : Answers (end_support both_standing live (version shop one)).state red_token (EndSupport live (version shop one)) (Unknown missing.Released)
-the_support_of_a_release_ends_once = (_, (Some (Team red), refl, (None, refl, refl)), refl)
+the_support_of_a_release_ends_once = (_, (Some (Team red), (red_is_no_office, refl), (None, refl, refl)), refl)
 
 abbrev pub verified_as : Text → ℕ → Bool → Option Verified
 verified_as provider_version number pass = Some (record { provider_version = provider_version; result = number; latest = record { pass = pass; checked = false } })
 
 the_matrix_shows_a_contract_without_results : Answers published red_token (GetMatrix (version shop one)) (Shown (shown.Matrix (row (version shop one) stock None ∷ [])))
-the_matrix_shows_a_contract_without_results = (_, (Some (Team red), refl, (None, refl, (_, matrix_listed published (row_keys published pact_rows) (version shop one), refl))), refl)
+the_matrix_shows_a_contract_without_results = (_, (Some (Team red), (red_is_no_office, refl), (None, refl, (_, matrix_listed published (row_keys published pact_rows) (version shop one), refl))), refl)
 
 the_matrix_shows_the_latest_result : Answers passed_again red_token (GetMatrix (version shop one)) (Shown (shown.Matrix (row (version shop one) stock (verified_as one 3 true) ∷ [])))
-the_matrix_shows_the_latest_result = (_, (Some (Team red), refl, (None, refl, (_, matrix_listed passed_again (row_keys passed_again stock_rows) (version shop one), refl))), refl)
+the_matrix_shows_the_latest_result = (_, (Some (Team red), (red_is_no_office, refl), (None, refl, (_, matrix_listed passed_again (row_keys passed_again stock_rows) (version shop one), refl))), refl)
 
 abbrev pub both_contracts : Rows
 both_contracts = record standing_rows { deployed = []; released = [] }
 
 the_matrix_of_a_provider_shows_its_consumers : Answers both_passed blue_token (GetMatrix (version stock one))
     (Shown (shown.Matrix (row (version shop one) stock (verified_as one 1 true) ∷ row (version shop two) stock (verified_as one 2 true) ∷ [])))
-the_matrix_of_a_provider_shows_its_consumers = (_, (Some (Team blue), refl, (None, refl, (_, matrix_listed both_passed (row_keys both_passed both_contracts) (version stock one), refl))), refl)
+the_matrix_of_a_provider_shows_its_consumers = (_, (Some (Team blue), (blue_is_no_office, refl), (None, refl, (_, matrix_listed both_passed (row_keys both_passed both_contracts) (version stock one), refl))), refl)

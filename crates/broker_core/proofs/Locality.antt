@@ -21,7 +21,7 @@ use Rattle.broker_core.specs.Gate.{Stands, consumer_of, NeedsStanding, NeedsAbse
 use Rattle.broker_core.specs.Request.{refusal}
 use Rattle.broker_core.specs.Change.{Transition, unchanged_with, already, done, deploy, instance_of, is_text}
 use Rattle.broker_core.specs.Machine.{Primitives, StepOfCaller, HasDigest, IsCallerOfDigest, IsCallerOfToken, TakesEffect}
-use Rattle.broker_core.specs.Laws.{HasOneCaller, Concerns, Agree, GateLocality}
+use Rattle.broker_core.specs.Laws.{TeamsDiffer, Concerns, Agree, GateLocality}
 use Rattle.broker_core.proofs.Listing.{Lists-same}
 use Rattle.broker_core.proofs.Order.{fault_cmp_total}
 
@@ -139,14 +139,19 @@ module _ {parts : Primitives} {s t : State} {v : Version} {e : Text} {token : Op
   refusal_same Office instance grants = let env = agree.environment in let owner = agree.owner in let known = agree.known in cc
   refusal_same (Team team) instance grants = let env = agree.environment in let owner = agree.owner in let known = agree.known in let grant = grants team refl in cc
 
-pub same_who : (s t : State) (digest : Text) → HasOneCaller s → ((caller : Caller) → (HasDigest s digest caller → HasDigest t digest caller) × (HasDigest t digest caller → HasDigest s digest caller))
+pub same_who : (s t : State) (digest : Text) → TeamsDiffer s → ((caller : Caller) → (HasDigest s digest caller → HasDigest t digest caller) × (HasDigest t digest caller → HasDigest s digest caller))
     → (a b : Option Caller) → IsCallerOfDigest s digest a → IsCallerOfDigest t digest b → a ≡ b
 same_who s t digest one callers None None x y = refl
-same_who s t digest one callers None (Some b) x y = absurd (x b ((callers b).1 y))
-same_who s t digest one callers (Some a) None x y = absurd (y a ((callers a).0 x))
-same_who s t digest one callers (Some a) (Some b) x y = ap Some (one digest a b x ((callers b).1 y))
+same_who s t digest one callers None (Some Office) x y = absurd (x Office ((callers Office).1 y))
+same_who s t digest one callers None (Some (Team b)) x y = absurd (x (Team b) ((callers (Team b)).1 y.1))
+same_who s t digest one callers (Some Office) None x y = absurd (y Office ((callers Office).0 x))
+same_who s t digest one callers (Some (Team a)) None x y = absurd (y (Team a) ((callers (Team a)).0 x.1))
+same_who s t digest one callers (Some Office) (Some Office) x y = refl
+same_who s t digest one callers (Some Office) (Some (Team b)) x y = absurd (y.0 ((callers Office).0 x))
+same_who s t digest one callers (Some (Team a)) (Some Office) x y = absurd (x.0 ((callers Office).1 y))
+same_who s t digest one callers (Some (Team a)) (Some (Team b)) x y = ap (λ team. Some (Team team)) (one digest a b x.1 ((callers (Team b)).1 y.1))
 
-pub calls_same : (parts : Primitives) (s t : State) (token : Option Text) → HasOneCaller s → ((digest : Text) (caller : Caller) → (HasDigest s digest caller → HasDigest t digest caller) × (HasDigest t digest caller → HasDigest s digest caller))
+pub calls_same : (parts : Primitives) (s t : State) (token : Option Text) → TeamsDiffer s → ((digest : Text) (caller : Caller) → (HasDigest s digest caller → HasDigest t digest caller) × (HasDigest t digest caller → HasDigest s digest caller))
     → (a b : Option Caller) → IsCallerOfToken parts s token a → IsCallerOfToken parts t token b → a ≡ b
 calls_same parts s t None one callers a b x y = x ∙ sym y
 calls_same parts s t (Some secret) one callers a b x y = same_who s t (parts.digest_of secret) one (callers (parts.digest_of secret)) a b x y
@@ -174,7 +179,7 @@ gate_locality parts token e v instance s t a b one agree x y = by_who x.0 y.0 (c
 
     granted : (caller : Caller) (token : Option Text) → IsCallerOfToken parts s token (Some caller) → Agree parts token s t v e → (team : Text) → caller ≡ Team team → s.grants (team, e) ≡ t.grants (team, e)
     granted caller None calls agree team is = absurd (cc)
-    granted caller (Some secret) calls agree team is = agree.grant team secret refl (subst (HasDigest s (parts.digest_of secret)) is calls)
+    granted caller (Some secret) calls agree team is = agree.grant team secret refl (subst (λ c. IsCallerOfDigest s (parts.digest_of secret) (Some c)) is calls).1
 
     by_found : (caller : Caller) → IsCallerOfToken parts s token (Some caller) → (f g : Option FormFault) → f ≡ None → g ≡ None
         → MatchOption f (Judged parts s (Deploy e v instance) (refusal s caller (Deploy e v instance)) a) (λ fault. a ≡ unchanged_with s (BadForm fault))

@@ -1,6 +1,6 @@
--- a step has one outcome, where a file is read in one way
-use Rattle.std.proofs.Common.{◌≡◌, ℕ, List, refl, sym, ◌∙◌, ap, subst, if◌then◌else◌}
-use Rattle.std.specs.Prelude.{Option, Some, None, MatchOption, is_some}
+-- a step has one outcome, a refused pattern aside
+use Rattle.std.proofs.Common.{◌≡◌, ◌⊎◌, refl, sym, ◌∙◌, ap, subst, inl, inr, if◌then◌else◌}
+use Rattle.std.specs.Prelude.{Option, Some, None, MatchOption, is_some, IsTrue, Bool}
 use Rattle.std.specs.Cmp.{IsTotalOrder, on_total, then_total}
 use Rattle.std.specs.Cmp.Lexicographic.{nat_list_cmp_total, options_total}
 use Rattle.broker_core.specs.declared.policy.Caller.{Caller}
@@ -20,16 +20,11 @@ use Rattle.broker_core.specs.Request.{refusal, consumer_version}
 use Rattle.broker_core.specs.Change.{Transition, unchanged_with, put_team, put_pact, report, deploy, release, instance_of, text_of}
 use Rattle.broker_core.specs.declared.answer.Detail.TheVariants.{Result}
 use Rattle.broker_core.specs.Machine.{Primitives, StepOfCaller, Reading, pact_text, Step, FindsFault, TakesEffect, deployed_cmp, version_cmp, matrix_cmp, verified_version, report_replies, fault_of_reading}
-use Rattle.broker_core.specs.Machine.Reading.{IsPact}
-use Rattle.broker_core.specs.Laws.{HasOneCaller}
+use Rattle.broker_core.specs.Machine.Reading.{IsPact, IsRefused}
+use Rattle.broker_core.specs.Laws.{TeamsDiffer, TellsRefusal, IsReadOnce, AnswersRefusal, StepOnce}
+use Rattle.broker_core.proofs.Lists.{some_is}
 use Rattle.broker_core.proofs.Listing.{Lists-unique}
 use Rattle.broker_core.proofs.Locality.{AgreeHere, same_verdict, same_faults, same_who, calls_same}
-
--- each part gives one answer
-pub record AreFunctions (parts : Primitives) : Type 0 where
-  pub reads : (file : Text) (a b : Reading) → parts.Reads file a → parts.Reads file b → a ≡ b
-  pub replies : (body : Text) (a b : Option FormFault) → parts.ReadsReplies body a → parts.ReadsReplies body b → a ≡ b
-  pub fails : (text body : Text) (a b : Option (List ℕ)) → parts.Fails text body a → parts.Fails text body b → a ≡ b
 
 pub deployed_cmp_total : IsTotalOrder deployed_cmp
 deployed_cmp_total = then_total (on_total (λ (x : DeployedItem). x.pacticipant) nat_list_cmp_total)
@@ -44,9 +39,6 @@ matrix_cmp_total = then_total (on_total (λ (x : MatrixRow). x.consumer) nat_lis
     (then_total (on_total (λ (x : MatrixRow). x.provider) nat_list_cmp_total)
     (on_total (λ (x : MatrixRow). verified_version x.verified) (options_total nat_list_cmp_total))))
 
-some_is : {A : Type 0} (x y : A) → Some x ≡ Some y → x ≡ y
-some_is x y e = cc
-
 found_is : {A : Type 0} (o : Option A) (x y : A) → o ≡ Some x → o ≡ Some y → x ≡ y
 found_is o x y e d = some_is x y (sym e ∙ d)
 
@@ -56,88 +48,136 @@ itself s v e = record { environment = refl; deployed = λ p i. refl; released = 
 text_of_pact : (c p x y : Text) → IsPact c p x ≡ IsPact c p y → x ≡ y
 text_of_pact c p x y e = cc
 
-module _ (parts : Primitives) (are : AreFunctions parts) (s : State) (one : HasOneCaller s) where
-  acts_once : (c : Command) (a b : Transition) → TakesEffect parts s c a → TakesEffect parts s c b → a ≡ b
-  acts_once (PutTeam team token) a b x y =
+-- two readings as a pact, neither of which is a refusal
+one_text : (is_refusal : FormFault → Bool) (c p x y : Text)
+    → (IsPact c p x ≡ IsPact c p y) ⊎ (TellsRefusal is_refusal (IsPact c p x) ⊎ TellsRefusal is_refusal (IsPact c p y)) → x ≡ y
+one_text is_refusal c p x y (inl same) = text_of_pact c p x y same
+one_text is_refusal c p x y (inr (inl wrong)) = absurd wrong
+one_text is_refusal c p x y (inr (inr wrong)) = absurd wrong
+
+module _ (parts : Primitives) (is_refusal : FormFault → Bool) (s : State) (one : TeamsDiffer s) where
+  -- the form is at fault in that a pattern was refused
+  Refuses : Option FormFault → Type 0
+  Refuses found = (fault : FormFault) × (found ≡ Some fault) × IsTrue (is_refusal fault)
+
+  acts_once : (c : Command) → IsReadOnce parts is_refusal c → (a b : Transition) → TakesEffect parts s c a → TakesEffect parts s c b → a ≡ b
+  acts_once (PutTeam team token) are a b x y =
       x.2 ∙ (λ i. put_team s team (parts.digest_of token) (is_some (same_who s s (parts.digest_of token) one (λ caller. (λ k. k, λ k. k)) x.0 y.0 x.1 y.1 i))) ∙ sym y.2
-  acts_once (PutPacticipant p team) a b x y = x ∙ sym y
-  acts_once (PutEnvironment e marks) a b x y = x ∙ sym y
-  acts_once (PutGrant team e) a b x y = x ∙ sym y
-  acts_once (DeleteGrant team e) a b x y = x ∙ sym y
-  acts_once (PutVersion v branch) a b x y = x ∙ sym y
-  acts_once (PutPact path file) a b x y =
-      x.2 ∙ ap (put_pact s (consumer_version path) path.provider) (text_of_pact path.consumer path.provider x.0 y.0 (are.reads file _ _ x.1 y.1)) ∙ sym y.2
-  acts_once (GetPact path) a b x y = x.2 ∙ ap (λ text. unchanged_with s (Shown (shown.Pact text))) (found_is _ x.0 y.0 x.1 y.1) ∙ sym y.2
-  acts_once (GetBranchPact provider consumer branch) a b x y =
+  acts_once (PutPacticipant p team) are a b x y = x ∙ sym y
+  acts_once (PutEnvironment e marks) are a b x y = x ∙ sym y
+  acts_once (PutGrant team e) are a b x y = x ∙ sym y
+  acts_once (DeleteGrant team e) are a b x y = x ∙ sym y
+  acts_once (PutVersion v branch) are a b x y = x ∙ sym y
+  acts_once (PutPact path file) are a b x y =
+      x.2 ∙ ap (put_pact s (consumer_version path) path.provider) (one_text is_refusal path.consumer path.provider x.0 y.0 (are _ _ x.1 y.1)) ∙ sym y.2
+  acts_once (GetPact path) are a b x y = x.2 ∙ ap (λ text. unchanged_with s (Shown (shown.Pact text))) (found_is _ x.0 y.0 x.1 y.1) ∙ sym y.2
+  acts_once (GetBranchPact provider consumer branch) are a b x y =
       let v = found_is _ x.0 y.0 x.1 y.1 in
       let text = found_is _ x.2.0 y.2.0 (subst (λ (w : Version). pact_text s w provider ≡ Some x.2.0) v x.2.1) y.2.1 in
       x.2.2 ∙ ap (λ text. unchanged_with s (Shown (shown.Pact text))) text ∙ sym y.2.2
-  acts_once (PostResult path r success) a b x y =
+  acts_once (PostResult path r success) are a b x y =
       x.2 ∙ ap (λ content. report s (claimed_result content (version path.provider r.provider_version) success r.run) Result) (found_is _ x.0 y.0 x.1 y.1) ∙ sym y.2
-  acts_once (PostReplies path r replies) a b x y =
+  acts_once (PostReplies path r replies) are a b x y =
       let content = found_is _ x.0 y.0 x.1 y.1 in
       let text = found_is _ x.2.0 y.2.0 (subst (λ c. text_of s c ≡ Some x.2.0) content x.2.1) y.2.1 in
-      let failing = are.fails y.2.0 replies x.2.2.0 y.2.2.0 (subst (λ t. parts.Fails t replies x.2.2.0) text x.2.2.1) y.2.2.1 in
+      let failing = are.1 y.2.0 x.2.2.0 y.2.2.0 (subst (λ t. parts.Fails t replies x.2.2.0) text x.2.2.1) y.2.2.1 in
       x.2.2.2 ∙ (λ i. report_replies s (content i) (version path.provider r.provider_version) r.run (failing i)) ∙ sym y.2.2.2
-  acts_once (Deploy e v instance) a b x y =
+  acts_once (Deploy e v instance) are a b x y =
       x.3 ∙ (λ i. if same_verdict (itself s v e) x.2 y.2 i then deploy s e v (instance_of instance) else unchanged_with s (NotPermitted (same_faults (itself s v e) x.2 y.2 i))) ∙ sym y.3
-  acts_once (Undeploy e v instance) a b x y = x ∙ sym y
-  acts_once (Release e v) a b x y =
+  acts_once (Undeploy e v instance) are a b x y = x ∙ sym y
+  acts_once (Release e v) are a b x y =
       x.3 ∙ (λ i. if same_verdict (itself s v e) x.2 y.2 i then release s e v else unchanged_with s (NotPermitted (same_faults (itself s v e) x.2 y.2 i))) ∙ sym y.3
-  acts_once (EndSupport e v) a b x y = x ∙ sym y
-  acts_once (GetEnvironment e) a b x y =
+  acts_once (EndSupport e v) are a b x y = x ∙ sym y
+  acts_once (GetEnvironment e) are a b x y =
       let marks = found_is _ x.0 y.0 x.1 y.1 in
       let items = Lists-unique deployed_cmp_total x.2.0 y.2.0 x.2.1 y.2.1 in
       let versions = Lists-unique version_cmp_total x.2.2.0 y.2.2.0 x.2.2.1 y.2.2.1 in
       x.2.2.2 ∙ (λ i. unchanged_with s (Shown (shown.Environment e (marks i) (items i) (versions i)))) ∙ sym y.2.2.2
-  acts_once (CanIDeploy v e) a b x y =
+  acts_once (CanIDeploy v e) are a b x y =
       let marks = found_is _ x.0 y.0 x.1 y.1 in
       x.2.3 ∙ (λ i. unchanged_with s (Shown (shown.Gate e (marks i) (same_verdict (itself s v e) x.2.2 y.2.2 i) (same_faults (itself s v e) x.2.2 y.2.2 i)))) ∙ sym y.2.3
-  acts_once (GetMatrix v) a b x y = x.2 ∙ ap (λ rows. unchanged_with s (Shown (shown.Matrix rows))) (Lists-unique matrix_cmp_total x.0 y.0 x.1 y.1) ∙ sym y.2
-  acts_once (Malformed fault) a b x y = absurd x
+  acts_once (GetMatrix v) are a b x y = x.2 ∙ ap (λ rows. unchanged_with s (Shown (shown.Matrix rows))) (Lists-unique matrix_cmp_total x.0 y.0 x.1 y.1) ∙ sym y.2
+  acts_once (Malformed fault) are a b x y = absurd x
 
-  form_once : (c : Command) (f g : Option FormFault) → FindsFault parts c f → FindsFault parts c g → f ≡ g
-  form_once (Malformed fault) f g x y = x ∙ sym y
-  form_once (PutPact path file) f g x y = x.2 ∙ ap (fault_of_reading path.consumer path.provider) (are.reads file x.0 y.0 x.1 y.1) ∙ sym y.2
-  form_once (PostReplies path r replies) f g x y = are.replies replies f g x y
-  form_once (PutTeam team token) f g x y = x ∙ sym y
-  form_once (PutPacticipant p team) f g x y = x ∙ sym y
-  form_once (PutEnvironment e marks) f g x y = x ∙ sym y
-  form_once (PutGrant team e) f g x y = x ∙ sym y
-  form_once (DeleteGrant team e) f g x y = x ∙ sym y
-  form_once (PutVersion v branch) f g x y = x ∙ sym y
-  form_once (GetPact path) f g x y = x ∙ sym y
-  form_once (GetBranchPact provider consumer branch) f g x y = x ∙ sym y
-  form_once (PostResult path r success) f g x y = x ∙ sym y
-  form_once (Deploy e v instance) f g x y = x ∙ sym y
-  form_once (Undeploy e v instance) f g x y = x ∙ sym y
-  form_once (Release e v) f g x y = x ∙ sym y
-  form_once (EndSupport e v) f g x y = x ∙ sym y
-  form_once (GetEnvironment e) f g x y = x ∙ sym y
-  form_once (CanIDeploy v e) f g x y = x ∙ sym y
-  form_once (GetMatrix v) f g x y = x ∙ sym y
+  form_once : (c : Command) → IsReadOnce parts is_refusal c → (f g : Option FormFault) → FindsFault parts c f → FindsFault parts c g
+      → (f ≡ g) ⊎ (Refuses f ⊎ Refuses g)
+  unfolding Refuses
+  form_once (Malformed fault) are f g x y = inl (x ∙ sym y)
+  form_once (PutPact path file) are f g x y = by_reading x.0 y.0 x.2 y.2 (are x.0 y.0 x.1 y.1)
+    where
+      refused : (h : Option FormFault) (r : Reading) → h ≡ fault_of_reading path.consumer path.provider r → TellsRefusal is_refusal r → Refuses h
+      refused h (IsPact c p text) is wrong = absurd wrong
+      refused h (IsRefused fault) is refusal = (fault, is, refusal)
+
+      by_reading : (r q : Reading) → f ≡ fault_of_reading path.consumer path.provider r → g ≡ fault_of_reading path.consumer path.provider q
+          → (r ≡ q) ⊎ (TellsRefusal is_refusal r ⊎ TellsRefusal is_refusal q) → (f ≡ g) ⊎ (Refuses f ⊎ Refuses g)
+      by_reading r q d e (inl same) = inl (d ∙ ap (fault_of_reading path.consumer path.provider) same ∙ sym e)
+      by_reading r q d e (inr (inl refusal)) = inr (inl (refused f r d refusal))
+      by_reading r q d e (inr (inr refusal)) = inr (inr (refused g q e refusal))
+  form_once (PostReplies path r replies) are f g x y = inl (are.0 f g x y)
+  form_once (PutTeam team token) are f g x y = inl (x ∙ sym y)
+  form_once (PutPacticipant p team) are f g x y = inl (x ∙ sym y)
+  form_once (PutEnvironment e marks) are f g x y = inl (x ∙ sym y)
+  form_once (PutGrant team e) are f g x y = inl (x ∙ sym y)
+  form_once (DeleteGrant team e) are f g x y = inl (x ∙ sym y)
+  form_once (PutVersion v branch) are f g x y = inl (x ∙ sym y)
+  form_once (GetPact path) are f g x y = inl (x ∙ sym y)
+  form_once (GetBranchPact provider consumer branch) are f g x y = inl (x ∙ sym y)
+  form_once (PostResult path r success) are f g x y = inl (x ∙ sym y)
+  form_once (Deploy e v instance) are f g x y = inl (x ∙ sym y)
+  form_once (Undeploy e v instance) are f g x y = inl (x ∙ sym y)
+  form_once (Release e v) are f g x y = inl (x ∙ sym y)
+  form_once (EndSupport e v) are f g x y = inl (x ∙ sym y)
+  form_once (GetEnvironment e) are f g x y = inl (x ∙ sym y)
+  form_once (CanIDeploy v e) are f g x y = inl (x ∙ sym y)
+  form_once (GetMatrix v) are f g x y = inl (x ∙ sym y)
 
   Rest : Command → Transition → Option Caller → Type 0
   Rest c out who = MatchOption who (out ≡ unchanged_with s (Denied A1)) (λ caller. StepOfCaller parts s caller c out)
 
-  after_refusal : (c : Command) (a b : Transition) (r : Option Answer) → MatchOption r (TakesEffect parts s c a) (λ answer. a ≡ unchanged_with s answer) → MatchOption r (TakesEffect parts s c b) (λ answer. b ≡ unchanged_with s answer) → a ≡ b
-  after_refusal c a b None x y = acts_once c a b x y
-  after_refusal c a b (Some answer) x y = x ∙ sym y
+  Same : Transition → Transition → Type 0
+  Same a b = (a ≡ b) ⊎ (AnswersRefusal is_refusal a.answer ⊎ AnswersRefusal is_refusal b.answer)
+
+  after_refusal : (c : Command) → IsReadOnce parts is_refusal c → (a b : Transition) (r : Option Answer)
+      → MatchOption r (TakesEffect parts s c a) (λ answer. a ≡ unchanged_with s answer)
+      → MatchOption r (TakesEffect parts s c b) (λ answer. b ≡ unchanged_with s answer) → a ≡ b
+  after_refusal c are a b None x y = acts_once c are a b x y
+  after_refusal c are a b (Some answer) x y = x ∙ sym y
 
   Formed : Command → Caller → Transition → Option FormFault → Type 0
   Formed c caller out found = MatchOption found (MatchOption (refusal s caller c) (TakesEffect parts s c out) (λ answer. out ≡ unchanged_with s answer)) (λ fault. out ≡ unchanged_with s (BadForm fault))
 
-  after_form : (c : Command) (caller : Caller) (a b : Transition) (f : Option FormFault) → Formed c caller a f → Formed c caller b f → a ≡ b
+  after_form : (c : Command) → IsReadOnce parts is_refusal c → (caller : Caller) (a b : Transition) (f : Option FormFault)
+      → Formed c caller a f → Formed c caller b f → a ≡ b
   unfolding Formed
-  after_form c caller a b None x y = after_refusal c a b (refusal s caller c) x y
-  after_form c caller a b (Some fault) x y = x ∙ sym y
+  after_form c are caller a b None x y = after_refusal c are a b (refusal s caller c) x y
+  after_form c are caller a b (Some fault) x y = x ∙ sym y
 
-  after_who : (c : Command) (a b : Transition) (who : Option Caller) → Rest c a who → Rest c b who → a ≡ b
-  unfolding Rest Formed
-  after_who c a b None x y = x ∙ sym y
-  after_who c a b (Some caller) x y = after_form c caller a b y.0 (subst (Formed c caller a) (form_once c x.0 y.0 x.1 y.1) x.2) y.2
+  -- a form that is at fault in that a pattern was refused is answered so
+  answers_refusal : (c : Command) (caller : Caller) (out : Transition) (f : Option FormFault) → Formed c caller out f → Refuses f → AnswersRefusal is_refusal out.answer
+  unfolding Formed Refuses
+  answers_refusal c caller out f formed refuses =
+      let told : Formed c caller out (Some refuses.0) = subst (Formed c caller out) refuses.1 formed in
+      (refuses.0, ap (λ o. o.answer) told, refuses.2)
 
-  pub step_once : (token : Option Text) (c : Command) (a b : Transition) → Step parts s token c a → Step parts s token c b → a ≡ b
+  by_form : (c : Command) → IsReadOnce parts is_refusal c → (caller : Caller) (a b : Transition) (f g : Option FormFault)
+      → (f ≡ g) ⊎ (Refuses f ⊎ Refuses g) → Formed c caller a f → Formed c caller b g → Same a b
+  unfolding Same
+  by_form c are caller a b f g (inl same) x y = inl (after_form c are caller a b g (subst (Formed c caller a) same x) y)
+  by_form c are caller a b f g (inr (inl refuses)) x y = inr (inl (answers_refusal c caller a f x refuses))
+  by_form c are caller a b f g (inr (inr refuses)) x y = inr (inr (answers_refusal c caller b g y refuses))
+
+  after_who : (c : Command) → IsReadOnce parts is_refusal c → (a b : Transition) (who : Option Caller) → Rest c a who → Rest c b who → Same a b
+  unfolding Rest Formed Same
+  after_who c are a b None x y = inl (x ∙ sym y)
+  after_who c are a b (Some caller) x y = by_form c are caller a b x.0 y.0 (form_once c are x.0 y.0 x.1 y.1) x.2 y.2
+
+  one_step : (token : Option Text) (c : Command) → IsReadOnce parts is_refusal c → (a b : Transition) → Step parts s token c a → Step parts s token c b → Same a b
   unfolding Rest
-  step_once token c a b x y =
-      after_who c a b y.0 (subst (Rest c a) (calls_same parts s s token one (λ digest caller. (λ k. k, λ k. k)) x.0 y.0 x.1 y.1) x.2) y.2
+  one_step token c are a b x y =
+      after_who c are a b y.0 (subst (Rest c a) (calls_same parts s s token one (λ digest caller. (λ k. k, λ k. k)) x.0 y.0 x.1 y.1) x.2) y.2
+
+-- the law
+pub step_once : (parts : Primitives) → StepOnce parts
+unfolding Same
+step_once parts is_refusal s token c a b one are x y = one_step parts is_refusal s one token c are a b x y

@@ -13,7 +13,7 @@ use Rattle.broker_core.specs.Text.{Text, version}
 use Rattle.broker_core.specs.State.{State, opening}
 use Rattle.broker_core.specs.Change.{unchanged_with, put_team, put_environment, put_grant, delete_grant, put_version}
 use Rattle.broker_core.specs.Machine.{IsCallerOfDigest}
-use Rattle.broker_core.proofs.Fixture.{shop, Answers, office_token, red_token, blue_token, red, blue, live, one, fixture, put_other, no_team}
+use Rattle.broker_core.proofs.Fixture.{blue_is_no_office, red_is_no_office, shop, Answers, office_token, red_token, blue_token, red, blue, live, one, fixture, put_other, no_team}
 
 -- red has named shop 1 and has no grant for live
 abbrev pub without_grant : State
@@ -24,19 +24,19 @@ abbrev pub with_other_grant : State
 with_other_grant = (put_grant (put_environment without_grant (codes "dev") (record { gated = false; strict = false })).state red (codes "dev")).state
 
 a_deployment_needs_a_grant : Answers without_grant red_token (Deploy live (version shop one) None) (Denied A7)
-a_deployment_needs_a_grant = (_, (Some (Team red), refl, (None, refl, refl)), refl)
+a_deployment_needs_a_grant = (_, (Some (Team red), (red_is_no_office, refl), (None, refl, refl)), refl)
 
 a_grant_for_another_environment_does_not_count : Answers with_other_grant red_token (Deploy live (version shop one) None) (Denied A7)
-a_grant_for_another_environment_does_not_count = (_, (Some (Team red), refl, (None, refl, refl)), refl)
+a_grant_for_another_environment_does_not_count = (_, (Some (Team red), (red_is_no_office, refl), (None, refl, refl)), refl)
 
 the_office_may_not_deploy : Answers (put_version fixture (version shop one) None).state office_token (Deploy live (version shop one) None) (Denied A7)
 the_office_may_not_deploy = (_, (Some Office, refl, (None, refl, refl)), refl)
 
 what_is_missing_is_told_before_what_is_denied : Answers fixture blue_token (Deploy live (version shop one) None) (Unknown missing.Version)
-what_is_missing_is_told_before_what_is_denied = (_, (Some (Team blue), refl, (None, refl, refl)), refl)
+what_is_missing_is_told_before_what_is_denied = (_, (Some (Team blue), (blue_is_no_office, refl), (None, refl, refl)), refl)
 
 a_bad_form_is_told_before_what_is_denied : Answers fixture red_token (Malformed Json) (BadForm Json)
-a_bad_form_is_told_before_what_is_denied = (_, (Some (Team red), refl, (Some Json, refl, refl)), refl)
+a_bad_form_is_told_before_what_is_denied = (_, (Some (Team red), (red_is_no_office, refl), (Some Json, refl, refl)), refl)
 
 a_strict_environment_is_gated : Answers fixture office_token (PutEnvironment (codes "prod") (record { gated = false; strict = true })) (BadForm (Field (codes "strict")))
 a_strict_environment_is_gated = (_, (Some Office, refl, (Some (Field (codes "strict")), refl, refl)), refl)

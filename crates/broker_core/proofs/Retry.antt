@@ -62,17 +62,13 @@ module _ (calm : State → Type 0) (s : State) where
   by_test true x y h k = h
   by_test false x y h k = k
 
-  told_settles : (answer : Answer) → Settles calm s (unchanged_with s answer)
+  answer_settles : (answer : Answer) → Settles calm s (unchanged_with s answer)
   unfolding Settles
-  told_settles answer = inl refl
+  answer_settles answer = inl refl
 
   calm_settles : (out : Transition) → calm out.state → Settles calm s out
   unfolding Settles
   calm_settles out h = inr h
-
-  repeated_settles : (b : Bool) → Settles calm s (repeated s b)
-  unfolding Settles
-  repeated_settles b = inl (state-repeated s b)
 
 pair_text-refl : (x : Text × Text) → same_pair same_text same_text x x ≡ true
 pair_text-refl x = ap (λ b. b && same_text x.1 x.1) (same_text-refl x.0) ∙ same_text-refl x.1
@@ -90,7 +86,7 @@ put_team-twice : (s : State) (team digest : Text) (h : Bool) → Settles (λ t. 
 put_team-twice s team digest h =
     let next = record s { teams = put_at same_text s.teams team (Some digest) } in
     by_lookup _ s _ _ (s.teams team) (λ old. state-repeated s _)
-    (by_test _ s h _ _ (told_settles _ s _) (calm_settles _ s (done next) (λ k. state-found next _ _ (next.teams team) (λ old. state-repeated next _)
+    (by_test _ s h _ _ (answer_settles _ s _) (calm_settles _ s (done next) (λ k. state-found next _ _ (next.teams team) (λ old. state-repeated next _)
     (ap is_some (put_at-same same_text s.teams team (Some digest) (same_text-refl team))))))
 
 put_pacticipant-twice : (s : State) (p team : Text) → Settles (λ t. (put_pacticipant t p team).state ≡ t) s (put_pacticipant s p team)
@@ -110,7 +106,7 @@ put_environment-twice s e marks =
 put_grant-twice : (s : State) (team e : Text) → Settles (λ t. (put_grant t team e).state ≡ t) s (put_grant s team e)
 put_grant-twice s team e =
     let next = record s { grants = put_at (same_pair same_text same_text) s.grants (team, e) true } in
-    by_test _ s (s.grants (team, e)) _ _ (told_settles _ s _)
+    by_test _ s (s.grants (team, e)) _ _ (answer_settles _ s _)
     (calm_settles _ s (done next) (state-true next _ _ _ (put_at-same (same_pair same_text same_text) s.grants (team, e) true (pair_text-refl (team, e))) refl))
 
 delete_grant-twice : (s : State) (team e : Text) → Settles (λ t. (delete_grant t team e).state ≡ t) s (delete_grant s team e)
@@ -118,12 +114,12 @@ delete_grant-twice s team e =
     let next = record s { grants = put_at (same_pair same_text same_text) s.grants (team, e) false } in
     by_test _ s (s.grants (team, e)) _ _
     (calm_settles _ s (done next) (state-false next _ _ _ (put_at-same (same_pair same_text same_text) s.grants (team, e) false (pair_text-refl (team, e))) refl))
-    (told_settles _ s _)
+    (answer_settles _ s _)
 
 deploy-twice : (s : State) (e : Text) (v : Version) (i : Text) → Settles (λ t. (deploy t e v i).state ≡ t) s (deploy s e v i)
 deploy-twice s e v i =
     let next = record s { deployed = put_at same_place s.deployed (e, v.pacticipant, i) (Some v.name) } in
-    by_test _ s (is_text v.name (s.deployed (e, v.pacticipant, i))) _ _ (told_settles _ s _)
+    by_test _ s (is_text v.name (s.deployed (e, v.pacticipant, i))) _ _ (answer_settles _ s _)
     (calm_settles _ s (done next) (state-true next _ _ _
     (ap (is_text v.name) (put_at-same same_place s.deployed (e, v.pacticipant, i) (Some v.name) (place-refl (e, v.pacticipant, i))) ∙ same_text-refl v.name) refl))
 
@@ -133,12 +129,12 @@ undeploy-twice s e v i =
     by_test _ s (is_text v.name (s.deployed (e, v.pacticipant, i))) _ _
     (calm_settles _ s (done next) (state-false next _ _ _
     (ap (is_text v.name) (put_at-same same_place s.deployed (e, v.pacticipant, i) None (place-refl (e, v.pacticipant, i)))) refl))
-    (told_settles _ s _)
+    (answer_settles _ s _)
 
 release-twice : (s : State) (e : Text) (v : Version) → Settles (λ t. (release t e v).state ≡ t) s (release s e v)
 release-twice s e v =
     let next = record s { released = put_at (same_pair same_text same_version) s.released (e, v) true } in
-    by_test _ s (s.released (e, v)) _ _ (told_settles _ s _)
+    by_test _ s (s.released (e, v)) _ _ (answer_settles _ s _)
     (calm_settles _ s (done next) (state-true next _ _ _ (put_at-same (same_pair same_text same_version) s.released (e, v) true (mark-refl (e, v))) refl))
 
 end_support-twice : (s : State) (e : Text) (v : Version) → Settles (λ t. (end_support t e v).state ≡ t) s (end_support s e v)
@@ -146,7 +142,7 @@ end_support-twice s e v =
     let next = record s { released = put_at (same_pair same_text same_version) s.released (e, v) false } in
     by_test _ s (s.released (e, v)) _ _
     (calm_settles _ s (done next) (state-false next _ _ _ (put_at-same (same_pair same_text same_version) s.released (e, v) false (mark-refl (e, v))) refl))
-    (told_settles _ s _)
+    (answer_settles _ s _)
 
 is_known-named : (s : State) (v : Version) → is_known (named s v) v ≡ true
 is_known-named s v = by_known (is_known s v) refl
@@ -171,11 +167,11 @@ on_branch-joined s v (Some branch) = put_at-same (same_pair same_version same_te
 put_version-twice : (s : State) (v : Version) (branch : Option Text) → Settles (λ t. (put_version t v branch).state ≡ t) s (put_version s v branch)
 put_version-twice s v branch =
     let next = joined (named s v) v branch in
-    by_test _ s (is_known s v && on_branch s v branch) _ _ (told_settles _ s _)
+    by_test _ s (is_known s v && on_branch s v branch) _ _ (answer_settles _ s _)
     (by_test _ s (can_name s v) _ _
     (calm_settles _ s (done next) (state-true next _ _ _
     (ap (λ b. b && on_branch next v branch) (is_known-joined (named s v) v branch ∙ is_known-named s v) ∙ on_branch-joined (named s v) v branch) refl))
-    (told_settles _ s _))
+    (answer_settles _ s _))
 
 -- whatever text the file is read to the second time
 put_pact-twice : (s : State) (v : Version) (provider text : Text) → Settles (λ t. (again : Text) → (put_pact t v provider again).state ≡ t) s (put_pact s v provider text)
@@ -186,7 +182,7 @@ put_pact-twice s v provider text =
     (by_test _ s (can_name s v && (is_stored s text || has_room s.contents)) _ _
     (calm_settles _ s out (λ again. state-found next _ _ (next.contracts (v, provider)) (λ content. refl)
     (ap is_some (put_at-same (same_pair same_version same_text) s.contracts (v, provider) (Some (number_of s text)) (branch-refl (v, provider))))))
-    (told_settles _ s _))
+    (answer_settles _ s _))
 
 -- a row that passes and comes last is there
 last_row-push : {X : Type 0} (test : X → Bool) (x : X) → test x ≡ true → (o : Option (ℕ × X)) (n : ℕ) (rows : List X)
@@ -211,7 +207,7 @@ report-twice s r run detail has =
     (by_test _ s (can_name s r.version && has_room s.results) _ _
     (calm_settles _ s out (λ q detail' same_v same_run. state-found next _ _ (result_of_run next q.version.pacticipant q.run) (λ e. refl)
     ((λ i. is_some (result_of_run next (same_v i).pacticipant (same_run i))) ∙ there)))
-    (told_settles _ s _))
+    (answer_settles _ s _))
 
 -- where the first changed nothing, or the second changes nothing
 Twice : State → Transition → Transition → Type 0

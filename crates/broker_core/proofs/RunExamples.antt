@@ -10,7 +10,7 @@ use Rattle.broker_core.specs.declared.answer.Clash.TheVariants.{Run}
 use Rattle.broker_core.specs.Text.{Text, version}
 use Rattle.broker_core.specs.State.{State, claimed_result}
 use Rattle.broker_core.specs.Change.{report}
-use Rattle.broker_core.proofs.Fixture.{stock, Answers, blue_token, blue, one, two, first_file, path_of, published}
+use Rattle.broker_core.proofs.Fixture.{blue_is_no_office, stock, Answers, blue_token, blue, one, two, first_file, path_of, published}
 
 abbrev pub run : Text
 run = codes "ci-7"
@@ -22,16 +22,16 @@ abbrev pub with_run : State
 with_run = (report published (claimed_result 1 (version stock one) true (Some run)) Result).state
 
 a_result_is_numbered : Answers published blue_token (PostResult (path_of one) (by_run one) true) (Done (Result 1))
-a_result_is_numbered = (_, (Some (Team blue), refl, (None, refl, (1, refl, refl))), refl)
+a_result_is_numbered = (_, (Some (Team blue), (blue_is_no_office, refl), (None, refl, (1, refl, refl))), refl)
 
 a_run_sent_twice_counts_once : Answers with_run blue_token (PostResult (path_of one) (by_run one) true) (Already (Result 1))
-a_run_sent_twice_counts_once = (_, (Some (Team blue), refl, (None, refl, (1, refl, refl))), refl)
+a_run_sent_twice_counts_once = (_, (Some (Team blue), (blue_is_no_office, refl), (None, refl, (1, refl, refl))), refl)
 
 a_run_with_another_outcome_is_taken : Answers with_run blue_token (PostResult (path_of one) (by_run one) false) (Taken Run)
-a_run_with_another_outcome_is_taken = (_, (Some (Team blue), refl, (None, refl, (1, refl, refl))), refl)
+a_run_with_another_outcome_is_taken = (_, (Some (Team blue), (blue_is_no_office, refl), (None, refl, (1, refl, refl))), refl)
 
 a_run_with_another_version_is_taken : Answers with_run blue_token (PostResult (path_of one) (by_run two) true) (Taken Run)
-a_run_with_another_version_is_taken = (_, (Some (Team blue), refl, (None, refl, (1, refl, refl))), refl)
+a_run_with_another_version_is_taken = (_, (Some (Team blue), (blue_is_no_office, refl), (None, refl, (1, refl, refl))), refl)
 
 a_run_with_other_evidence_is_taken : Answers with_run blue_token (PostReplies (path_of one) (by_run one) (codes "{}")) (Taken Run)
-a_run_with_other_evidence_is_taken = (_, (Some (Team blue), refl, (None, refl, (1, refl, (first_file, refl, (Some [], refl, refl))))), refl)
+a_run_with_other_evidence_is_taken = (_, (Some (Team blue), (blue_is_no_office, refl), (None, refl, (1, refl, (first_file, refl, (Some [], refl, refl))))), refl)

@@ -12,7 +12,7 @@ use Rattle.broker_core.specs.Text.{Text, version}
 use Rattle.broker_core.specs.State.{State, checked_result}
 use Rattle.broker_core.specs.Change.{put_environment, put_grant, put_pact, report, deploy}
 use Rattle.broker_core.proofs.Judgement.{Rows, row_keys, judges}
-use Rattle.broker_core.proofs.Fixture.{shop, stock, Answers, red_token, blue_token, red, blue, live, one, first_file, path_of, lacks, fixture, claims, pact_rows}
+use Rattle.broker_core.proofs.Fixture.{blue_is_no_office, red_is_no_office, shop, stock, Answers, red_token, blue_token, red, blue, live, one, first_file, path_of, lacks, fixture, claims, pact_rows}
 
 abbrev pub prod : Text
 prod = codes "prod"
@@ -34,23 +34,23 @@ abbrev pub both_rows : Rows
 both_rows = record pact_rows { deployed = ((live, stock, []), one) ∷ ((prod, stock, []), one) ∷ [] }
 
 a_provider_without_consumers_may_enter : Answers claimed blue_token (Deploy prod (version stock one) None) (Done Plain)
-a_provider_without_consumers_may_enter = (_, (Some (Team blue), refl, (None, refl, (true, [], judges claimed (row_keys claimed pact_rows) (version stock one) prod, refl))), refl)
+a_provider_without_consumers_may_enter = (_, (Some (Team blue), (blue_is_no_office, refl), (None, refl, (true, [], judges claimed (row_keys claimed pact_rows) (version stock one) prod, refl))), refl)
 
 a_claimed_pass_is_a_fault_in_a_strict_environment : Answers stock_in_both red_token (Deploy prod (version shop one) None) (NotPermitted (lacks one (Some one) Claimed ∷ []))
-a_claimed_pass_is_a_fault_in_a_strict_environment = (_, (Some (Team red), refl, (None, refl, (false, lacks one (Some one) Claimed ∷ [], judges stock_in_both (row_keys stock_in_both both_rows) (version shop one) prod, refl))), refl)
+a_claimed_pass_is_a_fault_in_a_strict_environment = (_, (Some (Team red), (red_is_no_office, refl), (None, refl, (false, lacks one (Some one) Claimed ∷ [], judges stock_in_both (row_keys stock_in_both both_rows) (version shop one) prod, refl))), refl)
 
 a_claimed_pass_is_good_in_another : Answers stock_in_both red_token (Deploy live (version shop one) None) (Done Plain)
-a_claimed_pass_is_good_in_another = (_, (Some (Team red), refl, (None, refl, (true, [], judges stock_in_both (row_keys stock_in_both both_rows) (version shop one) live, refl))), refl)
+a_claimed_pass_is_good_in_another = (_, (Some (Team red), (red_is_no_office, refl), (None, refl, (true, [], judges stock_in_both (row_keys stock_in_both both_rows) (version shop one) live, refl))), refl)
 
 -- the broker checks replies, and they pass
 abbrev pub checked : State
 checked = (report stock_in_both (checked_result 1 (version stock one) true None) Result).state
 
 replies_make_a_checked_result : Answers stock_in_both blue_token (PostReplies (path_of one) (record { provider_version = one; run = None }) (codes "{}")) (Done (Replies [] 2 true))
-replies_make_a_checked_result = (_, (Some (Team blue), refl, (None, refl, (1, refl, (first_file, refl, (Some [], refl, refl))))), refl)
+replies_make_a_checked_result = (_, (Some (Team blue), (blue_is_no_office, refl), (None, refl, (1, refl, (first_file, refl, (Some [], refl, refl))))), refl)
 
 a_checked_pass_is_good_in_a_strict_environment : Answers checked red_token (Deploy prod (version shop one) None) (Done Plain)
-a_checked_pass_is_good_in_a_strict_environment = (_, (Some (Team red), refl, (None, refl, (true, [], judges checked (row_keys checked both_rows) (version shop one) prod, refl))), refl)
+a_checked_pass_is_good_in_a_strict_environment = (_, (Some (Team red), (red_is_no_office, refl), (None, refl, (true, [], judges checked (row_keys checked both_rows) (version shop one) prod, refl))), refl)
 
 -- a later claim takes the place of the check, and a later failure that of the claim
 abbrev pub claimed_later : State
@@ -60,7 +60,7 @@ abbrev pub failed_later : State
 failed_later = claims claimed_later one false
 
 a_later_claim_takes_the_place_of_a_check : Answers claimed_later red_token (CanIDeploy (version shop one) prod) (Shown (shown.Gate prod strict false (lacks one (Some one) Claimed ∷ [])))
-a_later_claim_takes_the_place_of_a_check = (_, (Some (Team red), refl, (None, refl, (strict, refl, (false, lacks one (Some one) Claimed ∷ [], judges claimed_later (row_keys claimed_later both_rows) (version shop one) prod, refl)))), refl)
+a_later_claim_takes_the_place_of_a_check = (_, (Some (Team red), (red_is_no_office, refl), (None, refl, (strict, refl, (false, lacks one (Some one) Claimed ∷ [], judges claimed_later (row_keys claimed_later both_rows) (version shop one) prod, refl)))), refl)
 
 a_claimed_failure_is_a_failure : Answers failed_later red_token (CanIDeploy (version shop one) prod) (Shown (shown.Gate prod strict false (lacks one (Some one) Failed ∷ [])))
-a_claimed_failure_is_a_failure = (_, (Some (Team red), refl, (None, refl, (strict, refl, (false, lacks one (Some one) Failed ∷ [], judges failed_later (row_keys failed_later both_rows) (version shop one) prod, refl)))), refl)
+a_claimed_failure_is_a_failure = (_, (Some (Team red), (red_is_no_office, refl), (None, refl, (strict, refl, (false, lacks one (Some one) Failed ∷ [], judges failed_later (row_keys failed_later both_rows) (version shop one) prod, refl)))), refl)

@@ -1,4 +1,5 @@
--- what a command that is let through answers and changes (this project's own choice; deployments, releases and branches as the Pact Broker keeps them)
+-- what a command that is let through answers and changes (this project's own choice; deployments, releases and
+-- branches as the Pact Broker keeps them)
 use Rattle.std.specs.Prelude.{◌+◌, ◌-◌, ◌==◌, ℕ, [], ◌∷◌, ◌++◌, length, Bool, true, false, ◌&&◌, ◌||◌, Option, Some, None, option_and_then, slice_get, if◌then◌else◌}
 use Rattle.std.specs.Option.{option_map_or}
 use Rattle.std.specs.List.{list_any, position_or_len}
@@ -39,7 +40,8 @@ repeated s false = unchanged_with s (Taken clash.Name)
 -- a team with the digest of its token; is_taken says whether a caller has that digest already
 abbrev pub put_team : State → Text → Text → Bool → Transition
 put_team s team digest is_taken = option_map_or (λ old. repeated s (same_text old digest)) (s.teams team)
-    (if is_taken then unchanged_with s (Taken clash.Token) else done (record s { teams = put_at same_text s.teams team (Some digest) }))
+    (if is_taken then unchanged_with s (Taken clash.Token)
+    else done (record s { teams = put_at same_text s.teams team (Some digest) }))
 
 -- a pacticipant with the team that owns it
 abbrev pub put_pacticipant : State → Text → Text → Transition
@@ -54,10 +56,15 @@ put_environment s e marks = option_map_or (λ old. repeated s (same_marks old ma
     (done (record s { environments = put_at same_text s.environments e (Some marks) }))
 
 abbrev pub put_grant : State → Text → Text → Transition
-put_grant s team e = if s.grants (team, e) then already s else done (record s { grants = put_at (same_pair same_text same_text) s.grants (team, e) true })
+put_grant s team e =
+    if s.grants (team, e) then already s
+    else done (record s { grants = put_at (same_pair same_text same_text) s.grants (team, e) true })
 
 abbrev pub delete_grant : State → Text → Text → Transition
-delete_grant s team e = if s.grants (team, e) then done (record s { grants = put_at (same_pair same_text same_text) s.grants (team, e) false }) else unchanged_with s (Unknown missing.Grant)
+delete_grant s team e =
+    if s.grants (team, e)
+    then done (record s { grants = put_at (same_pair same_text same_text) s.grants (team, e) false })
+    else unchanged_with s (Unknown missing.Grant)
 
 -- the version is there, with the next number where it wasn't
 abbrev pub named : State → Version → State
@@ -74,7 +81,8 @@ on_branch s v None = true
 
 -- the version stands on the branch, where one is given
 abbrev pub joined : State → Version → Option Text → State
-joined s v (Some branch) = record s { branches = put_at (same_pair same_version same_text) s.branches (v, branch) true }
+joined s v (Some branch) =
+    record s { branches = put_at (same_pair same_version same_text) s.branches (v, branch) true }
 joined s v None = s
 
 -- the version is named and put on the branch
@@ -105,27 +113,42 @@ abbrev pub is_text : Text → Option Text → Bool
 is_text text (Some old) = same_text old text
 is_text text None = false
 
--- the text becomes the content of the contract of v with the provider; where there is a contract already, it is this text or another
+-- where there is a contract already, its content is this text or another
+abbrev pub republished : State → Text → ℕ → Answer
+republished s text content =
+    if is_text text (text_of s content) then Already (Content content) else Taken clash.OtherContent
+
+-- the text becomes the content of the contract of v with the provider, where there is none
 abbrev pub put_pact : State → Version → Text → Text → Transition
-put_pact s v provider text = option_map_or (λ content. unchanged_with s (if is_text text (text_of s content) then Already (Content content) else Taken clash.OtherContent)) (s.contracts (v, provider))
+put_pact s v provider text =
+    option_map_or (λ content. unchanged_with s (republished s text content)) (s.contracts (v, provider))
     (if can_name s v && (is_stored s text || has_room s.contents)
     then record {
       answer = Done (Content (number_of s text));
-      state = record (stored (named s v) text) { contracts = put_at (same_pair same_version same_text) s.contracts (v, provider) (Some (number_of s text)) };
+      state = record (stored (named s v) text) {
+        contracts = put_at (same_pair same_version same_text) s.contracts (v, provider) (Some (number_of s text));
+      };
     }
     else unchanged_with s Full)
 
 -- the result of a run of the provider, with its number
 abbrev pub result_of_run : State → Text → Option Text → Option (ℕ × Verification)
-result_of_run s provider run = option_and_then (λ text. last_row (λ r. same_text r.version.pacticipant provider && is_text text r.run) s.results) run
+result_of_run s provider run =
+    option_and_then
+    (λ text. last_row (λ r. same_text r.version.pacticipant provider && is_text text r.run) s.results) run
 
 -- two results are of one content and one version and say the same, their evidence included
 abbrev pub says_same : Verification → Verification → Bool
-says_same r q = r.content == q.content && (same_version r.version q.version && (same_bool r.pass q.pass && same_bool r.checked q.checked))
+says_same r q =
+    r.content == q.content
+    && (same_version r.version q.version && (same_bool r.pass q.pass && same_bool r.checked q.checked))
 
--- a result comes in: a run that the provider has used is answered by the old result, else it gets the next number, and the version of the provider is there from then on
+-- a result comes in: a run that the provider has used is answered by the old result, else it gets the next number,
+-- and the version of the provider is there from then on
 abbrev pub report : State → Verification → (ℕ → Detail) → Transition
-report s r detail = option_map_or (λ e. unchanged_with s (if says_same e.1 r then Already (detail e.0) else Taken clash.Run)) (result_of_run s r.version.pacticipant r.run)
+report s r detail =
+    option_map_or (λ e. unchanged_with s (if says_same e.1 r then Already (detail e.0) else Taken clash.Run))
+    (result_of_run s r.version.pacticipant r.run)
     (if can_name s r.version && has_room s.results
     then record {
       answer = Done (detail (length s.results + 1));

@@ -1,12 +1,13 @@
 -- the laws of the machine (this project's own)
-use Rattle.std.specs.Prelude.{◌≡◌, ◌⊎◌, ◌++◌, ℕ, List, [], ◌∷◌, Option, Some, None, IsSome, IsTrue}
+use Rattle.std.specs.Prelude.{◌≡◌, ◌⊎◌, ◌++◌, ℕ, Bool, List, [], ◌∷◌, Option, Some, None, IsSome, IsTrue}
 use Rattle.broker_core.specs.declared.policy.Caller.{Caller}
 use Rattle.broker_core.specs.declared.policy.Caller.TheVariants.{Team}
 use Rattle.broker_core.specs.declared.command.Command.{Command}
-use Rattle.broker_core.specs.declared.command.Command.TheVariants.{Deploy, Release, PostResult, PostReplies}
+use Rattle.broker_core.specs.declared.command.Command.TheVariants.{PutTeam, PutPacticipant, PutEnvironment, PutGrant, DeleteGrant, PutVersion, PutPact, GetPact, GetBranchPact, PostResult, PostReplies, Deploy, Undeploy, Release, EndSupport, GetEnvironment, CanIDeploy, GetMatrix, Malformed}
 use Rattle.broker_core.specs.declared.command.Version.{Version}
 use Rattle.broker_core.specs.declared.answer.Answer.{Answer}
-use Rattle.broker_core.specs.declared.answer.Answer.TheVariants.{Done, Already, NotPermitted}
+use Rattle.broker_core.specs.declared.answer.Answer.TheVariants.{Done, Already, NotPermitted, BadForm}
+use Rattle.broker_core.specs.declared.command.FormFault.{FormFault}
 use Rattle.broker_core.specs.declared.answer.Detail.TheVariants.{Plain}
 use Rattle.broker_core.specs.declared.need.PairFault.{PairFault}
 use Rattle.broker_core.specs.Text.{Text}
@@ -16,11 +17,13 @@ use Rattle.broker_core.specs.Faults.{fault_cmp}
 use Rattle.broker_core.specs.Listing.{Lists}
 use Rattle.broker_core.specs.Request.{is_known, refusal}
 use Rattle.broker_core.specs.Change.{Transition, unchanged_with, instance_of}
-use Rattle.broker_core.specs.Machine.{Primitives, HasDigest, IsCallerOfToken, Step, Request, Run}
+use Rattle.broker_core.specs.Machine.{Primitives, Reading, HasDigest, IsCallerOfToken, Step, Request, Run}
+use Rattle.broker_core.specs.Machine.Reading.{IsPact, IsRefused}
+use Rattle.broker_core.specs.Listed.{IsNormalText, IsListed}
 
--- no two callers have tokens with one digest
-abbrev pub HasOneCaller : State → Type 0
-HasOneCaller s = (digest : Text) (a b : Caller) → HasDigest s digest a → HasDigest s digest b → a ≡ b
+-- no two teams have tokens with one digest: else a digest would have two callers. No step gives two teams one digest
+abbrev pub TeamsDiffer : State → Type 0
+TeamsDiffer s = (digest a b : Text) → s.teams a ≡ Some digest → s.teams b ≡ Some digest → a ≡ b
 
 abbrev pub IsDone : Answer → Type 0
 IsDone (Done detail) = Unit {0}
@@ -28,25 +31,35 @@ IsDone _ = ⊥
 
 -- only a step that is answered Done changes anything
 abbrev pub OnlyDoneChanges : Primitives → Type 0
-OnlyDoneChanges parts = (s : State) (token : Option Text) (command : Command) (out : Transition) → Step parts s token command out → (out.state ≡ s) ⊎ IsDone out.answer
+OnlyDoneChanges parts =
+    (s : State) (token : Option Text) (command : Command) (out : Transition) → Step parts s token command out
+    → (out.state ≡ s) ⊎ IsDone out.answer
 
--- what the gate makes of a command that would record v in e: where v is permitted the record stands afterwards and the answer is Done or Already;
+-- what the gate makes of a command that would record v in e: where v is permitted the record stands afterwards and
+-- the answer is Done or Already;
 -- else the answer is all faults, and nothing changes
 abbrev pub IsJudged : State → Text → Version → (State → Type 0) → Transition → Type 0
 IsJudged s e v IsRecorded out =
     (IsPermitted s v e × IsRecorded out.state × ((out.answer ≡ Done Plain) ⊎ (out.answer ≡ Already Plain)))
-    ⊎ ((¬ (IsPermitted s v e)) × ((faults : List PairFault) × Lists fault_cmp (IsFault s v e) faults × (out ≡ unchanged_with s (NotPermitted faults))))
+    ⊎ ((¬ (IsPermitted s v e))
+    × ((faults : List PairFault) × Lists fault_cmp (IsFault s v e) faults
+    × (out ≡ unchanged_with s (NotPermitted faults))))
 
--- a deployment whose caller is known and which nothing refuses before the gate is recorded exactly where the gate permits it
+-- a deployment whose caller is known and which nothing refuses before the gate is recorded exactly where the gate
+-- permits it
 abbrev pub DeploysAsJudged : Primitives → Type 0
-DeploysAsJudged parts = (s : State) (token : Option Text) (caller : Caller) (e : Text) (v : Version) (instance : Option Text) (out : Transition)
-    → HasOneCaller s → IsCallerOfToken parts s token (Some caller) → refusal s caller (Deploy e v instance) ≡ None
-    → Step parts s token (Deploy e v instance) out → IsJudged s e v (λ t. t.deployed (e, v.pacticipant, instance_of instance) ≡ Some v.name) out
+DeploysAsJudged parts =
+    (s : State) (token : Option Text) (caller : Caller) (e : Text) (v : Version) (instance : Option Text)
+    (out : Transition)
+    → TeamsDiffer s → IsCallerOfToken parts s token (Some caller) → refusal s caller (Deploy e v instance) ≡ None
+    → Step parts s token (Deploy e v instance) out
+    → IsJudged s e v (λ t. t.deployed (e, v.pacticipant, instance_of instance) ≡ Some v.name) out
 
 -- and so is a release
 abbrev pub ReleasesAsJudged : Primitives → Type 0
-ReleasesAsJudged parts = (s : State) (token : Option Text) (caller : Caller) (e : Text) (v : Version) (out : Transition)
-    → HasOneCaller s → IsCallerOfToken parts s token (Some caller) → refusal s caller (Release e v) ≡ None
+ReleasesAsJudged parts =
+    (s : State) (token : Option Text) (caller : Caller) (e : Text) (v : Version) (out : Transition)
+    → TeamsDiffer s → IsCallerOfToken parts s token (Some caller) → refusal s caller (Release e v) ≡ None
     → Step parts s token (Release e v) out → IsJudged s e v (λ t. IsTrue (t.released (e, v))) out
 
 -- the version v, or one that stands in e
@@ -55,31 +68,52 @@ Concerns s v e w = (w ≡ v) ⊎ Stands s e w
 
 -- what a deployment of v to e by this token may depend on is the same in both states
 pub record Agree (parts : Primitives) (token : Option Text) (s t : State) (v : Version) (e : Text) : Type 0 where
-  pub callers : (digest : Text) (caller : Caller) → (HasDigest s digest caller → HasDigest t digest caller) × (HasDigest t digest caller → HasDigest s digest caller)
+  pub callers : (digest : Text) (caller : Caller) → (HasDigest s digest caller → HasDigest t digest caller)
+      × (HasDigest t digest caller → HasDigest s digest caller)
   pub owner : s.pacticipants v.pacticipant ≡ t.pacticipants v.pacticipant
   pub known : is_known s v ≡ is_known t v
-  pub grant : (team secret : Text) → token ≡ Some secret → HasDigest s (parts.digest_of secret) (Team team) → s.grants (team, e) ≡ t.grants (team, e)
+  pub grant : (team secret : Text) → token ≡ Some secret → HasDigest s (parts.digest_of secret) (Team team)
+      → s.grants (team, e) ≡ t.grants (team, e)
   pub environment : s.environments e ≡ t.environments e
   pub deployed : (p instance : Text) → s.deployed (e, p, instance) ≡ t.deployed (e, p, instance)
   pub released : (w : Version) → s.released (e, w) ≡ t.released (e, w)
   pub contracts : (w : Version) (p : Text) → Concerns s v e w → s.contracts (w, p) ≡ t.contracts (w, p)
-  pub results : (w : Version) (p : Text) (content : ℕ) → Concerns s v e w → s.contracts (w, p) ≡ Some content → (u : Version) → latest s content u ≡ latest t content u
+  pub results : (w : Version) (p : Text) (content : ℕ) → Concerns s v e w → s.contracts (w, p) ≡ Some content
+      → (u : Version) → latest s content u ≡ latest t content u
 
 -- the answer to a deployment is the same in two states that agree on these
 abbrev pub GateLocality : Primitives → Type 0
-GateLocality parts = (token : Option Text) (e : Text) (v : Version) (instance : Option Text) (s t : State) (a b : Transition)
-    → HasOneCaller s → Agree parts token s t v e
+GateLocality parts =
+    (token : Option Text) (e : Text) (v : Version) (instance : Option Text) (s t : State) (a b : Transition)
+    → TeamsDiffer s → Agree parts token s t v e
     → Step parts s token (Deploy e v instance) a → Step parts t token (Deploy e v instance) b → a.answer ≡ b.answer
 
 -- results and replies without a run are counted each time
 abbrev pub IsRepeatable : Command → Type 0
+IsRepeatable (PutTeam team token) = Unit {0}
+IsRepeatable (PutPacticipant p team) = Unit {0}
+IsRepeatable (PutEnvironment e marks) = Unit {0}
+IsRepeatable (PutGrant team e) = Unit {0}
+IsRepeatable (DeleteGrant team e) = Unit {0}
+IsRepeatable (PutVersion v branch) = Unit {0}
+IsRepeatable (PutPact path file) = Unit {0}
+IsRepeatable (GetPact path) = Unit {0}
+IsRepeatable (GetBranchPact provider consumer branch) = Unit {0}
 IsRepeatable (PostResult path report success) = IsSome report.run
 IsRepeatable (PostReplies path report replies) = IsSome report.run
-IsRepeatable _ = Unit {0}
+IsRepeatable (Deploy e v instance) = Unit {0}
+IsRepeatable (Undeploy e v instance) = Unit {0}
+IsRepeatable (Release e v) = Unit {0}
+IsRepeatable (EndSupport e v) = Unit {0}
+IsRepeatable (GetEnvironment e) = Unit {0}
+IsRepeatable (CanIDeploy v e) = Unit {0}
+IsRepeatable (GetMatrix v) = Unit {0}
+IsRepeatable (Malformed fault) = Unit {0}
 
 -- a step taken twice leaves a state of a step taken once
 abbrev pub Retry : Primitives → (State → Type 0) → Type 0
-Retry parts IsAllowed = (s : State) (token : Option Text) (command : Command) (a b : Transition) → IsAllowed s → IsRepeatable command
+Retry parts IsAllowed =
+    (s : State) (token : Option Text) (command : Command) (a b : Transition) → IsAllowed s → IsRepeatable command
     → Step parts s token command a → Step parts a.state token command b
     → (answer : Answer) × Step parts s token command (record { answer = answer; state = b.state })
 
@@ -91,12 +125,15 @@ pub record Session : Type 0 where
 -- the cut request took its step, or nothing
 abbrev pub CutLeaves : Primitives → State → Option Request → State → Type 0
 CutLeaves parts s None last = last ≡ s
-CutLeaves parts s (Some r) last = (last ≡ s) ⊎ ((answer : Answer) × Step parts s r.token r.command (record { answer = answer; state = last }))
+CutLeaves parts s (Some r) last =
+    (last ≡ s) ⊎ ((answer : Answer) × Step parts s r.token r.command (record { answer = answer; state = last }))
 
 -- the states after a list of sessions
 abbrev pub Sessions : Primitives → State → List Session → State → Type 0
 Sessions parts s [] last = last ≡ s
-Sessions parts s (x ∷ xs) last = (answers : List Answer) × (mid : State) × (next : State) × Run parts s x.answered answers mid × CutLeaves parts mid x.cut next × Sessions parts next xs last
+Sessions parts s (x ∷ xs) last =
+    (answers : List Answer) × (mid : State) × (next : State) × Run parts s x.answered answers mid
+    × CutLeaves parts mid x.cut next × Sessions parts next xs last
 
 -- how a call ended: answered by a step, answered by no step, or cut by a stop or answered Store
 pub data Exit : Type 0 where
@@ -148,11 +185,14 @@ sessions_of (cs ∷ css) = record { answered = answered_of cs; cut = cut_of cs }
 -- calls of sessions, each session from the state that the one before left
 abbrev pub LeavesSessions : Primitives → State → List (List (Request × Exit)) → State → Type 0
 LeavesSessions parts s [] last = last ≡ s
-LeavesSessions parts s (cs ∷ css) last = (next : State) × IsSession cs × LeavesAll parts s cs next × LeavesSessions parts next css last
+LeavesSessions parts s (cs ∷ css) last =
+    (next : State) × IsSession cs × LeavesAll parts s cs next × LeavesSessions parts next css last
 
 -- the clauses of the calls compose over every list of sessions
 abbrev pub SessionsCompose : Primitives → Type 0
-SessionsCompose parts = (s last : State) (css : List (List (Request × Exit))) → LeavesSessions parts s css last → Sessions parts s (sessions_of css) last
+SessionsCompose parts =
+    (s last : State) (css : List (List (Request × Exit))) → LeavesSessions parts s css last
+    → Sessions parts s (sessions_of css) last
 
 -- each session's cut request comes first in the next session, and it isn't a result without a run
 abbrev pub BeginsWith : Option Request → List Session → Type 0
@@ -170,4 +210,80 @@ all_answered (x ∷ xs) = x.answered ++ all_answered xs
 
 -- where cut requests come again, the state is that of a run over all requests, each once
 abbrev pub RunsOnce : Primitives → Type 0
-RunsOnce parts = (s last : State) (xs : List Session) → ComeAgain xs → Sessions parts s xs last → (answers : List Answer) × Run parts s (all_answered xs) answers last
+RunsOnce parts =
+    (s last : State) (xs : List Session) → ComeAgain xs → Sessions parts s xs last
+    → (answers : List Answer) × Run parts s (all_answered xs) answers last
+
+-- the command's file is read in some way, and its replies can be compared with the normal text of a pact; nothing
+-- is asked of a command without a file
+abbrev pub CanBeRead : Primitives → Command → Type 0
+CanBeRead parts (PutTeam team token) = Unit {0}
+CanBeRead parts (PutPacticipant p team) = Unit {0}
+CanBeRead parts (PutEnvironment e marks) = Unit {0}
+CanBeRead parts (PutGrant team e) = Unit {0}
+CanBeRead parts (DeleteGrant team e) = Unit {0}
+CanBeRead parts (PutVersion v branch) = Unit {0}
+CanBeRead parts (PutPact path file) = (reading : Reading) × parts.Reads file reading
+CanBeRead parts (GetPact path) = Unit {0}
+CanBeRead parts (GetBranchPact provider consumer branch) = Unit {0}
+CanBeRead parts (PostResult path report success) = Unit {0}
+CanBeRead parts (PostReplies path report replies) = ((found : Option FormFault) × parts.ReadsReplies replies found)
+    × ((text : Text) → IsNormalText parts text → parts.ReadsReplies replies None
+    → (failing : Option (List ℕ)) × parts.Fails text replies failing)
+CanBeRead parts (Deploy e v instance) = Unit {0}
+CanBeRead parts (Undeploy e v instance) = Unit {0}
+CanBeRead parts (Release e v) = Unit {0}
+CanBeRead parts (EndSupport e v) = Unit {0}
+CanBeRead parts (GetEnvironment e) = Unit {0}
+CanBeRead parts (CanIDeploy v e) = Unit {0}
+CanBeRead parts (GetMatrix v) = Unit {0}
+CanBeRead parts (Malformed fault) = Unit {0}
+
+-- every command has a step, in each state whose tables are listed and whose contracts have normal texts
+abbrev pub StepExists : Primitives → Type 0
+StepExists parts =
+    (s : State) (token : Option Text) (command : Command) → IsListed parts s → CanBeRead parts command
+    → (out : Transition) × Step parts s token command out
+
+-- the reading is that a pattern was refused: this alone may be told of a file that has another reading too
+abbrev pub TellsRefusal : (FormFault → Bool) → Reading → Type 0
+TellsRefusal is_refusal (IsPact consumer provider text) = ⊥
+TellsRefusal is_refusal (IsRefused fault) = IsTrue (is_refusal fault)
+
+-- the command's file is read in one way, a pattern's refusal aside, and its replies in one way; nothing is asked
+-- of a command without a file
+abbrev pub IsReadOnce : Primitives → (FormFault → Bool) → Command → Type 0
+IsReadOnce parts is_refusal (PutTeam team token) = Unit {0}
+IsReadOnce parts is_refusal (PutPacticipant p team) = Unit {0}
+IsReadOnce parts is_refusal (PutEnvironment e marks) = Unit {0}
+IsReadOnce parts is_refusal (PutGrant team e) = Unit {0}
+IsReadOnce parts is_refusal (DeleteGrant team e) = Unit {0}
+IsReadOnce parts is_refusal (PutVersion v branch) = Unit {0}
+IsReadOnce parts is_refusal (PutPact path file) = (a b : Reading) → parts.Reads file a → parts.Reads file b
+    → (a ≡ b) ⊎ (TellsRefusal is_refusal a ⊎ TellsRefusal is_refusal b)
+IsReadOnce parts is_refusal (GetPact path) = Unit {0}
+IsReadOnce parts is_refusal (GetBranchPact provider consumer branch) = Unit {0}
+IsReadOnce parts is_refusal (PostResult path report success) = Unit {0}
+IsReadOnce parts is_refusal (PostReplies path report replies) =
+    ((a b : Option FormFault) → parts.ReadsReplies replies a → parts.ReadsReplies replies b → a ≡ b)
+    × ((text : Text) (a b : Option (List ℕ)) → parts.Fails text replies a → parts.Fails text replies b → a ≡ b)
+IsReadOnce parts is_refusal (Deploy e v instance) = Unit {0}
+IsReadOnce parts is_refusal (Undeploy e v instance) = Unit {0}
+IsReadOnce parts is_refusal (Release e v) = Unit {0}
+IsReadOnce parts is_refusal (EndSupport e v) = Unit {0}
+IsReadOnce parts is_refusal (GetEnvironment e) = Unit {0}
+IsReadOnce parts is_refusal (CanIDeploy v e) = Unit {0}
+IsReadOnce parts is_refusal (GetMatrix v) = Unit {0}
+IsReadOnce parts is_refusal (Malformed fault) = Unit {0}
+
+-- the answer is that a pattern was refused
+abbrev pub AnswersRefusal : (FormFault → Bool) → Answer → Type 0
+AnswersRefusal is_refusal answer = (fault : FormFault) × (answer ≡ BadForm fault) × IsTrue (is_refusal fault)
+
+-- two steps of one command in one state are one, unless one of them answers that a pattern was refused
+abbrev pub StepOnce : Primitives → Type 0
+StepOnce parts =
+    (is_refusal : FormFault → Bool) (s : State) (token : Option Text) (command : Command) (a b : Transition)
+    → TeamsDiffer s → IsReadOnce parts is_refusal command
+    → Step parts s token command a → Step parts s token command b
+    → (a ≡ b) ⊎ (AnswersRefusal is_refusal a.answer ⊎ AnswersRefusal is_refusal b.answer)

@@ -11,4 +11,5 @@ pub mod Words
 pub mod Request
 pub mod Change
 pub mod Machine
+pub mod Listed
 pub mod Laws

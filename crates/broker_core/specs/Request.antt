@@ -1,4 +1,5 @@
--- what each command asks for before its state is looked at: what must exist, and by which rule it is judged (this project's own choice)
+-- what each command asks for before its state is looked at: what must exist, and by which rule it is judged (this
+-- project's own choice)
 use Rattle.std.specs.Prelude.{List, [], ◌∷◌, Bool, true, false, ◌&&◌, Option, Some, None, filter, filter_map, is_some}
 use Rattle.std.specs.List.{last_or, list_any}
 use Rattle.broker_core.specs.declared.policy.Caller.{Caller}
@@ -26,7 +27,9 @@ is_known s v = list_any (same_version v) s.versions
 -- the consumer version with the greatest number among those on the branch that have a contract with the provider
 abbrev pub branch_version : State → Text → Text → Text → Option Version
 branch_version s provider consumer branch =
-    last_or None (filter (λ v. same_text v.pacticipant consumer && (s.branches (v, branch) && is_some (s.contracts (v, provider)))) s.versions)
+    last_or None (filter
+    (λ v. same_text v.pacticipant consumer && (s.branches (v, branch) && is_some (s.contracts (v, provider))))
+    s.versions)
 
 -- the first that isn't there
 abbrev pub unless : Bool → Missing → Option Missing → Option Missing
@@ -64,7 +67,9 @@ first_missing s (PutVersion v branch) = unless_pacticipant s v.pacticipant None
 first_missing s (PutPact path file) = unless_sides s path None
 first_missing s (GetPact path) = unless_contract s path None
 first_missing s (GetBranchPact provider consumer branch) =
-    unless_pacticipant s provider (unless_pacticipant s consumer (unless (is_some (branch_version s provider consumer branch)) missing.Contract None))
+    unless_pacticipant s provider
+    (unless_pacticipant s consumer
+    (unless (is_some (branch_version s provider consumer branch)) missing.Contract None))
 first_missing s (PostResult path report success) = unless_contract s path None
 first_missing s (PostReplies path report replies) = unless_contract s path None
 first_missing s (Deploy e v instance) = unless_environment s e (unless_version s v None)
@@ -100,6 +105,11 @@ rule_of (Malformed fault) = A1
 
 -- the pacticipants whose owners count as owners here
 abbrev pub sides_of : Command → List Text
+sides_of (PutTeam team token) = []
+sides_of (PutPacticipant p team) = []
+sides_of (PutEnvironment e marks) = []
+sides_of (PutGrant team e) = []
+sides_of (DeleteGrant team e) = []
 sides_of (PutVersion v branch) = v.pacticipant ∷ []
 sides_of (PutPact path file) = path.consumer ∷ []
 sides_of (GetPact path) = path.provider ∷ path.consumer ∷ []
@@ -110,17 +120,32 @@ sides_of (Deploy e v instance) = v.pacticipant ∷ []
 sides_of (Undeploy e v instance) = v.pacticipant ∷ []
 sides_of (Release e v) = v.pacticipant ∷ []
 sides_of (EndSupport e v) = v.pacticipant ∷ []
+sides_of (GetEnvironment e) = []
 sides_of (CanIDeploy v e) = v.pacticipant ∷ []
 sides_of (GetMatrix v) = v.pacticipant ∷ []
-sides_of _ = []
+sides_of (Malformed fault) = []
 
 -- the environment for which a grant is asked
 abbrev pub target_of : Command → Option Text
+target_of (PutTeam team token) = None
+target_of (PutPacticipant p team) = None
+target_of (PutEnvironment e marks) = None
+target_of (PutGrant team e) = None
+target_of (DeleteGrant team e) = None
+target_of (PutVersion v branch) = None
+target_of (PutPact path file) = None
+target_of (GetPact path) = None
+target_of (GetBranchPact provider consumer branch) = None
+target_of (PostResult path report success) = None
+target_of (PostReplies path report replies) = None
 target_of (Deploy e v instance) = Some e
 target_of (Undeploy e v instance) = Some e
 target_of (Release e v) = Some e
 target_of (EndSupport e v) = Some e
-target_of _ = None
+target_of (GetEnvironment e) = None
+target_of (CanIDeploy v e) = None
+target_of (GetMatrix v) = None
+target_of (Malformed fault) = None
 
 abbrev pub has_grant : State → Caller → Option Text → Bool
 has_grant s (Team team) (Some e) = s.grants (team, e)
@@ -129,7 +154,9 @@ has_grant s Office target = false
 
 -- whether the policy lets the caller
 abbrev pub is_allowed : State → Caller → Command → Bool
-is_allowed s caller command = allows (rule_of command) caller (filter_map s.pacticipants (sides_of command)) (has_grant s caller (target_of command))
+is_allowed s caller command =
+    allows (rule_of command) caller (filter_map s.pacticipants (sides_of command))
+    (has_grant s caller (target_of command))
 
 -- what isn't there is told before what isn't allowed
 abbrev pub refused : Command → Option Missing → Bool → Option Answer

@@ -1,4 +1,5 @@
--- the words that stand in answers for rules, for what is missing or stands otherwise, for kinds of faults and for faults of form (this project's own choice)
+-- the words that stand in answers for rules, for what is missing or stands otherwise, for kinds of faults and for
+-- faults of form (this project's own choice)
 use Rattle.std.specs.Prelude.{◌++◌, codes}
 use Rattle.broker_core.specs.declared.policy.Rule.{Rule}
 use Rattle.broker_core.specs.declared.policy.Rule.TheVariants.{A1, A2, A3, A4, A5, A6, A7, A8}

@@ -8,7 +8,8 @@ use crate::policy::Rule;
 use std::fmt;
 use std::marker::Model;
 
-/// What is deployed: a version of a pacticipant, in an instance, whose absent name is the empty text.
+/// What is deployed: a version of a pacticipant, in an instance, whose absent name is the empty
+/// text.
 #[derive(Debug, Drop)]
 pub struct DeployedItem {
     pub pacticipant: Name,
@@ -35,199 +36,58 @@ pub struct Verified {
     pub latest: Latest,
 }
 
-/// Faults in their order.
+/// Items in an order that is told where they are used. What a contract sees of them is the list.
 #[derive(Debug, Drop)]
-pub struct Faults {
-    faults: Vec<PairFault>,
+pub struct Items<T> {
+    items: Vec<T>,
 }
 
-impl Model for Faults {
+impl<T> Model for Items<T> {
     ghost use Rattle.std.specs.Prelude.{List};
-    ghost use Rattle.broker_core.specs.declared.need.PairFault.{PairFault};
 
-    ghost Value = { List PairFault };
+    ghost Value = { List T };
 
-    ghost view = { λ f. f.faults.items };
+    ghost view = { λ i. i.items.items };
 }
 
-impl Faults {
+impl<T> Items<T> {
     /// The vector as such a list.
-    pub fn new(faults: Vec<PairFault>) -> Faults
-        ensures { result ≡ faults.items }
-    {
-        Faults { faults }
-    }
-
-    /// The items, lent.
-    pub fn as_slice(&self) -> &[PairFault]
-        ensures { result.now ≡ self.now }
-    {
-        self.faults.as_slice()
-    }
-
-    /// The items as a vector. Takes no memory.
-    pub fn into_vec(self) -> Vec<PairFault>
-        ensures { result.items ≡ self }
-    {
-        let Faults { faults } = self;
-        faults
-    }
-}
-
-/// The places of the interactions that fail, from 0 and ascending, in the order of the normal pact.
-#[derive(Debug, Drop)]
-pub struct Places {
-    places: Vec<u64>,
-}
-
-impl Model for Places {
-    ghost use Rattle.std.specs.Prelude.{ℕ, List};
-
-    ghost Value = { List ℕ };
-
-    ghost view = { λ f. f.places.items };
-}
-
-impl Places {
-    /// The vector as such a list.
-    pub fn new(places: Vec<u64>) -> Places
-        ensures { result ≡ places.items }
-    {
-        Places { places }
-    }
-
-    /// The items, lent.
-    pub fn as_slice(&self) -> &[u64]
-        ensures { result.now ≡ self.now }
-    {
-        self.places.as_slice()
-    }
-
-    /// The items as a vector. Takes no memory.
-    pub fn into_vec(self) -> Vec<u64>
-        ensures { result.items ≡ self }
-    {
-        let Places { places } = self;
-        places
-    }
-}
-
-/// What is deployed in an environment, in order of pacticipant and instance.
-#[derive(Debug, Drop)]
-pub struct DeployedItems {
-    items: Vec<DeployedItem>,
-}
-
-impl Model for DeployedItems {
-    ghost use Rattle.std.specs.Prelude.{List};
-    ghost use Rattle.broker_core.specs.declared.answer.DeployedItem.{DeployedItem};
-
-    ghost Value = { List DeployedItem };
-
-    ghost view = { λ f. f.items.items };
-}
-
-impl DeployedItems {
-    /// The vector as such a list.
-    pub fn new(items: Vec<DeployedItem>) -> DeployedItems
+    pub fn new(items: Vec<T>) -> Items<T>
         ensures { result ≡ items.items }
     {
-        DeployedItems { items }
+        Items { items }
     }
 
     /// The items, lent.
-    pub fn as_slice(&self) -> &[DeployedItem]
+    pub fn as_slice(&self) -> &[T]
         ensures { result.now ≡ self.now }
     {
         self.items.as_slice()
     }
 
     /// The items as a vector. Takes no memory.
-    pub fn into_vec(self) -> Vec<DeployedItem>
+    pub fn into_vec(self) -> Vec<T>
         ensures { result.items ≡ self }
     {
-        let DeployedItems { items } = self;
+        let Items { items } = self;
         items
     }
 }
 
+/// Faults in their order.
+pub type Faults = Items<PairFault>;
+
+/// The places of the interactions that fail, from 0 and ascending, in the order of the normal pact.
+pub type Places = Items<u64>;
+
+/// What is deployed in an environment, in order of pacticipant and instance.
+pub type DeployedItems = Items<DeployedItem>;
+
 /// What is released in an environment, in order of pacticipant and version.
-#[derive(Debug, Drop)]
-pub struct Versions {
-    versions: Vec<Version>,
-}
-
-impl Model for Versions {
-    ghost use Rattle.std.specs.Prelude.{List};
-    ghost use Rattle.broker_core.specs.declared.command.Version.{Version};
-
-    ghost Value = { List Version };
-
-    ghost view = { λ f. f.versions.items };
-}
-
-impl Versions {
-    /// The vector as such a list.
-    pub fn new(versions: Vec<Version>) -> Versions
-        ensures { result ≡ versions.items }
-    {
-        Versions { versions }
-    }
-
-    /// The items, lent.
-    pub fn as_slice(&self) -> &[Version]
-        ensures { result.now ≡ self.now }
-    {
-        self.versions.as_slice()
-    }
-
-    /// The items as a vector. Takes no memory.
-    pub fn into_vec(self) -> Vec<Version>
-        ensures { result.items ≡ self }
-    {
-        let Versions { versions } = self;
-        versions
-    }
-}
+pub type Versions = Items<Version>;
 
 /// The rows of a matrix, in the order of faults.
-#[derive(Debug, Drop)]
-pub struct MatrixRows {
-    rows: Vec<MatrixRow>,
-}
-
-impl Model for MatrixRows {
-    ghost use Rattle.std.specs.Prelude.{List};
-    ghost use Rattle.broker_core.specs.declared.answer.MatrixRow.{MatrixRow};
-
-    ghost Value = { List MatrixRow };
-
-    ghost view = { λ f. f.rows.items };
-}
-
-impl MatrixRows {
-    /// The vector as such a list.
-    pub fn new(rows: Vec<MatrixRow>) -> MatrixRows
-        ensures { result ≡ rows.items }
-    {
-        MatrixRows { rows }
-    }
-
-    /// The items, lent.
-    pub fn as_slice(&self) -> &[MatrixRow]
-        ensures { result.now ≡ self.now }
-    {
-        self.rows.as_slice()
-    }
-
-    /// The items as a vector. Takes no memory.
-    pub fn into_vec(self) -> Vec<MatrixRow>
-        ensures { result.items ≡ self }
-    {
-        let MatrixRows { rows } = self;
-        rows
-    }
-}
+pub type MatrixRows = Items<MatrixRow>;
 
 /// What `done` and `already` tell beside the word.
 #[derive(Debug, Drop)]
@@ -237,7 +97,8 @@ pub enum Detail {
     Content(u64),
     /// The number of a result, from 1.
     Result(u64),
-    /// What replies came to: which interactions fail, the result's number, from 1, and whether it is a pass.
+    /// What replies came to: which interactions fail, the result's number, from 1, and whether it
+    /// is a pass.
     Replies {
         failing: Places,
         result: u64,
@@ -378,7 +239,7 @@ pub enum Answer {
     NotPermitted(Faults),
     /// A stored pact's pattern was refused.
     Pattern,
-    /// Want of memory.
+    /// Wut of memory.
     Memory,
     /// The store failed.
     Store,

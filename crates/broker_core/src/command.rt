@@ -1,5 +1,8 @@
 //! Commands: one variant a route, and one for what couldn't be read.
+ghost use Rattle.std.specs.Prelude.{◌≡◌, IfOk};
+
 use crate::name::{Body, Name, Text, Token};
+use std::alloc::AllocError;
 use std::fmt;
 use std::marker::Model;
 
@@ -18,7 +21,8 @@ pub struct Version {
     pub name: Name,
 }
 
-/// What an environment asks of a deployment: that the gate judges it, and that the gate trusts checked results alone.
+/// What an environment asks of a deployment: that the gate judges it, and that the gate trusts
+/// checked results alone.
 #[derive(Clone, Copy, Debug, PartialEq, Eq)]
 pub struct Marks {
     /// The gate judges deployments and releases.
@@ -55,6 +59,25 @@ pub enum FormFault {
     Replies(Text),
     /// A reply belongs to no interaction of the contract's pact.
     UnknownReply,
+}
+
+impl FormFault {
+    /// The same fault once more. The error is out of memory.
+    pub fn clone(&self) -> Result<FormFault, AllocError>
+        ensures { IfOk result (λ copy. copy ≡ self.now) }
+    {
+        match self {
+            FormFault::Name => Ok(FormFault::Name),
+            FormFault::Json => Ok(FormFault::Json),
+            FormFault::Field(field) => Ok(FormFault::Field(field.clone()?)),
+            FormFault::Query(key) => Ok(FormFault::Query(key.clone()?)),
+            FormFault::Token => Ok(FormFault::Token),
+            FormFault::Names => Ok(FormFault::Names),
+            FormFault::Pact(place) => Ok(FormFault::Pact(place.clone()?)),
+            FormFault::Replies(place) => Ok(FormFault::Replies(place.clone()?)),
+            FormFault::UnknownReply => Ok(FormFault::UnknownReply),
+        }
+    }
 }
 
 impl fmt::Display for FormFault {
@@ -120,7 +143,8 @@ pub enum Command {
     GetPact {
         path: PactPath,
     },
-    /// Shows the contract of the newest consumer version on a branch that has one with the provider.
+    /// Shows the contract of the newest consumer version on a branch that has one with the
+    /// provider.
     GetBranchPact {
         provider: Name,
         consumer: Name,
@@ -173,6 +197,7 @@ pub enum Command {
     GetMatrix {
         version: Version,
     },
-    /// A request of a known route whose path, query or body is at fault: it is told after the token was looked at.
+    /// A request of a known route whose path, query or body is at fault: it is told after the token
+    /// was looked at.
     Malformed(FormFault),
 }

@@ -4,9 +4,10 @@
 pub mod answer;
 pub mod command;
 pub mod gate;
+pub mod laws;
 pub mod limit;
 pub mod name;
 pub mod need;
 pub mod policy;
-#[cfg(test)]
-mod tests;
+
+pub use crate::limit::room;

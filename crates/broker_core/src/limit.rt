@@ -2,9 +2,12 @@
 ghost use Rattle.std.specs.Prelude.{IsTrue, ◌↔◌};
 ghost use Rattle.broker_core.specs.Limit.{HasRoom};
 
-/// Whether one more may be numbered where `count` stand: numbers go from 1 to 1,000,000,000 (this project's own choice).
+/// The greatest number of a version, of a content and of a result (this project's own choice).
+pub const GREATEST_NUMBER: u64 = 1_000_000_000;
+
+/// Whether one more may be numbered where `count` stand: numbers go from 1 to [`GREATEST_NUMBER`].
 pub fn room(count: u64) -> bool
     ensures { IsTrue result ↔ HasRoom count }
 {
-    count < 1_000_000_000
+    count < GREATEST_NUMBER
 }

@@ -10,8 +10,19 @@ use std::cmp::Ordering;
 use std::marker::Model;
 use thiserror::Error;
 
-/// The name of a team, a pacticipant, a version, a branch, an environment, an instance or a run: 1 to 100 bytes of UTF-8
-/// without control characters of ASCII (this project's own choice). Names are compared and ordered by their bytes.
+/// The most bytes of a name.
+pub const LONGEST_NAME: usize = 100;
+
+/// The fewest bytes of a token.
+pub const SHORTEST_TOKEN: usize = 16;
+
+/// The most bytes of a token.
+pub const LONGEST_TOKEN: usize = 128;
+
+/// The name of a team, a pacticipant, a version, a branch, an environment, an instance or a run: 1
+/// to 100 bytes of UTF-8
+/// without control characters of ASCII (this project's own choice). Names are compared and ordered
+/// by their bytes.
 #[derive(Debug, Drop)]
 pub struct Name {
     text: String,
@@ -34,7 +45,7 @@ pub enum NameFault {
     /// It is empty, over 100 bytes, or holds a character below U+0020 or U+007F.
     #[error("not a name")]
     BadName,
-    /// Want of memory.
+    /// Out of memory.
     #[error("out of memory")]
     Memory,
 }
@@ -42,12 +53,13 @@ pub enum NameFault {
 impl Name {
     /// A copy of the text as a name.
     ///
-    /// [`NameFault::BadName`] comes exactly where the text isn't a name, before memory is asked for.
+    /// [`NameFault::BadName`] comes exactly where the text isn't a name, before memory is asked
+    /// for.
     pub fn new(alloc: Global, text: &str) -> Result<Name, NameFault>
         ensures ok { IfOk result (λ name. (name ≡ text.now) × IsName text.now) }
         ensures bad { IsErrOf result NameFault.BadName ↔ (¬ (IsName text.now)) }
     {
-        if text.is_empty() || text.len() > 100 {
+        if text.is_empty() || text.len() > LONGEST_NAME {
             return Err(NameFault::BadName);
         }
         if text
@@ -68,7 +80,7 @@ impl Name {
         self.text.as_str()
     }
 
-    /// The same name once more. The error is want of memory.
+    /// The same name once more. The error is out of memory.
     pub fn clone(&self) -> Result<Name, AllocError>
         ensures { IfOk result (λ name. name ≡ self.now) }
     {
@@ -115,7 +127,8 @@ impl Ord for Name {
     }
 }
 
-/// The secret by which a caller is known: 16 to 128 letters and digits of ASCII and `-._~+/=`, the characters of a Bearer token
+/// The secret by which a caller is known: 16 to 128 letters and digits of ASCII and `-._~+/=`, the
+/// characters of a Bearer token
 /// (the limits are this project's own choice). It isn't shown by `Debug`.
 #[derive(Drop)]
 pub struct Token {
@@ -139,7 +152,7 @@ pub enum TokenFault {
     /// It is under 16 or over 128 bytes, or holds another character.
     #[error("not a token")]
     BadToken,
-    /// Want of memory.
+    /// Out of memory.
     #[error("out of memory")]
     Memory,
 }
@@ -160,12 +173,13 @@ fn is_token_byte(byte: u8) -> bool
 impl Token {
     /// A copy of the text as a token.
     ///
-    /// [`TokenFault::BadToken`] comes exactly where the text isn't a token, before memory is asked for.
+    /// [`TokenFault::BadToken`] comes exactly where the text isn't a token, before memory is asked
+    /// for.
     pub fn new(alloc: Global, text: &str) -> Result<Token, TokenFault>
         ensures ok { IfOk result (λ token. (token ≡ text.now) × IsToken text.now) }
         ensures bad { IsErrOf result TokenFault.BadToken ↔ (¬ (IsToken text.now)) }
     {
-        if text.len() < 16 || text.len() > 128 {
+        if text.len() < SHORTEST_TOKEN || text.len() > LONGEST_TOKEN {
             return Err(TokenFault::BadToken);
         }
         if !text.as_bytes().iter().all(|byte| is_token_byte(*byte)) {
@@ -210,6 +224,14 @@ impl Text {
         ensures { result.now ≡ self.now }
     {
         self.content.as_str()
+    }
+
+    /// The same text once more. The error is out of memory.
+    pub fn clone(&self) -> Result<Text, AllocError>
+        ensures { IfOk result (λ text. text ≡ self.now) }
+    {
+        let content = self.content.clone()?;
+        Ok(Text { content })
     }
 }
 

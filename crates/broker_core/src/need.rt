@@ -1,4 +1,5 @@
-//! What the gate looks at, after the Pact Broker's can-i-deploy: the needs of a version, and their faults.
+//! What the gate looks at, after the Pact Broker's can-i-deploy: the needs of a version, and their
+//! faults.
 ghost use Rattle.std.specs.Prelude.{◌≡◌, IfOk, nat_eq};
 ghost use Rattle.std.proofs.Common.{rules};
 ghost use Rattle.std.specs.Cmp.{partial_order_from_own_ties};
@@ -105,7 +106,8 @@ impl PartialOrd for Kind {
 
     ghost partial_cmp = { as_partial_cmp (on kind_rank nat_cmp) };
 
-    ghost laws = { partial_order_from_own_ties (Prim.search (comparing, rules)) (Prim.search (comparing, rules)) };
+    ghost laws = { partial_order_from_own_ties (Prim.search (comparing, rules))
+        (Prim.search (comparing, rules)) };
 
     fn partial_cmp(&self, other: &Kind) -> Option<Ordering> {
         Some(self.cmp(other))
@@ -130,7 +132,8 @@ impl Ord for Kind {
 
 /// A need that isn't good: a contract, a version of its provider, and what is lacking.
 ///
-/// Faults are ordered by consumer, its version, provider, its version (none first) and kind, names by their bytes.
+/// Faults are ordered by consumer, its version, provider, its version (none first) and kind, names
+/// by their bytes.
 #[derive(Debug, Drop, PartialEq, Eq, PartialOrd, Ord)]
 pub struct PairFault {
     pub consumer: Name,

@@ -14,12 +14,14 @@ pub enum Caller {
     Team(Name),
 }
 
-/// The rules of the policy. Each command is judged by one of them, which the answer names where it denies.
+/// The rules of the policy. Each command is judged by one of them, which the answer names where it
+/// denies.
 #[derive(Clone, Copy, Debug, PartialEq, Eq)]
 pub enum Rule {
     /// The token is the office's or a team's.
     A1,
-    /// The office alone names teams, pacticipants with their owners, and environments, and gives and takes grants.
+    /// The office alone names teams, pacticipants with their owners, and environments, and gives
+    /// and takes grants.
     A2,
     /// A version is named by the pacticipant's owner, and a pact published by the consumer's.
     A3,
@@ -29,7 +31,8 @@ pub enum Rule {
     A5,
     /// can-i-deploy and the matrix are asked by the pacticipant's owner, or by the office.
     A6,
-    /// Deployments, undeployments, releases and ends of support come from the pacticipant's owner, with a grant for the environment; not from the office.
+    /// Deployments, undeployments, releases and ends of support come from the pacticipant's owner,
+    /// with a grant for the environment; not from the office.
     A7,
     /// An environment is listed to each known caller.
     A8,
@@ -116,11 +119,13 @@ impl Caller {
     }
 }
 
-/// Whether the policy lets the caller do what is asked: nothing, or the rule that denies, which is the one asked for.
+/// Whether the policy lets the caller do what is asked: nothing, or the rule that denies, which is
+/// the one asked for.
 ///
 /// `A1` and `A8` let every caller that is known. Takes no memory.
 pub fn allowed(caller: &Caller, ask: &Ask) -> Result<(), Rule>
-    ensures { result ≡ (if allows ask.now.rule caller.now ask.now.owners.items ask.now.granted then Ok tt else Err ask.now.rule) }
+    ensures { result ≡ (if allows ask.now.rule caller.now ask.now.owners.items ask.now.granted
+        then Ok tt else Err ask.now.rule) }
 {
     if caller.has_right(ask) {
         Ok(())

@@ -1,7 +1,5 @@
-use Rattle.std.proofs.Common.{◌≡◌, false, ap, ◌∙◌, refl, [], ◌∷◌, codes}
-use Rattle.serde_json.specs.Data.{boolean}
+use Rattle.std.proofs.Common.{ap, ◌∙◌}
 use Rattle.serde_json.specs.Written.{has_float}
-use Rattle.answer_texts.specs.Data as spec
 use Rattle.answer_texts.proofs.Whole.{whole_environment}
 use Rattle.answer_texts.proofs.texts.environment_text.Goals as goal
 

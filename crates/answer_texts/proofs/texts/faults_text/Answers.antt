@@ -1,5 +1,4 @@
-use Rattle.std.proofs.Common.{◌≡◌, false, ap, ◌∙◌, refl, [], ◌∷◌, codes}
-use Rattle.serde_json.specs.Data.{boolean}
+use Rattle.std.proofs.Common.{◌≡◌, false, ap, ◌∙◌, [], ◌∷◌, codes}
 use Rattle.serde_json.specs.Written.{has_float}
 use Rattle.answer_texts.specs.Data as spec
 use Rattle.answer_texts.proofs.Whole.{whole_items, whole_fault}

@@ -1,0 +1,5 @@
+use Rattle.broker_core.proofs.Quiet.{only_done_changes as lemma}
+use Rattle.broker_core.proofs.laws.only_done_changes.Goals as goal
+
+pub returns : goal.returns
+returns g c = lemma g.M.Machine.primitives
