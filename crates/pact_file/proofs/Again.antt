@@ -10,13 +10,13 @@ use Rattle.serde_json.specs.Events.{items_len}
 use Rattle.serde_json.specs.Find.{get, as_array}
 use Rattle.serde_json.specs.View.{items_of}
 use Rattle.serde_json.proofs.OnLiterals.{serde_json_on_literals}
-use Rattle.pact_file.specs.File.{most_bytes, most_interactions, json_of, file_of, is_version_3, has_no_messages, is_name, side_of, sides_of, items_of as items_at}
+use Rattle.pact_file.specs.File.{most_bytes, most_interactions, file_of, is_version_3, has_no_messages, is_name, side_of, sides_of, items_of as items_at}
 use Rattle.pact_file.specs.Laws.{NormalAgain, OnePact}
 use Rattle.pact_file.specs.Normal.{InteractionRead, InOrder, InteractionsRead, if_short, Normal, IsRefusal}
 use Rattle.pact_rules.specs.Outcome.{guard}
 use Rattle.pact_file.specs.Pact.{Interaction, Pact, interaction_data, key_cmp, pact_data, normal_text}
 use Rattle.pact_file.specs.Parts.{text_at, object_at, listed}
-use Rattle.pact_file.specs.Placing.{placed, placed_all, same_text}
+use Rattle.pact_file.specs.Sorting.{insert_sorted, insert_all_sorted, same_text}
 use Rattle.pact_rules.specs.Reading.{just, EachRead}
 use Rattle.pact_rules.specs.Lists.{IsIn}
 use Rattle.pact_file.specs.Sets.{IsRising, HasClash}
@@ -26,7 +26,8 @@ use Rattle.pact_file.specs.declared.fault.PactFault.TheVariants.{SameInteraction
 use Rattle.pact_file.specs.declared.fault.Place.{Place}
 use Rattle.pact_file.specs.declared.fault.Place.TheVariants.{Consumer, ConsumerName, Provider, ProviderName, Interactions}
 use Rattle.pact_file.proofs.Agreement.{one_answer}
-use Rattle.pact_file.proofs.Files.{is_json}
+use Rattle.pact_file.specs.Objects.{json_of, object_of}
+use Rattle.pact_file.proofs.Objects.{is_json}
 use Rattle.pact_file.proofs.Itself.{interaction_again, listed_again}
 use Rattle.pact_file.proofs.OrderedSets.{IsGood, ordered, one_order}
 use Rattle.pact_file.proofs.ReadBack.{read-compact_text}
@@ -69,33 +70,33 @@ each_length i (d ∷ ds) xs e =
     let others = read_ok (EachRead InteractionRead (i + 1) ds) _ xs first.2 in
     ap length (sym (ok_same _ _ others.2)) ∙ ap suc (each_length (i + 1) ds others.0 others.1)
 
-placed_case : (o : Ordering) (b : Bool) (x y : Interaction) (ys zs : List Interaction) → ((ms : List Interaction) → placed key_cmp same_text x ys ≡ Some ms → length ms ≤ suc (length ys))
-    → match_ordering o (Some (x ∷ y ∷ ys)) (cond b (Some (y ∷ ys)) None) (option_map (λ more. y ∷ more) (placed key_cmp same_text x ys)) ≡ Some zs → length zs ≤ suc (suc (length ys))
+placed_case : (o : Ordering) (b : Bool) (x y : Interaction) (ys zs : List Interaction) → ((ms : List Interaction) → insert_sorted key_cmp same_text x ys ≡ Some ms → length ms ≤ suc (length ys))
+    → match_ordering o (Some (x ∷ y ∷ ys)) (cond b (Some (y ∷ ys)) None) (option_map (λ more. y ∷ more) (insert_sorted key_cmp same_text x ys)) ≡ Some zs → length zs ≤ suc (suc (length ys))
 placed_case Less b x y ys zs k e = subst (λ l. length l ≤ suc (suc (length ys))) (same_Some _ _ e) (omega arith)
 placed_case Equal true x y ys zs k e = subst (λ l. length l ≤ suc (suc (length ys))) (same_Some _ _ e) (omega arith)
 placed_case Equal false x y ys zs k e = absurd cc
-placed_case Greater b x y ys zs k e = more (placed key_cmp same_text x ys) refl e where
-  more : (o : Option (List Interaction)) → placed key_cmp same_text x ys ≡ o → option_map (λ more. y ∷ more) o ≡ Some zs → length zs ≤ suc (suc (length ys))
+placed_case Greater b x y ys zs k e = more (insert_sorted key_cmp same_text x ys) refl e where
+  more : (o : Option (List Interaction)) → insert_sorted key_cmp same_text x ys ≡ o → option_map (λ more. y ∷ more) o ≡ Some zs → length zs ≤ suc (suc (length ys))
   more None is h = absurd cc
   more (Some ms) is h = let few = k ms is in subst (λ l. length l ≤ suc (suc (length ys))) (same_Some _ _ h) (omega (arith, few))
 
-placed_length : (x : Interaction) (ys zs : List Interaction) → placed key_cmp same_text x ys ≡ Some zs → length zs ≤ suc (length ys)
-unfolding placed
+placed_length : (x : Interaction) (ys zs : List Interaction) → insert_sorted key_cmp same_text x ys ≡ Some zs → length zs ≤ suc (length ys)
+unfolding insert_sorted
 placed_length x [] zs e = subst (λ l. length l ≤ 1) (same_Some _ _ e) (omega arith)
 placed_length x (y ∷ ys) zs e = placed_case (key_cmp x y) (same_text x y) x y ys zs (λ ms is. placed_length x ys ms is) e
 
-all_length : (list xs zs : List Interaction) → placed_all key_cmp same_text list xs ≡ Some zs → length zs ≤ length list + length xs
-unfolding placed_all
+all_length : (list xs zs : List Interaction) → insert_all_sorted key_cmp same_text list xs ≡ Some zs → length zs ≤ length list + length xs
+unfolding insert_all_sorted
 all_length list [] zs e = subst (λ l. length l ≤ length list + 0) (same_Some _ _ e) (omega arith)
-all_length list (x ∷ xs) zs e = by_case (λ more h. all_length more xs zs h) (placed key_cmp same_text x list) refl e where
-  by_case : ((more : List Interaction) → placed_all key_cmp same_text more xs ≡ Some zs → length zs ≤ length more + length xs)
-      → (o : Option (List Interaction)) → placed key_cmp same_text x list ≡ o → option_and_then (λ more. placed_all key_cmp same_text more xs) o ≡ Some zs → length zs ≤ length list + suc (length xs)
+all_length list (x ∷ xs) zs e = by_case (λ more h. all_length more xs zs h) (insert_sorted key_cmp same_text x list) refl e where
+  by_case : ((more : List Interaction) → insert_all_sorted key_cmp same_text more xs ≡ Some zs → length zs ≤ length more + length xs)
+      → (o : Option (List Interaction)) → insert_sorted key_cmp same_text x list ≡ o → option_and_then (λ more. insert_all_sorted key_cmp same_text more xs) o ≡ Some zs → length zs ≤ length list + suc (length xs)
   by_case again None is h = absurd cc
   by_case again (Some more) is h = omega (arith, again more h, placed_length x list more is)
 
 order_length : (found xs : List Interaction) → ((z : Interaction) → IsIn z found → IsGood z) → InOrder found (Ok xs) → length xs ≤ length found
-order_length found xs good h = by_case (placed_all key_cmp same_text [] found) refl where
-  by_case : (o : Option (List Interaction)) → placed_all key_cmp same_text [] found ≡ o → length xs ≤ length found
+order_length found xs good h = by_case (insert_all_sorted key_cmp same_text [] found) refl where
+  by_case : (o : Option (List Interaction)) → insert_all_sorted key_cmp same_text [] found ≡ o → length xs ≤ length found
   by_case None is = let clash : Ok xs ≡ Err SameInteraction = one_order found (Ok xs) (Err SameInteraction) h (ordered found (Err SameInteraction) good (ap (λ o. ok_or o SameInteraction) is)) in absurd cc
   by_case (Some ys) is =
       let same : Ok xs ≡ Ok ys = one_order found (Ok xs) (Ok ys) h (ordered found (Ok ys) good (ap (λ o. ok_or o SameInteraction) is)) in
@@ -198,7 +199,7 @@ sides_again p h = rw (h.consumer.named, h.provider.named, h.two) refl
 -- ---- the file
 
 file_again : (p : Pact) → IsSound 100 (pact_data p) → nat_le (length (normal_text p)) most_bytes ≡ true → file_of (normal_text p) ≡ Ok (pact_data p)
-unfolding file_of
+unfolding file_of object_of
 file_again p h short =
     let d = pact_data p in
     let json : json_of (normal_text p) ≡ Ok (pact_data p) =

@@ -9,10 +9,13 @@ use Rattle.pact_rules.specs.declared.rule_fault.RuleFault.{RuleFault}
 use Rattle.pact_rules.specs.declared.rule_fault.RuleFault.TheVariants.{Pattern}
 use Rattle.pact_file.specs.File.{file_of, sides_of, items_of}
 use Rattle.pact_file.specs.Interactions.{parts_at}
-use Rattle.pact_file.specs.Normal.{HeadersRead, InteractionRead, InteractionsRead, Normal, IsRefusal, if_short}
-use Rattle.pact_file.specs.Parts.{given}
+use Rattle.pact_file.specs.Headers.{HeadersRead}
+use Rattle.pact_file.specs.Interactions.{at}
+use Rattle.pact_file.specs.declared.fault.Part.TheVariants.{Headers}
+use Rattle.pact_file.specs.Normal.{InteractionRead, InteractionsRead, Normal, IsRefusal, if_short}
+use Rattle.pact_file.specs.Parts.{optional_at}
 use Rattle.pact_rules.specs.Reading.{just, Follows, ◌>>=◌, EachRead}
-use Rattle.pact_file.specs.Rules.{TableRead, rules_told, RulesRead}
+use Rattle.pact_file.specs.Rules.{TableRead, rules_or_fault, RulesRead}
 use Rattle.pact_file.specs.declared.fault.PactFault.{PactFault}
 use Rattle.pact_file.specs.declared.fault.PactFault.TheVariants.{Rules}
 use Rattle.pact_file.proofs.HeaderSets.{one_list}
@@ -47,7 +50,7 @@ module _ {A B : Type 0} (first : Result A PactFault → Type 0) (next : A → Re
   bind_definite : IsDefinite (first >>= next)
   bind_definite r s h k = agree h.0 k.0 r s (one h.0 k.0 h.1 k.1) h.2 k.2
 
-headers_definite : (i : ℕ) (response : Data) → IsDefinite (HeadersRead i response)
+headers_definite : (i : ℕ) (response : Data) → IsDefinite (HeadersRead (at i Headers) response)
 headers_definite i response (Ok xs) (Ok ys) h k = inl (ap Ok (one_list response xs ys h k))
 headers_definite i response (Ok xs) (Err e) h k = absurd (k.0 xs h)
 headers_definite i response (Err e) (Ok ys) h k = absurd (h.0 ys k)
@@ -62,20 +65,20 @@ table_definite (Some d) r s h k =
     let same : k.0 ≡ h.0 = same_Some _ _ (sym k.1 ∙ h.1) in
     reading_agrees h.0 r s h.2 (subst (λ n. IsReading n s) same k.2)
 
-told_definite : (i : ℕ) (r s : Result Table RuleFault) (a b : Result Table PactFault) → TablesAgree r s → rules_told i r ≡ a → rules_told i s ≡ b → Agree a b
-told_definite i r s a b (inl same) h k = inl (sym h ∙ ap (rules_told i) same ∙ k)
-told_definite i r s a b (inr (inl refused)) h k = inr (inl (i, sym h ∙ ap (rules_told i) refused))
-told_definite i r s a b (inr (inr refused)) h k = inr (inr (i, sym k ∙ ap (rules_told i) refused))
+rules_fault_definite : (i : ℕ) (r s : Result Table RuleFault) (a b : Result Table PactFault) → TablesAgree r s → rules_or_fault i r ≡ a → rules_or_fault i s ≡ b → Agree a b
+rules_fault_definite i r s a b (inl same) h k = inl (sym h ∙ ap (rules_or_fault i) same ∙ k)
+rules_fault_definite i r s a b (inr (inl refused)) h k = inr (inl (i, sym h ∙ ap (rules_or_fault i) refused))
+rules_fault_definite i r s a b (inr (inr refused)) h k = inr (inr (i, sym k ∙ ap (rules_or_fault i) refused))
 
 rules_definite : (i : ℕ) (response : Data) → IsDefinite (RulesRead i response)
 unfolding RulesRead
-rules_definite i response a b h k = told_definite i h.0 k.0 a b (table_definite (given (codes "matchingRules") response) h.0 k.0 h.1 k.1) h.2 k.2
+rules_definite i response a b h k = rules_fault_definite i h.0 k.0 a b (table_definite (optional_at (codes "matchingRules") response) h.0 k.0 h.1 k.1) h.2 k.2
 
 interaction_definite : (i : ℕ) (d : Data) → IsDefinite (InteractionRead i d)
 unfolding InteractionRead
 interaction_definite i d =
     bind_definite (just (parts_at i d)) _ (just_definite (parts_at i d)) (λ x.
-    bind_definite (HeadersRead i x.response) _ (headers_definite i x.response) (λ headers.
+    bind_definite (HeadersRead (at i Headers) x.response) _ (headers_definite i x.response) (λ headers.
     bind_definite (RulesRead i x.response) _ (rules_definite i x.response) (λ rules. just_definite (Ok x))))
 
 each_definite : (i : ℕ) (ds : List Data) → IsDefinite (EachRead InteractionRead i ds)

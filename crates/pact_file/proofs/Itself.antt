@@ -10,13 +10,14 @@ use Rattle.serde_json.proofs.OnLiterals.{serde_json_on_literals}
 use Rattle.pact_rules.specs.Rules.{Rules as Table}
 use Rattle.pact_rules.specs.declared.rule_fault.RuleFault.{RuleFault}
 use Rattle.pact_file.specs.Interactions.{at, parts_at}
-use Rattle.pact_file.specs.Normal.{HeadersRead, InteractionRead}
+use Rattle.pact_file.specs.Headers.{HeadersRead}
+use Rattle.pact_file.specs.Normal.{InteractionRead}
 use Rattle.pact_rules.specs.Outcome.{guard}
 use Rattle.pact_file.specs.Pact.{State, Interaction, params_data, state_data, interaction_data}
-use Rattle.pact_file.specs.Parts.{unless_null, given, text_at, if_object, object_at, listed, all_of, state_in, one_state, states_from, states_in, status_in}
+use Rattle.pact_file.specs.Parts.{unless_null, optional_at, text_at, if_object, object_at, listed, all_of, state_in, one_state, states_from, states_in, status_in}
 use Rattle.pact_rules.specs.Reading.{just}
-use Rattle.pact_file.specs.Rules.{rules_told, RulesRead}
-use Rattle.pact_file.specs.declared.fault.Part.TheVariants.{Whole, Description, States, Request, Response, Status}
+use Rattle.pact_file.specs.Rules.{rules_or_fault, RulesRead}
+use Rattle.pact_file.specs.declared.fault.Part.TheVariants.{Headers, Whole, Description, States, Request, Response, Status}
 use Rattle.pact_file.proofs.ReadLemmas.{read_ok}
 use Rattle.pact_file.proofs.Steps.{bind_ok, found_ok, ok_same, map_some, then_some}
 
@@ -45,7 +46,7 @@ given_case (Some c) (Some d) h = unless_twice c d h
 
 state_given : (d : Data) (s : State) → state_in d ≡ Some s → IsGiven s.params
 state_given d s e =
-    let p = map_some (λ name. record { name = name; params = given (codes "params") d }) (text_at (codes "name") d) s e in
+    let p = map_some (λ name. record { name = name; params = optional_at (codes "params") d }) (text_at (codes "name") d) s e in
     given_case (get (codes "params") d) s.params (ap (λ (x : State). x.params) p.2)
 
 each_given : (ds : List Data) (ss : List State) → all_of state_in ds ≡ Some ss → AreGiven ss
@@ -68,7 +69,7 @@ from_given (Some d) older ss e = let p = then_some (λ ds. all_of state_in (list
 
 states_given : (d : Data) (ss : List State) → states_in d ≡ Some ss → AreGiven ss
 unfolding states_in
-states_given d ss e = from_given (given (codes "providerStates") d) (given (codes "providerState") d) ss e
+states_given d ss e = from_given (optional_at (codes "providerStates") d) (optional_at (codes "providerState") d) ss e
 
 state_again : (name : List ℕ) (params : Option Data) → IsGiven params → state_in (params_data name params) ≡ Some (record { name = name; params = params })
 unfolding serde_json_on_literals
@@ -118,20 +119,20 @@ parts_again i j d x e =
     (at_itself j (record { description = b.0; states = s.0; request = q.0; response = r.0 }) n.0 (states_given d s.0 (found_ok _ _ s.0 s.1))
     (object_found (codes "request") d q.0 (found_ok _ _ q.0 q.1)) (object_found (codes "response") d r.0 (found_ok _ _ r.0 r.1)) (found_ok _ _ n.0 n.1))
 
-told_again : (i j : ℕ) (r : Result Table RuleFault) (t : Table) → rules_told i r ≡ Ok t → rules_told j r ≡ Ok t
-told_again i j (Ok table) t h = ap Ok (ok_same _ _ h)
-told_again i j (Err e) t h = absurd cc
+rules_fault_again : (i j : ℕ) (r : Result Table RuleFault) (t : Table) → rules_or_fault i r ≡ Ok t → rules_or_fault j r ≡ Ok t
+rules_fault_again i j (Ok table) t h = ap Ok (ok_same _ _ h)
+rules_fault_again i j (Err e) t h = absurd cc
 
 rules_again : (i j : ℕ) (response : Data) (t : Table) → RulesRead i response (Ok t) → RulesRead j response (Ok t)
 unfolding RulesRead
-rules_again i j response t h = (h.0, h.1, told_again i j h.0 t h.2)
+rules_again i j response t h = (h.0, h.1, rules_fault_again i j h.0 t h.2)
 
 -- The normal form of an interaction that was read is read as that interaction.
 pub interaction_again : (i j : ℕ) (d : Data) (x : Interaction) → InteractionRead i d (Ok x) → InteractionRead j (interaction_data x) (Ok x)
 unfolding InteractionRead
 interaction_again i j d x h =
     let parts = read_ok (just (parts_at i d)) _ x h in
-    let headers = read_ok (HeadersRead i parts.0.response) _ x parts.2 in
+    let headers = read_ok (HeadersRead (at i Headers) parts.0.response) _ x parts.2 in
     let rules = read_ok (RulesRead i parts.0.response) _ x headers.2 in
     subst (λ (z : Interaction). InteractionRead j (interaction_data z) (Ok z)) (ok_same _ _ rules.2)
     (Ok parts.0, parts_again i j d parts.0 parts.1, (Ok headers.0, headers.1, (Ok rules.0, rules_again i j parts.0.response rules.0 rules.1, refl)))

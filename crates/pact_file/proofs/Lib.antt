@@ -1,5 +1,5 @@
 pub mod Lists
-pub mod Places
+pub mod SortingSteps
 pub mod Joined
 pub mod SetLemmas
 pub mod HeaderSets
@@ -10,7 +10,7 @@ pub mod ReadKept
 pub mod ReadBack
 pub mod SoundData
 pub mod SoundParts
-pub mod Files
+pub mod Objects
 pub mod ReadLemmas
 pub mod OrderedSets
 pub mod Itself

@@ -1,4 +1,4 @@
--- Interactions of a sound file that are placed one after another make the set in order, or clash.
+-- Interactions of a sound file that are inserted one after another make the set in order, or clash.
 use Rattle.std.proofs.Common.{◌≡◌, ℕ, ◌≤◌, List, [], ◌∷◌, map, true, false, true≢false, Option, Some, None, Result, Ok, Err, refl, sym, ap, ap₂, ◌∙◌, subst, arith}
 use Rattle.std.specs.Cmp.{IsTotalOrder}
 use Rattle.std.specs.Option.{ok_or}
@@ -9,7 +9,7 @@ use Rattle.serde_json.specs.View.{items_of}
 use Rattle.serde_json.specs.Written.{compact_text}
 use Rattle.pact_file.specs.Normal.{InOrder}
 use Rattle.pact_file.specs.Pact.{State, Interaction, params_data, state_data, states_data, interaction_data, key_cmp}
-use Rattle.pact_file.specs.Placing.{placed_all, same_text}
+use Rattle.pact_file.specs.Sorting.{insert_all_sorted, same_text}
 use Rattle.pact_rules.specs.Lists.{IsIn}
 use Rattle.pact_file.specs.Sound.{IsSound}
 use Rattle.pact_file.specs.declared.fault.PactFault.{PactFault}
@@ -112,9 +112,9 @@ alike x y g h e =
 unlike : (x y : Interaction) → same_text x y ≡ false → Differ y x
 unlike x y e same = true≢false (sym ((bytes_eq-Decides (compact_text (interaction_data x)) (compact_text (interaction_data y))).1 (ap compact_text (sym same))) ∙ e)
 
-pub ordered : (found : List Interaction) (answer : Result (List Interaction) PactFault) → ((z : Interaction) → IsIn z found → IsGood z) → ok_or (placed_all key_cmp same_text [] found) SameInteraction ≡ answer → InOrder found answer
-ordered found answer good e = subst (InOrder found) e (by_case (placed_all key_cmp same_text [] found) refl) where
-  by_case : (o : Option (List Interaction)) → placed_all key_cmp same_text [] found ≡ o → InOrder found (ok_or o SameInteraction)
+pub ordered : (found : List Interaction) (answer : Result (List Interaction) PactFault) → ((z : Interaction) → IsIn z found → IsGood z) → ok_or (insert_all_sorted key_cmp same_text [] found) SameInteraction ≡ answer → InOrder found answer
+ordered found answer good e = subst (InOrder found) e (by_case (insert_all_sorted key_cmp same_text [] found) refl) where
+  by_case : (o : Option (List Interaction)) → insert_all_sorted key_cmp same_text [] found ≡ o → InOrder found (ok_or o SameInteraction)
   by_case (Some list) is = set_of key_cmp key_total same_text Differ IsGood alike unlike found list good is
   by_case None is = (clash_of key_cmp key_total same_text Differ IsGood alike unlike found good is, refl)
 

@@ -12,25 +12,16 @@ use Rattle.serde_json.specs.Data.{Num, unsigned, negative, float, Data, number, 
 use Rattle.serde_json.specs.Read.{is_integer, float_of, number_from, number_of, of_json, of_items, of_members, max_depth, read}
 use Rattle.std.specs.Str.{IsUtf8}
 use Rattle.pact_rules.specs.Kept.{IsBelow, IsNumber, IsKept, AreKept, MembersAreKept}
+use Rattle.std.proofs.lemmas.Option.{same_Some}
+use Rattle.pact_file.proofs.Steps.{map_some, then_some}
 use Rattle.pact_file.proofs.Utf8Tokens.{HasTexts, ItemsHaveTexts, MembersHaveTexts, value_texts}
-
-pub some_same : {A : Type 0} (x y : A) (h : Path (Option A) (Some x) (Some y)) → x ≡ y
-some_same x y h = cc
-
-map_some : {A B : Type 0} (f : A → B) (o : Option A) (y : B) → option_map f o ≡ Some y → (x : A) × (o ≡ Some x) × (f x ≡ y)
-map_some f None y h = absurd cc
-map_some f (Some x) y h = (x, refl, some_same _ _ h)
-
-then_some : {A B : Type 0} (f : A → Option B) (o : Option A) (y : B) → option_and_then f o ≡ Some y → (x : A) × (o ≡ Some x) × (f x ≡ Some y)
-then_some f None y h = absurd cc
-then_some f (Some x) y h = (x, refl, h)
 
 -- ---- numbers
 
 below : (m k : ℕ) → nat_lt m k ≡ true → m < k
 below m k h = grind (arith, nat_tests)
 
-at_most : (m k : ℕ) → nat_le m k ≡ true → m ≤ k
+pub at_most : (m k : ℕ) → nat_le m k ≡ true → m ≤ k
 at_most m k h = grind (arith, nat_tests)
 
 right_true : (a b : Bool) → (a && b) ≡ true → b ≡ true
@@ -42,11 +33,11 @@ left_true true b h = refl
 left_true false b h = absurd cc
 
 float_case : (b : Bool) (x : Float) (n : Num) → cond b (Some (float x)) None ≡ Some n → IsNumber n
-float_case true x n h = subst IsNumber (some_same _ _ h) tt
+float_case true x n h = subst IsNumber (same_Some _ _ h) tt
 float_case false x n h = absurd cc
 
 plain_case : (t : Bool) (m : ℕ) (rest : Option Num) (n : Num) → (t ≡ true → m < 2 ^ 64) → (rest ≡ Some n → IsNumber n) → cond t (Some (unsigned m)) rest ≡ Some n → IsNumber n
-plain_case true m rest n fits other h = subst IsNumber (some_same _ _ h) (fits refl)
+plain_case true m rest n fits other h = subst IsNumber (same_Some _ _ h) (fits refl)
 plain_case false m rest n fits other h = other h
 
 signed : (m : ℕ) → 0 < m → m ≤ 2 ^ 63 → IsNumber (negative (with_sign true m))
@@ -54,7 +45,7 @@ signed zero some fits = absurd (omega arith)
 signed (suc k) some fits = omega arith
 
 signed_case : (t : Bool) (m : ℕ) (rest : Option Num) (n : Num) → (t ≡ true → (0 < m) × (m ≤ 2 ^ 63)) → (rest ≡ Some n → IsNumber n) → cond t (Some (negative (with_sign true m))) rest ≡ Some n → IsNumber n
-signed_case true m rest n fits other h = let f = fits refl in subst IsNumber (some_same _ _ h) (signed m f.0 f.1)
+signed_case true m rest n fits other h = let f = fits refl in subst IsNumber (same_Some _ _ h) (signed m f.0 f.1)
 signed_case false m rest n fits other h = other h
 
 from_parts : (sign : Bool) (p : Parts) (n : Num) → number_from sign p ≡ Some n → IsNumber n
@@ -105,22 +96,22 @@ put_kept k d (member l e ms) u h m = put_case (slice_cmp nat_cmp k l) k l d e ms
 
 mutual
   json_kept : (j : json.Json) (d : Data) → HasTexts j → of_json j ≡ Some d → IsKept d
-  json_kept json.null d t h = subst IsKept (some_same _ _ h) tt
-  json_kept (json.boolean b) d t h = subst IsKept (some_same _ _ h) tt
+  json_kept json.null d t h = subst IsKept (same_Some _ _ h) tt
+  json_kept (json.boolean b) d t h = subst IsKept (same_Some _ _ h) tt
   json_kept (json.number s) d t h = let n = map_some number (number_of s) d h in subst IsKept n.2 (number_kept s n.0 n.1)
-  json_kept (json.string s) d t h = subst IsKept (some_same _ _ h) t
+  json_kept (json.string s) d t h = subst IsKept (same_Some _ _ h) t
   json_kept (json.array js) d t h = let ds = map_some array (of_items js) d h in subst IsKept ds.2 (items_kept js ds.0 t ds.1)
   json_kept (json.object ms) d t h = let m = map_some object (of_members ms no_members) d h in subst IsKept m.2 (members_kept ms no_members m.0 t tt m.1)
 
   items_kept : (js : json.Items) (ds : Items) → ItemsHaveTexts js → of_items js ≡ Some ds → AreKept ds
-  items_kept json.no_items ds t h = subst AreKept (some_same _ _ h) tt
+  items_kept json.no_items ds t h = subst AreKept (same_Some _ _ h) tt
   items_kept (json.item j js) ds t h =
       let d = then_some (λ (d : Data). option_map (item d) (of_items js)) (of_json j) ds h in
       let es = map_some (item d.0) (of_items js) ds d.2 in
       subst AreKept es.2 (json_kept j d.0 t.0 d.1, items_kept js es.0 t.1 es.1)
 
   members_kept : (ms : json.Members) (found new : Members) → MembersHaveTexts ms → MembersAreKept found → of_members ms found ≡ Some new → MembersAreKept new
-  members_kept json.no_members found new t m h = subst MembersAreKept (some_same _ _ h) m
+  members_kept json.no_members found new t m h = subst MembersAreKept (same_Some _ _ h) m
   members_kept (json.member k j ms) found new t m h =
       let d = then_some (λ (d : Data). of_members ms (put k d found)) (of_json j) new h in
       members_kept ms (put k d.0 found) new t.2 (put_kept k d.0 found t.0 (json_kept j d.0 t.1 d.1) m) d.2

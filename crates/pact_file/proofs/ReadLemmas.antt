@@ -1,43 +1,41 @@
 -- What a reading that succeeds went through, and that what is read of sound data is sound.
-use Rattle.std.proofs.Common.{◌≡◌, inl, inr, ℕ, zero, suc, ◌+◌, ◌≤◌, ◌<◌, nat_le, List, [], ◌∷◌, length, map, codes, get_or, Bool, true, false, cond, is_some, Option, Some, None, option_and_then, Result, Ok, Err, refl, sym, ap, ◌∙◌, subst, arith}
+use Rattle.std.proofs.Common.{◌≡◌, inl, inr, ℕ, zero, suc, ◌+◌, ◌≤◌, ◌<◌, nat_le, List, [], ◌∷◌, length, map, codes, get_or, true, false, is_some, Some, None, option_and_then, Result, Ok, Err, refl, sym, ap, ◌∙◌, subst, arith}
 use Rattle.std.specs.Prelude.{⊤}
 use Rattle.std.specs.Option.{ok_or}
-use Rattle.std.specs.Str.{IsUtf8, is_utf8}
 use Rattle.std.proofs.lemmas.Bool.Decides.{nat_tests}
-use Rattle.std.proofs.lemmas.Str.{IsUtf8-from_is_utf8}
 use Rattle.serde_json.specs.Data.{Data, array, Items, no_items, item, depth}
 use Rattle.serde_json.specs.Events.{items_len}
 use Rattle.serde_json.specs.Find.{get, as_array, as_object}
-use Rattle.serde_json.specs.Read.{read}
 use Rattle.serde_json.specs.View.{view, items_view, items_of}
 use Rattle.serde_json.specs.Written.{items_have_float}
 use Rattle.serde_json.specs.declared.value.Value.{Value}
-use Rattle.pact_rules.proofs.Bridge.{has_tree, no_float}
+use Rattle.pact_rules.proofs.Bridge.{has_tree}
 use Rattle.pact_rules.specs.Trees.{Node}
 use Rattle.pact_rules.specs.Rules.{no_rules, Rules as Table}
 use Rattle.pact_rules.specs.RuleReading.{IsReading}
-use Rattle.pact_rules.specs.TreeReading.{whole_tree, whole_or, tree_in}
+use Rattle.pact_rules.specs.TreeReading.{whole_tree, tree_in}
+use Rattle.pact_rules.specs.declared.tree.TreeFault.{TreeFault}
 use Rattle.pact_rules.specs.declared.rule_fault.RuleFault.{RuleFault}
 use Rattle.pact_rules.specs.declared.rule_fault.RuleFault.TheVariants as rule_fault
-use Rattle.pact_rules.specs.declared.tree.TreeFault.{TreeFault}
-use Rattle.pact_rules.specs.declared.tree.TreeFault.TheVariants.{TooDeep}
-use Rattle.pact_file.specs.File.{most_bytes, most_interactions, json_of, tree_told, file_of, items_of as items_at}
+use Rattle.pact_file.specs.File.{most_bytes, most_interactions, as_file_fault, file_of, items_of as items_at}
 use Rattle.pact_file.specs.Interactions.{at, parts_at}
-use Rattle.pact_file.specs.Normal.{InteractionRead, HeadersRead, InteractionsRead, if_short}
+use Rattle.pact_file.specs.Headers.{HeadersRead}
+use Rattle.pact_file.specs.Normal.{InteractionRead, InteractionsRead, if_short}
 use Rattle.pact_rules.specs.Outcome.{guard, Gives}
 use Rattle.pact_file.specs.Pact.{Interaction, Pact, interaction_data, normal_text}
-use Rattle.pact_file.specs.Parts.{text_at, object_at, states_in, status_in, listed, given}
+use Rattle.pact_file.specs.Parts.{text_at, object_at, states_in, status_in, listed, optional_at}
 use Rattle.pact_rules.specs.Reading.{◌>>=◌, Follows, just, EachRead, GivesOne}
-use Rattle.pact_file.specs.Rules.{TableRead, rules_told, RulesRead, IsRulesOf}
+use Rattle.pact_file.specs.Rules.{TableRead, rules_or_fault, RulesRead, IsRulesOf}
 use Rattle.pact_rules.specs.Lists.{IsIn}
 use Rattle.pact_file.specs.Sound.{IsSound, AreSound}
-use Rattle.pact_file.specs.Told.{rule_told}
+use Rattle.pact_file.specs.PartsView.{as_pact_fault}
 use Rattle.pact_file.specs.declared.fault.PactFault.{PactFault}
-use Rattle.pact_file.specs.declared.fault.PactFault.TheVariants.{Memory, Rules, Shape, TooLong, NotJson, TooMany}
-use Rattle.pact_file.specs.declared.fault.Part.TheVariants.{Whole, Description, States, Request, Response, Status}
-use Rattle.pact_file.specs.declared.fault.Place.TheVariants.{File, Interactions}
-use Rattle.pact_file.proofs.ReadKept.{read_kept}
-use Rattle.pact_file.proofs.SoundData.{sound, shallow, whole as is_whole}
+use Rattle.pact_file.specs.declared.fault.PactFault.TheVariants.{Memory, Rules, Shape, TooLong, TooMany}
+use Rattle.pact_file.specs.declared.fault.Part.TheVariants.{Headers, Whole, Description, States, Request, Response, Status}
+use Rattle.pact_file.specs.declared.fault.Place.TheVariants.{Interactions}
+use Rattle.pact_file.specs.Objects.{object_of}
+use Rattle.pact_file.proofs.Objects.{object_ok, object_sound}
+use Rattle.pact_file.proofs.SoundData.{shallow, whole as is_whole}
 use Rattle.pact_file.proofs.SoundParts.{of_get, of_object_at, of_text_at, of_array, of_states, of_parts}
 use Rattle.pact_file.proofs.Steps.{bind_ok, found_ok, ok_same, then_some}
 
@@ -57,32 +55,32 @@ no_tree_fault n d e few h is = let t = is_tree n d few h in let clash : Ok t.0 �
 
 -- ---- rules
 
-pub rules_none : (i : ℕ) (response : Data) (t : Table) → None ≡ given (codes "matchingRules") response → t ≡ no_rules → RulesRead i response (Ok t)
+pub rules_none : (i : ℕ) (response : Data) (t : Table) → None ≡ optional_at (codes "matchingRules") response → t ≡ no_rules → RulesRead i response (Ok t)
 unfolding RulesRead
 rules_none i response t none is = (Ok t, subst (λ o. TableRead o (Ok t)) none (ap Ok is), refl)
 
-pub no_rules_of : (response : Data) (t : Table) → None ≡ given (codes "matchingRules") response → t ≡ no_rules → IsRulesOf response t
+pub no_rules_of : (response : Data) (t : Table) → None ≡ optional_at (codes "matchingRules") response → t ≡ no_rules → IsRulesOf response t
 unfolding IsRulesOf
 no_rules_of response t none is = subst (λ o. TableRead o (Ok t)) none (ap Ok is)
 
-pub rules_some : (i : ℕ) (response d : Data) (n : Node) (r : Result Table RuleFault) → Some d ≡ given (codes "matchingRules") response → whole_tree d ≡ Some n → IsReading n r → RulesRead i response (rules_told i r)
+pub rules_some : (i : ℕ) (response d : Data) (n : Node) (r : Result Table RuleFault) → Some d ≡ optional_at (codes "matchingRules") response → whole_tree d ≡ Some n → IsReading n r → RulesRead i response (rules_or_fault i r)
 unfolding RulesRead
 rules_some i response d n r some is h = (r, subst (λ o. TableRead o r) some (n, is, h), refl)
 
-pub rules_of : (response d : Data) (n : Node) (t : Table) → Some d ≡ given (codes "matchingRules") response → whole_tree d ≡ Some n → IsReading n (Ok t) → IsRulesOf response t
+pub rules_of : (response d : Data) (n : Node) (t : Table) → Some d ≡ optional_at (codes "matchingRules") response → whole_tree d ≡ Some n → IsReading n (Ok t) → IsRulesOf response t
 unfolding IsRulesOf
 rules_of response d n t some is h = subst (λ o. TableRead o (Ok t)) some (n, is, h)
 
-pub told_apart : (i : ℕ) (fault : RuleFault) → ¬ (rule_told i fault ≡ Memory) → (¬ (fault ≡ rule_fault.Memory)) × (rule_told i fault ≡ Rules i fault)
-told_apart i rule_fault.Form h = ((λ e. absurd cc), refl)
-told_apart i rule_fault.OldRules h = ((λ e. absurd cc), refl)
-told_apart i rule_fault.BadPath h = ((λ e. absurd cc), refl)
-told_apart i rule_fault.SamePathTwice h = ((λ e. absurd cc), refl)
-told_apart i (rule_fault.Unsupported name) h = ((λ e. absurd cc), refl)
-told_apart i rule_fault.BadBound h = ((λ e. absurd cc), refl)
-told_apart i rule_fault.Pattern h = ((λ e. absurd cc), refl)
-told_apart i rule_fault.BadCombine h = ((λ e. absurd cc), refl)
-told_apart i rule_fault.Memory h = absurd (h refl)
+pub pact_fault_apart : (i : ℕ) (fault : RuleFault) → ¬ (as_pact_fault i fault ≡ Memory) → (¬ (fault ≡ rule_fault.Memory)) × (as_pact_fault i fault ≡ Rules i fault)
+pact_fault_apart i rule_fault.Form h = ((λ e. absurd cc), refl)
+pact_fault_apart i rule_fault.OldRules h = ((λ e. absurd cc), refl)
+pact_fault_apart i rule_fault.BadPath h = ((λ e. absurd cc), refl)
+pact_fault_apart i rule_fault.SamePathTwice h = ((λ e. absurd cc), refl)
+pact_fault_apart i (rule_fault.Unsupported name) h = ((λ e. absurd cc), refl)
+pact_fault_apart i rule_fault.BadBound h = ((λ e. absurd cc), refl)
+pact_fault_apart i rule_fault.Pattern h = ((λ e. absurd cc), refl)
+pact_fault_apart i rule_fault.BadCombine h = ((λ e. absurd cc), refl)
+pact_fault_apart i rule_fault.Memory h = absurd (h refl)
 
 -- ---- steps
 
@@ -106,7 +104,7 @@ parts_sound i d x h e =
     let n = bind_ok (ok_or (status_in r.0) (at i Status)) _ x r.2 in
     let y : Interaction = record { description = b.0; states = s.0; request = q.0; response = r.0 } in
     let same : y ≡ x = ok_same _ _ n.2 in
-    subst (λ (z : Interaction). IsSound 98 (interaction_data z)) same
+    subst (λ (z : Interaction). IsSound 98 (interaction_data z)) {x = y} same
     (of_parts 95 y (of_text_at 97 (codes "description") d b.0 h (found_ok _ _ b.0 b.1)) (of_states 95 d s.0 h (found_ok _ _ s.0 s.1))
     (of_object_at 97 (codes "request") d q.0 h (found_ok _ _ q.0 q.1)) (of_object_at 97 (codes "response") d r.0 h (found_ok _ _ r.0 r.1)))
 
@@ -114,7 +112,7 @@ pub interaction_sound : (i : ℕ) (d : Data) (x : Interaction) → IsSound 98 d 
 unfolding InteractionRead
 interaction_sound i d x h r =
     let parts = read_ok (just (parts_at i d)) _ x r in
-    let headers = read_ok (HeadersRead i parts.0.response) _ x parts.2 in
+    let headers = read_ok (HeadersRead (at i Headers) parts.0.response) _ x parts.2 in
     let rules = read_ok (RulesRead i parts.0.response) _ x headers.2 in
     parts_sound i d x h (parts.1 ∙ rules.2)
 
@@ -142,38 +140,11 @@ each_sound i (d ∷ ds) xs h e z m =
 
 -- ---- the file
 
-json_case : (t : Bool) (o : Option Data) (d : Data) → cond t (ok_or o NotJson) (Err NotJson) ≡ Ok d → (t ≡ true) × (o ≡ Some d)
-json_case true o d h = (refl, found_ok o NotJson d h)
-json_case false o d h = absurd cc
-
-told_ok : {A : Type 0} (r : Result A TreeFault) (x : ⊤) → tree_told r ≡ Ok x → (a : A) × (r ≡ Ok a)
-told_ok (Ok a) x h = (a, refl)
-told_ok (Err e) x h = absurd cc
-
-whole_case : (t : Bool) (o : Option Node) (n : Node) → cond t (whole_or o) (Err TooDeep) ≡ Ok n → (t ≡ true) × (o ≡ Some n)
-whole_case true None n h = absurd cc
-whole_case true (Some m) n h = (refl, ap Some (ok_same _ _ h))
-whole_case false o n h = absurd cc
-
-le_of : (m k : ℕ) → nat_le m k ≡ true → m ≤ k
-le_of m k h = grind (arith, nat_tests)
-
--- a value that is read of UTF-8 and that is a tree
-pub read_sound : (bytes : List ℕ) (d : Data) (t : Node) → IsUtf8 bytes → read bytes ≡ Some d → tree_in d ≡ Ok t → IsSound 100 d
-read_sound bytes d t utf8 is tree =
-    let parts = whole_case (nat_le (depth d) 100) (whole_tree d) t tree in
-    sound 100 d (read_kept bytes d utf8 is) (no_float d t parts.1) (le_of (depth d) 100 parts.0)
-
 pub file_sound : (bytes : List ℕ) (d : Data) → file_of bytes ≡ Ok d → IsSound 100 d
-unfolding file_of json_of
+unfolding file_of
 file_sound bytes d e =
     let short = bind_ok (guard (nat_le (length bytes) most_bytes) TooLong) _ d e in
-    let json = bind_ok (json_of bytes) _ d short.2 in
-    let tree = bind_ok (tree_told (tree_in json.0)) _ d json.2 in
-    let is = bind_ok (guard (is_some (as_object json.0)) (Shape File)) _ d tree.2 in
-    let found_text = json_case (is_utf8 bytes) (read bytes) json.0 json.1 in
-    let found = told_ok (tree_in json.0) tree.0 tree.1 in
-    subst (IsSound 100) (ok_same _ _ is.2) (read_sound bytes json.0 found.0 (IsUtf8-from_is_utf8 bytes found_text.0) found_text.1 found.1)
+    object_sound bytes d (object_ok as_file_fault (object_of bytes) d short.2)
 
 pub items_sound : (file : Data) (ds : List Data) → IsSound 100 file → items_at file ≡ Ok ds → AllSound ds
 unfolding items_at
@@ -225,5 +196,5 @@ pub short_enough : (p : Pact) (s : List ℕ) → s ≡ normal_text p → length 
 short_enough p s is h = let short : nat_le (length (normal_text p)) most_bytes ≡ true = ap (λ t. nat_le (length t) most_bytes) (sym is) ∙ test_le (length s) most_bytes h in rw short refl
 
 -- a pact of equal parts
-pub made : {c d q r : List ℕ} (xs : List Interaction) → c ≡ d → q ≡ r → ◌≡◌ {A = Pact} (record { consumer = c; provider = q; interactions = xs }) (record { consumer = d; provider = r; interactions = xs })
-made xs e f = λ i. record { consumer = e i; provider = f i; interactions = xs }
+pub same_pact : {c d q r : List ℕ} (xs : List Interaction) → c ≡ d → q ≡ r → ◌≡◌ {A = Pact} (record { consumer = c; provider = q; interactions = xs }) (record { consumer = d; provider = r; interactions = xs })
+same_pact xs e f = λ i. record { consumer = e i; provider = f i; interactions = xs }

@@ -4,7 +4,7 @@ use Rattle.std.specs.List.{AllByRecursion}
 use Rattle.std.specs.Ordering.{match_ordering, ordering_reverse}
 use Rattle.std.specs.Cmp.{IsTotalOrder}
 use Rattle.std.proofs.lemmas.Option.{same_Some}
-use Rattle.pact_file.specs.Placing.{placed, placed_all}
+use Rattle.pact_file.specs.Sorting.{insert_sorted, insert_all_sorted}
 use Rattle.pact_rules.specs.Lists.{OneOf, IsIn}
 use Rattle.pact_file.specs.Sets.{IsRising, IsSetInOrder, HasClash}
 
@@ -150,21 +150,21 @@ module _ {A : Type 0} (cmp : A → A → Ordering) (total : IsTotalOrder cmp) wh
     some_map y (Some more) new e = (more, refl, same_Some _ _ e)
 
     placed_case : (o : Ordering) (b : Bool) (x y : A) (ys new : List A) → cmp x y ≡ o → same x y ≡ b → Good x → Good y → IsRising cmp (y ∷ ys)
-        → ((more : List A) → placed cmp same x ys ≡ Some more → IsPlaced x ys more)
-        → match_ordering o (Some (x ∷ y ∷ ys)) (cond b (Some (y ∷ ys)) None) (option_map (λ more. y ∷ more) (placed cmp same x ys)) ≡ Some new → IsPlaced x (y ∷ ys) new
+        → ((more : List A) → insert_sorted cmp same x ys ≡ Some more → IsPlaced x ys more)
+        → match_ordering o (Some (x ∷ y ∷ ys)) (cond b (Some (y ∷ ys)) None) (option_map (λ more. y ∷ more) (insert_sorted cmp same x ys)) ≡ Some new → IsPlaced x (y ∷ ys) new
     placed_case Less b x y ys new is eq g h r k e = subst (IsPlaced x (y ∷ ys)) (same_Some _ _ e) (here x y ys is r)
     placed_case Equal true x y ys new is eq g h r k e = let a = alike x y g h eq in subst (IsPlaced x (y ∷ ys)) (same_Some _ _ e) (there x y ys a.0 a.1 r)
     placed_case Equal false x y ys new is eq g h r k e = absurd cc
     placed_case Greater b x y ys new is eq g h r k e =
-        let m = some_map y (placed cmp same x ys) new e in
+        let m = some_map y (insert_sorted cmp same x ys) new e in
         subst (IsPlaced x (y ∷ ys)) m.2 (past x y ys m.0 is r (k m.0 m.1))
 
     alone_known : (x z : A) → IsIn z (x ∷ []) → (z ≡ x) ⊎ IsIn z []
     alone_known x z (inl same) = inl same
     alone_known x z (inr k) = inr k
 
-    is_placed : (x : A) (list new : List A) → Good x → ((z : A) → IsIn z list → Good z) → IsRising cmp list → placed cmp same x list ≡ Some new → IsPlaced x list new
-    unfolding placed
+    is_placed : (x : A) (list new : List A) → Good x → ((z : A) → IsIn z list → Good z) → IsRising cmp list → insert_sorted cmp same x list ≡ Some new → IsPlaced x list new
+    unfolding insert_sorted
     is_placed x [] new g h r e =
         subst (IsPlaced x []) (same_Some _ _ e) (record { rising = (tt, tt); fresh = inl refl; old = λ z k. absurd k; known = λ z k. alone_known x z k; apart = λ z k. absurd k })
     is_placed x (y ∷ ys) new g h r e =
@@ -173,18 +173,18 @@ module _ {A : Type 0} (cmp : A → A → Ordering) (total : IsTotalOrder cmp) wh
     abbrev Clashes : A → A → Type 0
     Clashes y x = (cmp y x ≡ Equal) × Differ y x
 
-    refused_case : (o : Ordering) (b : Bool) (x y : A) (ys : List A) → cmp x y ≡ o → same x y ≡ b → (placed cmp same x ys ≡ None → OneOf (λ z. Clashes z x) ys)
-        → match_ordering o (Some (x ∷ y ∷ ys)) (cond b (Some (y ∷ ys)) None) (option_map (λ more. y ∷ more) (placed cmp same x ys)) ≡ None → OneOf (λ z. Clashes z x) (y ∷ ys)
+    refused_case : (o : Ordering) (b : Bool) (x y : A) (ys : List A) → cmp x y ≡ o → same x y ≡ b → (insert_sorted cmp same x ys ≡ None → OneOf (λ z. Clashes z x) ys)
+        → match_ordering o (Some (x ∷ y ∷ ys)) (cond b (Some (y ∷ ys)) None) (option_map (λ more. y ∷ more) (insert_sorted cmp same x ys)) ≡ None → OneOf (λ z. Clashes z x) (y ∷ ys)
     refused_case Less b x y ys is eq k e = absurd cc
     refused_case Equal true x y ys is eq k e = absurd cc
     refused_case Equal false x y ys is eq k e = inl (turned x y Equal is, unlike x y eq)
-    refused_case Greater b x y ys is eq k e = inr (k (none_map (placed cmp same x ys) e)) where
+    refused_case Greater b x y ys is eq k e = inr (k (none_map (insert_sorted cmp same x ys) e)) where
       none_map : (o : Option (List A)) → option_map (λ more. y ∷ more) o ≡ None → o ≡ None
       none_map None h = refl
       none_map (Some more) h = absurd cc
 
-    is_refused : (x : A) (list : List A) → placed cmp same x list ≡ None → OneOf (λ z. Clashes z x) list
-    unfolding placed
+    is_refused : (x : A) (list : List A) → insert_sorted cmp same x list ≡ None → OneOf (λ z. Clashes z x) list
+    unfolding insert_sorted
     is_refused x [] e = absurd cc
     is_refused x (y ∷ ys) e = refused_case (cmp x y) (same x y) x y ys refl refl (λ k. is_refused x ys k) e
 
@@ -239,17 +239,17 @@ module _ {A : Type 0} (cmp : A → A → Ordering) (total : IsTotalOrder cmp) wh
       by_case (inl same) = subst Good (sym same) g
       by_case (inr m) = h z m
 
-    all_placed : (list xs new : List A) → ((z : A) → IsIn z list → Good z) → ((z : A) → IsIn z xs → Good z) → IsRising cmp list → placed_all cmp same list xs ≡ Some new → AreAllPlaced list xs new
-    unfolding placed_all
+    all_placed : (list xs new : List A) → ((z : A) → IsIn z list → Good z) → ((z : A) → IsIn z xs → Good z) → IsRising cmp list → insert_all_sorted cmp same list xs ≡ Some new → AreAllPlaced list xs new
+    unfolding insert_all_sorted
     all_placed list [] new g h r e =
         subst (AreAllPlaced list []) (same_Some _ _ e)
         (record { rising = r; old = λ z k. k; added = λ z k. absurd k; known = λ z k. inl k; apart = λ k. k; between = λ y z k m. absurd m })
     all_placed list (x ∷ xs) new g h r e =
-        let m = some_then (placed cmp same x list) (λ more. placed_all cmp same more xs) new e in
+        let m = some_then (insert_sorted cmp same x list) (λ more. insert_all_sorted cmp same more xs) new e in
         let p = is_placed x list m.0 (h x (inl refl)) g r m.1 in
         grown x list xs m.0 new p (all_placed m.0 xs new (still_good x list m.0 (h x (inl refl)) g p.known) (λ z k. h z (inr k)) p.rising m.2)
 
-    -- a clash in what is placed, or of one that is there with one of these
+    -- a clash in what is insert_sorted, or of one that is there with one of these
     abbrev ClashesWith : List A → List A → Type 0
     ClashesWith list xs = HasClash cmp Differ xs ⊎ ((y : A) × IsIn y list × OneOf (λ z. Clashes y z) xs)
 
@@ -263,12 +263,12 @@ module _ {A : Type 0} (cmp : A → A → Ordering) (total : IsTotalOrder cmp) wh
     clash_first : (x : A) (list xs : List A) → OneOf (λ z. Clashes z x) list → ClashesWith list (x ∷ xs)
     clash_first x list xs one = let r = one_such (λ z. Clashes z x) list one in inr (r.0, r.1, inl r.2)
 
-    all_refused : (list xs : List A) → ((z : A) → IsIn z list → Good z) → ((z : A) → IsIn z xs → Good z) → IsRising cmp list → placed_all cmp same list xs ≡ None → ClashesWith list xs
-    unfolding placed_all
+    all_refused : (list xs : List A) → ((z : A) → IsIn z list → Good z) → ((z : A) → IsIn z xs → Good z) → IsRising cmp list → insert_all_sorted cmp same list xs ≡ None → ClashesWith list xs
+    unfolding insert_all_sorted
     all_refused list [] g h r e = absurd cc
-    all_refused list (x ∷ xs) g h r e = by_case (λ more good rising k. all_refused more xs good (λ z m. h z (inr m)) rising k) (placed cmp same x list) refl e where
-      by_case : ((more : List A) → ((z : A) → IsIn z more → Good z) → IsRising cmp more → placed_all cmp same more xs ≡ None → ClashesWith more xs)
-          → (o : Option (List A)) → placed cmp same x list ≡ o → option_and_then (λ more. placed_all cmp same more xs) o ≡ None → ClashesWith list (x ∷ xs)
+    all_refused list (x ∷ xs) g h r e = by_case (λ more good rising k. all_refused more xs good (λ z m. h z (inr m)) rising k) (insert_sorted cmp same x list) refl e where
+      by_case : ((more : List A) → ((z : A) → IsIn z more → Good z) → IsRising cmp more → insert_all_sorted cmp same more xs ≡ None → ClashesWith more xs)
+          → (o : Option (List A)) → insert_sorted cmp same x list ≡ o → option_and_then (λ more. insert_all_sorted cmp same more xs) o ≡ None → ClashesWith list (x ∷ xs)
       by_case again None is k = clash_first x list xs (is_refused x list is)
       by_case again (Some more) is k =
           let p = is_placed x list more (h x (inl refl)) g r is in
@@ -280,7 +280,7 @@ module _ {A : Type 0} (cmp : A → A → Ordering) (total : IsTotalOrder cmp) wh
     known_found z xs (inl h) = absurd h
     known_found z xs (inr h) = h
 
-    pub set_of : (found list : List A) → ((z : A) → IsIn z found → Good z) → placed_all cmp same [] found ≡ Some list → (¬ HasClash cmp Differ found) × IsSetInOrder cmp found list
+    pub set_of : (found list : List A) → ((z : A) → IsIn z found → Good z) → insert_all_sorted cmp same [] found ≡ Some list → (¬ HasClash cmp Differ found) × IsSetInOrder cmp found list
     set_of found list h e =
         let p = all_placed [] found list (λ z k. absurd k) h tt e in
         (p.apart, record { rising = p.rising; kept = p.added; known = λ z k. known_found z found (p.known z k) })
@@ -289,5 +289,5 @@ module _ {A : Type 0} (cmp : A → A → Ordering) (total : IsTotalOrder cmp) wh
     clash_found xs (inl clash) = clash
     clash_found xs (inr one) = absurd one.1
 
-    pub clash_of : (found : List A) → ((z : A) → IsIn z found → Good z) → placed_all cmp same [] found ≡ None → HasClash cmp Differ found
+    pub clash_of : (found : List A) → ((z : A) → IsIn z found → Good z) → insert_all_sorted cmp same [] found ≡ None → HasClash cmp Differ found
     clash_of found h e = clash_found found (all_refused [] found (λ z k. absurd k) h tt e)

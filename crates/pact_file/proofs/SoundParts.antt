@@ -10,7 +10,7 @@ use Rattle.serde_json.specs.Find.{get, get_member, as_str, as_array}
 use Rattle.serde_json.specs.View.{items_of}
 use Rattle.serde_json.proofs.OnLiterals.{serde_json_on_literals}
 use Rattle.pact_file.specs.Pact.{State, Interaction, Pact, params_data, state_data, states_data, interaction_data, pact_data}
-use Rattle.pact_file.specs.Parts.{unless_null, given, text_at, if_object, object_at, listed, all_of, state_in, one_state, states_from, states_in}
+use Rattle.pact_file.specs.Parts.{unless_null, optional_at, text_at, if_object, object_at, listed, all_of, state_in, one_state, states_from, states_in}
 use Rattle.pact_file.specs.Sound.{IsSound, AreSound, MembersAreSound}
 use Rattle.pact_file.proofs.Steps.{map_some, then_some}
 
@@ -39,11 +39,11 @@ unless (string s) e h = same_Some _ _ h
 unless (array ds) e h = same_Some _ _ h
 unless (object ms) e h = same_Some _ _ h
 
-pub given_is : (k : List ℕ) (whole d : Data) → given k whole ≡ Some d → get k whole ≡ Some d
-given_is k whole d e = let p = then_some unless_null (get k whole) d e in p.1 ∙ ap Some (unless p.0 d p.2)
+pub optional_is : (k : List ℕ) (whole d : Data) → optional_at k whole ≡ Some d → get k whole ≡ Some d
+optional_is k whole d e = let p = then_some unless_null (get k whole) d e in p.1 ∙ ap Some (unless p.0 d p.2)
 
-pub of_given : (n : ℕ) (k : List ℕ) (whole d : Data) → IsSound (suc n) whole → given k whole ≡ Some d → IsSound n d
-of_given n k whole d h e = of_get n k whole d h (given_is k whole d e)
+pub of_optional : (n : ℕ) (k : List ℕ) (whole d : Data) → IsSound (suc n) whole → optional_at k whole ≡ Some d → IsSound n d
+of_optional n k whole d h e = of_get n k whole d h (optional_is k whole d e)
 
 object_is : (d e : Data) → if_object d ≡ Some e → d ≡ e
 object_is null e h = absurd cc
@@ -87,8 +87,8 @@ of_params n name (Some d) u h = ((refl, tt), u, (tt, h d refl, tt, IsUtf8-are_as
 
 of_state : (n : ℕ) (d : Data) (s : State) → IsSound (suc n) d → state_in d ≡ Some s → IsSound (suc n) (state_data s)
 of_state n d s h e =
-    let p = map_some (λ name. record { name = name; params = given (codes "params") d }) (text_at (codes "name") d) s e in
-    subst (λ x. IsSound (suc n) (state_data x)) p.2 (of_params n p.0 (given (codes "params") d) (of_text_at n (codes "name") d p.0 h p.1) (λ x found. of_given n (codes "params") d x h found))
+    let p = map_some (λ name. record { name = name; params = optional_at (codes "params") d }) (text_at (codes "name") d) s e in
+    subst (λ x. IsSound (suc n) (state_data x)) p.2 (of_params n p.0 (optional_at (codes "params") d) (of_text_at n (codes "name") d p.0 h p.1) (λ x found. of_optional n (codes "params") d x h found))
 
 of_each : (n : ℕ) (ds : Items) (ss : List State) → AreSound (suc n) ds → all_of state_in (listed ds) ≡ Some ss → AreSound (suc n) (items_of (map state_data ss))
 unfolding all_of
@@ -115,8 +115,8 @@ of_from n (Some d) older ss h k e =
 pub of_states : (n : ℕ) (d : Data) (ss : List State) → IsSound (suc (suc (suc n))) d → states_in d ≡ Some ss → IsSound (suc (suc n)) (states_data ss)
 unfolding states_in
 of_states n d ss h e =
-    of_from n (given (codes "providerStates") d) (given (codes "providerState") d) ss
-    (λ x found. of_given (suc (suc n)) (codes "providerStates") d x h found) (λ x found. of_given (suc (suc n)) (codes "providerState") d x h found) e
+    of_from n (optional_at (codes "providerStates") d) (optional_at (codes "providerState") d) ss
+    (λ x found. of_optional (suc (suc n)) (codes "providerStates") d x h found) (λ x found. of_optional (suc (suc n)) (codes "providerState") d x h found) e
 
 -- ---- an interaction, and a pact
 

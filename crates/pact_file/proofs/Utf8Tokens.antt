@@ -172,14 +172,14 @@ Read P (Some x) = P x.0 × AreTexts x.1
 abbrev Reads : {A : Type 0} → (A → Type 0) → json.Parse A → Type 0
 Reads P parse = (ts : List Token) → AreTexts ts → Read P (parse ts)
 
-mapped : {A B : Type 0} (P : A → Type 0) (Q : B → Type 0) (f : A → B) → ((a : A) → P a → Q (f a)) → (o : Option (A × List Token)) → Read P o → Read Q (json.parse_map f o)
-mapped P Q f g None h = tt
-mapped P Q f g (Some x) h = (g x.0 h.0, h.1)
+reads_mapped : {A B : Type 0} (P : A → Type 0) (Q : B → Type 0) (f : A → B) → ((a : A) → P a → Q (f a)) → (o : Option (A × List Token)) → Read P o → Read Q (json.parse_map f o)
+reads_mapped P Q f g None h = tt
+reads_mapped P Q f g (Some x) h = (g x.0 h.0, h.1)
 
-then : {A B : Type 0} (P : A → Type 0) (Q : B → Type 0) (f : A × List Token → Option (B × List Token)) → ((x : A × List Token) → P x.0 → AreTexts x.1 → Read Q (f x))
+reads_then : {A B : Type 0} (P : A → Type 0) (Q : B → Type 0) (f : A × List Token → Option (B × List Token)) → ((x : A × List Token) → P x.0 → AreTexts x.1 → Read Q (f x))
     → (o : Option (A × List Token)) → Read P o → Read Q (option_and_then f o)
-then P Q f g None h = tt
-then P Q f g (Some x) h = g x h.0 h.1
+reads_then P Q f g None h = tt
+reads_then P Q f g (Some x) h = g x h.0 h.1
 
 abbrev IfTexts : Option (List Token) → Type 0
 IfTexts None = ⊤
@@ -219,7 +219,7 @@ module _ (value : json.Parse json.Json) (reads : Reads HasTexts value) where
   item_turn : (more : json.Parse json.Items) → Reads ItemsHaveTexts more → (ts : List Token) (o : Option (List Token)) → AreTexts ts → IfTexts o → Read ItemsHaveTexts (json.items_step value more ts o)
   item_turn more h ts (Some rest) t r = (tt, r)
   item_turn more h ts None t r =
-      then HasTexts ItemsHaveTexts _ (λ x j rest. mapped ItemsHaveTexts ItemsHaveTexts (json.item x.0) (λ js k. (j, k)) (more x.1) (h x.1 rest)) (value ts) (reads ts t)
+      reads_then HasTexts ItemsHaveTexts _ (λ x j rest. reads_mapped ItemsHaveTexts ItemsHaveTexts (json.item x.0) (λ js k. (j, k)) (more x.1) (h x.1 rest)) (value ts) (reads ts t)
 
   items_read : (n : ℕ) → Reads ItemsHaveTexts (json.items value n)
   unfolding json.items
@@ -229,19 +229,19 @@ module _ (value : json.Parse json.Json) (reads : Reads HasTexts value) where
   member_turn : (more : json.Parse json.Members) → Reads MembersHaveTexts more → (k : Option (List ℕ)) (ts : List Token) → IfText k → AreTexts ts → Read MembersHaveTexts (json.members_step value more k ts)
   member_turn more h None ts k t = (tt, t)
   member_turn more h (Some s) ts k t =
-      then HasTexts MembersHaveTexts _ (λ x j rest. mapped MembersHaveTexts MembersHaveTexts (json.member s x.0) (λ ms m. (k, j, m)) (more x.1) (h x.1 rest)) (value ts) (reads ts t)
+      reads_then HasTexts MembersHaveTexts _ (λ x j rest. reads_mapped MembersHaveTexts MembersHaveTexts (json.member s x.0) (λ ms m. (k, j, m)) (more x.1) (h x.1 rest)) (value ts) (reads ts t)
 
   members_read : (n : ℕ) → Reads MembersHaveTexts (json.members value n)
   unfolding json.members
   members_read zero ts t = tt
   members_read (suc n) ts t =
-      then IfText MembersHaveTexts _ (λ x k rest. member_turn (json.members value n) (members_read n) x.0 x.1 k rest) (json.read_key ts) (key_text ts t)
+      reads_then IfText MembersHaveTexts _ (λ x k rest. member_turn (json.members value n) (members_read n) x.0 x.1 k rest) (json.read_key ts) (key_text ts t)
 
 value_reads : (a : json.Parse json.Items) (o : json.Parse json.Members) → Reads ItemsHaveTexts a → Reads MembersHaveTexts o → Reads HasTexts (json.value_with a o)
 value_reads a o g h [] t = tt
-value_reads a o g h (begin_object ∷ ts) t = mapped MembersHaveTexts HasTexts json.object (λ ms k. k) (o ts) (h ts t.1)
+value_reads a o g h (begin_object ∷ ts) t = reads_mapped MembersHaveTexts HasTexts json.object (λ ms k. k) (o ts) (h ts t.1)
 value_reads a o g h (end_object ∷ ts) t = tt
-value_reads a o g h (begin_array ∷ ts) t = mapped ItemsHaveTexts HasTexts json.array (λ js k. k) (a ts) (g ts t.1)
+value_reads a o g h (begin_array ∷ ts) t = reads_mapped ItemsHaveTexts HasTexts json.array (λ js k. k) (a ts) (g ts t.1)
 value_reads a o g h (end_array ∷ ts) t = tt
 value_reads a o g h (key s ∷ ts) t = tt
 value_reads a o g h (string s ∷ ts) t = (t.0, t.1)

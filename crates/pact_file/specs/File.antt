@@ -1,18 +1,18 @@
 -- What comes before the interactions of a pact file: its form, its version, and the two sides.
-use Rattle.std.specs.Prelude.{ℕ, ◌&&◌, ◌||◌, ◌==◌, List, [], ◌∷◌, length, Bool, true, false, not, nat_eq, nat_le, Option, Some, None, option_map, option_and_then, unwrap_or, is_some, Result, Ok, Err, codes, if◌then◌else◌, ⊤}
+use Rattle.std.specs.Prelude.{ℕ, ◌&&◌, ◌||◌, ◌==◌, List, [], ◌∷◌, length, Bool, true, false, not, nat_eq, nat_le, Option, Some, None, option_map, option_and_then, unwrap_or, Result, Ok, codes}
 use Rattle.std.specs.List.{starts_with}
 use Rattle.std.specs.Option.{ok_or, option_or}
-use Rattle.std.specs.Str.{bytes_eq, is_utf8}
+use Rattle.std.specs.Str.{bytes_eq}
 use Rattle.serde_json.specs.Data.{Data, Num, null, boolean, number, string, array, object, unsigned, negative, float}
 use Rattle.serde_json.specs.Events.{items_len}
-use Rattle.serde_json.specs.Find.{get, as_array, as_object}
-use Rattle.serde_json.specs.Read.{read}
-use Rattle.pact_rules.specs.TreeReading.{tree_in}
-use Rattle.pact_rules.specs.declared.tree.TreeFault.{TreeFault}
+use Rattle.serde_json.specs.Find.{get}
 use Rattle.pact_rules.specs.Outcome.{◌>>=◌, guard}
-use Rattle.pact_file.specs.Parts.{text_at, object_at, listed}
+use Rattle.pact_file.specs.Objects.{object_of, with_fault}
+use Rattle.pact_file.specs.Parts.{text_at, object_at, list_at, listed}
 use Rattle.pact_file.specs.declared.fault.PactFault.{PactFault}
-use Rattle.pact_file.specs.declared.fault.PactFault.TheVariants.{TooLong, NotJson, Shape, Version, Messages, Tree, TooMany, SelfContract}
+use Rattle.pact_file.specs.declared.fault.PactFault.TheVariants.{TooLong, NotJson, Shape, Version, Messages, Tree, TooMany, SelfContract, Memory}
+use Rattle.pact_file.specs.declared.object.FileFault.{FileFault}
+use Rattle.pact_file.specs.declared.object.FileFault.TheVariants as file_fault
 use Rattle.pact_file.specs.declared.fault.Place.{Place}
 use Rattle.pact_file.specs.declared.fault.Place.TheVariants.{File, Consumer, ConsumerName, Provider, ProviderName, Interactions}
 
@@ -24,22 +24,18 @@ most_interactions = 512
 
 -- ---- the file
 
--- the value that the bytes are, a text of JSON in UTF-8
-unfoldable pub json_of : List ℕ → Result Data PactFault
-json_of bytes = if is_utf8 bytes then ok_or (read bytes) NotJson else Err NotJson
+-- the fault of a file as that of a pact file
+abbrev pub as_file_fault : FileFault → PactFault
+as_file_fault file_fault.NotJson = NotJson
+as_file_fault (file_fault.Tree fault) = Tree fault
+as_file_fault file_fault.NotObject = Shape File
+as_file_fault file_fault.Memory = Memory
 
-abbrev pub tree_told : {A : Type 0} → Result A TreeFault → Result ⊤ PactFault
-tree_told (Ok x) = Ok tt
-tree_told (Err e) = Err (Tree e)
-
--- an object without fractions that nests not too deep
+-- an object in a file that is not too long
 unfoldable pub file_of : List ℕ → Result Data PactFault
 file_of bytes = do
   short ← guard (nat_le (length bytes) most_bytes) TooLong
-  whole ← json_of bytes
-  tree ← tree_told (tree_in whole)
-  is ← guard (is_some (as_object whole)) (Shape File)
-  Ok whole
+  with_fault as_file_fault (object_of bytes)
 
 -- ---- version, messages and the two sides
 
@@ -58,11 +54,16 @@ is_3 (array ds) = None
 is_3 (object ms) = None
 
 abbrev pub version_under : List ℕ → Data → Option Bool
-version_under key file = option_and_then is_3 (option_and_then (get (codes "version")) (option_and_then (get key) (get (codes "metadata") file)))
+version_under key file =
+    option_and_then is_3
+    (option_and_then (get (codes "version")) (option_and_then (get key) (get (codes "metadata") file)))
 
 -- a file that names no version is read as version 3
 unfoldable pub is_version_3 : Data → Bool
-is_version_3 file = unwrap_or (option_or (version_under (codes "pactSpecification") file) (version_under (codes "pact-specification") file)) true
+is_version_3 file =
+    unwrap_or
+    (option_or (version_under (codes "pactSpecification") file) (version_under (codes "pact-specification") file))
+    true
 
 abbrev pub holds_nothing : Data → Bool
 holds_nothing null = true
@@ -104,6 +105,6 @@ sides_of file = do
 -- the values that stand as interactions
 unfoldable pub items_of : Data → Result (List Data) PactFault
 items_of file = do
-  items ← ok_or (option_and_then as_array (get (codes "interactions") file)) (Shape Interactions)
+  items ← ok_or (list_at (codes "interactions") file) (Shape Interactions)
   few ← guard (nat_le (items_len items) most_interactions) TooMany
   Ok (listed items)

@@ -1,4 +1,4 @@
--- What is kept beside an interaction is what its definitions give.
+-- For private clauses: what is kept beside an interaction is what its definitions give.
 use Rattle.std.specs.Prelude.{◌≡◌, ℕ, List, Option, Some}
 use Rattle.serde_json.specs.Written.{compact_text}
 use Rattle.pact_rules.specs.Trees.{Node}
@@ -9,7 +9,8 @@ use Rattle.pact_file.specs.Parts.{status_in, body_in}
 use Rattle.pact_file.specs.Rules.{IsRulesOf}
 use Rattle.pact_file.specs.Sound.{IsSound}
 
-pub record IsFilled (x : Interaction) (status : ℕ) (headers : List Header) (body : Option Node) (rules : Rules) (states_text text : List ℕ) : Type 0 where
+pub record IsFilled (x : Interaction) (status : ℕ) (headers : List Header) (body : Option Node) (rules : Rules)
+    (states_text text : List ℕ) : Type 0 where
   pub sound : IsSound 98 (interaction_data x)
   pub has_status : status_in x.response ≡ Some status
   pub has_headers : HasHeaders x.response headers

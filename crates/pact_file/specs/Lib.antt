@@ -3,13 +3,14 @@ pub mod Pact
 pub mod Sets
 pub mod Parts
 pub mod Headers
-pub mod Placing
+pub mod Sorting
 pub mod Sound
 pub mod Rules
 pub mod Filled
+pub mod Objects
 pub mod File
 pub mod Interactions
 pub mod Normal
-pub mod Told
+pub mod PartsView
 pub mod Laws
 pub mod Words

@@ -4,9 +4,9 @@ use Rattle.std.specs.Prelude.{◌≡◌, ◌≢◌, ℕ, List, length, nat_le, R
 use Rattle.serde_json.specs.Data.{Data}
 use Rattle.pact_rules.specs.declared.rule_fault.RuleFault.TheVariants.{Pattern}
 use Rattle.pact_file.specs.File.{most_bytes, file_of, sides_of, items_of}
-use Rattle.pact_file.specs.Headers.{HasHeaders, LacksHeaders}
+use Rattle.pact_file.specs.Headers.{HeadersRead}
 use Rattle.pact_file.specs.Interactions.{at, parts_at}
-use Rattle.pact_file.specs.Pact.{Header, Interaction, Pact, interaction_data, key_cmp, normal_text}
+use Rattle.pact_file.specs.Pact.{Interaction, Pact, interaction_data, key_cmp, normal_text}
 use Rattle.pact_rules.specs.Reading.{just, ◌>>=◌, EachRead}
 use Rattle.pact_file.specs.Rules.{RulesRead}
 use Rattle.pact_file.specs.Sets.{IsSetInOrder, HasClash}
@@ -14,16 +14,11 @@ use Rattle.pact_file.specs.declared.fault.PactFault.{PactFault}
 use Rattle.pact_file.specs.declared.fault.PactFault.TheVariants.{TooLong, SameInteraction, Rules}
 use Rattle.pact_file.specs.declared.fault.Part.TheVariants.{Headers}
 
--- the headers of the interaction i
-abbrev pub HeadersRead : ℕ → Data → Result (List Header) PactFault → Type 0
-HeadersRead i response (Ok headers) = HasHeaders response headers
-HeadersRead i response (Err fault) = LacksHeaders response × (fault ≡ at i Headers)
-
 -- an interaction, in the order of its tests
 unfoldable pub InteractionRead : ℕ → Data → Result Interaction PactFault → Type 0
 InteractionRead i d = do
   interaction ← just (parts_at i d)
-  headers ← HeadersRead i interaction.response
+  headers ← HeadersRead (at i Headers) interaction.response
   rules ← RulesRead i interaction.response
   just (Ok interaction)
 

@@ -32,11 +32,20 @@ pub record Pact : Type 0 where
   pub provider : List ℕ
   pub interactions : List Interaction
 
+abbrev pub interaction_with : List ℕ → List State → Data → Data → Interaction
+interaction_with description states request response =
+    record { description = description; states = states; request = request; response = response }
+
+abbrev pub pact_with : List ℕ → List ℕ → List Interaction → Pact
+pact_with consumer provider interactions =
+    record { consumer = consumer; provider = provider; interactions = interactions }
+
 -- ---- normal forms
 
 abbrev pub params_data : List ℕ → Option Data → Data
 params_data name None = object (member (codes "name") (string name) no_members)
-params_data name (Some params) = object (member (codes "name") (string name) (member (codes "params") params no_members))
+params_data name (Some params) =
+    object (member (codes "name") (string name) (member (codes "params") params no_members))
 
 -- a state with parameters, or without
 abbrev pub state_data : State → Data
@@ -71,7 +80,9 @@ normal_text p = compact_text (pact_data p)
 
 -- by description, and then by the compact text of the states
 abbrev pub key_cmp : Interaction → Interaction → Ordering
-key_cmp x y = ordering_then (slice_cmp nat_cmp x.description y.description) (slice_cmp nat_cmp (compact_text (states_data x.states)) (compact_text (states_data y.states)))
+key_cmp x y =
+    ordering_then (slice_cmp nat_cmp x.description y.description)
+    (slice_cmp nat_cmp (compact_text (states_data x.states)) (compact_text (states_data y.states)))
 
 abbrev pub name_cmp : Header → Header → Ordering
 name_cmp x y = slice_cmp nat_cmp x.name y.name
@@ -80,18 +91,26 @@ name_cmp x y = slice_cmp nat_cmp x.name y.name
 
 abbrev pub state_code : Coded State
 state_code =
-    code_by (List ℕ × Option Data) (coded× (coded_list coded_ℕ) (coded_option data_code)) (λ s. (s.name, s.params)) (λ p. record { name = p.0; params = p.1 }) (λ _. refl)
+    code_by (List ℕ × Option Data)
+    (coded× (coded_list coded_ℕ) (coded_option data_code))
+    (λ s. (s.name, s.params)) (λ p. record { name = p.0; params = p.1 }) (λ _. refl)
 
 abbrev pub header_code : Coded Header
 header_code =
-    code_by (List ℕ × List ℕ) (coded× (coded_list coded_ℕ) (coded_list coded_ℕ)) (λ h. (h.name, h.value)) (λ p. record { name = p.0; value = p.1 }) (λ _. refl)
+    code_by (List ℕ × List ℕ)
+    (coded× (coded_list coded_ℕ) (coded_list coded_ℕ))
+    (λ h. (h.name, h.value)) (λ p. record { name = p.0; value = p.1 }) (λ _. refl)
 
 abbrev pub interaction_code : Coded Interaction
 interaction_code =
-    code_by (List ℕ × (List State × (Data × Data))) (coded× (coded_list coded_ℕ) (coded× (coded_list state_code) (coded× data_code data_code)))
-    (λ x. (x.description, (x.states, (x.request, x.response)))) (λ p. record { description = p.0; states = p.1.0; request = p.1.1.0; response = p.1.1.1 }) (λ _. refl)
+    code_by (List ℕ × (List State × (Data × Data)))
+    (coded× (coded_list coded_ℕ) (coded× (coded_list state_code) (coded× data_code data_code)))
+    (λ x. (x.description, (x.states, (x.request, x.response))))
+    (λ p. record { description = p.0; states = p.1.0; request = p.1.1.0; response = p.1.1.1 }) (λ _. refl)
 
 abbrev pub pact_code : Coded Pact
 pact_code =
-    code_by (List ℕ × (List ℕ × List Interaction)) (coded× (coded_list coded_ℕ) (coded× (coded_list coded_ℕ) (coded_list interaction_code)))
-    (λ x. (x.consumer, (x.provider, x.interactions))) (λ p. record { consumer = p.0; provider = p.1.0; interactions = p.1.1 }) (λ _. refl)
+    code_by (List ℕ × (List ℕ × List Interaction))
+    (coded× (coded_list coded_ℕ) (coded× (coded_list coded_ℕ) (coded_list interaction_code)))
+    (λ x. (x.consumer, (x.provider, x.interactions)))
+    (λ p. record { consumer = p.0; provider = p.1.0; interactions = p.1.1 }) (λ _. refl)

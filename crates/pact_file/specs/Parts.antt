@@ -1,4 +1,5 @@
--- The parts of an interaction, as they stand in JSON data (Pact Specification, version 3). A part that isn't as it must be is none.
+-- The parts of an interaction, as they stand in JSON data (Pact Specification, version 3). A part that isn't as it
+-- must be is none.
 use Rattle.std.specs.Prelude.{ℕ, ◌&&◌, List, [], ◌∷◌, ◌++◌, Option, Some, None, option_map, option_and_then, nat_le, codes, if◌then◌else◌}
 use Rattle.std.specs.Option.{option_or}
 use Rattle.std.specs.Str.{str_to_ascii_lowercase}
@@ -17,8 +18,8 @@ unless_null (array ds) = Some (array ds)
 unless_null (object ms) = Some (object ms)
 
 -- an optional member: null counts as absent
-abbrev pub given : List ℕ → Data → Option Data
-given key d = option_and_then unless_null (get key d)
+abbrev pub optional_at : List ℕ → Data → Option Data
+optional_at key d = option_and_then unless_null (get key d)
 
 -- a member that is a text
 abbrev pub text_at : List ℕ → Data → Option (List ℕ)
@@ -35,6 +36,10 @@ if_object (object ms) = Some (object ms)
 -- a member that is an object
 abbrev pub object_at : List ℕ → Data → Option Data
 object_at key d = option_and_then if_object (get key d)
+
+-- a member that is a list
+abbrev pub list_at : List ℕ → Data → Option Items
+list_at key d = option_and_then as_array (get key d)
 
 -- the values of a list
 abbrev pub listed : Items → List Data
@@ -55,7 +60,8 @@ all_of f (x ∷ xs) = option_and_then (λ y. option_map (λ ys. y ∷ ys) (all_o
 
 -- an object with a name, and parameters where they are given
 abbrev pub state_in : Data → Option State
-state_in d = option_map (λ name. record { name = name; params = given (codes "params") d }) (text_at (codes "name") d)
+state_in d =
+    option_map (λ name. record { name = name; params = optional_at (codes "params") d }) (text_at (codes "name") d)
 
 abbrev pub one_state : Option Data → Option (List State)
 one_state None = Some []
@@ -67,7 +73,7 @@ states_from (Some list) older = option_and_then (λ ds. all_of state_in (listed 
 
 -- the list under `providerStates`, or where it is absent the one state of the older spelling
 unfoldable pub states_in : Data → Option (List State)
-states_in d = states_from (given (codes "providerStates") d) (given (codes "providerState") d)
+states_in d = states_from (optional_at (codes "providerStates") d) (optional_at (codes "providerState") d)
 
 -- ---- the response
 
@@ -84,7 +90,7 @@ status_from (Some d) = status_at d
 
 -- the status, 200 where it is absent
 unfoldable pub status_in : Data → Option ℕ
-status_in response = status_from (given (codes "status") response)
+status_in response = status_from (optional_at (codes "status") response)
 
 -- the tree under `body`
 unfoldable pub body_in : Data → Option Node
@@ -103,7 +109,8 @@ joined (t ∷ ts) = t ++ behind ts
 
 -- a text, or a list of texts
 abbrev pub header_value : Data → Option (List ℕ)
-header_value d = option_or (as_str d) (option_and_then (λ ds. option_map joined (all_of as_str (listed ds))) (as_array d))
+header_value d =
+    option_or (as_str d) (option_and_then (λ ds. option_map joined (all_of as_str (listed ds))) (as_array d))
 
 abbrev pub header_in : List ℕ × Data → Option Header
 header_in m = option_map (λ value. record { name = str_to_ascii_lowercase m.0; value = value }) (header_value m.1)
@@ -114,4 +121,4 @@ headers_from (Some d) = option_and_then (λ ms. all_of header_in (members_listed
 
 -- the headers in the order of the file, none where they are absent
 unfoldable pub headers_found : Data → Option (List Header)
-headers_found response = headers_from (given (codes "headers") response)
+headers_found response = headers_from (optional_at (codes "headers") response)

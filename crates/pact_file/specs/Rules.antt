@@ -8,21 +8,24 @@ use Rattle.pact_rules.specs.RuleReading.{IsReading}
 use Rattle.pact_rules.specs.declared.rule_fault.RuleFault.{RuleFault}
 use Rattle.pact_file.specs.declared.fault.PactFault.{PactFault}
 use Rattle.pact_file.specs.declared.fault.PactFault.TheVariants.{Rules}
-use Rattle.pact_file.specs.Parts.{given}
+use Rattle.pact_file.specs.Parts.{optional_at}
 
 -- no rules where they are absent
 abbrev pub TableRead : Option Data → Result Table RuleFault → Type 0
 TableRead None answer = answer ≡ Ok no_rules
 TableRead (Some d) answer = (n : Node) × (whole_tree d ≡ Some n) × IsReading n answer
 
-abbrev pub rules_told : ℕ → Result Table RuleFault → Result Table PactFault
-rules_told i (Ok table) = Ok table
-rules_told i (Err fault) = Err (Rules i fault)
+abbrev pub rules_or_fault : ℕ → Result Table RuleFault → Result Table PactFault
+rules_or_fault i (Ok table) = Ok table
+rules_or_fault i (Err fault) = Err (Rules i fault)
 
 -- of the response of the interaction i
 unfoldable pub RulesRead : ℕ → Data → Result Table PactFault → Type 0
-RulesRead i response answer = (r : Result Table RuleFault) × TableRead (given (codes "matchingRules") response) r × (rules_told i r ≡ answer)
+RulesRead i response answer =
+    (r : Result Table RuleFault)
+    × TableRead (optional_at (codes "matchingRules") response) r
+    × (rules_or_fault i r ≡ answer)
 
 -- the table that is read of the response
 unfoldable pub IsRulesOf : Data → Table → Type 0
-IsRulesOf response table = TableRead (given (codes "matchingRules") response) (Ok table)
+IsRulesOf response table = TableRead (optional_at (codes "matchingRules") response) (Ok table)

@@ -1,4 +1,5 @@
--- JSON data without fractions, as a reader keeps it: whole numbers of 64 bits, texts of UTF-8, keys in order and each once, nesting at most n.
+-- JSON data without fractions, as a reader keeps it: whole numbers of 64 bits, texts of UTF-8, keys in order and each
+-- once, nesting at most n.
 use Rattle.std.specs.Prelude.{ℕ, zero, suc, ◌<◌, ◌^◌, ⊤}
 use Rattle.std.specs.Str.{IsUtf8}
 use Rattle.serde_json.specs.Data.{Num, unsigned, negative, float, Data, null, boolean, number, string, array, object, Items, no_items, item, Members, no_members, member}

@@ -11,7 +11,7 @@ use Rattle.pact_file.specs.declared.fault.Place.TheVariants.{File, Consumer, Con
 use Rattle.pact_file.specs.declared.fault.Part.{Part}
 use Rattle.pact_file.specs.declared.fault.Part.TheVariants.{Whole, Description, States, Request, Response, Status, Headers}
 
--- nothing of an interaction as a whole
+-- a part of an interaction or of a recorded reply: nothing of it as a whole
 abbrev pub part_text : Part → List ℕ
 part_text Whole = []
 part_text Description = codes ".description"
@@ -66,13 +66,14 @@ number_text (Shape place) = codes "3 " ++ place_text place
 number_text Version = codes "4"
 number_text Messages = codes "5"
 number_text (Tree fault) = tree_text fault
-number_text (Rules i fault) = codes "7." ++ (rule_number fault ++ (codes " interactions[" ++ (decimal i ++ (codes "]" ++ rule_name fault))))
+number_text (Rules i fault) =
+    codes "7." ++ (rule_number fault ++ (codes " interactions[" ++ (decimal i ++ (codes "]" ++ rule_name fault))))
 number_text SameInteraction = codes "8"
 number_text TooMany = codes "9"
 number_text SelfContract = codes "10"
 number_text Memory = codes "11"
 
--- `pact 3 interactions[0].status`, `pact 7.5 interactions[0] decimal`; want of memory is `memory`
+-- `pact 3 interactions[0].status`, `pact 7.5 interactions[0] decimal`; out of memory is `memory`
 abbrev pub fault_text : PactFault → List ℕ
 fault_text TooLong = codes "pact " ++ number_text TooLong
 fault_text NotJson = codes "pact " ++ number_text NotJson

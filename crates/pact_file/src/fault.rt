@@ -7,10 +7,10 @@ use pact_rules::{RuleFault, TreeFault};
 use std::alloc::{AllocError, AllocFailed, Global};
 use std::{error, fmt};
 
-/// A part of an interaction.
+/// A part of an interaction, or of a recorded reply.
 #[derive(Clone, Copy, Debug, PartialEq, Eq)]
 pub enum Part {
-    /// The interaction isn't an object.
+    /// It isn't an object.
     Whole,
     /// `description` isn't a text.
     Description,
@@ -182,8 +182,8 @@ impl fmt::Display for PactFault {
 impl error::Error for PactFault {}
 
 impl PactFault {
-    /// The fault's number and, where it helps, the place behind a space: what follows `pact ` in the fault's text. An error
-    /// is want of memory.
+    /// The fault's number and, where it helps, the place behind a space: what follows `pact ` in the fault's text. An
+    /// error means out of memory.
     pub fn number(&self, alloc: Global) -> Result<String, AllocError>
         ensures { IfOk result (λ s. string_bytes s ≡ number_text self.now) }
     {

@@ -1,23 +1,26 @@
 //! The headers of a response.
 
-ghost use Rattle.std.specs.Prelude.{◌≡◌, ◌<◌, ◌≤◌, ◌++◌, ◌∷◌, [], codes, length, take, drop, map, option_map, string_bytes, IfOk, OnOk, MatchOption, MatchBool, Some, None};
+ghost use Rattle.std.specs.Prelude.{◌≡◌, ◌<◌, ◌++◌, [], codes, map, option_map, string_bytes, IfOk, OnOk};
+ghost use Rattle.std.specs.Prelude.{MatchOption, MatchBool, Some, None};
 ghost use Rattle.serde_json.specs.Find.{as_str};
 ghost use Rattle.serde_json.specs.View.{view, members_view};
 ghost use Rattle.pact_file.specs.Headers.{HasHeaders, LacksHeaders};
 ghost use Rattle.pact_file.specs.Pact.{name_cmp};
 ghost use Rattle.pact_file.specs.Parts.{all_of, joined, header_value, header_in, members_listed, headers_found};
-ghost use Rattle.pact_file.specs.Placing.{placed, placed_all, never};
+ghost use Rattle.pact_file.specs.Sorting.{insert_all_sorted, never, with_header, IsInsertedAt};
 
 use crate::pact::Header;
-use crate::parts::given_at;
+use crate::parts::optional_member;
 use serde_json::{Map, Value};
 use std::alloc::{AllocError, Global};
 use std::cmp::Ordering;
 
 /// Adds a text behind those that are there.
 fn push_part(text: &mut String, index: usize, part: &str) -> Result<(), AllocError>
-    ensures first { OnOk result (index ≡ 0 → string_bytes text.new ≡ string_bytes text.old ++ part.now) }
-    ensures later { OnOk result (0 < index → string_bytes text.new ≡ string_bytes text.old ++ (codes ", " ++ part.now)) }
+    ensures first { OnOk result (index ≡ 0
+        → string_bytes text.new ≡ string_bytes text.old ++ part.now) }
+    ensures later { OnOk result (0 < index
+        → string_bytes text.new ≡ string_bytes text.old ++ (codes ", " ++ part.now)) }
 {
     if index > 0 {
         text.push_str(", ")?;
@@ -28,7 +31,8 @@ fn push_part(text: &mut String, index: usize, part: &str) -> Result<(), AllocErr
 
 /// The texts of a list, with a comma and a space between each two.
 fn read_joined(alloc: Global, items: &[Value]) -> Result<Option<String>, AllocError>
-    ensures { IfOk result (λ o. option_map string_bytes o ≡ option_map joined (all_of as_str (map view items.now))) }
+    ensures { IfOk result (λ o.
+        option_map string_bytes o ≡ option_map joined (all_of as_str (map view items.now))) }
 {
     let mut text = String::new(alloc);
     for (index, item) in items.iter().enumerate() {
@@ -68,7 +72,8 @@ fn read_members(
     alloc: Global,
     members: &Map<String, Value>,
 ) -> Result<Option<Vec<Header>>, AllocError>
-    ensures { IfOk result (λ o. option_map (λ v. v.items) o ≡ all_of header_in (members_listed (members_view members.now.entries))) }
+    ensures { IfOk result (λ o. option_map (λ v. v.items) o
+        ≡ all_of header_in (members_listed (members_view members.now.entries))) }
 {
     let mut headers = Vec::new(alloc);
     for (key, member) in members.iter() {
@@ -85,7 +90,7 @@ fn read_members(
 fn find_headers(alloc: Global, response: &Value) -> Result<Option<Vec<Header>>, AllocError>
     ensures { IfOk result (λ o. option_map (λ v. v.items) o ≡ headers_found (view response.now)) }
 {
-    let Some(found) = given_at(response, "headers") else {
+    let Some(found) = optional_member(response, "headers") else {
         return Ok(Some(Vec::new(alloc)));
     };
     match found.as_object() {
@@ -95,9 +100,9 @@ fn find_headers(alloc: Global, response: &Value) -> Result<Option<Vec<Header>>, 
 }
 
 /// Where the header goes, or None where its name is there.
-fn place_of(list: &[Header], new: &Header) -> Option<usize>
-    ensures { MatchOption result (placed name_cmp never new.now list.now ≡ None)
-        (λ at. (at ≤ length list.now) × (placed name_cmp never new.now list.now ≡ Some (take at list.now ++ new.now ∷ drop at list.now))) }
+fn index_of(list: &[Header], new: &Header) -> Option<usize>
+    ensures { MatchOption result (with_header new.now list.now ≡ None)
+        (IsInsertedAt new.now list.now (with_header new.now list.now)) }
 {
     for (at, other) in list.iter().enumerate() {
         match name_order(new, other) {
@@ -115,12 +120,13 @@ fn name_order(left: &Header, right: &Header) -> Ordering
     left.name.cmp(&right.name)
 }
 
-/// Places the header, unless its name is there.
-fn place(list: &mut Vec<Header>, new: Header) -> Result<bool, AllocError>
-    ensures { IfOk result (λ is_placed. MatchBool is_placed
-        (placed name_cmp never new list.old.items ≡ Some list.new.items) (placed name_cmp never new list.old.items ≡ None)) }
+/// Inserts the header, unless its name is there.
+fn insert_header(list: &mut Vec<Header>, new: Header) -> Result<bool, AllocError>
+    ensures { IfOk result (λ is_in. MatchBool is_in
+        (with_header new list.old.items ≡ Some list.new.items)
+        (with_header new list.old.items ≡ None)) }
 {
-    let Some(at) = place_of(list, &new) else {
+    let Some(at) = index_of(list, &new) else {
         return Ok(false);
     };
     list.insert(at, new)?;
@@ -128,22 +134,25 @@ fn place(list: &mut Vec<Header>, new: Header) -> Result<bool, AllocError>
 }
 
 fn in_name_order(alloc: Global, found: Vec<Header>) -> Result<Option<Vec<Header>>, AllocError>
-    ensures { IfOk result (λ o. option_map (λ v. v.items) o ≡ placed_all name_cmp never [] found.items) }
+    ensures { IfOk result (λ o.
+        option_map (λ v. v.items) o ≡ insert_all_sorted name_cmp never [] found.items) }
 {
     let mut list = Vec::new(alloc);
     for new in found {
-        if !place(&mut list, new)? {
+        if !insert_header(&mut list, new)? {
             return Ok(None);
         }
     }
     Ok(Some(list))
 }
 
-/// The headers of a response or a reply: an object whose values are texts or lists of texts, which are joined by `, `; no
-/// two names equal without ASCII case. They are in the order of their names in lower case; absent headers are none. All
-/// else is None. An error is want of memory. (Pact Specification, version 3; the order is this project's own choice.)
+/// The headers of a response or a reply: an object whose values are texts or lists of texts, which are joined by a
+/// comma and a space; no two names equal without ASCII case. They are in the order of their names in lower case; absent
+/// headers are none. All else is None. An error means out of memory. (Pact Specification, version 3; the order is this project's
+/// own choice.)
 pub fn read_headers(alloc: Global, response: &Value) -> Result<Option<Vec<Header>>, AllocError>
-    ensures { IfOk result (λ o. MatchOption o (LacksHeaders (view response.now)) (λ v. HasHeaders (view response.now) v.items)) }
+    ensures { IfOk result (λ o. MatchOption o
+        (LacksHeaders (view response.now)) (λ v. HasHeaders (view response.now) v.items)) }
 {
     match find_headers(alloc, response)? {
         Some(found) => in_name_order(alloc, found),

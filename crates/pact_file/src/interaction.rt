@@ -15,12 +15,12 @@ ghost use Rattle.pact_file.specs.Parts.{text_at, object_at, states_in as states_
 ghost use Rattle.pact_rules.specs.Reading.{GivesOne};
 ghost use Rattle.pact_file.specs.Rules.{RulesRead, IsRulesOf};
 ghost use Rattle.pact_file.specs.Sound.{IsSound};
-ghost use Rattle.pact_file.specs.Told.{parts_view, rule_told as fault_told};
+ghost use Rattle.pact_file.specs.PartsView.{parts_view, as_pact_fault};
 
 use crate::fault::{PactFault, Part, Place};
 use crate::headers::read_headers;
 use crate::pact::{Header, Interaction};
-use crate::parts::{given_at, object_of, read_states, status_of, text_of};
+use crate::parts::{object_member, optional_member, read_states, status_of, text_member};
 use crate::state::State;
 use crate::texts::{parts_text, states_text};
 use pact_rules::{RuleFault, RuleTable, Tree, TreeFault, tree_of};
@@ -38,9 +38,10 @@ struct Parts {
 }
 
 pub(crate) fn text_in<'a>(value: &'a Value, key: &str, place: Place) -> Result<&'a str, PactFault>
-    ensures { Gives Memory (λ s. s.now) result (ok_or (text_at key.now (view value.now)) (Shape place)) }
+    ensures { Gives Memory (λ s. s.now) result
+        (ok_or (text_at key.now (view value.now)) (Shape place)) }
 {
-    text_of(value, key).ok_or(PactFault::Shape(place))
+    text_member(value, key).ok_or(PactFault::Shape(place))
 }
 
 pub(crate) fn object_in<'a>(
@@ -48,19 +49,22 @@ pub(crate) fn object_in<'a>(
     key: &str,
     place: Place,
 ) -> Result<&'a Value, PactFault>
-    ensures { Gives Memory (λ v. view v.now) result (ok_or (object_at key.now (view value.now)) (Shape place)) }
+    ensures { Gives Memory (λ v. view v.now) result
+        (ok_or (object_at key.now (view value.now)) (Shape place)) }
 {
-    object_of(value, key).ok_or(PactFault::Shape(place))
+    object_member(value, key).ok_or(PactFault::Shape(place))
 }
 
 fn states_in(alloc: Global, value: &Value, place: Place) -> Result<Vec<State>, PactFault>
-    ensures { Gives Memory (λ v. v.items) result (ok_or (states_at (view value.now)) (Shape place)) }
+    ensures { Gives Memory (λ v. v.items) result
+        (ok_or (states_at (view value.now)) (Shape place)) }
 {
     read_states(alloc, value)?.ok_or(PactFault::Shape(place))
 }
 
 fn status_in(response: &Value, place: Place) -> Result<u16, PactFault>
-    ensures { Gives Memory (λ n. n) result (ok_or (status_found (view response.now)) (Shape place)) }
+    ensures { Gives Memory (λ n. n) result
+        (ok_or (status_found (view response.now)) (Shape place)) }
 {
     status_of(response).ok_or(PactFault::Shape(place))
 }
@@ -91,7 +95,7 @@ fn read_parts(alloc: Global, index: usize, value: &Value) -> Result<Parts, PactF
     })
 }
 
-/// The tree of a part: a part of a tree is a tree, so that memory alone can be wanting.
+/// The tree of a part: a part of a tree is a tree, so that `Memory` alone is possible.
 fn part_of(alloc: Global, value: &Value) -> Result<Tree, AllocError>
     requires { IsSound 96 (view value.now) }
     ensures { IfOk result (λ t. whole_tree (view value.now) ≡ Some (tree_view t)) }
@@ -104,8 +108,8 @@ fn part_of(alloc: Global, value: &Value) -> Result<Tree, AllocError>
     }
 }
 
-/// The body of a response: the tree under `body`, where null is a body, or None where the response has no such member. An
-/// error is want of memory.
+/// The body of a response: the tree under `body`, where null is a body, or None where the response has no such
+/// member. An error means out of memory.
 #[tactic(auto, unfolding(crate::specs::Parts::body_in))]
 pub fn body_of(alloc: Global, response: &Value) -> Result<Option<Tree>, AllocError>
     requires { IsSound 97 (view response.now) }
@@ -117,8 +121,9 @@ pub fn body_of(alloc: Global, response: &Value) -> Result<Option<Tree>, AllocErr
     }
 }
 
-fn rule_told(index: usize, fault: RuleFault) -> PactFault
-    ensures { result ≡ fault_told index fault }
+/// A fault of rules, where `Memory` is that of the whole call.
+fn rule_fault(index: usize, fault: RuleFault) -> PactFault
+    ensures { result ≡ as_pact_fault index fault }
 {
     match fault {
         RuleFault::Memory => PactFault::Memory,
@@ -131,19 +136,19 @@ fn read_rules(alloc: Global, index: usize, response: &Value) -> Result<RuleTable
     ensures read { GivesOne Memory (λ t. t) result (RulesRead index (view response.now)) }
     ensures table { IfOk result (λ t. IsRulesOf (view response.now) t) }
 {
-    match given_at(response, "matchingRules") {
+    match optional_member(response, "matchingRules") {
         None => Ok(RuleTable::none(alloc)),
         Some(rules) => {
             let tree = part_of(alloc, rules)?;
             match RuleTable::read(alloc, &tree) {
                 Ok(table) => Ok(table),
-                Err(fault) => Err(rule_told(index, fault)),
+                Err(fault) => Err(rule_fault(index, fault)),
             }
         }
     }
 }
 
-fn finished(
+fn interaction_of(
     alloc: Global,
     parts: Parts,
     headers: Vec<Header>,
@@ -178,6 +183,7 @@ fn finished(
     })
 }
 
+/// The interaction at this index, or its first fault.
 pub(crate) fn read_interaction(
     alloc: Global,
     index: usize,
@@ -191,7 +197,7 @@ pub(crate) fn read_interaction(
         None => Err(PactFault::Shape(Place::Interaction(index, Part::Headers))),
         Some(headers) => {
             let rules = read_rules(alloc, index, &parts.response)?;
-            Ok(finished(alloc, parts, headers, rules)?)
+            Ok(interaction_of(alloc, parts, headers, rules)?)
         }
     }
 }

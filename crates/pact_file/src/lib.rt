@@ -5,6 +5,7 @@ mod fault;
 mod headers;
 mod interaction;
 pub mod laws;
+mod object;
 mod order;
 mod pact;
 mod parts;
@@ -15,11 +16,9 @@ mod texts;
 pub use fault::{PactFault, Part, Place};
 pub use headers::read_headers;
 pub use interaction::body_of;
+pub use object::{FileFault, read_object};
 pub use pact::{Header, Interaction, Pact};
-pub use parts::{read_states, read_status};
+pub use parts::{list_member, object_member, read_states, read_status, text_member};
 pub use read::read_pact;
 pub use state::State;
 pub use texts::states_text;
-
-#[cfg(test)]
-mod tests;

@@ -1,11 +1,11 @@
 //! Interactions in order, each once.
 
-ghost use Rattle.std.specs.Prelude.{◌≡◌, ◌≤◌, ◌++◌, ◌∷◌, [], length, take, drop, IfOk, IfErr, MatchOption, Some, None};
+ghost use Rattle.std.specs.Prelude.{◌≡◌, [], IfOk, IfErr, MatchOption, Some, None};
 ghost use Rattle.std.specs.Option.{ok_or};
 ghost use Rattle.pact_file.specs.declared.fault.PactFault.TheVariants.{Memory, SameInteraction};
 ghost use Rattle.pact_rules.specs.Outcome.{Gives};
 ghost use Rattle.pact_file.specs.Pact.{key_cmp};
-ghost use Rattle.pact_file.specs.Placing.{placed, placed_all, same_text};
+ghost use Rattle.pact_file.specs.Sorting.{insert_all_sorted, same_text, with_interaction, IsInsertedAt};
 
 use crate::fault::PactFault;
 use crate::pact::Interaction;
@@ -27,10 +27,12 @@ fn is_same(left: &Interaction, right: &Interaction) -> bool
 }
 
 /// Where the interaction goes, or None where it is there.
-fn place_of(list: &[Interaction], new: &Interaction) -> Result<Option<usize>, PactFault>
-    ensures ok { IfOk result (λ o. MatchOption o (placed key_cmp same_text new.now list.now ≡ Some list.now)
-        (λ at. (at ≤ length list.now) × (placed key_cmp same_text new.now list.now ≡ Some (take at list.now ++ new.now ∷ drop at list.now)))) }
-    ensures err { IfErr result (λ e. (e ≡ SameInteraction) × (placed key_cmp same_text new.now list.now ≡ None)) }
+fn index_of(list: &[Interaction], new: &Interaction) -> Result<Option<usize>, PactFault>
+    ensures ok { IfOk result (λ o. MatchOption o
+        (with_interaction new.now list.now ≡ Some list.now)
+        (IsInsertedAt new.now list.now (with_interaction new.now list.now))) }
+    ensures err { IfErr result (λ e.
+        (e ≡ SameInteraction) × (with_interaction new.now list.now ≡ None)) }
 {
     for (at, other) in list.iter().enumerate() {
         match key_order(new, other) {
@@ -47,25 +49,28 @@ fn place_of(list: &[Interaction], new: &Interaction) -> Result<Option<usize>, Pa
     Ok(Some(list.len()))
 }
 
-fn place(list: &mut Vec<Interaction>, new: Interaction) -> Result<(), PactFault>
-    ensures { Gives Memory (λ _. list.new.items) result (ok_or (placed key_cmp same_text new list.old.items) SameInteraction) }
+/// Inserts the interaction, unless it is there.
+fn insert_interaction(list: &mut Vec<Interaction>, new: Interaction) -> Result<(), PactFault>
+    ensures { Gives Memory (λ _. list.new.items) result
+        (ok_or (with_interaction new list.old.items) SameInteraction) }
 {
-    if let Some(at) = place_of(list, &new)? {
+    if let Some(at) = index_of(list, &new)? {
         list.insert(at, new)?;
     }
     Ok(())
 }
 
-/// Places them all, in the order of the file.
+/// Inserts them all, in the order of the file.
 pub(crate) fn in_key_order(
     alloc: Global,
     found: Vec<Interaction>,
 ) -> Result<Vec<Interaction>, PactFault>
-    ensures { Gives Memory (λ v. v.items) result (ok_or (placed_all key_cmp same_text [] found.items) SameInteraction) }
+    ensures { Gives Memory (λ v. v.items) result
+        (ok_or (insert_all_sorted key_cmp same_text [] found.items) SameInteraction) }
 {
     let mut list = Vec::new(alloc);
     for new in found {
-        place(&mut list, new)?;
+        insert_interaction(&mut list, new)?;
     }
     Ok(list)
 }

@@ -1,7 +1,7 @@
 //! What is read of a pact file.
 
 ghost use Rattle.std.specs.Prelude.{◌≡◌, Some, None, map, IfOk, string_bytes, option_map};
-ghost use Rattle.pact_rules.specs.TreeView.{tree_view};
+ghost use Rattle.pact_rules.specs.TreeView.{tree_view, optional_view};
 ghost use Rattle.serde_json.specs.View.{view};
 ghost use Rattle.pact_file.specs.Headers.{HasHeaders};
 ghost use Rattle.pact_file.specs.Pact.{normal_text, states_data};
@@ -25,9 +25,9 @@ pub struct Header {
 
 impl Model for Header {
     ghost use Rattle.std.specs.Prelude.{string_bytes};
-    ghost use Rattle.pact_file.specs.Pact.{Header as Stands, header_code};
+    ghost use Rattle.pact_file.specs.Pact.{Header as HeaderModel, header_code};
 
-    ghost Value = { Stands };
+    ghost Value = { HeaderModel };
 
     ghost coded = { header_code };
 
@@ -69,17 +69,20 @@ impl Model for Interaction {
     ghost use Rattle.std.specs.Prelude.{string_bytes, option_map};
     ghost use Rattle.serde_json.specs.View.{view as seen};
     ghost use Rattle.pact_rules.specs.TreeView.{tree_view};
-    ghost use Rattle.pact_file.specs.Pact.{Interaction as Stands, interaction_code};
+    ghost use Rattle.pact_file.specs.Pact.{Interaction as InteractionModel, interaction_code, interaction_with};
     ghost use Rattle.pact_file.specs.Filled.{IsFilled};
 
-    ghost Value = { Stands };
+    ghost Value = { InteractionModel };
 
     ghost coded = { interaction_code };
 
-    ghost view = { λ a. record { description = string_bytes a.description; states = a.states.items; request = seen a.request; response = seen a.response } };
+    ghost view = { λ a. interaction_with
+        (string_bytes a.description) a.states.items (seen a.request) (seen a.response) };
 
-    ghost invariant = { λ a. IsFilled (record { description = string_bytes a.description; states = a.states.items; request = seen a.request; response = seen a.response })
-        a.status a.headers.items (option_map tree_view a.body) a.rules (string_bytes a.states_text) (string_bytes a.text) };
+    ghost invariant = { λ a. IsFilled (interaction_with
+        (string_bytes a.description) a.states.items (seen a.request) (seen a.response))
+        a.status a.headers.items (option_map tree_view a.body) a.rules
+        (string_bytes a.states_text) (string_bytes a.text) };
 }
 
 impl Interaction {
@@ -121,7 +124,7 @@ impl Interaction {
 
     /// The body, where there is one.
     pub fn body(&self) -> Option<&Tree>
-        ensures { option_map (λ t. tree_view t.now) result ≡ body_in self.now.response }
+        ensures { optional_view result ≡ body_in self.now.response }
     {
         self.body.as_ref()
     }
@@ -145,15 +148,17 @@ pub struct Pact {
 
 impl Model for Pact {
     ghost use Rattle.std.specs.Prelude.{◌≡◌, string_bytes};
-    ghost use Rattle.pact_file.specs.Pact.{Pact as Stands, pact_code, normal_text};
+    ghost use Rattle.pact_file.specs.Pact.{Pact as PactModel, pact_code, pact_with, normal_text};
 
-    ghost Value = { Stands };
+    ghost Value = { PactModel };
 
     ghost coded = { pact_code };
 
-    ghost view = { λ a. record { consumer = string_bytes a.consumer; provider = string_bytes a.provider; interactions = a.interactions.items } };
+    ghost view = { λ a. pact_with
+        (string_bytes a.consumer) (string_bytes a.provider) a.interactions.items };
 
-    ghost invariant = { λ a. string_bytes a.text ≡ normal_text (record { consumer = string_bytes a.consumer; provider = string_bytes a.provider; interactions = a.interactions.items }) };
+    ghost invariant = { λ a. string_bytes a.text ≡ normal_text (pact_with
+        (string_bytes a.consumer) (string_bytes a.provider) a.interactions.items) };
 }
 
 impl Pact {

@@ -3,39 +3,48 @@
 ghost use Rattle.std.specs.Prelude.{◌≡◌, ◌∷◌, [], codes, map, option_map, IfOk};
 ghost use Rattle.serde_json.specs.Find.{get, as_str};
 ghost use Rattle.serde_json.specs.View.{view, items_view};
-ghost use Rattle.pact_file.specs.Pact.{State as Stands};
-ghost use Rattle.pact_file.specs.Parts.{given, text_at, object_at, state_in, all_of, one_state, states_from, states_in, status_at, status_in};
+ghost use Rattle.pact_file.specs.Parts.{optional_at, text_at, object_at, list_at, state_in, all_of, one_state};
+ghost use Rattle.pact_file.specs.Parts.{states_from, states_in, status_at, status_in};
 
 use crate::state::State;
 use serde_json::Value;
 use std::alloc::{AllocError, Global};
 
 /// An optional member: null counts as absent.
-pub(crate) fn given_at<'a>(value: &'a Value, key: &str) -> Option<&'a Value>
-    ensures { option_map (λ v. view v.now) result ≡ given key.now (view value.now) }
+pub(crate) fn optional_member<'a>(value: &'a Value, key: &str) -> Option<&'a Value>
+    ensures { option_map (λ v. view v.now) result ≡ optional_at key.now (view value.now) }
 {
     value.get(key).filter(|found| !found.is_null())
 }
 
-pub(crate) fn text_of<'a>(value: &'a Value, key: &str) -> Option<&'a str>
+/// A member that is a text.
+pub fn text_member<'a>(value: &'a Value, key: &str) -> Option<&'a str>
     ensures { option_map (λ s. s.now) result ≡ text_at key.now (view value.now) }
 {
-    value.get(key).and_then(Value::as_str)
+    value.get(key)?.as_str()
 }
 
-pub(crate) fn object_of<'a>(value: &'a Value, key: &str) -> Option<&'a Value>
+/// A member that is an object.
+pub fn object_member<'a>(value: &'a Value, key: &str) -> Option<&'a Value>
     ensures { option_map (λ v. view v.now) result ≡ object_at key.now (view value.now) }
 {
     value.get(key).filter(|found| found.is_object())
 }
 
+/// A member that is a list.
+pub fn list_member<'a>(value: &'a Value, key: &str) -> Option<&'a Vec<Value>>
+    ensures { option_map (λ v. items_view v.now.items) result ≡ list_at key.now (view value.now) }
+{
+    value.get(key)?.as_array()
+}
+
 fn read_state(alloc: Global, value: &Value) -> Result<Option<State>, AllocError>
     ensures { IfOk result (λ o. o ≡ state_in (view value.now)) }
 {
-    let Some(name) = text_of(value, "name") else {
+    let Some(name) = text_member(value, "name") else {
         return Ok(None);
     };
-    let params = match given_at(value, "params") {
+    let params = match optional_member(value, "params") {
         Some(params) => Some(params.clone()?),
         None => None,
     };
@@ -46,7 +55,8 @@ fn read_state(alloc: Global, value: &Value) -> Result<Option<State>, AllocError>
 }
 
 fn read_state_list(alloc: Global, items: &[Value]) -> Result<Option<Vec<State>>, AllocError>
-    ensures { IfOk result (λ o. option_map (λ v. v.items) o ≡ all_of state_in (map view items.now)) }
+    ensures { IfOk result (λ o.
+        option_map (λ v. v.items) o ≡ all_of state_in (map view items.now)) }
 {
     let mut states = Vec::new(alloc);
     for item in items {
@@ -60,7 +70,8 @@ fn read_state_list(alloc: Global, items: &[Value]) -> Result<Option<Vec<State>>,
 
 /// The one state of the older spelling.
 fn read_one_state(alloc: Global, older: Option<&Value>) -> Result<Option<Vec<State>>, AllocError>
-    ensures { IfOk result (λ o. option_map (λ v. v.items) o ≡ one_state (option_map (λ v. view v.now) older.entry)) }
+    ensures { IfOk result (λ o. option_map (λ v. v.items) o
+        ≡ one_state (option_map (λ v. view v.now) older.entry)) }
 {
     let mut states = Vec::new(alloc);
     if let Some(older) = older {
@@ -77,13 +88,13 @@ fn read_one_state(alloc: Global, older: Option<&Value>) -> Result<Option<Vec<Sta
 
 /// The provider states of an interaction or a reply: the list under `providerStates`, each an object with a text `name`
 /// and optional `params`; where it is absent, a text under `providerState` is one state of that name, and none is no
-/// states. All else is None. An error is want of memory. (Pact Specification, versions 2 and 3.)
+/// states. All else is None. An error means out of memory. (Pact Specification, versions 2 and 3.)
 #[tactic(auto, using(crate::proofs::Lists::listed_view), unfolding(crate::specs::Parts::states_in))]
 pub fn read_states(alloc: Global, value: &Value) -> Result<Option<Vec<State>>, AllocError>
     ensures { IfOk result (λ o. option_map (λ v. v.items) o ≡ states_in (view value.now)) }
 {
-    let Some(list) = given_at(value, "providerStates") else {
-        return read_one_state(alloc, given_at(value, "providerState"));
+    let Some(list) = optional_member(value, "providerStates") else {
+        return read_one_state(alloc, optional_member(value, "providerState"));
     };
     match list.as_array() {
         Some(items) => read_state_list(alloc, items),
@@ -108,7 +119,7 @@ pub fn read_status(value: &Value) -> Option<u16>
 pub(crate) fn status_of(response: &Value) -> Option<u16>
     ensures { result ≡ status_in (view response.now) }
 {
-    match given_at(response, "status") {
+    match optional_member(response, "status") {
         Some(status) => read_status(status),
         None => Some(200),
     }

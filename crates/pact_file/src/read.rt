@@ -1,13 +1,14 @@
 //! Reading a pact file.
 
-ghost use Rattle.std.specs.Prelude.{◌≡◌, map, option_map, option_and_then, nat_le};
+ghost use Rattle.std.specs.Prelude.{◌≡◌, map, option_map, nat_le};
 ghost use Rattle.std.specs.Option.{ok_or};
 ghost use Rattle.serde_json.specs.Events.{items_len};
-ghost use Rattle.serde_json.specs.Find.{get, as_array};
 ghost use Rattle.serde_json.specs.View.{view, items_view};
-ghost use Rattle.pact_rules.specs.TreeReading.{tree_in};
 ghost use Rattle.pact_file.specs.declared.fault.PactFault.TheVariants.{Memory, Shape};
-ghost use Rattle.pact_file.specs.File.{most_interactions, json_of, tree_told, file_of, is_3, version_under, is_version_3, holds_nothing, has_no_messages, are_printable, is_name, side_of, sides_of, items_of};
+ghost use Rattle.pact_file.specs.File.{most_interactions, as_file_fault, file_of, is_3, version_under, is_version_3};
+ghost use Rattle.pact_file.specs.File.{holds_nothing, has_no_messages, are_printable, is_name as is_name_of, side_of};
+ghost use Rattle.pact_file.specs.File.{sides_of, items_of};
+ghost use Rattle.pact_file.specs.Parts.{list_at};
 ghost use Rattle.pact_file.specs.Normal.{InteractionRead, InteractionsRead, Normal};
 ghost use Rattle.pact_rules.specs.Outcome.{Gives};
 ghost use Rattle.pact_rules.specs.Reading.{EachRead, GivesOne};
@@ -15,10 +16,11 @@ ghost use Rattle.pact_file.specs.Sound.{IsSound, AreSound};
 
 use crate::fault::{PactFault, Place};
 use crate::interaction::{object_in, read_interaction, text_in};
+use crate::object::{FileFault, read_object};
 use crate::order::in_key_order;
 use crate::pact::{Interaction, Pact};
+use crate::parts::list_member;
 use crate::texts::text_of_pact;
-use pact_rules::{TreeFault, tree_of};
 use serde_json::Value;
 use std::alloc::Global;
 
@@ -26,46 +28,29 @@ const MOST_BYTES: usize = 1_048_576;
 
 const MOST_INTERACTIONS: usize = 512;
 
-#[tactic(auto, unfolding(crate::specs::File::json_of))]
-fn read_json(alloc: Global, bytes: &[u8]) -> Result<Value, PactFault>
-    ensures { Gives Memory view result (json_of bytes.now) }
+/// A fault of a file as that of a pact file.
+fn file_fault(fault: FileFault) -> PactFault
+    ensures { result ≡ as_file_fault fault }
 {
-    match Value::from_slice(alloc, bytes) {
-        Ok(value) => Ok(value),
-        Err(e) => {
-            if e.is_memory() {
-                Err(PactFault::Memory)
-            } else {
-                Err(PactFault::NotJson)
-            }
-        }
+    match fault {
+        FileFault::NotJson => PactFault::NotJson,
+        FileFault::Tree(fault) => PactFault::Tree(fault),
+        FileFault::NotObject => PactFault::Shape(Place::File),
+        FileFault::Memory => PactFault::Memory,
     }
 }
 
-fn check_tree(alloc: Global, value: &Value) -> Result<(), PactFault>
-    ensures { Gives Memory (λ x. x) result (tree_told (tree_in (view value.now))) }
-{
-    match tree_of(alloc, value) {
-        Ok(_) => Ok(()),
-        Err(TreeFault::NotWhole) => Err(PactFault::Tree(TreeFault::NotWhole)),
-        Err(TreeFault::TooDeep) => Err(PactFault::Tree(TreeFault::TooDeep)),
-        Err(TreeFault::Memory) => Err(PactFault::Memory),
-    }
-}
-
-#[tactic(auto, unfolding(crate::specs::File::file_of))]
+#[tactic(auto, unfolding(crate::specs::File::file_of), using(crate::proofs::Objects::fault_as))]
 fn read_file(alloc: Global, bytes: &[u8]) -> Result<Value, PactFault>
     ensures { Gives Memory view result (file_of bytes.now) }
 {
     if bytes.len() > MOST_BYTES {
         return Err(PactFault::TooLong);
     }
-    let value = read_json(alloc, bytes)?;
-    check_tree(alloc, &value)?;
-    if !value.is_object() {
-        return Err(PactFault::Shape(Place::File));
+    match read_object(alloc, bytes) {
+        Ok(file) => Ok(file),
+        Err(fault) => Err(file_fault(fault)),
     }
-    Ok(value)
 }
 
 /// Whether a version has 3 before its first point, if it is a text or a number.
@@ -130,8 +115,8 @@ fn all_printable(text: &[u8]) -> bool
 }
 
 #[tactic(auto, unfolding(crate::specs::File::is_name))]
-fn names(text: &str) -> bool
-    ensures { result ≡ is_name text.now }
+fn is_name(text: &str) -> bool
+    ensures { result ≡ is_name_of text.now }
 {
     1 <= text.len() && text.len() <= 100 && all_printable(text.as_bytes())
 }
@@ -147,7 +132,7 @@ fn read_side<'a>(
 {
     let found = object_in(file, key, side)?;
     let name = text_in(found, "name", its_name)?;
-    if !names(name) {
+    if !is_name(name) {
         return Err(PactFault::Shape(its_name));
     }
     Ok(name)
@@ -173,7 +158,8 @@ fn read_sides(file: &Value) -> Result<(&str, &str), PactFault>
 
 fn read_list(alloc: Global, items: &[Value]) -> Result<Vec<Interaction>, PactFault>
     requires { AreSound 98 (items_view items.now) }
-    ensures { GivesOne Memory (λ v. v.items) result (EachRead InteractionRead 0 (map view items.now)) }
+    ensures { GivesOne Memory (λ v. v.items) result
+        (EachRead InteractionRead 0 (map view items.now)) }
 {
     let mut found = Vec::new(alloc);
     for (index, item) in items.iter().enumerate() {
@@ -183,12 +169,10 @@ fn read_list(alloc: Global, items: &[Value]) -> Result<Vec<Interaction>, PactFau
 }
 
 fn array_of<'a>(value: &'a Value, key: &str, place: Place) -> Result<&'a Vec<Value>, PactFault>
-    ensures { Gives Memory (λ v. items_view v.now.items) result (ok_or (option_and_then as_array (get key.now (view value.now))) (Shape place)) }
+    ensures { Gives Memory (λ v. items_view v.now.items) result
+        (ok_or (list_at key.now (view value.now)) (Shape place)) }
 {
-    value
-        .get(key)
-        .and_then(Value::as_array)
-        .ok_or(PactFault::Shape(place))
+    list_member(value, key).ok_or(PactFault::Shape(place))
 }
 
 fn is_few(items: &Vec<Value>) -> bool
@@ -218,10 +202,11 @@ fn read_interactions(alloc: Global, file: &Value) -> Result<Vec<Interaction>, Pa
     in_key_order(alloc, found)
 }
 
-/// Reads a pact file (Pact Specification, version 3) to its normal pact: metadata and all other further keys are dropped,
-/// equal interactions are kept once, and they stand in the order of their descriptions, then of the compact texts of their
-/// states. The bytes are any. Each fault is the first one in the order of `PactFault`'s documentation, but that at a text
-/// under `regex` in matching rules the pattern may be refused. `Memory` comes for want of memory alone.
+/// Reads a pact file (Pact Specification, version 3) to its normal pact: metadata and all other further keys are
+/// dropped, equal interactions are kept once, and they stand in the order of their descriptions, then of the compact
+/// texts of their states. The bytes are any. Each fault is the first one in the order of `PactFault`'s documentation,
+/// but that at a text under `regex` in matching rules the pattern may be refused. `Memory` comes only where no memory
+/// is left.
 pub fn read_pact(alloc: Global, bytes: &[u8]) -> Result<Pact, PactFault>
     ensures { GivesOne Memory (λ p. p) result (Normal bytes.now) }
 {

@@ -16,9 +16,9 @@ pub struct State {
 impl Model for State {
     ghost use Rattle.std.specs.Prelude.{string_bytes, option_map};
     ghost use Rattle.serde_json.specs.View.{view as seen};
-    ghost use Rattle.pact_file.specs.Pact.{State as Stands, state_code};
+    ghost use Rattle.pact_file.specs.Pact.{State as StateModel, state_code};
 
-    ghost Value = { Stands };
+    ghost Value = { StateModel };
 
     ghost coded = { state_code };
 

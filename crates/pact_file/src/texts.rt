@@ -3,7 +3,8 @@
 ghost use Rattle.std.specs.Prelude.{◌≡◌, map, false, string_bytes, IfOk};
 ghost use Rattle.serde_json.specs.View.{view, items_of};
 ghost use Rattle.serde_json.specs.Written.{has_float, compact_text, items_have_float};
-ghost use Rattle.pact_file.specs.Pact.{state_data, states_data, interaction_data, pact_data, normal_text};
+ghost use Rattle.pact_file.specs.Pact.{state_data, states_data, interaction_with, interaction_data, pact_with};
+ghost use Rattle.pact_file.specs.Pact.{pact_data, normal_text};
 
 use crate::pact::Interaction;
 use crate::state::State;
@@ -29,8 +30,8 @@ fn states_value(alloc: Global, states: &[State]) -> Result<Value, AllocError>
     Ok(Value::Array(list))
 }
 
-/// The compact JSON text of provider states, each with its name and, where they are given, its params. Two lists of states
-/// that were read are equal where their texts are. An error is want of memory.
+/// The compact JSON text of provider states, each with its name and, where they are given, its params. Two lists of
+/// states that were read are equal where their texts are. An error means out of memory.
 pub fn states_text(alloc: Global, states: &[State]) -> Result<String, AllocError>
     requires { has_float (states_data states.now) ≡ false }
     ensures { IfOk result (λ s. string_bytes s ≡ compact_text (states_data states.now)) }
@@ -46,8 +47,8 @@ fn parts_value(
     request: &Value,
     response: &Value,
 ) -> Result<Value, AllocError>
-    ensures { IfOk result (λ v. view v
-        ≡ interaction_data (record { description = description.now; states = states.now; request = view request.now; response = view response.now })) }
+    ensures { IfOk result (λ v. view v ≡ interaction_data (interaction_with
+        description.now states.now (view request.now) (view response.now))) }
 {
     let states = states_value(alloc, states)?;
     json!(in alloc; {
@@ -66,9 +67,10 @@ pub(crate) fn parts_text(
     request: &Value,
     response: &Value,
 ) -> Result<String, AllocError>
-    requires { has_float (interaction_data (record { description = description.now; states = states.now; request = view request.now; response = view response.now })) ≡ false }
-    ensures { IfOk result (λ s. string_bytes s
-        ≡ compact_text (interaction_data (record { description = description.now; states = states.now; request = view request.now; response = view response.now }))) }
+    requires { has_float (interaction_data (interaction_with
+        description.now states.now (view request.now) (view response.now))) ≡ false }
+    ensures { IfOk result (λ s. string_bytes s ≡ compact_text (interaction_data (interaction_with
+        description.now states.now (view request.now) (view response.now)))) }
 {
     let value = parts_value(alloc, description, states, request, response)?;
     value.to_string(alloc)
@@ -102,7 +104,8 @@ fn pact_value(
     provider: &str,
     interactions: &[Interaction],
 ) -> Result<Value, AllocError>
-    ensures { IfOk result (λ v. view v ≡ pact_data (record { consumer = consumer.now; provider = provider.now; interactions = interactions.now })) }
+    ensures { IfOk result (λ v.
+        view v ≡ pact_data (pact_with consumer.now provider.now interactions.now)) }
 {
     let interactions = interaction_values(alloc, interactions)?;
     json!(in alloc; {
@@ -120,7 +123,8 @@ pub(crate) fn text_of_pact(
     interactions: &[Interaction],
 ) -> Result<String, AllocError>
     requires { items_have_float (items_of (map interaction_data interactions.now)) ≡ false }
-    ensures { IfOk result (λ s. string_bytes s ≡ normal_text (record { consumer = consumer.now; provider = provider.now; interactions = interactions.now })) }
+    ensures { IfOk result (λ s.
+        string_bytes s ≡ normal_text (pact_with consumer.now provider.now interactions.now)) }
 {
     let value = pact_value(alloc, consumer, provider, interactions)?;
     value.to_string(alloc)

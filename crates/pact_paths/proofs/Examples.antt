@@ -10,41 +10,41 @@ use Rattle.pact_paths.specs.declared.path_reader.PathFault.TheVariants.{NoRoot, 
 
 -- ---- weights at `$.item1.level[1].id`
 
-abbrev place : Location
-place = key (codes "item1") ∷ key (codes "level") ∷ item 1 ∷ key (codes "id") ∷ []
+abbrev location : Location
+location = key (codes "item1") ∷ key (codes "level") ∷ item 1 ∷ key (codes "id") ∷ []
 
-root : weight [] place ≡ 2
+root : weight [] location ≡ 2
 root = refl
 
-one_name : weight (named (codes "item1") ∷ []) place ≡ 4
+one_name : weight (named (codes "item1") ∷ []) location ≡ 4
 one_name = refl
 
-two_names : weight (named (codes "item1") ∷ named (codes "level") ∷ []) place ≡ 8
+two_names : weight (named (codes "item1") ∷ named (codes "level") ∷ []) location ≡ 8
 two_names = refl
 
-an_index : weight (named (codes "item1") ∷ named (codes "level") ∷ indexed 1 ∷ []) place ≡ 16
+an_index : weight (named (codes "item1") ∷ named (codes "level") ∷ indexed 1 ∷ []) location ≡ 16
 an_index = refl
 
-whole : weight (named (codes "item1") ∷ named (codes "level") ∷ indexed 1 ∷ named (codes "id") ∷ []) place ≡ 32
+whole : weight (named (codes "item1") ∷ named (codes "level") ∷ indexed 1 ∷ named (codes "id") ∷ []) location ≡ 32
 whole = refl
 
-any_index : weight (named (codes "item1") ∷ named (codes "level") ∷ any ∷ []) place ≡ 8
+any_index : weight (named (codes "item1") ∷ named (codes "level") ∷ any ∷ []) location ≡ 8
 any_index = refl
 
-name_behind_any : weight (named (codes "item1") ∷ named (codes "level") ∷ any ∷ named (codes "id") ∷ []) place ≡ 16
+name_behind_any : weight (named (codes "item1") ∷ named (codes "level") ∷ any ∷ named (codes "id") ∷ []) location ≡ 16
 name_behind_any = refl
 
-two_any : weight (any ∷ named (codes "level") ∷ any ∷ named (codes "id") ∷ []) place ≡ 8
+two_any : weight (any ∷ named (codes "level") ∷ any ∷ named (codes "id") ∷ []) location ≡ 8
 two_any = refl
 
-other_name : weight (named (codes "item2") ∷ []) place ≡ 0
+other_name : weight (named (codes "item2") ∷ []) location ≡ 0
 other_name = refl
 
 -- a name never equals an index
-name_for_index : weight (named (codes "item1") ∷ named (codes "level") ∷ named (codes "1") ∷ named (codes "id") ∷ []) place ≡ 0
+name_for_index : weight (named (codes "item1") ∷ named (codes "level") ∷ named (codes "1") ∷ named (codes "id") ∷ []) location ≡ 0
 name_for_index = refl
 
-longer : weight (named (codes "item1") ∷ named (codes "level") ∷ indexed 1 ∷ named (codes "id") ∷ named (codes "x") ∷ []) place ≡ 0
+longer : weight (named (codes "item1") ∷ named (codes "level") ∷ indexed 1 ∷ named (codes "id") ∷ named (codes "x") ∷ []) location ≡ 0
 longer = refl
 
 most : weight (replicate 60 (named (codes "a"))) (replicate 60 (key (codes "a"))) ≡ 2305843009213693952

@@ -118,7 +118,7 @@ record Stuck (limit : ℕ) (t : List ℕ) (ts : List Token) : Type 0 where
 abbrev IsRead : ℕ → ℕ → List ℕ → Result (List Token) PathFault → Type 0
 IsRead total limit t (Ok ts) = AreSpelled t ts × (length ts ≤ limit)
 IsRead total limit t (Err NoRoot) = ⊥
-IsRead total limit t (Err (BadToken place)) = (ts : List Token) × (s : Stuck limit t ts) × (length ts < limit) × (place ≡ total - length s.rest)
+IsRead total limit t (Err (BadToken offset)) = (ts : List Token) × (s : Stuck limit t ts) × (length ts < limit) × (offset ≡ total - length s.rest)
 IsRead total limit t (Err TooManyTokens) = (ts : List Token) × (s : Stuck limit t ts) × (length ts ≡ limit)
 IsRead total limit t (Err Memory) = ⊥
 
@@ -133,7 +133,7 @@ more_stuck limit t f rest x ts found split s k = record {
 front_read : (total limit : ℕ) (t f rest : List ℕ) (x : Token) → token_in t ≡ Some (x, rest) → t ≡ f ++ rest → IsSpelled f x → (r : Result (List Token) PathFault) → IsRead total limit rest r → IsRead total (suc limit) t (with_front x r)
 front_read total limit t f rest x found split s (Ok ts) h = ((f, rest, split, s, h.0), omega (arith, h.1))
 front_read total limit t f rest x found split s (Err NoRoot) h = h
-front_read total limit t f rest x found split s (Err (BadToken place)) h = (x ∷ h.0, more_stuck limit t f rest x h.0 found split s h.1, omega (arith, h.2), h.3)
+front_read total limit t f rest x found split s (Err (BadToken offset)) h = (x ∷ h.0, more_stuck limit t f rest x h.0 found split s h.1, omega (arith, h.2), h.3)
 front_read total limit t f rest x found split s (Err TooManyTokens) h = (x ∷ h.0, more_stuck limit t f rest x h.0 found split s h.1, omega (arith, h.2))
 front_read total limit t f rest x found split s (Err Memory) h = h
 
@@ -186,7 +186,7 @@ tokens_are_path total t ts e =
 from_read : (text body : List ℕ) → text ≡ 36 ∷ body → (r : Result (List Token) PathFault) → IsRead (length text) 60 body r → IsReading text r
 from_read text body root (Ok ts) h = (body, root, h.0, h.1)
 from_read text body root (Err NoRoot) h = absurd h
-from_read text body root (Err (BadToken place)) h = (
+from_read text body root (Err (BadToken offset)) h = (
   h.0,
   h.2,
   record {
@@ -196,7 +196,7 @@ from_read text body root (Err (BadToken place)) h = (
     is_behind_root = root;
     is_longest = h.1.is_longest;
     is_left = h.1.is_left;
-    is_place = omega (arith, h.3, ap length root, ap length h.1.is_longest.is_front.split, length-append h.1.front h.1.rest);
+    is_offset = omega (arith, h.3, ap length root, ap length h.1.is_longest.is_front.split, length-append h.1.front h.1.rest);
   },
 )
 from_read text body root (Err TooManyTokens) h = (
@@ -210,7 +210,7 @@ from_read text body root (Err TooManyTokens) h = (
     is_behind_root = root;
     is_longest = h.1.is_longest;
     is_left = h.1.is_left;
-    is_place = refl;
+    is_offset = refl;
   },
 )
 from_read text body root (Err Memory) h = h
@@ -234,15 +234,15 @@ spelled_whole body front rest tokens ts best left s few =
     let all : length body ≤ length front = best.longest body [] ts whole in
     left (nil_from_length rest (omega (arith, ap length best.is_front.split, length-append front rest)))
 
-same_place : (body f g r s : List ℕ) (ts us : List Token) → IsLongestFront 60 body f r ts → IsLongestFront 60 body g s us → length f ≡ length g
-same_place body f g r s ts us h k =
+same_length : (body f g r s : List ℕ) (ts us : List Token) → IsLongestFront 60 body f r ts → IsLongestFront 60 body g s us → length f ≡ length g
+same_length body f g r s ts us h k =
     let one : length f ≤ length g = k.longest f r ts h.is_front in
     let two : length g ≤ length f = h.longest g s us k.is_front in
     omega arith
 
 same_tokens : (body f g r s : List ℕ) (ts us : List Token) → IsLongestFront 60 body f r ts → IsLongestFront 60 body g s us → ts ≡ us
 same_tokens body f g r s ts us h k =
-    let long = same_place body f g r s ts us h k in
+    let long = same_length body f g r s ts us h k in
     let same : f ≡ g = sym (take_at f r (length f) refl) ∙ ap (take (length f)) (sym h.is_front.split ∙ k.is_front.split) ∙ take_at g s (length f) (sym long) in
     let first : tokens_in 0 60 f ≡ Ok ts = reads_tokens 0 60 ts f h.is_front.spelled h.is_front.few in
     let second : tokens_in 0 60 g ≡ Ok us = reads_tokens 0 60 us g k.is_front.spelled k.is_front.few in
@@ -253,10 +253,10 @@ bad_is : (body front rest : List ℕ) (ts : List Token) → IsLongestFront 60 bo
     → Err (BadToken (1 + length front)) ≡ r
 bad_is body front rest ts best left few (Ok us) h = absurd (spelled_whole body front rest ts us best left h.0 h.1)
 bad_is body front rest ts best left few (Err NoRoot) h = absurd h
-bad_is body front rest ts best left few (Err (BadToken place)) h =
-    let long = same_place body front h.1.front rest h.1.rest ts h.0 best h.1.is_longest in
-    let place_is : 1 + length front ≡ place = omega (arith, long, h.3, ap length h.1.is_longest.is_front.split, length-append h.1.front h.1.rest) in
-    ap (λ n. Err (BadToken n)) place_is
+bad_is body front rest ts best left few (Err (BadToken offset)) h =
+    let long = same_length body front h.1.front rest h.1.rest ts h.0 best h.1.is_longest in
+    let offset_is : 1 + length front ≡ offset = omega (arith, long, h.3, ap length h.1.is_longest.is_front.split, length-append h.1.front h.1.rest) in
+    ap (λ n. Err (BadToken n)) offset_is
 bad_is body front rest ts best left few (Err TooManyTokens) h = absurd (omega (arith, few, h.2, ap length (same_tokens body front h.1.front rest h.1.rest ts h.0 best h.1.is_longest)))
 bad_is body front rest ts best left few (Err Memory) h = absurd h
 
@@ -264,7 +264,7 @@ full_is : (body front rest : List ℕ) (ts : List Token) → IsLongestFront 60 b
     → Err TooManyTokens ≡ r
 full_is body front rest ts best left full (Ok us) h = absurd (spelled_whole body front rest ts us best left h.0 h.1)
 full_is body front rest ts best left full (Err NoRoot) h = absurd h
-full_is body front rest ts best left full (Err (BadToken place)) h = absurd (omega (arith, full, h.2, ap length (same_tokens body front h.1.front rest h.1.rest ts h.0 best h.1.is_longest)))
+full_is body front rest ts best left full (Err (BadToken offset)) h = absurd (omega (arith, full, h.2, ap length (same_tokens body front h.1.front rest h.1.rest ts h.0 best h.1.is_longest)))
 full_is body front rest ts best left full (Err TooManyTokens) h = refl
 full_is body front rest ts best left full (Err Memory) h = absurd h
 
@@ -278,10 +278,10 @@ at_root text body e = ap path_in e
 pub reading_is : (text : List ℕ) (r : Result (List Token) PathFault) → IsReading text r → r ≡ path_in text
 reading_is text (Ok ts) h = sym (at_root text h.0 h.1 ∙ reads_tokens (suc (length h.0)) 60 ts h.0 h.2 h.3)
 reading_is text (Err NoRoot) h = sym (ap (from_root (length text)) (no_mark 36 text h))
-reading_is text (Err (BadToken place)) h =
+reading_is text (Err (BadToken offset)) h =
     let stop = h.2 in
     let n = suc (length stop.body) in
-    ap (λ n. Err (BadToken n)) stop.is_place ∙ bad_is stop.body stop.front stop.rest h.0 stop.is_longest stop.is_left h.1 (tokens_in n 60 stop.body) (tokens_read n 60 stop.body)
+    ap (λ n. Err (BadToken n)) stop.is_offset ∙ bad_is stop.body stop.front stop.rest h.0 stop.is_longest stop.is_left h.1 (tokens_in n 60 stop.body) (tokens_read n 60 stop.body)
     ∙ sym (at_root text stop.body stop.is_behind_root)
 reading_is text (Err TooManyTokens) h =
     let stop = h.3 in
@@ -299,7 +299,7 @@ path_in_is text = (path_reads text, reading_is text)
 pub outcome : (text : List ℕ) (r : Result (List Token) PathFault) → Gives Memory (λ p. p) r (path_in text) → (r ≡ Err Memory) ⊎ IsTheReading text r
 outcome text (Ok ts) h = inr (let P : Result (List Token) PathFault → Type 0 = IsTheReading text in subst P h (path_in_is text))
 outcome text (Err NoRoot) h = inr (let P : Result (List Token) PathFault → Type 0 = IsTheReading text in subst P (h (λ e. cc)) (path_in_is text))
-outcome text (Err (BadToken place)) h = inr (let P : Result (List Token) PathFault → Type 0 = IsTheReading text in subst P (h (λ e. cc)) (path_in_is text))
+outcome text (Err (BadToken offset)) h = inr (let P : Result (List Token) PathFault → Type 0 = IsTheReading text in subst P (h (λ e. cc)) (path_in_is text))
 outcome text (Err TooManyTokens) h = inr (let P : Result (List Token) PathFault → Type 0 = IsTheReading text in subst P (h (λ e. cc)) (path_in_is text))
 outcome text (Err Memory) h = inl refl
 

@@ -32,11 +32,11 @@ within_60 k h = pow-le-pow_right {n = 2} (lit< tt) {i = k} {j = 60} h
 pub regroup : (p w r total : ℕ) → p * (w * r) ≡ total → (p * w) * r ≡ total
 regroup p w r total h = omega (arith, h)
 
--- the weight of the token at a place of a path
-pub weight_there : (ts : List Token) (tokens : List PathToken) (place : ℕ) (t : Token) (s : PathStep) (n : ℕ) → tokens ≡ map token_view ts → place < length tokens → t ≡ get_or ts place t → n ≡ token_weight (token_view t) s
-    → slice_get (map (λ u. token_weight u s) tokens) place ≡ Some n
-weight_there ts tokens place t s n view within read e =
+-- the weight of the token at a index of a path
+pub weight_there : (ts : List Token) (tokens : List PathToken) (index : ℕ) (t : Token) (s : PathStep) (n : ℕ) → tokens ≡ map token_view ts → index < length tokens → t ≡ get_or ts index t → n ≡ token_weight (token_view t) s
+    → slice_get (map (λ u. token_weight u s) tokens) index ≡ Some n
+weight_there ts tokens index t s n view within read e =
     let weigh = λ (u : PathToken). token_weight u s in
-    let inside : place < length ts = omega (arith, ap length view, length-map ts token_view) in
-    ap (λ us. slice_get (map weigh us) place) view ∙ slice_get-map weigh (map token_view ts) place ∙ ap (option_map weigh) (slice_get-map token_view ts place ∙ ap (option_map token_view) (slice_get_read ts (length ts) place t refl inside read))
+    let inside : index < length ts = omega (arith, ap length view, length-map ts token_view) in
+    ap (λ us. slice_get (map weigh us) index) view ∙ slice_get-map weigh (map token_view ts) index ∙ ap (option_map weigh) (slice_get-map token_view ts index ∙ ap (option_map token_view) (slice_get_read ts (length ts) index t refl inside read))
     ∙ ap (λ m. Some m) (sym e)

@@ -1,7 +1,7 @@
 -- What a reader gives is what reading gives, unless memory ran out.
 use Rattle.std.specs.Prelude.{◌≡◌, Result, Ok, Err}
 
--- What a function returned, seen by view, is what reading gives, unless it is want of memory.
+-- What a function returned, seen by view, is what reading gives, unless memory ran out.
 abbrev pub Gives : {X Y F : Type 0} → F → (X → Y) → Result X F → Result Y F → Type 0
 Gives memory view (Ok x) read = read ≡ Ok (view x)
 Gives memory view (Err e) read = ¬ (e ≡ memory) → read ≡ Err e

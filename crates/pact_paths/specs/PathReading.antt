@@ -1,4 +1,5 @@
--- The reading of a text, computed from left to right: each token takes what it can.
+-- The reading of a text, computed from left to right as the code does it: each token takes what it can. `Path::read`
+-- proves that this is the one reading of `Readings`, where the meaning is stated.
 use Rattle.std.specs.Prelude.{ℕ, zero, suc, ◌-◌, List, [], ◌∷◌, ◌++◌, length, take, drop, ◌==◌, nat_lt, Option, Some, None, option_map, option_and_then, Result, Ok, Err, if◌then◌else◌}
 use Rattle.std.specs.Option.{option_or}
 use Rattle.std.specs.List.{position_or_len, before_first, after_first}
@@ -20,7 +21,8 @@ behind c (b ∷ bs) = if b == c then Some bs else None
 -- what stands before and behind the first such byte
 abbrev pub cut : ℕ → List ℕ → Option (List ℕ × List ℕ)
 cut c bs =
-    if nat_lt (position_or_len (λ b. b == c) bs) (length bs) then Some (before_first (λ b. b == c) bs, after_first (λ b. b == c) bs)
+    if nat_lt (position_or_len (λ b. b == c) bs) (length bs)
+    then Some (before_first (λ b. b == c) bs, after_first (λ b. b == c) bs)
     else None
 
 -- `*`
@@ -36,10 +38,13 @@ plain t =
 -- a name in quotes
 abbrev pub quoted : List ℕ → Read
 quoted t =
-    option_and_then (λ parts. option_map (λ rest. (named parts.0, rest)) (behind 93 parts.1)) (option_and_then (cut 39) (behind 39 t))
+    option_and_then (λ parts. option_map (λ rest. (named parts.0, rest)) (behind 93 parts.1))
+    (option_and_then (cut 39) (behind 39 t))
 
 abbrev pub index : List ℕ → Read
-index t = option_and_then (λ parts. if is_index parts.0 then Some (indexed (digits_value 10 parts.0), parts.1) else None) (cut 93 t)
+index t =
+    option_and_then (λ parts. if is_index parts.0 then Some (indexed (digits_value 10 parts.0), parts.1) else None)
+    (cut 93 t)
 
 abbrev pub closed_star : List ℕ → Read
 closed_star t = option_map (λ rest. (any, rest)) (option_and_then (behind 93) (behind 42 t))
@@ -63,12 +68,13 @@ abbrev pub first_of_more : (List ℕ → Result (List Token) PathFault) → Path
 first_of_more more fault None = Err fault
 first_of_more more fault (Some read) = with_front read.0 (more read.1)
 
--- The tokens of what is left of a text of so many bytes, at most so many: a fault is told with the place where reading stops.
+-- The tokens of what is left of a text of so many bytes, at most so many: a fault has the offset where reading stops.
 unfoldable pub tokens_in : ℕ → ℕ → List ℕ → Result (List Token) PathFault
 tokens_in total zero [] = Ok []
 tokens_in total zero (b ∷ t) = Err TooManyTokens
 tokens_in total (suc n) [] = Ok []
-tokens_in total (suc n) (b ∷ t) = first_of_more (tokens_in total n) (BadToken (total - length (b ∷ t))) (token_in (b ∷ t))
+tokens_in total (suc n) (b ∷ t) =
+    first_of_more (tokens_in total n) (BadToken (total - length (b ∷ t))) (token_in (b ∷ t))
 
 -- what was read before, and what is still read
 abbrev pub with_all : List Token → Result (List Token) PathFault → Result (List Token) PathFault

@@ -15,25 +15,27 @@ pub record IsFront (limit : ℕ) (text front rest : List ℕ) (tokens : List Tok
 -- and no longer front of it is spelled
 pub record IsLongestFront (limit : ℕ) (text front rest : List ℕ) (tokens : List Token) : Type 0 where
   pub is_front : IsFront limit text front rest tokens
-  pub longest : (other behind : List ℕ) (others : List Token) → IsFront limit text other behind others → length other ≤ length front
+  pub longest : (other behind : List ℕ) (others : List Token) → IsFront limit text other behind others
+      → length other ≤ length front
 
--- behind the root the longest front of at most 60 tokens ends at a place of the text, with some of it left
-pub record StopsAt (text : List ℕ) (tokens : List Token) (place : ℕ) : Type 0 where
+-- behind the root the longest front of at most 60 tokens ends at an offset of the text, with some of it left
+pub record StopsAt (text : List ℕ) (tokens : List Token) (offset : ℕ) : Type 0 where
   pub body : List ℕ
   pub front : List ℕ
   pub rest : List ℕ
   pub is_behind_root : text ≡ codes "$" ++ body
   pub is_longest : IsLongestFront 60 body front rest tokens
   pub is_left : rest ≢ []
-  pub is_place : place ≡ 1 + length front
+  pub is_offset : offset ≡ 1 + length front
 
 -- A path's text reads as that path. A text without a root is NoRoot. Otherwise reading stops with text left:
--- after 60 tokens that is TooManyTokens, and before that no token begins at the place where it stops.
+-- after 60 tokens that is TooManyTokens, and before that no token begins at the offset where it stops.
 abbrev pub IsReading : List ℕ → Result (List Token) PathFault → Type 0
 IsReading text (Ok tokens) = IsPathText text tokens
 IsReading text (Err NoRoot) = (body : List ℕ) → text ≢ codes "$" ++ body
-IsReading text (Err (BadToken place)) = (tokens : List Token) × (length tokens < 60) × StopsAt text tokens place
-IsReading text (Err TooManyTokens) = (tokens : List Token) × (place : ℕ) × (length tokens ≡ 60) × StopsAt text tokens place
+IsReading text (Err (BadToken offset)) = (tokens : List Token) × (length tokens < 60) × StopsAt text tokens offset
+IsReading text (Err TooManyTokens) =
+    (tokens : List Token) × (offset : ℕ) × (length tokens ≡ 60) × StopsAt text tokens offset
 IsReading text (Err Memory) = ⊥
 
 -- the one reading of the text

@@ -1,7 +1,8 @@
 -- How path expressions are written: each token's spellings, and the canonical one.
 --
--- The root `$` and the forms `.name`, `['name']`, `[n]`, `.*` and `[*]` are those of the Pact Specification, version 3.
--- Which characters stand in a name, how many digits in an index and how many tokens in a path is this project's own choice.
+-- The root `$` and the forms `.name`, `['name']`, `[n]`, `.*` and `[*]` are those of the Pact Specification, version
+-- 3. Which characters stand in a name, how many digits in an index and how many tokens in a path is this project's
+-- own choice.
 use Rattle.std.specs.Prelude.{◌≡◌, ◌≢◌, ◌⊎◌, ◌≤◌, ◌<◌, ◌^◌, ℕ, List, [], ◌∷◌, ◌++◌, length, codes, Bool, true, ◌==◌, ◌&&◌, not, nat_lt, nat_le, if◌then◌else◌, decimal}
 use Rattle.std.specs.List.{list_any, list_all, flat_map, AllByRecursion}
 use Rattle.std.specs.Str.{all_ascii_digits}
@@ -30,14 +31,18 @@ is_index ds = all_ascii_digits ds && (nat_lt 0 (length ds) && nat_le (length ds)
 --     [n]         the number that the digits write
 --     .* or [*]   any key or index
 abbrev pub IsSpelled : List ℕ → Token → Type 0
-IsSpelled bytes (named n) = ((bytes ≡ codes "." ++ n) × (is_plain n ≡ true)) ⊎ ((bytes ≡ codes "['" ++ n ++ codes "']") × IsQuotable n)
-IsSpelled bytes (indexed i) = (ds : List ℕ) × (bytes ≡ codes "[" ++ ds ++ codes "]") × (is_index ds ≡ true) × (i ≡ digits_value 10 ds)
+IsSpelled bytes (named n) =
+    ((bytes ≡ codes "." ++ n) × (is_plain n ≡ true))
+    ⊎ ((bytes ≡ codes "['" ++ n ++ codes "']") × IsQuotable n)
+IsSpelled bytes (indexed i) =
+    (ds : List ℕ) × (bytes ≡ codes "[" ++ ds ++ codes "]") × (is_index ds ≡ true) × (i ≡ digits_value 10 ds)
 IsSpelled bytes any = (bytes ≡ codes ".*") ⊎ (bytes ≡ codes "[*]")
 
 -- the bytes are spellings of the tokens, one behind the other
 abbrev pub AreSpelled : List ℕ → List Token → Type 0
 AreSpelled bytes [] = bytes ≡ []
-AreSpelled bytes (t ∷ ts) = (front : List ℕ) × (rest : List ℕ) × (bytes ≡ front ++ rest) × IsSpelled front t × AreSpelled rest ts
+AreSpelled bytes (t ∷ ts) =
+    (front : List ℕ) × (rest : List ℕ) × (bytes ≡ front ++ rest) × IsSpelled front t × AreSpelled rest ts
 
 -- the text is the root `$` and spellings of the tokens, of which there are at most 60
 abbrev pub IsPathText : List ℕ → List Token → Type 0

@@ -11,7 +11,7 @@ token_weight any step = 1
 token_weight (named n) (item j) = 0
 token_weight (indexed i) (key k) = 0
 
--- each token's, with the step at its place, as far as both lists go
+-- each token's, with the step of the same index, as far as both lists go
 abbrev pub token_weights : List Token → Location → List ℕ
 token_weights tokens steps = map (λ p. token_weight p.0 p.1) (zip tokens steps)
 
@@ -30,6 +30,6 @@ weight tokens steps = if nat_le (length tokens) (length steps) then 2 * product_
 abbrev pub is_alive : List Token → Location → Bool
 is_alive tokens steps = nat_lt 0 (product_over tokens steps)
 
--- how many tokens equal the step at their place
+-- how many tokens equal the step of the same index
 abbrev pub exact_tokens : List Token → Location → ℕ
 exact_tokens tokens steps = length (filter (λ w. w == 2) (token_weights tokens steps))

@@ -7,6 +7,3 @@ mod path_writer;
 
 pub use path::{Path, Step, weight};
 pub use path_reader::PathFault;
-
-#[cfg(test)]
-mod tests;

@@ -1,3 +1,5 @@
+//! Steps down a tree, path expressions, and how much a path weighs at a location.
+
 ghost use Rattle.std.specs.Prelude.{◌≡◌, ◌≤◌, ◌^◌, ◌*◌, ◌<◌, length, map, slice_get, IsTrue, ◌↔◌, []};
 ghost use Rattle.pact_paths.specs.Locations.{step_view};
 ghost use Rattle.pact_paths.specs.TokenView.{token_view};
@@ -10,7 +12,7 @@ use std::marker::Model;
 pub enum Step {
     /// Into an object, to the member under this key.
     Key(String),
-    /// Into a list, to the item at this place, from 0.
+    /// Into a list, to the item at this index, from 0.
     Index(u64),
 }
 
@@ -22,8 +24,9 @@ pub(crate) enum Token {
     Any,
 }
 
-/// A path expression of a matching rule, such as `$.items[*].id`: at most 60 tokens behind the root `$`. A token is a name without `'`,
-/// an index of at most nine digits, or Any. (Pact Specification, version 3; the limits are this project's own choice.)
+/// A path expression of a matching rule, such as `$.items[*].id`: at most 60 tokens behind the root `$`. A token is a
+/// name without `'`, an index of at most nine digits, or Any. (Pact Specification, version 3; the limits are this
+/// project's own choice.)
 #[derive(Drop)]
 pub struct Path {
     pub(crate) tokens: Vec<Token>,
@@ -59,20 +62,22 @@ impl Path {
         self.tokens.is_empty()
     }
 
-    /// How much the token at a place, from 0, counts at a step: 2 for a name that equals a key or an index that equals an index, 1 for Any,
-    /// and else 0. Takes no memory.
-    pub fn weigh_token(&self, place: usize, step: &Step) -> u64
-        requires { place < length self.now }
-        ensures value { slice_get (map (λ t. token_weight t (step_view step.now)) self.now) place ≡ Some result }
+    /// How much the token at an index, from 0, counts at a step: 2 for a name that equals a key or an index that
+    /// equals an index, 1 for Any, and else 0. Takes no memory.
+    pub fn weigh_token(&self, index: usize, step: &Step) -> u64
+        requires { index < length self.now }
+        ensures value { slice_get (map (λ t. token_weight t (step_view step.now)) self.now) index
+            ≡ Some result }
         ensures bounded { result ≤ 2 }
     {
-        weight_at(&self.tokens[place], step)
+        weight_at(&self.tokens[index], step)
     }
 }
 
-/// How much a path counts at a location: 0 where the path has more tokens than the location has steps, and else 2 for the root times what each token
-/// counts at the step at its place. So it is 0 where a token doesn't fit, a shorter path reaches down to all that is below it, and the
-/// greatest weight is 2^61. Takes no memory. (Pact Specification, version 2, kept in version 3.)
+/// How much a path counts at a location: 0 where the path has more tokens than the location has steps, and else 2 for
+/// the root times what each token counts at the step of the same index. So it is 0 where a token doesn't fit, a
+/// shorter path reaches down to all that is below it, and the greatest weight is 2^61. Takes no memory. (Pact
+/// Specification, version 2, kept in version 3.)
 pub fn weight(path: &Path, location: &[Step]) -> u64
     ensures value { result ≡ weight_of path.now (map step_view location.now) }
     ensures bounded { result ≤ 2 ^ 61 }
@@ -83,7 +88,7 @@ pub fn weight(path: &Path, location: &[Step]) -> u64
     2 * product_of(&path.tokens, location)
 }
 
-/// The product over the tokens, each with the step at its place.
+/// The product over the tokens, each with the step of the same index.
 fn product_of(tokens: &[Token], location: &[Step]) -> u64
     requires few { length tokens.now ≤ 60 }
     requires long_enough { length tokens.now ≤ length location.now }
@@ -91,8 +96,8 @@ fn product_of(tokens: &[Token], location: &[Step]) -> u64
     ensures bounded { result ≤ 2 ^ 60 }
 {
     let mut product = 1;
-    for (place, token) in tokens.iter().enumerate() {
-        product *= weight_at(token, &location[place]);
+    for (index, token) in tokens.iter().enumerate() {
+        product *= weight_at(token, &location[index]);
     }
     product
 }
@@ -104,7 +109,7 @@ fn weight_at(token: &Token, step: &Step) -> u64
     match (token, step) {
         (Token::Any, _) => 1,
         (Token::Name(name), Step::Key(key)) => if name.as_str() == key.as_str() { 2 } else { 0 },
-        (Token::Index(index), Step::Index(place)) => if index == place { 2 } else { 0 },
+        (Token::Index(index), Step::Index(other)) => if index == other { 2 } else { 0 },
         (Token::Name(_), Step::Index(_)) | (Token::Index(_), Step::Key(_)) => 0,
     }
 }

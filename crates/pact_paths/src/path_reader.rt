@@ -1,8 +1,14 @@
-ghost use Rattle.std.specs.Prelude.{◌≡◌, ◌⊎◌, ◌<◌, IsTrue, ◌≤◌, IfOk, option_map, length, map, IsCharBoundary, IfSome, Some, None, if◌then◌else◌};
+//! Reading a path expression, from left to right.
+
+ghost use Rattle.std.specs.Prelude.{◌≡◌, ◌⊎◌, ◌<◌, IsTrue, ◌≤◌, IfOk, option_map, length, map, IsCharBoundary};
+ghost use Rattle.std.specs.Prelude.{IfSome, Some, None, if◌then◌else◌};
 ghost use Rattle.std.specs.List.{position_or_len};
 ghost use Rattle.pact_paths.specs.TokenView.{token_view};
 ghost use Rattle.pact_paths.specs.Spelling.{is_special, is_index};
-ghost use Rattle.pact_paths.specs.PathReading.{token_in, dotted as dotted_in, bracketed as bracketed_in, plain as plain_in, quoted as quoted_in, index as index_in, behind as behind_of, cut as cut_of, closed_star as closed_star_in, tokens_in, path_in, with_all};
+ghost use Rattle.pact_paths.specs.PathReading.{token_in, dotted as dotted_in, bracketed as bracketed_in};
+ghost use Rattle.pact_paths.specs.PathReading.{plain as plain_in, quoted as quoted_in, index as index_in};
+ghost use Rattle.pact_paths.specs.PathReading.{behind as behind_of, cut as cut_of, closed_star as closed_star_in};
+ghost use Rattle.pact_paths.specs.PathReading.{tokens_in, path_in, with_all};
 ghost use Rattle.pact_paths.specs.Outcome.{Gives};
 ghost use Rattle.pact_paths.specs.Readings.{IsTheReading};
 ghost use Rattle.pact_paths.specs.Paths.{named, indexed, any};
@@ -14,7 +20,7 @@ use crate::path::{Path, Token};
 use std::alloc::{AllocError, AllocFailed, Global};
 use thiserror::Error;
 
-/// Why a text was not read as a path: its first fault from left to right, or want of memory.
+/// Why a text was not read as a path: its first fault from left to right, or no memory was left.
 #[derive(Clone, Copy, Debug, PartialEq, Eq, Error)]
 pub enum PathFault {
     /// The text doesn't begin with `$`.
@@ -26,7 +32,7 @@ pub enum PathFault {
     /// Text is left behind 60 tokens.
     #[error("too many tokens")]
     TooManyTokens,
-    /// A growth was refused.
+    /// No memory was left.
     #[error("out of memory")]
     Memory,
 }
@@ -51,9 +57,10 @@ impl<T: Drop> From<AllocFailed<T>> for PathFault {
 const MAX_TOKENS: usize = 60;
 
 impl Path {
-    /// Reads a path: the root `$`, and then at most 60 tokens, each `.name`, `['name']`, `[n]`, `.*` or `[*]`. A name behind a dot has one or
-    /// more characters, none of them `.` `[` `]` `'` `*`; a name in quotes has any but `'`, or none; an index has one to nine digits.
-    /// Each token takes what it can, and the first fault from the left is told.
+    /// Reads a path: the root `$`, and then at most 60 tokens, each `.name`, `['name']`, `[n]`, `.*` or `[*]`. A name
+    /// behind a dot has one or more characters, none of them `.` `[` `]` `'` `*`; a name in quotes has any but `'`,
+    /// or none; an index has one to nine digits. Each token takes what it can, and the error is the first fault from
+    /// the left.
     pub fn read(alloc: Global, text: &str) -> Result<Path, PathFault>
         // The result is the one reading of the text, unless memory runs out.
         ensures reading { (result ≡ Err Memory) ⊎ IsTheReading text.now result }
@@ -78,7 +85,8 @@ fn tokens_of(
     tokens: Vec<Token>,
 ) -> Result<Vec<Token>, PathFault>
     requires { length text.now ≤ total }
-    ensures { Gives Memory (λ v. map token_view v.items) result (with_all (map token_view tokens.items) (tokens_in total limit text.now)) }
+    ensures { Gives Memory (λ v. map token_view v.items) result
+        (with_all (map token_view tokens.items) (tokens_in total limit text.now)) }
 {
     if text.is_empty() {
         return Ok(tokens);
@@ -98,8 +106,9 @@ fn tokens_of(
 
 /// The token at the front, and what follows it.
 fn token_at(alloc: Global, text: &str) -> Result<Option<(Token, &str)>, AllocError>
-    ensures value { IfOk result (λ o. option_map (λ x. (token_view x.0, x.1.now)) o ≡ token_in text.now) }
-    ensures shorter { IfOk result (λ o. IfSome o (λ x. length x.1.now ≤ length text.now)) }
+    ensures value { IfOk result (λ o.
+        option_map (λ x. (token_view x.0, x.1.now)) o ≡ token_in text.now) }
+    ensures no_longer { IfOk result (λ o. IfSome o (λ x. length x.1.now ≤ length text.now)) }
 {
     if let Some(rest) = behind(text, '.') {
         return dotted(alloc, rest);
@@ -111,8 +120,9 @@ fn token_at(alloc: Global, text: &str) -> Result<Option<(Token, &str)>, AllocErr
 }
 
 fn dotted(alloc: Global, text: &str) -> Result<Option<(Token, &str)>, AllocError>
-    ensures value { IfOk result (λ o. option_map (λ x. (token_view x.0, x.1.now)) o ≡ dotted_in text.now) }
-    ensures shorter { IfOk result (λ o. IfSome o (λ x. length x.1.now ≤ length text.now)) }
+    ensures value { IfOk result (λ o.
+        option_map (λ x. (token_view x.0, x.1.now)) o ≡ dotted_in text.now) }
+    ensures no_longer { IfOk result (λ o. IfSome o (λ x. length x.1.now ≤ length text.now)) }
 {
     if let Some(rest) = behind(text, '*') {
         return Ok(Some((Token::Any, rest)));
@@ -126,8 +136,9 @@ fn dotted(alloc: Global, text: &str) -> Result<Option<(Token, &str)>, AllocError
 }
 
 fn bracketed(alloc: Global, text: &str) -> Result<Option<(Token, &str)>, AllocError>
-    ensures value { IfOk result (λ o. option_map (λ x. (token_view x.0, x.1.now)) o ≡ bracketed_in text.now) }
-    ensures shorter { IfOk result (λ o. IfSome o (λ x. length x.1.now ≤ length text.now)) }
+    ensures value { IfOk result (λ o.
+        option_map (λ x. (token_view x.0, x.1.now)) o ≡ bracketed_in text.now) }
+    ensures no_longer { IfOk result (λ o. IfSome o (λ x. length x.1.now ≤ length text.now)) }
 {
     if let Some(rest) = closed_star(text) {
         return Ok(Some((Token::Any, rest)));
@@ -145,7 +156,7 @@ fn bracketed(alloc: Global, text: &str) -> Result<Option<(Token, &str)>, AllocEr
 fn behind(text: &str, mark: char) -> Option<&str>
     requires { mark < 128 }
     ensures value { option_map (λ r. r.now) result ≡ behind_of mark text.now }
-    ensures shorter { IfSome result (λ r. length r.now ≤ length text.now) }
+    ensures no_longer { IfSome result (λ r. length r.now ≤ length text.now) }
 {
     text.strip_prefix(mark)
 }
@@ -154,14 +165,15 @@ fn behind(text: &str, mark: char) -> Option<&str>
 fn cut(text: &str, mark: char) -> Option<(&str, &str)>
     requires { mark < 128 }
     ensures value { option_map (λ r. (r.0.now, r.1.now)) result ≡ cut_of mark text.now }
-    ensures shorter { IfSome result (λ r. length r.1.now ≤ length text.now) }
+    ensures no_longer { IfSome result (λ r. length r.1.now ≤ length text.now) }
 {
     text.split_once(mark)
 }
 
+/// What stands behind `*]` at the front.
 fn closed_star(text: &str) -> Option<&str>
     ensures value { option_map (λ r. (any, r.now)) result ≡ closed_star_in text.now }
-    ensures shorter { IfSome result (λ r. length r.now ≤ length text.now) }
+    ensures no_longer { IfSome result (λ r. length r.now ≤ length text.now) }
 {
     behind(behind(text, '*')?, ']')
 }
@@ -169,7 +181,7 @@ fn closed_star(text: &str) -> Option<&str>
 /// The name in quotes at the front, and what follows the bracket behind it.
 fn quoted(text: &str) -> Option<(&str, &str)>
     ensures value { option_map (λ x. (named x.0.now, x.1.now)) result ≡ quoted_in text.now }
-    ensures shorter { IfSome result (λ x. length x.1.now ≤ length text.now) }
+    ensures no_longer { IfSome result (λ x. length x.1.now ≤ length text.now) }
 {
     let (name, rest) = cut(behind(text, '\'')?, '\'')?;
     let rest = behind(rest, ']')?;
@@ -179,7 +191,7 @@ fn quoted(text: &str) -> Option<(&str, &str)>
 /// The index up to the bracket, and what follows it.
 fn index(text: &str) -> Option<(u64, &str)>
     ensures value { option_map (λ x. (indexed x.0, x.1.now)) result ≡ index_in text.now }
-    ensures shorter { IfSome result (λ x. length x.1.now ≤ length text.now) }
+    ensures no_longer { IfSome result (λ x. length x.1.now ≤ length text.now) }
 {
     let (digits, rest) = cut(text, ']')?;
     Some((number(digits)?, rest))

@@ -1,3 +1,5 @@
+//! The canonical text of a path.
+
 ghost use Rattle.std.specs.Prelude.{◌≡◌, ◌++◌, List, map, IfOk, OnOk, string_bytes};
 ghost use Rattle.pact_paths.specs.Paths.{Token as PathToken};
 ghost use Rattle.pact_paths.specs.Readings.{IsTheReading};
@@ -9,8 +11,8 @@ use crate::path_reader::plain_len;
 use std::alloc::{AllocError, Global};
 
 impl Path {
-    /// The canonical text, which reads as this path and which no other path has: `.name` where a dot can stand before the name and else
-    /// `['name']`, an index without leading zeros, and `[*]` for Any.
+    /// The canonical text, which reads as this path and which no other path has: `.name` where a dot can stand before
+    /// the name and else `['name']`, an index without leading zeros, and `[*]` for Any.
     pub fn text(&self, alloc: Global) -> Result<String, AllocError>
         ensures canonical { IfOk result (λ s. string_bytes s ≡ path_text self.now) }
 
@@ -18,7 +20,8 @@ impl Path {
         ensures reading { IfOk result (λ s. IsTheReading (string_bytes s) (Ok self.now)) }
 
         // No other path has this canonical text.
-        ensures own { IfOk result (λ s. (p : List PathToken) → IsPath p → path_text p ≡ string_bytes s → p ≡ self.now) }
+        ensures own { IfOk result (λ s. (p : List PathToken) →
+            IsPath p → path_text p ≡ string_bytes s → p ≡ self.now) }
     {
         text_of(alloc, &self.tokens)
     }
@@ -35,7 +38,8 @@ fn text_of(alloc: Global, tokens: &[Token]) -> Result<String, AllocError>
 }
 
 fn push_token(text: &mut String, token: &Token) -> Result<(), AllocError>
-    ensures { OnOk result (string_bytes text.new ≡ string_bytes text.old ++ token_text (token_view token.now)) }
+    ensures { OnOk result
+        (string_bytes text.new ≡ string_bytes text.old ++ token_text (token_view token.now)) }
 {
     match token {
         Token::Name(name) => push_name(text, name),

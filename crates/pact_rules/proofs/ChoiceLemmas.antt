@@ -1,5 +1,5 @@
--- The best rule, and how a loop from the last place finds it.
-use Rattle.std.proofs.Common.{◌≡◌, ◌≢◌, ◌⊎◌, ℕ, zero, suc, ◌+◌, ◌<◌, ◌≤◌, Bool, true, false, cond, ◌||◌, ◌&&◌, eqb, ltb, List, [], ◌∷◌, map, length, get_or, drop, Option, Some, None, option_map, Ordering, Less, Equal, Greater, nat_cmp, add-one, refl, sym, ap, ◌∙◌, subst, inl, inr, ⊎_elim, true≢false, arith, ltb-true, ltb-false, MatchOption, IfNone, IfSome, slice_get}
+-- The best rule, and how a loop from the last index finds it.
+use Rattle.std.proofs.Common.{◌≡◌, ◌≢◌, ◌⊎◌, ℕ, zero, suc, ◌+◌, ◌<◌, ◌≤◌, Bool, true, false, cond, ◌||◌, ◌&&◌, eqb, ltb, List, [], ◌∷◌, map, length, get_or, drop, Option, Some, None, option_map, Ordering, Less, Equal, Greater, nat_cmp, add-one, refl, sym, ap, ◌∙◌, subst, inl, inr, ⊎_elim, true≢false, arith, ltb-true, ltb-false, MatchOption, IfSome, slice_get}
 use Rattle.std.proofs.lemmas.Bool.{cases_eq}
 use Rattle.std.proofs.lemmas.Bool.Decides.{nat_tests}
 use Rattle.std.proofs.lemmas.Cmp.{nat_list_cmp_total}
@@ -15,7 +15,7 @@ use Rattle.pact_paths.specs.Spelling.{path_text}
 use Rattle.pact_paths.specs.Weights.{weight}
 use Rattle.pact_rules.specs.Rules.{BodyRule, IsBefore, IsInOrder}
 use Rattle.pact_rules.specs.Choice.{Beats, IsChosen, IsChoice, outranks, beats, pick, best, chosen}
-use Rattle.pact_rules.proofs.Candidates.{outweighs, better_of}
+use Rattle.pact_rules.specs.Candidates.{better_of}
 use Rattle.pact_rules.specs.declared.table.Candidate.{Candidate}
 
 -- ---- texts in order
@@ -157,40 +157,35 @@ as_choice rules at (Some b) h = (b.1, h.0, h.1, h.2)
 pub chosen_is_choice : (rules : List BodyRule) (at : Location) → IsInOrder rules → IsChoice rules at (chosen rules at)
 chosen_is_choice rules at h = as_choice rules at (best rules at) (best_is_best rules at h)
 
--- ---- the loop from the last place
+-- ---- the loop from the last index
 
 -- a best rule as the loop keeps it
 abbrev pub as_candidate : ℕ → Location → Option (ℕ × BodyRule) → Option Candidate
 as_candidate k at None = None
-as_candidate k at (Some b) = Some (record { place = b.0 + k; weight = weight b.1.path at; tokens = length b.1.path })
+as_candidate k at (Some b) = Some (record { index = b.0 + k; weight = weight b.1.path at; tokens = length b.1.path })
 
 same_tests : (v w l m : ℕ) → outranks v w l m false ≡ (ltb w v || (eqb v w && ltb m l))
 same_tests v w l m = grind (arith, nat_tests)
 
 pub one_of_two : (at : Location) (r : BodyRule) (b : ℕ × BodyRule) (k : ℕ) (t : Bool) → as_candidate k at (cond t (Some (b.0 + 1, b.1)) (Some (0, r)))
-    ≡ cond t (as_candidate (k + 1) at (Some b)) (Some (record { place = k; weight = weight r.path at; tokens = length r.path }))
-one_of_two at r b k true = ap (λ n. Some (record { place = n; weight = weight b.1.path at; tokens = length b.1.path })) (omega arith)
-one_of_two at r b k false = ap (λ n. Some (record { place = n; weight = weight r.path at; tokens = length r.path })) (omega arith)
+    ≡ cond t (as_candidate (k + 1) at (Some b)) (Some (record { index = k; weight = weight r.path at; tokens = length r.path }))
+one_of_two at r b k true = ap (λ n. Some (record { index = n; weight = weight b.1.path at; tokens = length b.1.path })) (omega arith)
+one_of_two at r b k false = ap (λ n. Some (record { index = n; weight = weight r.path at; tokens = length r.path })) (omega arith)
 
 pub none_or : (at : Location) (r : BodyRule) (k : ℕ) (t : Bool) → as_candidate k at (cond t (Some (0, r)) None)
-    ≡ cond t (Some (record { place = k; weight = weight r.path at; tokens = length r.path })) None
-none_or at r k true = ap (λ n. Some (record { place = n; weight = weight r.path at; tokens = length r.path })) (omega arith)
+    ≡ cond t (Some (record { index = k; weight = weight r.path at; tokens = length r.path })) None
+none_or at r k true = ap (λ n. Some (record { index = n; weight = weight r.path at; tokens = length r.path })) (omega arith)
 none_or at r k false = refl
 
 pub candidate_step : (at : Location) (r : BodyRule) (rules : List BodyRule) (k : ℕ) (o : Option (ℕ × BodyRule)) → AllByRecursion (λ s. IsBefore (path_text r.path) (path_text s.path)) rules → IsBest rules at o
-    → as_candidate k at (pick at r o) ≡ better_of (record { place = k; weight = weight r.path at; tokens = length r.path }) (as_candidate (k + 1) at o)
+    → as_candidate k at (pick at r o) ≡ better_of (record { index = k; weight = weight r.path at; tokens = length r.path }) (as_candidate (k + 1) at o)
 candidate_step at r rules k None before is = none_or at r k _
 candidate_step at r rules k (Some b) before is =
     let earlier = get_member (λ (x : BodyRule). IsBefore (path_text r.path) (path_text x.path)) rules b.0 b.1 before is.0 in
     one_of_two at r b k (beats at b.1 r)
-    ∙ ap (λ t. cond t (as_candidate (k + 1) at (Some b)) (Some (record { place = k; weight = weight r.path at; tokens = length r.path })))
+    ∙ ap (λ t. cond t (as_candidate (k + 1) at (Some b)) (Some (record { index = k; weight = weight r.path at; tokens = length r.path })))
     (ap (outranks (weight b.1.path at) (weight r.path at) (length b.1.path) (length r.path)) (before_not_after (path_text r.path) (path_text b.1.path) earlier)
     ∙ same_tests (weight b.1.path at) (weight r.path at) (length b.1.path) (length r.path))
-
-pub as_better : (earlier : Candidate) (found result : Option Candidate) → IfNone found (result ≡ cond (ltb 0 earlier.weight) (Some earlier) None)
-    → IfSome found (λ best. result ≡ cond (outweighs best earlier) (Some best) (Some earlier)) → result ≡ better_of earlier found
-as_better earlier None result h k = h
-as_better earlier (Some best) result h k = k
 
 drop_in_order : (k : ℕ) (rules : List BodyRule) → IsInOrder rules → IsInOrder (drop k rules)
 drop_in_order zero rules h = h
@@ -198,18 +193,18 @@ drop_in_order (suc k) [] h = tt
 drop_in_order (suc k) (r ∷ rules) h = drop_in_order k rules h.1
 
 pub candidate_more : (at : Location) (r : BodyRule) (rules : List BodyRule) (k : ℕ) → IsInOrder rules → drop k rules ≡ r ∷ drop (k + 1) rules
-    → as_candidate k at (best (drop k rules) at) ≡ better_of (record { place = k; weight = weight r.path at; tokens = length r.path }) (as_candidate (k + 1) at (best (drop (k + 1) rules) at))
+    → as_candidate k at (best (drop k rules) at) ≡ better_of (record { index = k; weight = weight r.path at; tokens = length r.path }) (as_candidate (k + 1) at (best (drop (k + 1) rules) at))
 candidate_more at r rules k order is =
     let here : IsInOrder (r ∷ drop (k + 1) rules) = subst IsInOrder is (drop_in_order k rules order) in
     ap (λ rs. as_candidate k at (best rs at)) is ∙ candidate_step at r (drop (k + 1) rules) k (best (drop (k + 1) rules) at) here.0 (best_is_best (drop (k + 1) rules) at here.1)
 
 pub loop_step : (at : Location) (rules : List BodyRule) (r : BodyRule) (k w n : ℕ) (found result : Option Candidate) → IsInOrder rules → drop k rules ≡ r ∷ drop (k + 1) rules
     → w ≡ weight r.path at → n ≡ length r.path → found ≡ as_candidate (k + 1) at (best (drop (k + 1) rules) at)
-    → result ≡ better_of (record { place = k; weight = w; tokens = n }) found → result ≡ as_candidate k at (best (drop k rules) at)
+    → result ≡ better_of (record { index = k; weight = w; tokens = n }) found → result ≡ as_candidate k at (best (drop k rules) at)
 loop_step at rules r k w n found result order is ew en ef e =
-    e ∙ ap (λ v. better_of (record { place = k; weight = v; tokens = n }) found) ew
-    ∙ ap (λ m. better_of (record { place = k; weight = weight r.path at; tokens = m }) found) en
-    ∙ ap (better_of (record { place = k; weight = weight r.path at; tokens = length r.path })) ef
+    e ∙ ap (λ v. better_of (record { index = k; weight = v; tokens = n }) found) ew
+    ∙ ap (λ m. better_of (record { index = k; weight = weight r.path at; tokens = m }) found) en
+    ∙ ap (better_of (record { index = k; weight = weight r.path at; tokens = length r.path })) ef
     ∙ sym (candidate_more at r rules k order is)
 
 pub rule_at : (xs : List code.BodyRule) (k : ℕ) (x : code.BodyRule) → k < length xs → x ≡ get_or xs k x → drop k (map rule_view xs) ≡ rule_view x ∷ drop (k + 1) (map rule_view xs)
@@ -228,12 +223,19 @@ slice_get_within [] i x e = absurd cc
 slice_get_within (y ∷ xs) zero x e = omega arith
 slice_get_within (y ∷ xs) (suc i) x e = let h = slice_get_within xs i x e in omega (arith, h)
 
--- a place that is chosen is one of the table
+-- a index that is chosen is one of the table
 pub choice_within : (rules : List BodyRule) (at : Location) (o : Option ℕ) → IsChoice rules at o → IfSome o (λ i. i < length rules)
 choice_within rules at None h = tt
 choice_within rules at (Some i) h = slice_get_within rules i h.0 h.1
 
--- the place that is chosen is the only one
+-- the index that is chosen is the only one
 pub choice_only : (rules : List BodyRule) (at : Location) (o : Option ℕ) → IsChoice rules at o → (i : ℕ) → IsChosen rules at i → o ≡ Some i
 choice_only rules at None h i k = zero_not_positive (weight k.0.path at) (h i k.0 k.1) k.2
 choice_only rules at (Some j) h i k = ap (λ n. Some n) (chosen_unique rules at j i h k)
+
+-- there is one choice
+pub choice_unique : (rules : List BodyRule) (at : Location) (o p : Option ℕ) → IsChoice rules at o → IsChoice rules at p → o ≡ p
+choice_unique rules at None None h k = refl
+choice_unique rules at None (Some i) h k = choice_only rules at None h i k
+choice_unique rules at (Some j) None h k = sym (choice_only rules at None k j h)
+choice_unique rules at (Some j) (Some i) h k = choice_only rules at (Some j) h i k

@@ -5,7 +5,7 @@ use Rattle.pact_paths.specs.PathReading.{tokens_in}
 use Rattle.pact_rules.specs.Trees.{Node, null, truth, whole, text, list, object, Nodes, no_nodes, node, Fields, no_fields, field}
 use Rattle.pact_rules.specs.Rules.{equality, same_type, regex, include, integer, is_null, Entry, BodyRule, HeaderRule, has_regex}
 use Rattle.pact_rules.specs.Choice.{chosen}
-use Rattle.pact_rules.specs.Holding.{holds, entry_holds}
+use Rattle.pact_rules.specs.Matching.{holds, entry_holds}
 use Rattle.pact_rules.specs.Tables.{header_entry}
 use Rattle.pact_rules.specs.RuleReading.{found_in, no_pattern}
 use Rattle.pact_rules.specs.Walks.{own_place}
@@ -123,7 +123,7 @@ combine_first : found_in no_pattern (category (codes "body") (field (codes "$") 
 unfolding tokens_in
 combine_first = refl
 
--- another category is told before its form
+-- another category is a fault before its form is one
 unknown_category : found_in no_pattern (object (field (codes "cookies") null no_fields)) ≡ Err (Unsupported (codes "cookies"))
 unknown_category = refl
 

@@ -1,9 +1,8 @@
 pub mod TreeLemmas
 pub mod Bridge
 pub mod Each
-pub mod Candidates
 pub mod ChoiceLemmas
-pub mod HoldingLemmas
+pub mod MatchingLemmas
 pub mod PatternLemmas
 pub mod OrderLemmas
 pub mod ReadingLemmas

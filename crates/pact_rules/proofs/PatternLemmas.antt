@@ -1,7 +1,7 @@
 -- A reading that succeeds where the grammar's patterns are accepted succeeds with the same value where none is, or meets a pattern there.
 use Rattle.std.proofs.Common.{◌≡◌, ◌⊎◌, ℕ, Bool, true, false, not, cond, List, [], ◌∷◌, ◌++◌, append_assoc, Option, Some, None, Result, Ok, Err, bytes_eq, codes, is_some, refl, sym, ap, ◌∙◌, inl, inr, ⊎_elim}
 use Rattle.pact_rules.specs.Trees.{Node, Nodes, no_nodes, node, Fields, no_fields, field}
-use Rattle.pact_rules.specs.Holding.{is_pattern}
+use Rattle.pact_rules.specs.Matching.{is_pattern}
 use Rattle.pact_rules.specs.declared.rule_fault.RuleFault.{RuleFault}
 use Rattle.pact_rules.specs.declared.rule_fault.RuleFault.TheVariants.{Form, OldRules, BadPath, SamePathTwice, Unsupported, BadBound, Pattern, BadCombine, Memory}
 use Rattle.std.specs.List.{list_any}
@@ -12,7 +12,7 @@ use Rattle.pact_paths.specs.Spelling.{path_text}
 use Rattle.pact_rules.specs.Rules.{Matcher, BodyRule, HeaderRule, Rules, rule_text, name_key}
 use Rattle.pact_rules.specs.OrderedReading.{put, ordered_body, ordered_headers, ordered_body_in, ordered_headers_in, ordered_category}
 use Rattle.pact_rules.specs.Outcome.{◌>>=◌, guard}
-use Rattle.pact_rules.specs.RuleReading.{no_pattern, as_text, as_object, as_list, member, pattern_at, named_matcher, bounds_alone, matcher_by, matcher_at, matchers_at, combine_of, entry_at, path_at, body_rule_at, header_rule_at, is_null_node, FailsAs}
+use Rattle.pact_rules.specs.RuleReading.{no_pattern, as_text, as_object, as_list, optional_at, pattern_at, named_matcher, bounds_alone, matcher_by, matcher_at, matchers_at, combine_of, entry_at, path_at, body_rule_at, header_rule_at, is_null_node, FailsAs}
 
 abbrev pub Goes : {A : Type 0} → Result A RuleFault → Result A RuleFault → Type 0
 Goes {A} all few = (x : A) → all ≡ Ok x → (few ≡ Ok x) ⊎ (few ≡ Err Pattern)
@@ -38,7 +38,7 @@ goes_guard b x e = inr refl
 
 pattern_goes : (fs : Fields) → Goes (pattern_at is_pattern fs) (pattern_at no_pattern fs)
 pattern_goes fs =
-    goes_bind (ok_or (as_text (member fs (codes "regex"))) Pattern) _ _ _ (goes_same _)
+    goes_bind (ok_or (as_text (optional_at fs (codes "regex"))) Pattern) _ _ _ (goes_same _)
     (λ source. goes_bind (guard (is_pattern source) Pattern) (guard false Pattern) _ _ (goes_guard (is_pattern source)) (λ u. goes_same _))
 
 named_goes : (in_header : Bool) (fs : Fields) (name : List ℕ) → Goes (named_matcher is_pattern in_header fs name) (named_matcher no_pattern in_header fs name)
@@ -48,11 +48,11 @@ named_goes in_header fs name =
     (goes_if (bytes_eq name (codes "regex")) _ _ _ _ (pattern_goes fs) (goes_same _)))
 
 matcher_by_goes : (in_header : Bool) (fs : Fields) (n : Option Node) → Goes (matcher_by is_pattern in_header fs n) (matcher_by no_pattern in_header fs n)
-matcher_by_goes in_header fs None = goes_if (is_some (member fs (codes "regex"))) (pattern_at is_pattern fs) (pattern_at no_pattern fs) (bounds_alone is_pattern fs) (bounds_alone no_pattern fs) (pattern_goes fs) (goes_same _)
+matcher_by_goes in_header fs None = goes_if (is_some (optional_at fs (codes "regex"))) (pattern_at is_pattern fs) (pattern_at no_pattern fs) (bounds_alone is_pattern fs) (bounds_alone no_pattern fs) (pattern_goes fs) (goes_same _)
 matcher_by_goes in_header fs (Some n) = goes_bind (ok_or (as_text (Some n)) _) _ _ _ (goes_same _) (λ name. named_goes in_header fs name)
 
 pub matcher_goes : (in_header : Bool) (n : Node) → Goes (matcher_at is_pattern in_header n) (matcher_at no_pattern in_header n)
-matcher_goes in_header n = goes_bind (ok_or (as_object n) _) _ _ _ (goes_same _) (λ fs. matcher_by_goes in_header fs (member fs (codes "match")))
+matcher_goes in_header n = goes_bind (ok_or (as_object n) _) _ _ _ (goes_same _) (λ fs. matcher_by_goes in_header fs (optional_at fs (codes "match")))
 
 pub matchers_goes : (in_header : Bool) (ns : Nodes) → Goes (matchers_at is_pattern in_header ns) (matchers_at no_pattern in_header ns)
 matchers_goes in_header no_nodes = goes_same _
@@ -63,8 +63,8 @@ matchers_goes in_header (node n ns) =
 pub entry_goes : (in_header : Bool) (n : Node) → Goes (entry_at is_pattern in_header n) (entry_at no_pattern in_header n)
 entry_goes in_header n =
     goes_bind (ok_or (as_object n) _) _ _ _ (goes_same _) (λ fs.
-    goes_bind (ok_or (as_list (member fs (codes "matchers"))) Form) _ _ _ (goes_same _) (λ ns.
-    goes_bind (combine_of is_pattern (member fs (codes "combine"))) _ _ _ (goes_same _) (λ any.
+    goes_bind (ok_or (as_list (optional_at fs (codes "matchers"))) Form) _ _ _ (goes_same _) (λ ns.
+    goes_bind (combine_of is_pattern (optional_at fs (codes "combine"))) _ _ _ (goes_same _) (λ any.
     goes_bind (matchers_at is_pattern in_header ns) (matchers_at no_pattern in_header ns) _ _ (matchers_goes in_header ns) (λ ms. goes_same _))))
 
 pub body_rule_goes : (before : List BodyRule) (k : List ℕ) (n : Node) → Goes (body_rule_at is_pattern before k n) (body_rule_at no_pattern before k n)

@@ -9,15 +9,15 @@ use Rattle.std.specs.List.{AllByRecursion, list_any, filter}
 use Rattle.std.specs.Option.{ok_or}
 use Rattle.std.specs.Str.{str_eq_ignore_ascii_case}
 use Rattle.pact_paths.specs.Spelling.{path_text}
-use Rattle.pact_rules.specs.Holding.{is_pattern}
+use Rattle.pact_rules.specs.Matching.{is_pattern}
 use Rattle.pact_rules.specs.Trees.{Node, Nodes, no_nodes, node, Fields, no_fields, field}
 use Rattle.pact_rules.specs.declared.rule_fault.RuleFault.{RuleFault}
 use Rattle.pact_rules.specs.declared.rule_fault.RuleFault.TheVariants.{Form, OldRules, BadPath, SamePathTwice, Unsupported, BadBound, Pattern, BadCombine, Memory}
 use Rattle.pact_rules.specs.Lists.{IsIn}
 use Rattle.pact_rules.specs.Rules.{Entry, BodyRule, HeaderRule, Rules, no_rules, IsBefore, IsOrderedBy, rule_text, name_key, has_effect}
-use Rattle.pact_rules.specs.Tables.{IsTable, IsTableOf, IsEffective, CanBeHeld}
+use Rattle.pact_rules.specs.Tables.{IsTable, IsTableOf, IsEffective, HasValidPattern}
 use Rattle.pact_rules.specs.Outcome.{◌>>=◌, guard}
-use Rattle.pact_rules.specs.RuleReading.{as_text, as_list, member, bound, in_order as bounds_in_order, pattern_at, same_type_at, named_matcher, matcher_by, matcher_at, matchers_at, combine_of, FailsAs, as_object, is_null_node, has_old_key, path_at, entry_at, body_rule_at, body_at, header_rule_at, headers_at, body_in, headers_in, category_at, categories_at, found_in, no_pattern, IsReading}
+use Rattle.pact_rules.specs.RuleReading.{as_text, as_list, optional_at, bound, in_order as bounds_in_order, pattern_at, same_type_at, named_matcher, matcher_by, matcher_at, matchers_at, combine_of, FailsAs, as_object, is_null_node, has_old_key, path_at, entry_at, body_rule_at, body_at, header_rule_at, headers_at, body_in, headers_in, category_at, categories_at, found_in, no_pattern, IsReading}
 use Rattle.pact_rules.specs.OrderedReading.{put, ordered_body, ordered_headers, ordered_body_in, ordered_headers_in, ordered_category, ordered_categories, ordered_found}
 use Rattle.pact_rules.proofs.ChoiceLemmas.{never_both}
 use Rattle.pact_rules.proofs.OrderLemmas.{all_kept, all_pass, in_kept, kept_in}
@@ -241,8 +241,8 @@ module _ (accepts : List ℕ → Bool) where
 
 -- ---- what was read can be held
 
-abbrev pub Held : Entry → Type 0
-Held e = AllByRecursion CanBeHeld e.matchers
+abbrev pub HasValidPatterns : Entry → Type 0
+HasValidPatterns e = AllByRecursion HasValidPattern e.matchers
 
 ok_bind : {A B : Type 0} (P : B → Type 0) (r : Result A RuleFault) (f : A → Result B RuleFault) → ((x : A) → r ≡ Ok x → IfOk (f x) P) → IfOk (r >>= f) P
 ok_bind P (Ok x) f h = h x refl
@@ -256,77 +256,77 @@ if_ok_at : {A : Type 0} (P : A → Type 0) (r : Result A RuleFault) (x : A) → 
 if_ok_at P (Ok y) x h e = subst P (same_Ok e) h
 if_ok_at P (Err f) x h e = cc
 
-pattern_held : (fs : Fields) → IfOk (pattern_at is_pattern fs) CanBeHeld
+pattern_held : (fs : Fields) → IfOk (pattern_at is_pattern fs) HasValidPattern
 pattern_held fs =
-    ok_bind CanBeHeld (ok_or (as_text (member fs (codes "regex"))) Pattern) _ (λ source e.
-    ok_bind CanBeHeld (guard (is_pattern source) Pattern) _ (λ u k. guard_true (is_pattern source) Pattern u k))
+    ok_bind HasValidPattern (ok_or (as_text (optional_at fs (codes "regex"))) Pattern) _ (λ source e.
+    ok_bind HasValidPattern (guard (is_pattern source) Pattern) _ (λ u k. guard_true (is_pattern source) Pattern u k))
 
-same_type_held : (fs : Fields) → IfOk (same_type_at is_pattern fs) CanBeHeld
+same_type_held : (fs : Fields) → IfOk (same_type_at is_pattern fs) HasValidPattern
 same_type_held fs =
-    ok_bind CanBeHeld (bound (member fs (codes "min"))) _ (λ min e.
-    ok_bind CanBeHeld (bound (member fs (codes "max"))) _ (λ max e.
-    ok_bind CanBeHeld (guard (bounds_in_order min max) BadBound) _ (λ u k. tt)))
+    ok_bind HasValidPattern (bound (optional_at fs (codes "min"))) _ (λ min e.
+    ok_bind HasValidPattern (bound (optional_at fs (codes "max"))) _ (λ max e.
+    ok_bind HasValidPattern (guard (bounds_in_order min max) BadBound) _ (λ u k. tt)))
 
-named_held : (in_header : Bool) (fs : Fields) (name : List ℕ) → IfOk (named_matcher is_pattern in_header fs name) CanBeHeld
+named_held : (in_header : Bool) (fs : Fields) (name : List ℕ) → IfOk (named_matcher is_pattern in_header fs name) HasValidPattern
 named_held in_header fs name =
-    ok_if CanBeHeld (bytes_eq name (codes "equality")) _ _ tt
-    (ok_if CanBeHeld (bytes_eq name (codes "type")) _ _ (same_type_held fs)
-    (ok_if CanBeHeld (bytes_eq name (codes "regex")) _ _ (pattern_held fs)
-    (ok_if CanBeHeld (bytes_eq name (codes "include")) _ _ (ok_bind CanBeHeld (ok_or (as_text (member fs (codes "value"))) Form) _ (λ part e. tt))
-    (ok_if CanBeHeld (not in_header && (bytes_eq name (codes "integer") || bytes_eq name (codes "number"))) _ _ tt
-    (ok_if CanBeHeld (not in_header && bytes_eq name (codes "null")) _ _ tt tt)))))
+    ok_if HasValidPattern (bytes_eq name (codes "equality")) _ _ tt
+    (ok_if HasValidPattern (bytes_eq name (codes "type")) _ _ (same_type_held fs)
+    (ok_if HasValidPattern (bytes_eq name (codes "regex")) _ _ (pattern_held fs)
+    (ok_if HasValidPattern (bytes_eq name (codes "include")) _ _ (ok_bind HasValidPattern (ok_or (as_text (optional_at fs (codes "value"))) Form) _ (λ part e. tt))
+    (ok_if HasValidPattern (not in_header && (bytes_eq name (codes "integer") || bytes_eq name (codes "number"))) _ _ tt
+    (ok_if HasValidPattern (not in_header && bytes_eq name (codes "null")) _ _ tt tt)))))
 
-matcher_by_held : (in_header : Bool) (fs : Fields) (n : Option Node) → IfOk (matcher_by is_pattern in_header fs n) CanBeHeld
+matcher_by_held : (in_header : Bool) (fs : Fields) (n : Option Node) → IfOk (matcher_by is_pattern in_header fs n) HasValidPattern
 matcher_by_held in_header fs None =
-    ok_if CanBeHeld (is_some (member fs (codes "regex"))) _ _ (pattern_held fs)
-    (ok_if CanBeHeld (is_some (member fs (codes "min")) || is_some (member fs (codes "max"))) _ _ (same_type_held fs) tt)
-matcher_by_held in_header fs (Some n) = ok_bind CanBeHeld (ok_or (as_text (Some n)) Form) _ (λ name e. named_held in_header fs name)
+    ok_if HasValidPattern (is_some (optional_at fs (codes "regex"))) _ _ (pattern_held fs)
+    (ok_if HasValidPattern (is_some (optional_at fs (codes "min")) || is_some (optional_at fs (codes "max"))) _ _ (same_type_held fs) tt)
+matcher_by_held in_header fs (Some n) = ok_bind HasValidPattern (ok_or (as_text (Some n)) Form) _ (λ name e. named_held in_header fs name)
 
-matchers_held : (in_header : Bool) (ns : Nodes) → IfOk (matchers_at is_pattern in_header ns) (AllByRecursion CanBeHeld)
+matchers_held : (in_header : Bool) (ns : Nodes) → IfOk (matchers_at is_pattern in_header ns) (AllByRecursion HasValidPattern)
 matchers_held in_header no_nodes = tt
 matchers_held in_header (node n ns) =
-    ok_bind (AllByRecursion CanBeHeld) (matcher_at is_pattern in_header n) _ (λ m e.
-    ok_bind (AllByRecursion CanBeHeld) (matchers_at is_pattern in_header ns) _ (λ ms k. (
-      if_ok_at CanBeHeld (matcher_at is_pattern in_header n) m
-          (ok_bind CanBeHeld (ok_or (as_object n) Form) _ (λ fs d. matcher_by_held in_header fs (member fs (codes "match")))) e,
-      if_ok_at (AllByRecursion CanBeHeld) (matchers_at is_pattern in_header ns) ms (matchers_held in_header ns) k,
+    ok_bind (AllByRecursion HasValidPattern) (matcher_at is_pattern in_header n) _ (λ m e.
+    ok_bind (AllByRecursion HasValidPattern) (matchers_at is_pattern in_header ns) _ (λ ms k. (
+      if_ok_at HasValidPattern (matcher_at is_pattern in_header n) m
+          (ok_bind HasValidPattern (ok_or (as_object n) Form) _ (λ fs d. matcher_by_held in_header fs (optional_at fs (codes "match")))) e,
+      if_ok_at (AllByRecursion HasValidPattern) (matchers_at is_pattern in_header ns) ms (matchers_held in_header ns) k,
     )))
 
-entry_held : (in_header : Bool) (n : Node) → IfOk (entry_at is_pattern in_header n) Held
+entry_held : (in_header : Bool) (n : Node) → IfOk (entry_at is_pattern in_header n) HasValidPatterns
 entry_held in_header n =
-    ok_bind Held (ok_or (as_object n) Form) _ (λ fs a.
-    ok_bind Held (ok_or (as_list (member fs (codes "matchers"))) Form) _ (λ ns b.
-    ok_bind Held (combine_of is_pattern (member fs (codes "combine"))) _ (λ any c.
-    ok_bind Held (matchers_at is_pattern in_header ns) _ (λ ms d. if_ok_at (AllByRecursion CanBeHeld) (matchers_at is_pattern in_header ns) ms (matchers_held in_header ns) d))))
+    ok_bind HasValidPatterns (ok_or (as_object n) Form) _ (λ fs a.
+    ok_bind HasValidPatterns (ok_or (as_list (optional_at fs (codes "matchers"))) Form) _ (λ ns b.
+    ok_bind HasValidPatterns (combine_of is_pattern (optional_at fs (codes "combine"))) _ (λ any c.
+    ok_bind HasValidPatterns (matchers_at is_pattern in_header ns) _ (λ ms d. if_ok_at (AllByRecursion HasValidPattern) (matchers_at is_pattern in_header ns) ms (matchers_held in_header ns) d))))
 
-body_rule_held : (before : List BodyRule) (k : List ℕ) (n : Node) → IfOk (body_rule_at is_pattern before k n) (λ r. Held r.entry)
+body_rule_held : (before : List BodyRule) (k : List ℕ) (n : Node) → IfOk (body_rule_at is_pattern before k n) (λ r. HasValidPatterns r.entry)
 body_rule_held before k n =
-    ok_bind (λ (r : BodyRule). Held r.entry) (path_at k) _ (λ path a.
-    ok_bind (λ (r : BodyRule). Held r.entry) (guard (not (list_any (λ s. bytes_eq (path_text path) (rule_text s)) before)) SamePathTwice) _ (λ u b.
-    ok_bind (λ (r : BodyRule). Held r.entry) (entry_at is_pattern false n) _ (λ e c. if_ok_at Held (entry_at is_pattern false n) e (entry_held false n) c)))
+    ok_bind (λ (r : BodyRule). HasValidPatterns r.entry) (path_at k) _ (λ path a.
+    ok_bind (λ (r : BodyRule). HasValidPatterns r.entry) (guard (not (list_any (λ s. bytes_eq (path_text path) (rule_text s)) before)) SamePathTwice) _ (λ u b.
+    ok_bind (λ (r : BodyRule). HasValidPatterns r.entry) (entry_at is_pattern false n) _ (λ e c. if_ok_at HasValidPatterns (entry_at is_pattern false n) e (entry_held false n) c)))
 
-header_rule_held : (before : List HeaderRule) (k : List ℕ) (n : Node) → IfOk (header_rule_at is_pattern before k n) (λ h. Held h.entry)
+header_rule_held : (before : List HeaderRule) (k : List ℕ) (n : Node) → IfOk (header_rule_at is_pattern before k n) (λ h. HasValidPatterns h.entry)
 header_rule_held before k n =
-    ok_bind (λ (h : HeaderRule). Held h.entry) (guard (not (list_any (λ s. str_eq_ignore_ascii_case k s.name) before)) SamePathTwice) _ (λ u b.
-    ok_bind (λ (h : HeaderRule). Held h.entry) (entry_at is_pattern true n) _ (λ e c. if_ok_at Held (entry_at is_pattern true n) e (entry_held true n) c))
+    ok_bind (λ (h : HeaderRule). HasValidPatterns h.entry) (guard (not (list_any (λ s. str_eq_ignore_ascii_case k s.name) before)) SamePathTwice) _ (λ u b.
+    ok_bind (λ (h : HeaderRule). HasValidPatterns h.entry) (entry_at is_pattern true n) _ (λ e c. if_ok_at HasValidPatterns (entry_at is_pattern true n) e (entry_held true n) c))
 
 abbrev pub BodyHeld : List BodyRule → Type 0
-BodyHeld rs = AllByRecursion (λ r. Held r.entry) rs
+BodyHeld rs = AllByRecursion (λ r. HasValidPatterns r.entry) rs
 
 abbrev pub HeadersHeld : List HeaderRule → Type 0
-HeadersHeld hs = AllByRecursion (λ h. Held h.entry) hs
+HeadersHeld hs = AllByRecursion (λ h. HasValidPatterns h.entry) hs
 
 body_held : (before : List BodyRule) (fs : Fields) → BodyHeld before → IfOk (ordered_body is_pattern before fs) BodyHeld
 body_held before no_fields all = all
 body_held before (field k n fs) all =
     ok_bind BodyHeld (body_rule_at is_pattern before k n) _ (λ r e.
-    body_held (put rule_text r before) fs (all_put rule_text (λ r. Held r.entry) r before (if_ok_at (λ (r : BodyRule). Held r.entry) (body_rule_at is_pattern before k n) r (body_rule_held before k n) e) all))
+    body_held (put rule_text r before) fs (all_put rule_text (λ r. HasValidPatterns r.entry) r before (if_ok_at (λ (r : BodyRule). HasValidPatterns r.entry) (body_rule_at is_pattern before k n) r (body_rule_held before k n) e) all))
 
 headers_held : (before : List HeaderRule) (fs : Fields) → HeadersHeld before → IfOk (ordered_headers is_pattern before fs) HeadersHeld
 headers_held before no_fields all = all
 headers_held before (field k n fs) all =
     ok_bind HeadersHeld (header_rule_at is_pattern before k n) _ (λ h e.
-    headers_held (put name_key h before) fs (all_put name_key (λ h. Held h.entry) h before (if_ok_at (λ (h : HeaderRule). Held h.entry) (header_rule_at is_pattern before k n) h (header_rule_held before k n) e) all))
+    headers_held (put name_key h before) fs (all_put name_key (λ h. HasValidPatterns h.entry) h before (if_ok_at (λ (h : HeaderRule). HasValidPatterns h.entry) (header_rule_at is_pattern before k n) h (header_rule_held before k n) e) all))
 
 abbrev pub RulesHeld : Rules → Type 0
 RulesHeld rules = BodyHeld rules.body × HeadersHeld rules.headers
@@ -370,9 +370,9 @@ is_table tree f t e body headers eb eh =
       order = body;
       names = headers;
       body = subst (λ rs. AllByRecursion (λ (r : BodyRule). IsEffective r.entry) rs) (sym eb)
-          (all_both (λ (r : BodyRule). has_effect r.entry ≡ true) (λ r. Held r.entry) (body_kept f) (all_pass (λ (r : BodyRule). has_effect r.entry) f.body) (all_kept (λ (r : BodyRule). has_effect r.entry) (λ r. Held r.entry) f.body held.0));
+          (all_both (λ (r : BodyRule). has_effect r.entry ≡ true) (λ r. HasValidPatterns r.entry) (body_kept f) (all_pass (λ (r : BodyRule). has_effect r.entry) f.body) (all_kept (λ (r : BodyRule). has_effect r.entry) (λ r. HasValidPatterns r.entry) f.body held.0));
       headers = subst (λ hs. AllByRecursion (λ (h : HeaderRule). IsEffective h.entry) hs) (sym eh)
-          (all_both (λ (h : HeaderRule). has_effect h.entry ≡ true) (λ h. Held h.entry) (headers_kept f) (all_pass (λ (h : HeaderRule). has_effect h.entry) f.headers) (all_kept (λ (h : HeaderRule). has_effect h.entry) (λ h. Held h.entry) f.headers held.1));
+          (all_both (λ (h : HeaderRule). has_effect h.entry ≡ true) (λ h. HasValidPatterns h.entry) (headers_kept f) (all_pass (λ (h : HeaderRule). has_effect h.entry) f.headers) (all_kept (λ (h : HeaderRule). has_effect h.entry) (λ h. HasValidPatterns h.entry) f.headers held.1));
     }
 
 just_kept : {A : Type 0} (p : A → Bool) (found f kept : List A) → AreSame found f → kept ≡ filter p f → (x : A) → IsIn x kept ↔ (IsIn x found × (p x ≡ true))

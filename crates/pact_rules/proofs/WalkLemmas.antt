@@ -1,6 +1,7 @@
 -- The rules that are alive, step by step, and the best of them.
-use Rattle.std.proofs.Common.{◌≡◌, ℕ, zero, suc, ◌+◌, ◌-◌, ◌^◌, ◌<◌, ◌≤◌, Bool, true, false, cond, ltb, List, [], ◌∷◌, ◌++◌, map, length, get_or, drop, Option, None, Some, option_map, MatchOption, slice_get, refl, sym, ap, ◌∙◌, subst, ⊎_elim, arith, add-one, lt-ltb, true≢false, eqb, ne_eqb}
+use Rattle.std.proofs.Common.{◌≡◌, ℕ, zero, suc, ◌+◌, ◌-◌, ◌^◌, ◌<◌, ◌≤◌, Bool, true, false, cond, ltb, List, [], ◌∷◌, ◌++◌, map, length, get_or, drop, Option, None, Some, option_map, MatchOption, slice_get, refl, sym, ap, ◌∙◌, subst, ⊎_elim, arith, add-one, lt-ltb, true≢false, eqb, ne_eqb, IsTrue, ◌↔◌}
 use Rattle.std.proofs.lemmas.Bool.{cases_lt}
+use Rattle.std.proofs.lemmas.Bool.Decides.{nat_tests}
 use Rattle.std.proofs.Math.Nat.{min-le_left, min-eq_left, min-eq_right}
 use Rattle.std.proofs.lemmas.List.{length-map, map_push, append-nil}
 use Rattle.std.proofs.lemmas.Option.{same_Some, slice_get-get_or, slice_get-map}
@@ -10,16 +11,13 @@ use Rattle.pact_paths.specs.Paths.{Token, Step, Location}
 use Rattle.pact_paths.specs.Weights.{token_weight, weight, is_alive, exact_tokens}
 use Rattle.pact_paths.proofs.WalkLemmas.{alive_at_root, exact_at_root, alive_past, exact_past, alive_step, exact_step, exact_few, weight_dead}
 use Rattle.pact_rules.specs.Rules.{BodyRule, IsInOrder}
-use Rattle.pact_rules.specs.Choice.{best, pick, beats, outranks, chosen}
-use Rattle.pact_rules.specs.Walks.{alive_rules, Walk, walk, counted, survivor, own_place, own_place_of}
+use Rattle.pact_rules.specs.Choice.{best, pick, beats, outranks, chosen, IsChoice, IsOwnPlace}
+use Rattle.pact_rules.specs.Walks.{alive_rules, Walk, walk, step_count, survivor, own_place, own_place_of}
+use Rattle.pact_rules.specs.Survivors.{survivor_view}
 use Rattle.pact_rules.specs.declared.table.Candidate.{Candidate}
 use Rattle.pact_rules.specs.declared.walk.Survivor.{Survivor}
-use Rattle.pact_rules.proofs.Candidates.{better_of}
-use Rattle.pact_rules.proofs.ChoiceLemmas.{IsBest, as_candidate, candidate_step, one_of_two, none_or, best_is_best, slice_get_within}
-
--- what an entry of a walk says
-abbrev pub seen : Survivor → ℕ × ℕ
-seen s = (s.place, s.exact)
+use Rattle.pact_rules.specs.Candidates.{better_of}
+use Rattle.pact_rules.proofs.ChoiceLemmas.{IsBest, as_candidate, candidate_step, one_of_two, none_or, best_is_best, slice_get_within, choice_only}
 
 -- what a walk keeps of a rule
 abbrev pub kept_of : Location → ℕ × BodyRule → ℕ × ℕ
@@ -74,7 +72,7 @@ drop_head (suc k) [] x rest e = absurd cc
 drop_head (suc k) (y ∷ xs) x rest e =
     let h = drop_head k xs x rest e in (h.0, ap (λ n. drop n (y ∷ xs)) (add-one (suc k)) ∙ ap (λ n. drop n xs) (sym (add-one k)) ∙ h.1)
 
--- it stands at its place in the table
+-- it stands at its index in the table
 abbrev pub IsAlive : List BodyRule → Location → ℕ × BodyRule → Type 0
 IsAlive rules at a = (slice_get rules a.0 ≡ Some a.1) × (is_alive a.1.path at ≡ true)
 
@@ -89,7 +87,7 @@ alive_facts rules at k (r ∷ rest) e =
     let h = drop_head k rules r rest e in
     facts_by (is_alive r.path at) rules at (k, r) (alive_rules (k + 1) rest at) refl h.0 (alive_facts rules at (k + 1) rest h.1)
 
--- the rule behind what is kept at a place of the walk
+-- the rule behind what is kept at a index of the walk
 pub kept_at : {A : Type 0} (view : A → ℕ × ℕ) (P : ℕ × BodyRule → Type 0) (at : Location) (xs : List A) (alive : List (ℕ × BodyRule)) (i : ℕ) (d : A) → map view xs ≡ map (kept_of at) alive → AllByRecursion P alive → i < length xs
     → (a : ℕ × BodyRule) × (drop i alive ≡ a ∷ drop (i + 1) alive) × (view (get_or xs i d) ≡ kept_of at a) × P a
 kept_at view P at [] rest i d e all lt = absurd (omega (arith, lt))
@@ -100,34 +98,34 @@ kept_at view P at (y ∷ xs) (a ∷ rest) (suc i) d e all lt =
     (h.0, h.1 ∙ ap (λ n. h.0 ∷ drop n rest) (add-one i) ∙ ap (λ n. h.0 ∷ drop n (a ∷ rest)) (sym (add-one (suc i))), h.2, h.3)
 
 -- the rule behind an entry of a walk
-pub item_of : (steps : ℕ) (xs : List Survivor) (rules : List BodyRule) (at : Location) (i : ℕ) (d : Survivor) → ◌≡◌ {A = Walk} (record { steps = steps; alive = map seen xs }) (walk rules at) → i < length xs
-    → (a : ℕ × BodyRule) × (drop i (alive_rules 0 rules at) ≡ a ∷ drop (i + 1) (alive_rules 0 rules at)) × (seen (get_or xs i d) ≡ kept_of at a) × IsAlive rules at a
-item_of steps xs rules at i d e lt = kept_at seen (IsAlive rules at) at xs (alive_rules 0 rules at) i d (ap (λ (w : Walk). w.alive) e) (alive_facts rules at 0 rules refl) lt
+pub item_of : (steps : ℕ) (xs : List Survivor) (rules : List BodyRule) (at : Location) (i : ℕ) (d : Survivor) → ◌≡◌ {A = Walk} (record { steps = steps; alive = map survivor_view xs }) (walk rules at) → i < length xs
+    → (a : ℕ × BodyRule) × (drop i (alive_rules 0 rules at) ≡ a ∷ drop (i + 1) (alive_rules 0 rules at)) × (survivor_view (get_or xs i d) ≡ kept_of at a) × IsAlive rules at a
+item_of steps xs rules at i d e lt = kept_at survivor_view (IsAlive rules at) at xs (alive_rules 0 rules at) i d (ap (λ (w : Walk). w.alive) e) (alive_facts rules at 0 rules refl) lt
 
-pub place_within : (steps : ℕ) (xs : List Survivor) (rules : List BodyRule) (at : Location) (i : ℕ) (d : Survivor) → ◌≡◌ {A = Walk} (record { steps = steps; alive = map seen xs }) (walk rules at) → i < length xs
-    → (get_or xs i d).place < length rules
-place_within steps xs rules at i d e lt =
+pub index_within : (steps : ℕ) (xs : List Survivor) (rules : List BodyRule) (at : Location) (i : ℕ) (d : Survivor) → ◌≡◌ {A = Walk} (record { steps = steps; alive = map survivor_view xs }) (walk rules at) → i < length xs
+    → (get_or xs i d).index < length rules
+index_within steps xs rules at i d e lt =
     let h = item_of steps xs rules at i d e lt in
     subst (λ (p : ℕ × ℕ). p.0 < length rules) (sym h.2) (slice_get_within rules h.0.0 h.0.1 h.3.0)
 
 -- what is known of an entry, where its path was looked up
-pub entry_facts : (steps : ℕ) (xs : List Survivor) (rules : List BodyRule) (at : Location) (i : ℕ) (d : Survivor) (path : List Token) → ◌≡◌ {A = Walk} (record { steps = steps; alive = map seen xs }) (walk rules at) → i < length xs
-    → ((r : BodyRule) → slice_get rules (get_or xs i d).place ≡ Some r → path ≡ r.path)
-    → (a : ℕ × BodyRule) × (drop i (alive_rules 0 rules at) ≡ a ∷ drop (i + 1) (alive_rules 0 rules at)) × ((get_or xs i d).place ≡ a.0) × (path ≡ a.1.path) × (is_alive path at ≡ true) × ((get_or xs i d).exact ≡ exact_tokens path at)
+pub entry_facts : (steps : ℕ) (xs : List Survivor) (rules : List BodyRule) (at : Location) (i : ℕ) (d : Survivor) (path : List Token) → ◌≡◌ {A = Walk} (record { steps = steps; alive = map survivor_view xs }) (walk rules at) → i < length xs
+    → ((r : BodyRule) → slice_get rules (get_or xs i d).index ≡ Some r → path ≡ r.path)
+    → (a : ℕ × BodyRule) × (drop i (alive_rules 0 rules at) ≡ a ∷ drop (i + 1) (alive_rules 0 rules at)) × ((get_or xs i d).index ≡ a.0) × (path ≡ a.1.path) × (is_alive path at ≡ true) × ((get_or xs i d).exact ≡ exact_tokens path at)
 entry_facts steps xs rules at i d path e lt look_up =
     let h = item_of steps xs rules at i d e lt in
-    let place : (get_or xs i d).place ≡ h.0.0 = ap (λ (p : ℕ × ℕ). p.0) h.2 in
-    let same : path ≡ h.0.1.path = look_up h.0.1 (ap (slice_get rules) place ∙ h.3.0) in
-    (h.0, h.1, place, same, ap (λ p. is_alive p at) same ∙ h.3.1, ap (λ (p : ℕ × ℕ). p.1) h.2 ∙ ap (λ p. exact_tokens p at) (sym same))
+    let index : (get_or xs i d).index ≡ h.0.0 = ap (λ (p : ℕ × ℕ). p.0) h.2 in
+    let same : path ≡ h.0.1.path = look_up h.0.1 (ap (slice_get rules) index ∙ h.3.0) in
+    (h.0, h.1, index, same, ap (λ p. is_alive p at) same ∙ h.3.1, ap (λ (p : ℕ × ℕ). p.1) h.2 ∙ ap (λ p. exact_tokens p at) (sym same))
 
 pub exact_within : (exact : ℕ) (path : List Token) (at : Location) → exact ≡ exact_tokens path at → exact ≤ length path
 exact_within exact path at is = subst (λ n. n ≤ length path) (sym is) (exact_few path at)
 
-pub pushed : (left more : List Survivor) (next : Survivor) (o : Option Survivor) → o ≡ Some next → more ≡ left ++ next ∷ [] → map seen more ≡ map seen left ++ option_to_list (option_map seen o)
-pushed left more next o is e = ap (map seen) e ∙ map_push seen left next ∙ ap (λ p. map seen left ++ option_to_list (option_map seen p)) (sym is)
+pub pushed : (left more : List Survivor) (next : Survivor) (o : Option Survivor) → o ≡ Some next → more ≡ left ++ next ∷ [] → map survivor_view more ≡ map survivor_view left ++ option_to_list (option_map survivor_view o)
+pushed left more next o is e = ap (map survivor_view) e ∙ map_push survivor_view left next ∙ ap (λ p. map survivor_view left ++ option_to_list (option_map survivor_view p)) (sym is)
 
-pub not_pushed : (left more : List Survivor) (o : Option Survivor) → ((next : Survivor) → o ≡ Some next → ⊥) → more ≡ left → map seen more ≡ map seen left ++ option_to_list (option_map seen o)
-not_pushed left more None none e = ap (map seen) e ∙ sym (append-nil (map seen left))
+pub not_pushed : (left more : List Survivor) (o : Option Survivor) → ((next : Survivor) → o ≡ Some next → ⊥) → more ≡ left → map survivor_view more ≡ map survivor_view left ++ option_to_list (option_map survivor_view o)
+not_pushed left more None none e = ap (map survivor_view) e ∙ sym (append-nil (map survivor_view left))
 not_pushed left more (Some next) none e = absurd (none next refl)
 
 same_length : {A B C : Type 0} (f : A → C) (g : B → C) (xs : List A) (ys : List B) → map f xs ≡ map g ys → length ys ≡ length xs
@@ -140,9 +138,9 @@ drop_end (suc n) [] le = refl
 drop_end (suc n) (x ∷ xs) le = drop_end n xs (omega (arith, le))
 
 -- nothing is left behind the last entry
-pub none_left : (steps : ℕ) (xs : List Survivor) (rules : List BodyRule) (at : Location) (n : ℕ) → ◌≡◌ {A = Walk} (record { steps = steps; alive = map seen xs }) (walk rules at) → length xs ≤ n → drop n (alive_rules 0 rules at) ≡ []
+pub none_left : (steps : ℕ) (xs : List Survivor) (rules : List BodyRule) (at : Location) (n : ℕ) → ◌≡◌ {A = Walk} (record { steps = steps; alive = map survivor_view xs }) (walk rules at) → length xs ≤ n → drop n (alive_rules 0 rules at) ≡ []
 none_left steps xs rules at n e le =
-    drop_end n (alive_rules 0 rules at) (omega (arith, le, same_length seen (kept_of at) xs (alive_rules 0 rules at) (ap (λ (w : Walk). w.alive) e)))
+    drop_end n (alive_rules 0 rules at) (omega (arith, le, same_length survivor_view (kept_of at) xs (alive_rules 0 rules at) (ap (λ (w : Walk). w.alive) e)))
 
 pub drop_some : {A : Type 0} (k : ℕ) (xs : List A) → k < length xs → (x : A) × (drop k xs ≡ x ∷ drop (k + 1) xs)
 drop_some k [] lt = absurd (omega (arith, lt))
@@ -158,17 +156,17 @@ survive_by false k a at more is same = rw is refl
 
 pub survive : (k : ℕ) (path : List Token) (a : ℕ × BodyRule) (at : Location) (more : List (ℕ × BodyRule)) (left : Option (ℕ × ℕ)) → left ≡ survivor k path at → path ≡ a.1.path → k ≡ a.0
     → map (kept_of at) (filter (alive_at at) (a ∷ more)) ≡ option_to_list left ++ map (kept_of at) (filter (alive_at at) more)
-survive k path a at more left is same place =
-    survive_by (alive_at at a) k a at more refl place ∙ ap (λ o. option_to_list o ++ map (kept_of at) (filter (alive_at at) more)) (sym (is ∙ ap (λ p. survivor k p at) same))
+survive k path a at more left is same index =
+    survive_by (alive_at at a) k a at more refl index ∙ ap (λ o. option_to_list o ++ map (kept_of at) (filter (alive_at at) more)) (sym (is ∙ ap (λ p. survivor k p at) same))
 
--- ---- counted steps
+-- ---- step_count steps
 
-pub within : (n steps : ℕ) (at : Location) → steps ≡ counted at → n ≤ steps → n ≤ length at
-within n steps at is le = let lower : counted at ≤ length at = min-le_left (length at) (2 ^ 64 - 1) in omega (arith, is, lower, le)
+pub within : (n steps : ℕ) (at : Location) → steps ≡ step_count at → n ≤ steps → n ≤ length at
+within n steps at is le = let lower : step_count at ≤ length at = min-le_left (length at) (2 ^ 64 - 1) in omega (arith, is, lower, le)
 
-pub beyond : (n steps : ℕ) (at : Location) → steps ≡ counted at → steps < n → n ≤ 60 → steps ≡ length at
+pub beyond : (n steps : ℕ) (at : Location) → steps ≡ step_count at → steps < n → n ≤ 60 → steps ≡ length at
 beyond n steps at is lt few =
-    ⊎_elim (λ more. let full : counted at ≡ 2 ^ 64 - 1 = min-eq_right (omega (arith, more)) in absurd (omega (arith, is, full, lt, few)))
+    ⊎_elim (λ more. let full : step_count at ≡ 2 ^ 64 - 1 = min-eq_right (omega (arith, more)) in absurd (omega (arith, is, full, lt, few)))
     (λ less. is ∙ min-eq_left less) (cases_lt (2 ^ 64 - 1) (length at))
 
 pub survive_past : (k e : ℕ) (path : List Token) (at : Location) (s : Step) → length path ≤ length at → is_alive path at ≡ true → e ≡ exact_tokens path at → Some (k, e) ≡ survivor k path (at ++ s ∷ [])
@@ -184,27 +182,27 @@ survive_step k e w path at s more is alive exact =
 -- ---- the best
 
 abbrev pub candidate_of : Location → ℕ × BodyRule → Candidate
-candidate_of at a = record { place = a.0; weight = weight a.1.path at; tokens = length a.1.path }
+candidate_of at a = record { index = a.0; weight = weight a.1.path at; tokens = length a.1.path }
 
 abbrev pub best_from : Location → List (ℕ × BodyRule) → Option Candidate
 best_from at [] = None
 best_from at (a ∷ more) = better_of (candidate_of at a) (best_from at more)
 
-pub same_candidate : (c : Candidate) (k : ℕ) (path : List Token) (a : ℕ × BodyRule) (at : Location) → c.place ≡ k → c.weight ≡ weight path at → c.tokens ≡ length path → k ≡ a.0 → path ≡ a.1.path → c ≡ candidate_of at a
-same_candidate c k path a at place heavy tokens ka same =
-    ap (λ n. record { place = n; weight = c.weight; tokens = c.tokens }) (place ∙ ka)
-    ∙ ap (λ n. record { place = a.0; weight = n; tokens = c.tokens }) (heavy ∙ ap (λ p. weight p at) same)
-    ∙ ap (λ n. record { place = a.0; weight = weight a.1.path at; tokens = n }) (tokens ∙ ap (λ (p : List Token). length p) same)
+pub same_candidate : (c : Candidate) (k : ℕ) (path : List Token) (a : ℕ × BodyRule) (at : Location) → c.index ≡ k → c.weight ≡ weight path at → c.tokens ≡ length path → k ≡ a.0 → path ≡ a.1.path → c ≡ candidate_of at a
+same_candidate c k path a at index heavy tokens ka same =
+    ap (λ n. record { index = n; weight = c.weight; tokens = c.tokens }) (index ∙ ka)
+    ∙ ap (λ n. record { index = a.0; weight = n; tokens = c.tokens }) (heavy ∙ ap (λ p. weight p at) same)
+    ∙ ap (λ n. record { index = a.0; weight = weight a.1.path at; tokens = n }) (tokens ∙ ap (λ (p : List Token). length p) same)
 
 positive_first : (w v l m : ℕ) (t : Bool) → w ≡ 0 → 0 < v → outranks v w l m t ≡ true
 positive_first w v l m t none more = rw (none, lt-ltb 0 v more) refl
 
 -- a rule of no weight is passed over
 zero_pick : (at : Location) (r : BodyRule) (rules : List BodyRule) (k : ℕ) (o : Option (ℕ × BodyRule)) → IsBest rules at o → weight r.path at ≡ 0 → as_candidate k at (pick at r o) ≡ as_candidate (k + 1) at o
-zero_pick at r rules k None is none = none_or at r k (ltb 0 (weight r.path at)) ∙ ap (λ w. cond (ltb 0 w) (Some (record { place = k; weight = weight r.path at; tokens = length r.path })) None) none
+zero_pick at r rules k None is none = none_or at r k (ltb 0 (weight r.path at)) ∙ ap (λ w. cond (ltb 0 w) (Some (record { index = k; weight = weight r.path at; tokens = length r.path })) None) none
 zero_pick at r rules k (Some b) is none =
     one_of_two at r b k (beats at b.1 r)
-    ∙ ap (λ t. cond t (as_candidate (k + 1) at (Some b)) (Some (record { place = k; weight = weight r.path at; tokens = length r.path })))
+    ∙ ap (λ t. cond t (as_candidate (k + 1) at (Some b)) (Some (record { index = k; weight = weight r.path at; tokens = length r.path })))
     (positive_first (weight r.path at) (weight b.1.path at) (length b.1.path) (length r.path) _ none is.1)
 
 best_by : (b : Bool) (at : Location) (r : BodyRule) (rules : List BodyRule) (k : ℕ) (more : List (ℕ × BodyRule)) → is_alive r.path at ≡ b → IsInOrder (r ∷ rules) → best_from at more ≡ as_candidate (k + 1) at (best rules at)
@@ -217,17 +215,18 @@ pub walk_best : (at : Location) (rules : List BodyRule) (k : ℕ) → IsInOrder 
 walk_best at [] k order = refl
 walk_best at (r ∷ rules) k order = best_by (is_alive r.path at) at r rules k (alive_rules (k + 1) rules at) refl order (walk_best at rules (k + 1) order.1)
 
-place_of_candidate : (at : Location) (o : Option (ℕ × BodyRule)) → option_map (λ (c : Candidate). c.place) (as_candidate 0 at o) ≡ option_map (λ (b : ℕ × BodyRule). b.0) o
-place_of_candidate at None = refl
-place_of_candidate at (Some b) = ap (λ n. Some n) (omega arith)
+index_of_candidate : (at : Location) (o : Option (ℕ × BodyRule)) → option_map (λ (c : Candidate). c.index) (as_candidate 0 at o) ≡ option_map (λ (b : ℕ × BodyRule). b.0) o
+index_of_candidate at None = refl
+index_of_candidate at (Some b) = ap (λ n. Some n) (omega arith)
 
-pub chosen_of_walk : (at : Location) (rules : List BodyRule) (found : Option Candidate) → IsInOrder rules → found ≡ best_from at (alive_rules 0 rules at) → option_map (λ (c : Candidate). c.place) found ≡ chosen rules at
+pub chosen_of_walk : (at : Location) (rules : List BodyRule) (found : Option Candidate) → IsInOrder rules → found ≡ best_from at (alive_rules 0 rules at) → option_map (λ (c : Candidate). c.index) found ≡ chosen rules at
 chosen_of_walk at rules found order is =
-    ap (option_map (λ (c : Candidate). c.place)) (is ∙ walk_best at rules 0 order) ∙ place_of_candidate at (best rules at)
+    ap (option_map (λ (c : Candidate). c.index)) (is ∙ walk_best at rules 0 order) ∙ index_of_candidate at (best rules at)
 
 -- ---- the own place
 
-abbrev IsThere : List BodyRule → Option (ℕ × BodyRule) → Type 0
+-- what is chosen stands in the list
+abbrev pub IsThere : List BodyRule → Option (ℕ × BodyRule) → Type 0
 IsThere rules o = MatchOption o (Unit {0}) (λ b. slice_get rules b.0 ≡ Some b.1)
 
 there_alone : (b : Bool) (r : BodyRule) (rules : List BodyRule) → IsThere (r ∷ rules) (cond b (Some (0, r)) None)
@@ -242,27 +241,56 @@ there_pick : (at : Location) (r : BodyRule) (rules : List BodyRule) (o : Option 
 there_pick at r rules None is = there_alone (ltb 0 (weight r.path at)) r rules
 there_pick at r rules (Some b) is = there_by (beats at b.1 r) r rules b is
 
-best_there : (rules : List BodyRule) (at : Location) → IsThere rules (best rules at)
+pub best_there : (rules : List BodyRule) (at : Location) → IsThere rules (best rules at)
 best_there [] at = tt
 best_there (r ∷ rules) at = there_pick at r rules (best rules at) (best_there rules at)
 
-same_length_test : (n steps : ℕ) (at : Location) → steps ≡ counted at → n ≤ 60 → eqb n steps ≡ eqb n (length at)
+same_length_test : (n steps : ℕ) (at : Location) → steps ≡ step_count at → n ≤ 60 → eqb n steps ≡ eqb n (length at)
 same_length_test n steps at is few =
     ⊎_elim (λ more.
-    let full : counted at ≡ 2 ^ 64 - 1 = min-eq_right (omega (arith, more)) in
+    let full : step_count at ≡ 2 ^ 64 - 1 = min-eq_right (omega (arith, more)) in
     let other : n ≡ steps → ⊥ = λ e. omega (arith, e, is, full, few) in
     let longer : n ≡ length at → ⊥ = λ e. omega (arith, e, more, few) in
     ne_eqb n steps other ∙ sym (ne_eqb n (length at) longer))
     (λ less. ap (eqb n) (is ∙ min-eq_left less)) (cases_lt (2 ^ 64 - 1) (length at))
 
-own_by : (o : Option (ℕ × BodyRule)) (rules : List BodyRule) (at : Location) (place steps n : ℕ) (path : List Token) → IsThere rules o → option_map (λ (b : ℕ × BodyRule). b.0) o ≡ Some place → slice_get (map (λ (r : BodyRule). r.path) rules) place ≡ Some path
-    → steps ≡ counted at → n ≡ length path → n ≤ 60 → eqb n steps ≡ own_place_of at o
-own_by None rules at place steps n path is e there count len few = absurd cc
-own_by (Some b) rules at place steps n path is e there count len few =
-    let at_b : b.0 ≡ place = same_Some b.0 place e in
+own_by : (o : Option (ℕ × BodyRule)) (rules : List BodyRule) (at : Location) (index steps n : ℕ) (path : List Token) → IsThere rules o → option_map (λ (b : ℕ × BodyRule). b.0) o ≡ Some index → slice_get (map (λ (r : BodyRule). r.path) rules) index ≡ Some path
+    → steps ≡ step_count at → n ≡ length path → n ≤ 60 → eqb n steps ≡ own_place_of at o
+own_by None rules at index steps n path is e there count len few = absurd cc
+own_by (Some b) rules at index steps n path is e there count len few =
+    let at_b : b.0 ≡ index = same_Some b.0 index e in
     let path_is : path ≡ b.1.path = same_Some path b.1.path (sym there ∙ ap (slice_get (map (λ (r : BodyRule). r.path) rules)) (sym at_b) ∙ slice_get-map (λ (r : BodyRule). r.path) rules b.0 ∙ ap (option_map (λ (r : BodyRule). r.path)) is) in
     same_length_test n steps at count few ∙ ap (λ m. eqb m (length at)) (len ∙ ap (λ (p : List Token). length p) path_is)
 
-pub own_walk : (rules : List BodyRule) (at : Location) (place steps n : ℕ) (path : List Token) → Some place ≡ chosen rules at → slice_get (map (λ (r : BodyRule). r.path) rules) place ≡ Some path
-    → steps ≡ counted at → n ≡ length path → n ≤ 60 → eqb n steps ≡ own_place rules at
-own_walk rules at place steps n path e there count len few = own_by (best rules at) rules at place steps n path (best_there rules at) (sym e) there count len few
+pub own_walk : (rules : List BodyRule) (at : Location) (index steps n : ℕ) (path : List Token) → Some index ≡ chosen rules at → slice_get (map (λ (r : BodyRule). r.path) rules) index ≡ Some path
+    → steps ≡ step_count at → n ≡ length path → n ≤ 60 → eqb n steps ≡ own_place rules at
+own_walk rules at index steps n path e there count len few = own_by (best rules at) rules at index steps n path (best_there rules at) (sym e) there count len few
+
+none_by : (at : Location) (o : Option (ℕ × BodyRule)) → None ≡ option_map (λ (b : ℕ × BodyRule). b.0) o → false ≡ own_place_of at o
+none_by at None e = refl
+none_by at (Some b) e = absurd cc
+
+-- there is no own place where no rule is chosen
+pub own_none : (rules : List BodyRule) (at : Location) → None ≡ chosen rules at → false ≡ own_place rules at
+own_none rules at e = none_by at (best rules at) e
+
+equal_lengths : (m n : ℕ) → IsTrue (eqb m n) ↔ (m ≡ n)
+equal_lengths m n = (λ h. grind (arith, nat_tests), λ e. grind (arith, nat_tests))
+
+place_by : (rules : List BodyRule) (at : Location) (o : Option (ℕ × BodyRule)) → IsThere rules o → IsChoice rules at (option_map (λ (b : ℕ × BodyRule). b.0) o) → IsTrue (own_place_of at o) ↔ IsOwnPlace rules at
+place_by rules at None there c = (
+  λ h. absurd (true≢false (sym h)),
+  λ own. let none : None ≡ Some own.0 = choice_only rules at None c own.0 own.2 in absurd cc,
+)
+place_by rules at (Some b) there c = (
+  λ h. (b.0, b.1, c, there, (equal_lengths (length b.1.path) (length at)).0 h),
+  λ own.
+      let i : b.0 ≡ own.0 = same_Some b.0 own.0 (choice_only rules at (Some b.0) c own.0 own.2) in
+      let r : b.1 ≡ own.1 = same_Some b.1 own.1 (sym there ∙ ap (slice_get rules) i ∙ own.3) in
+      (equal_lengths (length b.1.path) (length at)).1 (ap (λ (r : BodyRule). length r.path) r ∙ own.4),
+)
+
+-- what is computed says whether the location is the own place of the rule that is chosen there
+pub own_place_is : (rules : List BodyRule) (at : Location) (o : Option ℕ) (result : Bool) → o ≡ chosen rules at → IsChoice rules at o → result ≡ own_place rules at → IsTrue result ↔ IsOwnPlace rules at
+own_place_is rules at o result is c own =
+    subst (λ b. IsTrue b ↔ IsOwnPlace rules at) (sym own) (place_by rules at (best rules at) (best_there rules at) (subst (IsChoice rules at) is c))

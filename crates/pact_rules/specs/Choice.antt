@@ -12,7 +12,8 @@ abbrev pub Beats : Location → BodyRule → BodyRule → Type 0
 Beats at a b =
     (weight b.path at < weight a.path at)
     ⊎ ((weight b.path at ≡ weight a.path at)
-    × ((length b.path < length a.path) ⊎ ((length b.path ≡ length a.path) × IsBefore (path_text a.path) (path_text b.path))))
+    × ((length b.path < length a.path)
+    ⊎ ((length b.path ≡ length a.path) × IsBefore (path_text a.path) (path_text b.path))))
 
 -- the rule of positive weight that beats each other one of positive weight
 abbrev pub IsChosen : List BodyRule → Location → ℕ → Type 0
@@ -25,6 +26,11 @@ abbrev pub IsChoice : List BodyRule → Location → Option ℕ → Type 0
 IsChoice rules at choice =
     MatchOption choice ((j : ℕ) (s : BodyRule) → slice_get rules j ≡ Some s → weight s.path at ≡ 0) (IsChosen rules at)
 
+-- the location is the own place of the rule that is chosen there: its path has as many tokens as the location has steps
+abbrev pub IsOwnPlace : List BodyRule → Location → Type 0
+IsOwnPlace rules at =
+    (i : ℕ) × (r : BodyRule) × IsChosen rules at i × (slice_get rules i ≡ Some r) × (length r.path ≡ length at)
+
 -- ---- the same, computed
 
 -- greater in the first number, or else in the second, or else by the test
@@ -36,7 +42,7 @@ beats at a b =
     outranks (weight a.path at) (weight b.path at) (length a.path) (length b.path)
     (is_lt (slice_cmp nat_cmp (path_text a.path) (path_text b.path)))
 
--- the first rule, beside the best of those that follow with its place
+-- the first rule, beside the best of those that follow with its index
 abbrev pub pick : Location → BodyRule → Option (ℕ × BodyRule) → Option (ℕ × BodyRule)
 pick at r None = if nat_lt 0 (weight r.path at) then Some (0, r) else None
 pick at r (Some best) = if beats at best.1 r then Some (best.0 + 1, best.1) else Some (0, r)

@@ -8,9 +8,11 @@ pub mod Kept
 pub mod Rules
 pub mod RuleViews
 pub mod Choice
-pub mod Holding
+pub mod Matching
 pub mod Tables
 pub mod RuleReading
 pub mod OrderedReading
 pub mod Refusals
 pub mod Walks
+pub mod Survivors
+pub mod Candidates

@@ -1,4 +1,4 @@
--- The same reading, with the rules kept in order as they are found.
+-- For private clauses: the same reading as the code does it, with the rules kept in order as they are found.
 use Rattle.std.specs.Prelude.{◌≡◌, ℕ, Bool, ◌||◌, List, [], ◌∷◌, codes, Result, Ok, Err, String, string_bytes, bytes_eq, not, if◌then◌else◌}
 use Rattle.std.specs.declared.alloc.Global.{Global}
 use Rattle.std.specs.Ordering.{nat_cmp, match_ordering}
@@ -24,11 +24,13 @@ put text x (y ∷ ys) = match_ordering (slice_cmp nat_cmp (text x) (text y)) (x 
 module _ (accepts : List ℕ → Bool) where
   abbrev pub ordered_body : List BodyRule → Fields → Result (List BodyRule) RuleFault
   ordered_body before no_fields = Ok before
-  ordered_body before (field k n fs) = body_rule_at accepts before k n >>= (λ r. ordered_body (put rule_text r before) fs)
+  ordered_body before (field k n fs) =
+      body_rule_at accepts before k n >>= (λ r. ordered_body (put rule_text r before) fs)
 
   abbrev pub ordered_headers : List HeaderRule → Fields → Result (List HeaderRule) RuleFault
   ordered_headers before no_fields = Ok before
-  ordered_headers before (field k n fs) = header_rule_at accepts before k n >>= (λ h. ordered_headers (put name_key h before) fs)
+  ordered_headers before (field k n fs) =
+      header_rule_at accepts before k n >>= (λ h. ordered_headers (put name_key h before) fs)
 
   abbrev pub ordered_body_in : Rules → Node → Result Rules RuleFault
   ordered_body_in before n = do

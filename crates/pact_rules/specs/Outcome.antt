@@ -1,4 +1,5 @@
--- Reading part after part: the first fault is the answer. What a reader gives is what reading gives, unless memory ran out.
+-- Reading part after part: the first fault is the answer. What a reader gives is what reading gives, unless memory
+-- ran out.
 use Rattle.std.specs.Prelude.{Bool, true, false, Result, Ok, Err, ⊤}
 pub use Rattle.pact_paths.specs.Outcome.{Gives}
 

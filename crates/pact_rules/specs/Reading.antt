@@ -14,7 +14,7 @@ infixl 10 ◌>>=◌
 abbrev pub ◌>>=◌ : {A B F : Type 0} → (Result A F → Type 0) → (A → Result B F → Type 0) → Result B F → Type 0
 ◌>>=◌ {A} {B} {F} first next answer = (r : Result A F) × first r × Follows r next answer
 
--- each is read, in order, by its place from i on: all, or the first fault
+-- each is read, in order, by its index from i on: all, or the first fault
 unfoldable pub EachRead : {A B F : Type 0} → (ℕ → A → Result B F → Type 0) → ℕ → List A → Result (List B) F → Type 0
 EachRead read i [] = just (Ok [])
 EachRead read i (x ∷ xs) = do
@@ -22,7 +22,7 @@ EachRead read i (x ∷ xs) = do
   others ← EachRead read (i + 1) xs
   just (Ok (first ∷ others))
 
--- What a function returned, seen by view, is an answer of that reading, unless it is want of memory.
+-- What a function returned, seen by view, is an answer of that reading, unless memory ran out.
 abbrev pub GivesOne : {X Y F : Type 0} → F → (X → Y) → Result X F → (Result Y F → Type 0) → Type 0
 GivesOne memory view (Ok x) reads = reads (Ok (view x))
 GivesOne memory view (Err e) reads = ¬ (e ≡ memory) → reads (Err e)

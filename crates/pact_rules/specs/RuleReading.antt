@@ -1,6 +1,7 @@
 -- Reading a table of rules, with the first fault in the order: the table's form, old rules, then the categories and
--- entries in the order of their keys; of an entry its path, the same path, its form, combine, and its matchers in turn;
--- of a matcher its form, its name, its bounds and its pattern. The names are those of the Pact Specification, version 3.
+-- entries in the order of their keys; of an entry its path, the same path, its form, combine, and its matchers in
+-- turn; of a matcher its form, its name, its bounds and its pattern. The names are those of the Pact Specification,
+-- version 3.
 use Rattle.std.specs.Prelude.{◌≡◌, ◌⊎◌, ℕ, pos, Bool, true, false, ◌&&◌, ◌||◌, not, List, [], ◌∷◌, ◌++◌, codes, Option, Some, None, Result, Ok, Err, bytes_eq, is_some, nat_le, nat_eq, if◌then◌else◌}
 use Rattle.std.specs.List.{list_any}
 use Rattle.std.specs.Option.{ok_or}
@@ -11,19 +12,19 @@ use Rattle.pact_paths.specs.PathReading.{path_in}
 use Rattle.pact_paths.specs.declared.path_reader.PathFault.{PathFault}
 use Rattle.pact_rules.specs.Outcome.{◌>>=◌, guard}
 use Rattle.pact_rules.specs.Trees.{Node, whole, text, list, object, Nodes, no_nodes, node, Fields, no_fields, field}
-use Rattle.pact_rules.specs.Holding.{get_field, kind, begins, is_pattern}
+use Rattle.pact_rules.specs.Matching.{get_field, kind, begins, is_pattern}
 use Rattle.pact_rules.specs.declared.rule_fault.RuleFault.{RuleFault}
 use Rattle.pact_rules.specs.declared.rule_fault.RuleFault.TheVariants.{Form, OldRules, BadPath, SamePathTwice, Unsupported, BadBound, Pattern, BadCombine, Memory}
 use Rattle.pact_rules.specs.Rules.{Matcher, equality, same_type, regex, include, integer, is_null, Entry, BodyRule, HeaderRule, Rules, no_rules, rule_text}
 use Rattle.pact_rules.specs.Tables.{IsTableOf}
 
 -- an optional member: null counts as absent
-abbrev pub present : Option Node → Option Node
-present None = None
-present (Some n) = if nat_eq (kind n) 0 then None else Some n
+abbrev pub unless_null : Option Node → Option Node
+unless_null None = None
+unless_null (Some n) = if nat_eq (kind n) 0 then None else Some n
 
-abbrev pub member : Fields → List ℕ → Option Node
-member fs name = present (get_field name fs)
+abbrev pub optional_at : Fields → List ℕ → Option Node
+optional_at fs name = unless_null (get_field name fs)
 
 abbrev pub as_text : Option Node → Option (List ℕ)
 as_text (Some (text s)) = Some s
@@ -64,19 +65,19 @@ abbrev pub path_at : List ℕ → Result (List Token) RuleFault
 path_at k = path_or_fault (path_in k)
 
 abbrev pub include_at : Fields → Result Matcher RuleFault
-include_at fs = ok_or (as_text (member fs (codes "value"))) Form >>= (λ part. Ok (include part))
+include_at fs = ok_or (as_text (optional_at fs (codes "value"))) Form >>= (λ part. Ok (include part))
 
 module _ (accepts : List ℕ → Bool) where
   abbrev pub pattern_at : Fields → Result Matcher RuleFault
   pattern_at fs = do
-    source ← ok_or (as_text (member fs (codes "regex"))) Pattern
+    source ← ok_or (as_text (optional_at fs (codes "regex"))) Pattern
     guarded ← guard (accepts source) Pattern
     Ok (regex source)
 
   abbrev pub same_type_at : Fields → Result Matcher RuleFault
   same_type_at fs = do
-    min ← bound (member fs (codes "min"))
-    max ← bound (member fs (codes "max"))
+    min ← bound (optional_at fs (codes "min"))
+    max ← bound (optional_at fs (codes "max"))
     guarded ← guard (in_order min max) BadBound
     Ok (same_type min max)
 
@@ -93,18 +94,18 @@ module _ (accepts : List ℕ → Bool) where
 
   abbrev pub bounds_alone : Fields → Result Matcher RuleFault
   bounds_alone fs =
-      if is_some (member fs (codes "min")) || is_some (member fs (codes "max")) then same_type_at fs
+      if is_some (optional_at fs (codes "min")) || is_some (optional_at fs (codes "max")) then same_type_at fs
       else Err (Unsupported (codes "?"))
 
   abbrev pub nameless_matcher : Fields → Result Matcher RuleFault
-  nameless_matcher fs = if is_some (member fs (codes "regex")) then pattern_at fs else bounds_alone fs
+  nameless_matcher fs = if is_some (optional_at fs (codes "regex")) then pattern_at fs else bounds_alone fs
 
   abbrev pub matcher_by : Bool → Fields → Option Node → Result Matcher RuleFault
   matcher_by in_header fs None = nameless_matcher fs
   matcher_by in_header fs (Some n) = ok_or (as_text (Some n)) Form >>= (λ name. named_matcher in_header fs name)
 
   abbrev pub matcher_at : Bool → Node → Result Matcher RuleFault
-  matcher_at in_header n = ok_or (as_object n) Form >>= (λ fs. matcher_by in_header fs (member fs (codes "match")))
+  matcher_at in_header n = ok_or (as_object n) Form >>= (λ fs. matcher_by in_header fs (optional_at fs (codes "match")))
 
   abbrev pub matchers_at : Bool → Nodes → Result (List Matcher) RuleFault
   matchers_at in_header no_nodes = Ok []
@@ -120,8 +121,8 @@ module _ (accepts : List ℕ → Bool) where
   abbrev pub entry_at : Bool → Node → Result Entry RuleFault
   entry_at in_header n = do
     fs ← ok_or (as_object n) Form
-    ns ← ok_or (as_list (member fs (codes "matchers"))) Form
-    any ← combine_of (member fs (codes "combine"))
+    ns ← ok_or (as_list (optional_at fs (codes "matchers"))) Form
+    any ← combine_of (optional_at fs (codes "combine"))
     ms ← matchers_at in_header ns
     Ok (record { any = any; matchers = ms })
 
@@ -160,7 +161,8 @@ module _ (accepts : List ℕ → Bool) where
     headers ← headers_at before.headers fs
     Ok (record { body = before.body; headers = headers })
 
-  -- the rules of paths and queries are kept as data; another category is told before its form; null counts as absent
+  -- the rules of paths and queries are kept as data; another category is a fault before its form is one; null counts
+  -- as absent
   abbrev pub category_at : Rules → List ℕ → Node → Result Rules RuleFault
   category_at before k n =
       if bytes_eq k (codes "body") then (if is_null_node n then Ok before else body_in before n)
@@ -183,11 +185,14 @@ module _ (accepts : List ℕ → Bool) where
 abbrev pub no_pattern : List ℕ → Bool
 no_pattern source = false
 
--- What reading a table may give. Ok is the table of the entries that are found where each pattern that the grammar reads
--- is accepted, and a fault is the first one then. Beside it, a pattern may be refused: then one is met before any other fault.
+-- What reading a table may give. Ok is the table of the entries that are found where each pattern that the grammar
+-- reads is accepted, and a fault is the first one then. Beside it, a pattern may be refused: then one is met before
+-- any other fault.
 abbrev pub IsReading : Node → Result Rules RuleFault → Type 0
 IsReading tree (Ok table) = (found : Rules) × (found_in is_pattern tree ≡ Ok found) × IsTableOf found table
-IsReading tree (Err fault) = (found_in is_pattern tree ≡ Err fault) ⊎ ((fault ≡ Pattern) × (found_in no_pattern tree ≡ Err Pattern))
+IsReading tree (Err fault) =
+    (found_in is_pattern tree ≡ Err fault)
+    ⊎ ((fault ≡ Pattern) × (found_in no_pattern tree ≡ Err Pattern))
 
 -- What a function returned, seen by view, is what reading gives, unless memory ran out or a pattern was refused.
 abbrev pub FailsAs : {Y : Type 0} → RuleFault → ((List ℕ → Bool) → Result Y RuleFault) → Type 0

@@ -25,6 +25,10 @@ rule_view r = record { path = r.path; entry = entry_view r.entry }
 abbrev pub header_view : HeaderRule → rules.HeaderRule
 header_view r = record { name = string_bytes r.name; entry = entry_view r.entry }
 
+-- a table of these entries
+abbrev pub table_view : List BodyRule → List HeaderRule → rules.Rules
+table_view body headers = record { body = map rule_view body; headers = map header_view headers }
+
 -- the rules of a map, in the order of its keys
 abbrev pub body_rules : List (String Global × BodyRule) → List rules.BodyRule
 body_rules es = map (λ e. rule_view e.1) es

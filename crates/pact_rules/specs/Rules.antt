@@ -72,6 +72,10 @@ is_regex is_null = false
 abbrev pub IsRegex : Matcher → Type 0
 IsRegex m = is_regex m ≡ true
 
+abbrev pub entry_has_regex : Entry → Bool
+entry_has_regex e = list_any is_regex e.matchers
+
 -- whether a body or header entry has a Regex matcher
 abbrev pub has_regex : Rules → Bool
-has_regex rules = list_any (λ r. list_any is_regex r.entry.matchers) rules.body || list_any (λ h. list_any is_regex h.entry.matchers) rules.headers
+has_regex rules =
+    list_any (λ r. entry_has_regex r.entry) rules.body || list_any (λ h. entry_has_regex h.entry) rules.headers

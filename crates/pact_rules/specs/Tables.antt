@@ -4,20 +4,20 @@ use Rattle.std.specs.List.{AllByRecursion, find}
 use Rattle.std.specs.Str.{str_eq_ignore_ascii_case}
 use Rattle.pact_rules.specs.Lists.{IsIn}
 use Rattle.pact_rules.specs.Rules.{Matcher, equality, same_type, regex, include, integer, is_null, Entry, BodyRule, HeaderRule, Rules, IsOrderedBy, IsInOrder, name_key, has_effect}
-use Rattle.pact_rules.specs.Holding.{is_pattern}
+use Rattle.pact_rules.specs.Matching.{is_pattern}
 
 -- the grammar of patterns reads its pattern, where it has one
-abbrev pub CanBeHeld : Matcher → Type 0
-CanBeHeld equality = Unit {0}
-CanBeHeld (same_type min max) = Unit {0}
-CanBeHeld (regex source) = is_pattern source ≡ true
-CanBeHeld (include part) = Unit {0}
-CanBeHeld integer = Unit {0}
-CanBeHeld is_null = Unit {0}
+abbrev pub HasValidPattern : Matcher → Type 0
+HasValidPattern equality = Unit {0}
+HasValidPattern (same_type min max) = Unit {0}
+HasValidPattern (regex source) = is_pattern source ≡ true
+HasValidPattern (include part) = Unit {0}
+HasValidPattern integer = Unit {0}
+HasValidPattern is_null = Unit {0}
 
--- an entry of a table has matchers, and each can be held against a value
+-- an entry of a table has matchers, and each pattern of theirs is valid
 abbrev pub IsEffective : Entry → Type 0
-IsEffective e = (has_effect e ≡ true) × AllByRecursion CanBeHeld e.matchers
+IsEffective e = (has_effect e ≡ true) × AllByRecursion HasValidPattern e.matchers
 
 -- body entries in order of canonical text, header entries in order of names without ASCII case, each of them once
 pub record IsTable (rules : Rules) : Type 0 where

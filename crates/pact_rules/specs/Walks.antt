@@ -1,32 +1,43 @@
--- A walk down a tree: the rules that no step has ruled out, each with how many of its tokens equal the step at their place.
-use Rattle.std.specs.Prelude.{ℕ, ◌+◌, ◌-◌, ◌^◌, Bool, false, ◌==◌, List, [], ◌∷◌, length, map, Option, Some, None, if◌then◌else◌}
+-- A walk down a tree: the rules that no step has ruled out, each with how many of its tokens equal the step of the
+-- same index.
+use Rattle.std.specs.Prelude.{◌≡◌, ℕ, ◌+◌, ◌-◌, ◌^◌, Bool, false, ◌==◌, List, [], ◌∷◌, length, map, Option, Some, None, if◌then◌else◌}
 use Rattle.std.specs.Prelude.{min}
 use Rattle.pact_paths.specs.Paths.{Token, Location}
 use Rattle.pact_paths.specs.Weights.{is_alive, exact_tokens}
-use Rattle.pact_rules.specs.Rules.{BodyRule}
+use Rattle.pact_rules.specs.Rules.{BodyRule, Rules}
 use Rattle.pact_rules.specs.Choice.{best}
 
--- the rules that no step of a location rules out, each with its place, where the first has the place given
+-- the rules that no step of a location rules out, each with its index, that of the first being given
 abbrev pub alive_rules : ℕ → List BodyRule → Location → List (ℕ × BodyRule)
-alive_rules place [] at = []
-alive_rules place (r ∷ rules) at = if is_alive r.path at then (place, r) ∷ alive_rules (place + 1) rules at else alive_rules (place + 1) rules at
+alive_rules index [] at = []
+alive_rules index (r ∷ rules) at =
+    if is_alive r.path at then (index, r) ∷ alive_rules (index + 1) rules at else alive_rules (index + 1) rules at
 
--- how many steps were taken, and the place and the exact tokens of each rule that is alive
+-- how many steps were taken, and the index and the exact tokens of each rule that is alive
 pub record Walk : Type 0 where
   pub steps : ℕ
   pub alive : List (ℕ × ℕ)
 
 -- steps are counted up to what a counter holds, which is more than the tokens of any path
-abbrev pub counted : Location → ℕ
-counted at = min (length at) (2 ^ 64 - 1)
+abbrev pub step_count : Location → ℕ
+step_count at = min (length at) (2 ^ 64 - 1)
 
 -- the walk of a table's rules to a location
 abbrev pub walk : List BodyRule → Location → Walk
-walk rules at = record { steps = counted at; alive = map (λ a. (a.0, exact_tokens a.1.path at)) (alive_rules 0 rules at) }
+walk rules at =
+    record { steps = step_count at; alive = map (λ a. (a.0, exact_tokens a.1.path at)) (alive_rules 0 rules at) }
 
--- what is kept of a rule at a location: its place and exact tokens, or nothing
+-- the walk that was started on the table has come to the location
+abbrev pub HasReached : Rules → Walk → Location → Type 0
+HasReached table w at = w ≡ walk table.body at
+
+-- the walk was started on the table
+abbrev pub WasStarted : Rules → Walk → Type 0
+WasStarted table w = (at : Location) × HasReached table w at
+
+-- what is kept of a rule at a location: its index and exact tokens, or nothing
 abbrev pub survivor : ℕ → List Token → Location → Option (ℕ × ℕ)
-survivor place path at = if is_alive path at then Some (place, exact_tokens path at) else None
+survivor index path at = if is_alive path at then Some (index, exact_tokens path at) else None
 
 -- ---- the own place of a rule
 

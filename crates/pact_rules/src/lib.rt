@@ -1,7 +1,7 @@
 //! Trees, weights and matchers of response rules (Pact Specification, version 3).
 #![tactic(auto)]
 
-mod holding;
+mod matching;
 mod rule_fault;
 mod rule_reader;
 mod table;
@@ -9,12 +9,9 @@ mod table_reader;
 mod tree;
 mod walk;
 
-pub use holding::{MatchFault, has_keys_of, holds};
+pub use matching::{MatchFault, has_keys_of, holds};
 pub use pact_paths::{Path, PathFault, Step, weight};
 pub use rule_fault::{RuleFault, Word};
 pub use table::{Entry, Matcher, RuleTable};
 pub use tree::{Tree, TreeFault, tree_of};
 pub use walk::Alive;
-
-#[cfg(test)]
-mod tests;

@@ -1,4 +1,5 @@
 //! The first fault of a table of rules.
+
 ghost use Rattle.std.specs.Prelude.{◌≡◌, string_bytes};
 ghost use Rattle.pact_rules.specs.declared.rule_fault.RuleFault.TheVariants.{Memory};
 
@@ -49,7 +50,8 @@ impl fmt::Display for Word {
 /// Why a tree is no table of rules: the first fault, in the order of the table's keys.
 #[derive(Debug, Drop, Error)]
 pub enum RuleFault {
-    /// The table, a category, an entry or a matcher isn't an object, `matchers` isn't a list, or `match`, or the `value` of `include`, isn't a text.
+    /// The table, a category, an entry or a matcher isn't an object, `matchers` isn't a list, or `match`, or the
+    /// `value` of `include`, isn't a text.
     #[error("a part has another form")]
     Form,
     /// A key of the table begins with `$`, as in version 2 of the Pact Specification.
@@ -61,7 +63,8 @@ pub enum RuleFault {
     /// Two keys are one path, or two header names differ in ASCII case alone.
     #[error("two keys are one path")]
     SamePathTwice,
-    /// The text under `match`, the name of a category, or `?` for a matcher with neither `match`, `regex`, `min` nor `max`.
+    /// The text under `match`, the name of a category, or `?` for a matcher with neither `match`, `regex`, `min` nor
+    /// `max`.
     #[error("{0} isn't supported")]
     Unsupported(Word),
     /// A bound isn't a whole number of at least 0, or the least is over the greatest.

@@ -1,9 +1,14 @@
+//! Reading an entry of a table: its matchers, and how they are combined.
+
 ghost use Rattle.std.specs.Prelude.{◌≡◌, map, Err, option_map, codes, IfOk, IfErr, true, nat_eq};
-ghost use Rattle.pact_rules.specs.TreeView.{tree_view, list_view, object_view};
-ghost use Rattle.pact_rules.specs.Holding.{kind, get_field, is_pattern};
+ghost use Rattle.pact_rules.specs.TreeView.{tree_view, optional_view, list_view, object_view};
+ghost use Rattle.pact_rules.specs.Matching.{kind, get_field, is_pattern};
 ghost use Rattle.pact_rules.specs.RuleViews.{matcher_view, entry_view};
-ghost use Rattle.pact_rules.specs.RuleReading.{Reads, member as member_of, as_text, bound as bound_of, combine_of as combine_in, pattern_at, same_type_at, nameless_matcher, named_matcher, matcher_at, matchers_at, as_object, as_list, entry_at, include_at};
-ghost use Rattle.pact_rules.specs.Refusals.{Tells, as_rule_fault};
+ghost use Rattle.pact_rules.specs.RuleReading.{Reads, optional_at, as_text, bound as bound_of};
+ghost use Rattle.pact_rules.specs.RuleReading.{combine_of as combine_in, pattern_at, same_type_at, nameless_matcher};
+ghost use Rattle.pact_rules.specs.RuleReading.{named_matcher, matcher_at, matchers_at, as_object, as_list, entry_at};
+ghost use Rattle.pact_rules.specs.RuleReading.{include_at};
+ghost use Rattle.pact_rules.specs.Refusals.{HasCause, as_rule_fault};
 ghost use Rattle.pact_rules.specs.declared.rule_fault.RuleFault.TheVariants.{Unsupported};
 
 use crate::rule_fault::{RuleFault, Word};
@@ -12,9 +17,11 @@ use crate::tree::Tree;
 use regex::Regex;
 use std::alloc::Global;
 use std::collections::BTreeMap;
+
 /// An optional member: null counts as absent.
-fn member<'a>(members: &'a BTreeMap<String, Tree>, name: &str) -> Option<&'a Tree>
-    ensures { option_map (λ t. tree_view t.now) result ≡ member_of (object_view members.now.entries) name.now }
+fn optional_member<'a>(members: &'a BTreeMap<String, Tree>, name: &str) -> Option<&'a Tree>
+    ensures { option_map (λ t. tree_view t.now) result
+        ≡ optional_at (object_view members.now.entries) name.now }
 {
     match look_up(members, name) {
         Some(tree) if !is_null(tree) => Some(tree),
@@ -23,7 +30,8 @@ fn member<'a>(members: &'a BTreeMap<String, Tree>, name: &str) -> Option<&'a Tre
 }
 
 fn look_up<'a>(members: &'a BTreeMap<String, Tree>, name: &str) -> Option<&'a Tree>
-    ensures { option_map (λ t. tree_view t.now) result ≡ get_field name.now (object_view members.now.entries) }
+    ensures { option_map (λ t. tree_view t.now) result
+        ≡ get_field name.now (object_view members.now.entries) }
 {
     members.get(name)
 }
@@ -38,7 +46,7 @@ pub(crate) fn is_null(tree: &Tree) -> bool
 }
 
 fn text_of(tree: Option<&Tree>) -> Option<&str>
-    ensures { option_map (λ s. s.now) result ≡ as_text (option_map (λ t. tree_view t.now) tree.entry) }
+    ensures { option_map (λ s. s.now) result ≡ as_text (optional_view tree.entry) }
 {
     match tree {
         Some(Tree::Text(text)) => Some(text.as_str()),
@@ -48,7 +56,7 @@ fn text_of(tree: Option<&Tree>) -> Option<&str>
 
 /// A bound is absent, or a whole number of at least 0.
 fn bound(tree: Option<&Tree>) -> Result<Option<u128>, RuleFault>
-    ensures { Reads (λ n. n) result (λ accepts. bound_of (option_map (λ t. tree_view t.now) tree.entry)) }
+    ensures { Reads (λ n. n) result (λ accepts. bound_of (optional_view tree.entry)) }
 {
     match tree {
         None => Ok(None),
@@ -58,7 +66,7 @@ fn bound(tree: Option<&Tree>) -> Result<Option<u128>, RuleFault>
 }
 
 fn combine_of(tree: Option<&Tree>) -> Result<bool, RuleFault>
-    ensures { Reads (λ b. b) result (λ accepts. combine_in accepts (option_map (λ t. tree_view t.now) tree.entry)) }
+    ensures { Reads (λ b. b) result (λ accepts. combine_in accepts (optional_view tree.entry)) }
 {
     match tree {
         None => Ok(false),
@@ -69,10 +77,11 @@ fn combine_of(tree: Option<&Tree>) -> Result<bool, RuleFault>
 }
 
 fn same_type_of(members: &BTreeMap<String, Tree>) -> Result<Matcher, RuleFault>
-    ensures { Reads matcher_view result (λ accepts. same_type_at accepts (object_view members.now.entries)) }
+    ensures { Reads matcher_view result
+        (λ accepts. same_type_at accepts (object_view members.now.entries)) }
 {
-    let min = bound(member(members, "min"))?;
-    let max = bound(member(members, "max"))?;
+    let min = bound(optional_member(members, "min"))?;
+    let max = bound(optional_member(members, "max"))?;
     match (min, max) {
         (Some(min), Some(max)) if min > max => Err(RuleFault::BadBound),
         _ => Ok(Matcher::SameType { min, max }),
@@ -80,9 +89,10 @@ fn same_type_of(members: &BTreeMap<String, Tree>) -> Result<Matcher, RuleFault>
 }
 
 fn pattern_of(alloc: Global, members: &BTreeMap<String, Tree>) -> Result<Matcher, RuleFault>
-    ensures { Reads matcher_view result (λ accepts. pattern_at accepts (object_view members.now.entries)) }
+    ensures { Reads matcher_view result
+        (λ accepts. pattern_at accepts (object_view members.now.entries)) }
 {
-    match text_of(member(members, "regex")) {
+    match text_of(optional_member(members, "regex")) {
         Some(source) => {
             check_pattern(alloc, source)?;
             Ok(Matcher::Regex(String::from_str(alloc, source)?))
@@ -91,10 +101,10 @@ fn pattern_of(alloc: Global, members: &BTreeMap<String, Tree>) -> Result<Matcher
     }
 }
 
-/// Builds the pattern once, so that a refused one is told with the table.
+/// Builds the pattern once, so that a refused one is a fault of the table.
 fn check_pattern(alloc: Global, source: &str) -> Result<(), RuleFault>
     ensures read { IfOk result (λ _. is_pattern source.now ≡ true) }
-    ensures fails { IfErr result (Tells as_rule_fault source.now) }
+    ensures fails { IfErr result (HasCause as_rule_fault source.now) }
 {
     let _regex = Regex::new(alloc, source)?;
     Ok(())
@@ -110,11 +120,14 @@ pub(crate) fn object_of(tree: &Tree) -> Option<&BTreeMap<String, Tree>>
 }
 
 fn nameless_of(alloc: Global, members: &BTreeMap<String, Tree>) -> Result<Matcher, RuleFault>
-    ensures { Reads matcher_view result (λ accepts. nameless_matcher accepts (object_view members.now.entries)) }
+    ensures { Reads matcher_view result
+        (λ accepts. nameless_matcher accepts (object_view members.now.entries)) }
 {
-    if member(members, "regex").is_some() {
+    if optional_member(members, "regex").is_some() {
         pattern_of(alloc, members)
-    } else if member(members, "min").is_some() || member(members, "max").is_some() {
+    } else if optional_member(members, "min").is_some()
+        || optional_member(members, "max").is_some()
+    {
         same_type_of(members)
     } else {
         unsupported(alloc, "?")
@@ -134,7 +147,8 @@ fn named_of(
     members: &BTreeMap<String, Tree>,
     name: &str,
 ) -> Result<Matcher, RuleFault>
-    ensures { Reads matcher_view result (λ accepts. named_matcher accepts in_header (object_view members.now.entries) name.now) }
+    ensures { Reads matcher_view result
+        (λ accepts. named_matcher accepts in_header (object_view members.now.entries) name.now) }
 {
     if name == "equality" {
         Ok(Matcher::Equality)
@@ -156,19 +170,20 @@ fn named_of(
 fn include_of(alloc: Global, members: &BTreeMap<String, Tree>) -> Result<Matcher, RuleFault>
     ensures { Reads matcher_view result (λ accepts. include_at (object_view members.now.entries)) }
 {
-    match text_of(member(members, "value")) {
+    match text_of(optional_member(members, "value")) {
         Some(part) => Ok(Matcher::Include(String::from_str(alloc, part)?)),
         None => Err(RuleFault::Form),
     }
 }
 
 fn matcher_of(alloc: Global, in_header: bool, tree: &Tree) -> Result<Matcher, RuleFault>
-    ensures { Reads matcher_view result (λ accepts. matcher_at accepts in_header (tree_view tree.now)) }
+    ensures { Reads matcher_view result
+        (λ accepts. matcher_at accepts in_header (tree_view tree.now)) }
 {
     let Some(members) = object_of(tree) else {
         return Err(RuleFault::Form);
     };
-    let Some(name) = member(members, "match") else {
+    let Some(name) = optional_member(members, "match") else {
         return nameless_of(alloc, members);
     };
     match text_of(Some(name)) {
@@ -178,7 +193,8 @@ fn matcher_of(alloc: Global, in_header: bool, tree: &Tree) -> Result<Matcher, Ru
 }
 
 fn matchers_of(alloc: Global, in_header: bool, items: &Vec<Tree>) -> Result<Vec<Matcher>, RuleFault>
-    ensures { Reads (λ v. map matcher_view v.items) result (λ accepts. matchers_at accepts in_header (list_view items.now.items)) }
+    ensures { Reads (λ v. map matcher_view v.items) result
+        (λ accepts. matchers_at accepts in_header (list_view items.now.items)) }
 {
     let mut matchers = Vec::new(alloc);
     for item in items {
@@ -188,7 +204,7 @@ fn matchers_of(alloc: Global, in_header: bool, items: &Vec<Tree>) -> Result<Vec<
 }
 
 fn list_of(tree: Option<&Tree>) -> Option<&Vec<Tree>>
-    ensures { option_map (λ v. list_view v.now.items) result ≡ as_list (option_map (λ t. tree_view t.now) tree.entry) }
+    ensures { option_map (λ v. list_view v.now.items) result ≡ as_list (optional_view tree.entry) }
 {
     match tree {
         Some(Tree::List(items)) => Some(items),
@@ -203,10 +219,10 @@ pub(crate) fn entry_of(alloc: Global, in_header: bool, tree: &Tree) -> Result<En
     let Some(members) = object_of(tree) else {
         return Err(RuleFault::Form);
     };
-    let Some(items) = list_of(member(members, "matchers")) else {
+    let Some(items) = list_of(optional_member(members, "matchers")) else {
         return Err(RuleFault::Form);
     };
-    let any = combine_of(member(members, "combine"))?;
+    let any = combine_of(optional_member(members, "combine"))?;
     let matchers = matchers_of(alloc, in_header, items)?;
     Ok(Entry { any, matchers })
 }

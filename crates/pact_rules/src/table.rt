@@ -1,16 +1,21 @@
-ghost use Rattle.std.specs.Prelude.{slice_get, Some, None, ◌≡◌, ◌<◌, ◌&&◌, ◌||◌, ◌==◌, nat_lt, length, map, ℕ, IfNone, IfSome, option_map, if◌then◌else◌};
+//! Rule tables: what they hold, and the entry that is chosen at a location.
+
+ghost use Rattle.std.specs.Prelude.{slice_get, Some, ◌≡◌, ◌<◌, length, map, ℕ, IfSome, option_map};
 ghost use Rattle.pact_paths.specs.Locations.{step_view};
+ghost use Rattle.pact_rules.specs.Candidates.{outweighs, better_of};
 ghost use Rattle.pact_rules.specs.Choice.{IsChosen, IsChoice, chosen};
 ghost use Rattle.std.specs.List.{list_any};
 ghost use Rattle.pact_rules.specs.RuleViews.{rule_view, header_view, entry_view, matcher_view};
-ghost use Rattle.pact_rules.specs.Rules.{IsInOrder, no_rules, is_regex as is_regex_of, has_regex as has_regex_of};
+ghost use Rattle.pact_rules.specs.Rules.{IsInOrder, no_rules, is_regex as is_regex_of, entry_has_regex};
+ghost use Rattle.pact_rules.specs.Rules.{has_regex as has_regex_of};
 ghost use Rattle.pact_rules.specs.Tables.{header_entry};
 
 use pact_paths::{Path, Step, weight};
 use std::alloc::Global;
 use std::marker::Model;
 
-/// What an actual value is held against; the names are those of the Pact Specification, what they ask is this project's own choice.
+/// What an actual value is compared with; the names are those of the Pact Specification, what they ask is this
+/// project's own choice.
 #[derive(Drop)]
 pub enum Matcher {
     /// The same kind, and equal scalars, lists of one length, or objects of one key set.
@@ -49,8 +54,9 @@ pub(crate) struct HeaderRule {
     pub(crate) entry: Entry,
 }
 
-/// The matching rules of a response: body entries in order of their paths' canonical text, and header entries. Each has at
-/// least one matcher, no two header names are equal without ASCII case, and the grammar of `regex` reads each pattern.
+/// The matching rules of a response: body entries in order of their paths' canonical text, and header entries. Each
+/// has at least one matcher, no two header names are equal without ASCII case, and the grammar of `regex` reads each
+/// pattern.
 #[derive(Drop)]
 pub struct RuleTable {
     pub(crate) body: Vec<BodyRule>,
@@ -64,11 +70,11 @@ impl Model for RuleTable {
 
     ghost Value = { Rules };
 
-    ghost use Rattle.pact_rules.specs.RuleViews.{rule_view, header_view};
+    ghost use Rattle.pact_rules.specs.RuleViews.{table_view};
 
-    ghost view = { λ t. record { body = map rule_view t.body.items; headers = map header_view t.headers.items } };
+    ghost view = { λ t. table_view t.body.items t.headers.items };
 
-    ghost invariant = { λ t. IsTable (record { body = map rule_view t.body.items; headers = map header_view t.headers.items }) };
+    ghost invariant = { λ t. IsTable (table_view t.body.items t.headers.items) };
 }
 
 impl RuleTable {
@@ -82,37 +88,41 @@ impl RuleTable {
         }
     }
 
-    /// The place of the body entry that is chosen at a location: of those whose path has a positive weight there the heaviest,
-    /// then the one with more tokens, then the one whose canonical text is least; none where no weight is positive.
-    /// Weights are those of the Pact Specification, version 2; how ties are broken is this project's own choice. Takes no memory.
+    /// The index of the body entry that is chosen at a location: of those whose path has a positive weight there the
+    /// heaviest, then the one with more tokens, then the one whose canonical text is least; none where no weight is
+    /// positive. Weights are those of the Pact Specification, version 2; how ties are broken is this project's own
+    /// choice. Takes no memory.
     pub fn choose(&self, location: &[Step]) -> Option<usize>
         ensures choice { IsChoice self.now.body (map step_view location.now) result }
         ensures computed { result ≡ chosen self.now.body (map step_view location.now) }
-        ensures only { (i : ℕ) → IsChosen self.now.body (map step_view location.now) i → result ≡ Some i }
-        ensures within { IfSome result (λ place. place < length self.now.body) }
+        ensures only { (i : ℕ) → IsChosen self.now.body (map step_view location.now) i
+            → result ≡ Some i }
+        ensures within { IfSome result (λ index. index < length self.now.body) }
     {
         best_of(&self.body, location)
     }
 
-    /// The path of the body entry at a place of the table. Takes no memory.
-    pub fn path(&self, place: usize) -> &Path
-        requires { place < length self.now.body }
-        ensures { slice_get (map (λ r. r.path) self.now.body) place ≡ Some result.now }
+    /// The path of the body entry at an index of the table. Takes no memory.
+    pub fn path(&self, index: usize) -> &Path
+        requires { index < length self.now.body }
+        ensures { slice_get (map (λ r. r.path) self.now.body) index ≡ Some result.now }
     {
-        &self.body[place].path
+        &self.body[index].path
     }
 
-    /// The body entry at a place of the table. Takes no memory.
-    pub fn entry(&self, place: usize) -> &Entry
-        requires { place < length self.now.body }
-        ensures { slice_get (map (λ r. r.entry) self.now.body) place ≡ Some (entry_view result.now) }
+    /// The body entry at an index of the table. Takes no memory.
+    pub fn entry(&self, index: usize) -> &Entry
+        requires { index < length self.now.body }
+        ensures { slice_get (map (λ r. r.entry) self.now.body) index
+            ≡ Some (entry_view result.now) }
     {
-        &self.body[place].entry
+        &self.body[index].entry
     }
 
     /// The entry of a header by its name, without ASCII case; none where the table has none. Takes no memory.
     pub fn header(&self, name: &str) -> Option<&Entry>
-        ensures { option_map (λ e. entry_view e.now) result ≡ header_entry self.now.headers name.now }
+        ensures { option_map (λ e. entry_view e.now) result
+            ≡ header_entry self.now.headers name.now }
     {
         entry_named(&self.headers, name)
     }
@@ -126,7 +136,8 @@ impl RuleTable {
 }
 
 fn entry_named<'a>(rules: &'a [HeaderRule], name: &str) -> Option<&'a Entry>
-    ensures { option_map (λ e. entry_view e.now) result ≡ header_entry (map header_view rules.now) name.now }
+    ensures { option_map (λ e. entry_view e.now) result
+        ≡ header_entry (map header_view rules.now) name.now }
 {
     for rule in rules {
         if rule.name.as_str().eq_ignore_ascii_case(name) {
@@ -137,7 +148,7 @@ fn entry_named<'a>(rules: &'a [HeaderRule], name: &str) -> Option<&'a Entry>
 }
 
 fn body_has_regex(rules: &[BodyRule]) -> bool
-    ensures { result ≡ list_any (λ r. list_any is_regex_of r.entry.matchers) (map rule_view rules.now) }
+    ensures { result ≡ list_any (λ r. entry_has_regex r.entry) (map rule_view rules.now) }
 {
     for rule in rules {
         if rule.entry.has_regex() {
@@ -148,7 +159,7 @@ fn body_has_regex(rules: &[BodyRule]) -> bool
 }
 
 fn headers_have_regex(rules: &[HeaderRule]) -> bool
-    ensures { result ≡ list_any (λ h. list_any is_regex_of h.entry.matchers) (map header_view rules.now) }
+    ensures { result ≡ list_any (λ h. entry_has_regex h.entry) (map header_view rules.now) }
 {
     for rule in rules {
         if rule.entry.has_regex() {
@@ -160,7 +171,7 @@ fn headers_have_regex(rules: &[HeaderRule]) -> bool
 
 impl Entry {
     fn has_regex(&self) -> bool
-        ensures { result ≡ list_any is_regex_of (entry_view self.now).matchers }
+        ensures { result ≡ entry_has_regex (entry_view self.now) }
     {
         for matcher in &self.matchers {
             if matcher.is_regex() {
@@ -189,33 +200,32 @@ impl Matcher {
 /// A rule that may be chosen.
 #[derive(Clone, Copy)]
 pub(crate) struct Candidate {
-    pub(crate) place: usize,
+    pub(crate) index: usize,
     pub(crate) weight: u64,
     pub(crate) tokens: usize,
 }
 
-/// The place of the heaviest rule, then of the longest path, then of the first.
+/// The index of the heaviest rule, then of the longest path, then of the first.
 fn best_of(rules: &[BodyRule], location: &[Step]) -> Option<usize>
     requires { IsInOrder (map rule_view rules.now) }
     ensures { result ≡ chosen (map rule_view rules.now) (map step_view location.now) }
 {
     let mut found: Option<Candidate> = None;
-    for place in (0..rules.len()).rev() {
-        let path = &rules[place].path;
+    for index in (0..rules.len()).rev() {
+        let path = &rules[index].path;
         let candidate = Candidate {
-            place,
+            index,
             weight: weight(path, location),
             tokens: path.len(),
         };
         found = better(candidate, found);
     }
-    found.map(|candidate| candidate.place)
+    found.map(|candidate| candidate.index)
 }
 
 /// The earlier rule, unless the one found behind it is heavier, or as heavy and longer.
 pub(crate) fn better(earlier: Candidate, found: Option<Candidate>) -> Option<Candidate>
-    ensures alone { IfNone found (result ≡ (if nat_lt 0 earlier.weight then Some earlier else None)) }
-    ensures both { IfSome found (λ best. result ≡ (if nat_lt earlier.weight best.weight || (best.weight == earlier.weight && nat_lt earlier.tokens best.tokens) then Some best else Some earlier)) }
+    ensures { result ≡ better_of earlier found }
 {
     match found {
         Some(best) if is_better(&best, &earlier) => Some(best),
@@ -226,7 +236,7 @@ pub(crate) fn better(earlier: Candidate, found: Option<Candidate>) -> Option<Can
 }
 
 fn is_better(a: &Candidate, b: &Candidate) -> bool
-    ensures { result ≡ (nat_lt b.now.weight a.now.weight || (a.now.weight == b.now.weight && nat_lt b.now.tokens a.now.tokens)) }
+    ensures { result ≡ outweighs a.now b.now }
 {
     a.weight > b.weight || a.weight == b.weight && a.tokens > b.tokens
 }

@@ -1,11 +1,15 @@
 //! Reading a whole table: its categories, and the entries of each.
+
 ghost use Rattle.std.specs.Prelude.{◌≡◌, MatchResult, IfOk, Ok, Err, map, string_bytes, bytes_eq};
 ghost use Rattle.std.specs.List.{filter, AllByRecursion, list_any};
 ghost use Rattle.pact_rules.specs.TreeView.{tree_view, object_view};
 ghost use Rattle.pact_rules.specs.Rules.{rule_text, name_key, has_effect, no_rules, IsOrderedBy};
 ghost use Rattle.pact_rules.specs.RuleViews.{rule_view, header_view, body_rules, header_rules};
-ghost use Rattle.pact_rules.specs.RuleReading.{IsReading, Reads, path_at, body_rule_at, header_rule_at, has_old_key as has_old_key_of};
-ghost use Rattle.pact_rules.specs.OrderedReading.{IsKeyedBy, ordered_body, ordered_headers, ordered_body_in, ordered_headers_in, ordered_category, ordered_categories, ordered_found};
+ghost use Rattle.pact_rules.specs.RuleReading.{IsReading, Reads, path_at, body_rule_at, header_rule_at};
+ghost use Rattle.pact_rules.specs.RuleReading.{has_old_key as has_old_key_of};
+ghost use Rattle.pact_rules.specs.OrderedReading.{IsKeyedBy, ordered_body, ordered_headers, ordered_body_in};
+ghost use Rattle.pact_rules.specs.OrderedReading.{ordered_headers_in, ordered_category, ordered_categories};
+ghost use Rattle.pact_rules.specs.OrderedReading.{ordered_found};
 ghost use Rattle.pact_rules.specs.declared.rule_fault.RuleFault.TheVariants.{Memory};
 
 use crate::rule_fault::{RuleFault, Word};
@@ -33,7 +37,8 @@ fn path_of(alloc: Global, key: &str) -> Result<Path, RuleFault>
 /// Whether a body entry has the canonical text.
 fn is_path_taken(rules: &BTreeMap<String, BodyRule>, text: &str) -> bool
     requires { IsKeyedBy rule_view rule_text rules.now.entries }
-    ensures { result ≡ list_any (λ r. bytes_eq text.now (rule_text r)) (body_rules rules.now.entries) }
+    ensures { result
+        ≡ list_any (λ r. bytes_eq text.now (rule_text r)) (body_rules rules.now.entries) }
 {
     rules.contains_key(text)
 }
@@ -46,7 +51,8 @@ fn body_rule(
     tree: &Tree,
 ) -> Result<(String, BodyRule), RuleFault>
     requires { IsKeyedBy rule_view rule_text before.now.entries }
-    ensures value { Reads (λ p. rule_view p.1) result (λ accepts. body_rule_at accepts (body_rules before.now.entries) key.now (tree_view tree.now)) }
+    ensures value { Reads (λ p. rule_view p.1) result
+        (λ accepts. body_rule_at accepts (body_rules before.now.entries) key.now (tree_view tree.now)) }
     ensures text { IfOk result (λ p. string_bytes p.0 ≡ rule_text (rule_view p.1)) }
 {
     let path = path_of(alloc, key)?;
@@ -65,7 +71,8 @@ fn read_body(
     members: &BTreeMap<String, Tree>,
 ) -> Result<BTreeMap<String, BodyRule>, RuleFault>
     requires { IsKeyedBy rule_view rule_text before.entries }
-    ensures value { Reads (λ m. body_rules m.entries) result (λ accepts. ordered_body accepts (body_rules before.entries) (object_view members.now.entries)) }
+    ensures value { Reads (λ m. body_rules m.entries) result
+        (λ accepts. ordered_body accepts (body_rules before.entries) (object_view members.now.entries)) }
     ensures keyed { IfOk result (λ m. IsKeyedBy rule_view rule_text m.entries) }
 {
     let mut rules = before;
@@ -79,7 +86,8 @@ fn read_body(
 /// Whether a header entry has the name in lower case.
 fn is_name_taken(rules: &BTreeMap<String, HeaderRule>, name: &str) -> bool
     requires { IsKeyedBy header_view name_key rules.now.entries }
-    ensures { result ≡ list_any (λ h. bytes_eq name.now (name_key h)) (header_rules rules.now.entries) }
+    ensures { result
+        ≡ list_any (λ h. bytes_eq name.now (name_key h)) (header_rules rules.now.entries) }
 {
     rules.contains_key(name)
 }
@@ -92,7 +100,8 @@ fn header_rule(
     tree: &Tree,
 ) -> Result<(String, HeaderRule), RuleFault>
     requires { IsKeyedBy header_view name_key before.now.entries }
-    ensures value { Reads (λ p. header_view p.1) result (λ accepts. header_rule_at accepts (header_rules before.now.entries) key.now (tree_view tree.now)) }
+    ensures value { Reads (λ p. header_view p.1) result
+        (λ accepts. header_rule_at accepts (header_rules before.now.entries) key.now (tree_view tree.now)) }
     ensures text { IfOk result (λ p. string_bytes p.0 ≡ name_key (header_view p.1)) }
 {
     let name = key.to_ascii_lowercase(alloc)?;
@@ -117,7 +126,8 @@ fn read_headers(
     members: &BTreeMap<String, Tree>,
 ) -> Result<BTreeMap<String, HeaderRule>, RuleFault>
     requires { IsKeyedBy header_view name_key before.entries }
-    ensures value { Reads (λ m. header_rules m.entries) result (λ accepts. ordered_headers accepts (header_rules before.entries) (object_view members.now.entries)) }
+    ensures value { Reads (λ m. header_rules m.entries) result
+        (λ accepts. ordered_headers accepts (header_rules before.entries) (object_view members.now.entries)) }
     ensures keyed { IfOk result (λ m. IsKeyedBy header_view name_key m.entries) }
 {
     let mut rules = before;
@@ -143,14 +153,19 @@ impl Model for Found {
 
     ghost use Rattle.pact_rules.specs.RuleViews.{rule_view, header_view, body_rules, header_rules};
 
-    ghost view = { λ f. record { body = body_rules f.body.entries; headers = header_rules f.headers.entries } };
+    ghost view = { λ f. record {
+      body = body_rules f.body.entries;
+      headers = header_rules f.headers.entries;
+    } };
 
-    ghost invariant = { λ f. IsKeyedBy rule_view rule_text f.body.entries × IsKeyedBy header_view name_key f.headers.entries };
+    ghost invariant = { λ f. IsKeyedBy rule_view rule_text f.body.entries
+        × IsKeyedBy header_view name_key f.headers.entries };
 }
 
 impl Found {
     fn with_body(self, alloc: Global, tree: &Tree) -> Result<Found, RuleFault>
-        ensures { Reads (λ f. f) result (λ accepts. ordered_body_in accepts self (tree_view tree.now)) }
+        ensures { Reads (λ f. f) result
+            (λ accepts. ordered_body_in accepts self (tree_view tree.now)) }
     {
         let Found { body, headers } = self;
         let Some(members) = object_of(tree) else {
@@ -161,7 +176,8 @@ impl Found {
     }
 
     fn with_headers(self, alloc: Global, tree: &Tree) -> Result<Found, RuleFault>
-        ensures { Reads (λ f. f) result (λ accepts. ordered_headers_in accepts self (tree_view tree.now)) }
+        ensures { Reads (λ f. f) result
+            (λ accepts. ordered_headers_in accepts self (tree_view tree.now)) }
     {
         let Found { body, headers } = self;
         let Some(members) = object_of(tree) else {
@@ -173,7 +189,8 @@ impl Found {
 
     /// The entries of a category, beside those found before; null counts as absent.
     fn with_category(self, alloc: Global, name: &str, tree: &Tree) -> Result<Found, RuleFault>
-        ensures { Reads (λ f. f) result (λ accepts. ordered_category accepts self name.now (tree_view tree.now)) }
+        ensures { Reads (λ f. f) result
+            (λ accepts. ordered_category accepts self name.now (tree_view tree.now)) }
     {
         if name == "body" {
             if is_null(tree) {
@@ -209,7 +226,8 @@ fn has_old_key(members: &BTreeMap<String, Tree>) -> bool
 
 /// The entries of all categories.
 fn categories(alloc: Global, members: &BTreeMap<String, Tree>) -> Result<Found, RuleFault>
-    ensures { Reads (λ f. f) result (λ accepts. ordered_categories accepts no_rules (object_view members.now.entries)) }
+    ensures { Reads (λ f. f) result
+        (λ accepts. ordered_categories accepts no_rules (object_view members.now.entries)) }
 {
     let mut found = Found {
         body: BTreeMap::new(alloc),
@@ -239,7 +257,8 @@ fn effective_body(
     rules: BTreeMap<String, BodyRule>,
 ) -> Result<Vec<BodyRule>, AllocError>
     requires { IsKeyedBy rule_view rule_text rules.entries }
-    ensures items { IfOk result (λ v. map rule_view v.items ≡ filter (λ r. has_effect r.entry) (body_rules rules.entries)) }
+    ensures items { IfOk result (λ v. map rule_view v.items
+        ≡ filter (λ r. has_effect r.entry) (body_rules rules.entries)) }
     ensures order { IfOk result (λ v. IsOrderedBy rule_text (map rule_view v.items)) }
 {
     let mut kept = Vec::new(alloc);
@@ -257,7 +276,8 @@ fn effective_headers(
     rules: BTreeMap<String, HeaderRule>,
 ) -> Result<Vec<HeaderRule>, AllocError>
     requires { IsKeyedBy header_view name_key rules.entries }
-    ensures items { IfOk result (λ v. map header_view v.items ≡ filter (λ h. has_effect h.entry) (header_rules rules.entries)) }
+    ensures items { IfOk result (λ v. map header_view v.items
+        ≡ filter (λ h. has_effect h.entry) (header_rules rules.entries)) }
     ensures order { IfOk result (λ v. IsOrderedBy name_key (map header_view v.items)) }
 {
     let mut kept = Vec::new(alloc);
@@ -270,13 +290,16 @@ fn effective_headers(
 }
 
 impl RuleTable {
-    /// Reads the object `matchingRules` of a response: the categories `body`, whose keys are path expressions, and `header`,
-    /// whose keys are header names (Pact Specification, version 3); `path` and `query` are kept as data by the caller.
-    /// The fault is the first one: the table's form, rules of version 2, then categories and entries in order of their keys,
-    /// of an entry its path, the same path twice, its form, `combine`, and its matchers in turn. `Memory` comes for want of memory
-    /// alone, and `Pattern` also where the crate `regex` refuses a pattern that its grammar reads.
+    /// Reads the object `matchingRules` of a response: the categories `body`, whose keys are path expressions, and
+    /// `header`, whose keys are header names (Pact Specification, version 3); `path` and `query` are kept as data by
+    /// the caller. The fault is the first one: the table's form, rules of version 2, then categories and entries in
+    /// order of their keys, of an entry its path, the same path twice, its form, `combine`, and its matchers in turn.
+    /// `Memory` comes where no memory is left, and for no other cause, and `Pattern` also where the crate `regex`
+    /// refuses a pattern that its grammar reads.
     pub fn read(alloc: Global, tree: &Tree) -> Result<RuleTable, RuleFault>
-        ensures { MatchResult result (λ t. IsReading (tree_view tree.now) (Ok t)) (λ e. ¬ (e ≡ Memory) → IsReading (tree_view tree.now) (Err e)) }
+        ensures { MatchResult result
+            (λ t. IsReading (tree_view tree.now) (Ok t))
+            (λ e. ¬ (e ≡ Memory) → IsReading (tree_view tree.now) (Err e)) }
     {
         let Found { body, headers } = found_in(alloc, tree)?;
         let body = effective_body(alloc, body)?;

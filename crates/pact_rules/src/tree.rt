@@ -1,3 +1,5 @@
+//! JSON values without fractions.
+
 ghost use Rattle.std.specs.Prelude.{◌≡◌, IfOk};
 ghost use Rattle.std.specs.Prelude.{nat_le};
 ghost use Rattle.serde_json.specs.Data.{depth, items_depth, members_depth};
@@ -5,7 +7,8 @@ ghost use Rattle.serde_json.specs.View.{view, number_view, items_view, members_v
 ghost use Rattle.pact_rules.specs.TreeView.{tree_view, list_view, object_view};
 ghost use Rattle.pact_rules.specs.Kept.{IsKept};
 ghost use Rattle.pact_rules.specs.Trees.{IsTree};
-ghost use Rattle.pact_rules.specs.TreeReading.{whole_or, whole_tree, whole_items, whole_members, whole_number, tree_in, data_of};
+ghost use Rattle.pact_rules.specs.TreeReading.{whole_or, whole_tree, whole_items, whole_members, whole_number};
+ghost use Rattle.pact_rules.specs.TreeReading.{tree_in, data_of};
 ghost use Rattle.pact_rules.specs.Outcome.{Gives};
 ghost use Rattle.pact_rules.specs.declared.tree.TreeFault.TheVariants.{Memory};
 
@@ -62,13 +65,15 @@ impl<T: Drop> From<AllocFailed<T>> for TreeFault {
 /// How deep lists and objects may nest.
 const MAX_DEPTH: usize = 100;
 
-/// The tree that a value is. `TooDeep` is looked at first, for the whole value, and then `NotWhole`; a scalar has depth 0, a list or
-/// object one more than its deepest member, 1 if empty. `Memory` comes for want of memory alone. The tree of a value that was
-/// read from a text (`IsKept`) is that value again, and each of its objects has its keys in order, each once.
+/// The tree that a value is. `TooDeep` is looked at first, for the whole value, and then `NotWhole`; a scalar has
+/// depth 0, a list or object one more than its deepest member, 1 if empty. `Memory` comes where no memory is left,
+/// and for no other cause. The tree of a value that was read from a text (`IsKept`) is that value again, and each of
+/// its objects has its keys in order, each once.
 #[tactic(auto, using(crate::proofs::Bridge::kept_tree))]
 pub fn tree_of(alloc: Global, value: &Value) -> Result<Tree, TreeFault>
     ensures tree { Gives Memory tree_view result (tree_in (view value.now)) }
-    ensures back { IsKept (view value.now) → IfOk result (λ t. IsTree (tree_view t) × (data_of (tree_view t) ≡ view value.now)) }
+    ensures back { IsKept (view value.now)
+        → IfOk result (λ t. IsTree (tree_view t) × (data_of (tree_view t) ≡ view value.now)) }
 {
     if !nests_within(value, MAX_DEPTH) {
         return Err(TreeFault::TooDeep);
@@ -137,7 +142,8 @@ fn whole_number(number: Number) -> Result<Tree, TreeFault>
 
 #[cycle(convert)]
 fn convert_items(alloc: Global, items: &Vec<Value>) -> Result<Vec<Tree>, TreeFault>
-    ensures { Gives Memory (λ v. list_view v.items) result (whole_or (whole_items (items_view items.now.items))) }
+    ensures { Gives Memory (λ v. list_view v.items) result
+        (whole_or (whole_items (items_view items.now.items))) }
 {
     let mut trees = Vec::new(alloc);
     for item in items {
@@ -151,7 +157,8 @@ fn convert_members(
     alloc: Global,
     members: &Map<String, Value>,
 ) -> Result<BTreeMap<String, Tree>, TreeFault>
-    ensures { Gives Memory (λ m. object_view m.entries) result (whole_or (whole_members (members_view members.now.entries))) }
+    ensures { Gives Memory (λ m. object_view m.entries) result
+        (whole_or (whole_members (members_view members.now.entries))) }
 {
     let mut trees = BTreeMap::new(alloc);
     for (key, member) in members.iter() {

@@ -8,28 +8,28 @@ pub by_test : {B : Type 0} (b : Bool) → (b ≡ true → B) → (b ≡ false �
 by_test true is isnt = is refl
 by_test false is isnt = isnt refl
 
-pub yes : {P : Type 0} → P → IsTrue true ↔ P
-yes p = (λ h. p, λ q. refl)
+pub decides_true : {P : Type 0} → P → IsTrue true ↔ P
+decides_true p = (λ h. p, λ q. refl)
 
-pub no : {P : Type 0} → ¬ P → IsTrue false ↔ P
-no n = (λ h. absurd (true≢false (sym h)), λ p. absurd (n p))
+pub decides_false : {P : Type 0} → ¬ P → IsTrue false ↔ P
+decides_false n = (λ h. absurd (true≢false (sym h)), λ p. absurd (n p))
 
-pub not_so : {P : Type 0} (b : Bool) → b ≡ false → IsTrue b ↔ P → ¬ P
-not_so b isnt h p = true≢false (sym (h.1 p) ∙ isnt)
+pub decides_not : {P : Type 0} (b : Bool) → b ≡ false → IsTrue b ↔ P → ¬ P
+decides_not b isnt h p = true≢false (sym (h.1 p) ∙ isnt)
 
-skip : {P Q : Type 0} → ¬ P → P ⊎ Q → Q
-skip n (inl p) = absurd (n p)
-skip n (inr q) = q
+right_of : {P Q : Type 0} → ¬ P → P ⊎ Q → Q
+right_of n (inl p) = absurd (n p)
+right_of n (inr q) = q
 
--- what stands at a place, and behind it
-pub left_at : {A : Type 0} (xs : List A) (i : ℕ) (x : A) → i < length xs → x ≡ get_or xs i x → drop i xs ≡ x ∷ drop (i + 1) xs
-left_at xs i x l is = drop_more xs i x l ∙ ap (λ y. y ∷ drop (i + 1) xs) (sym is)
+-- what stands at a index, and behind it
+pub drop_at : {A : Type 0} (xs : List A) (i : ℕ) (x : A) → i < length xs → x ≡ get_or xs i x → drop i xs ≡ x ∷ drop (i + 1) xs
+drop_at xs i x l is = drop_more xs i x l ∙ ap (λ y. y ∷ drop (i + 1) xs) (sym is)
 
 module _ {A : Type 0} (P : A → Type 0) where
   -- ---- one of them
 
   pub one_later : (all left more : List A) (x : A) → left ≡ x ∷ more → ¬ P x → OneOf P all ↔ OneOf P left → OneOf P all ↔ OneOf P more
-  one_later all left more x is n h = (λ o. skip n (subst (OneOf P) is (h.0 o)), λ o. h.1 (subst (OneOf P) (sym is) (inr o)))
+  one_later all left more x is n h = (λ o. right_of n (subst (OneOf P) is (h.0 o)), λ o. h.1 (subst (OneOf P) (sym is) (inr o)))
 
   pub one_found : (all left more : List A) (x : A) → left ≡ x ∷ more → P x → OneOf P all ↔ OneOf P left → OneOf P all
   one_found all left more x is p h = h.1 (subst (OneOf P) (sym is) (inl p))
@@ -71,22 +71,22 @@ module _ {A : Type 0} (P : A → Type 0) where
   in_all [] h = tt
   in_all (x ∷ xs) h = (h x (inl refl), in_all xs (λ y i. h y (inr i)))
 
-  -- ---- at a place
+  -- ---- at a index
 
   pub one_steps : (xs : List A) (i : ℕ) (x : A) → i < length xs → x ≡ get_or xs i x → ¬ P x → OneOf P xs ↔ OneOf P (drop i xs) → OneOf P xs ↔ OneOf P (drop (i + 1) xs)
-  one_steps xs i x l is n h = one_later xs (drop i xs) (drop (i + 1) xs) x (left_at xs i x l is) n h
+  one_steps xs i x l is n h = one_later xs (drop i xs) (drop (i + 1) xs) x (drop_at xs i x l is) n h
 
   pub one_stops : (xs : List A) (i : ℕ) (x : A) → i < length xs → x ≡ get_or xs i x → P x → OneOf P xs ↔ OneOf P (drop i xs) → OneOf P xs
-  one_stops xs i x l is p h = one_found xs (drop i xs) (drop (i + 1) xs) x (left_at xs i x l is) p h
+  one_stops xs i x l is p h = one_found xs (drop i xs) (drop (i + 1) xs) x (drop_at xs i x l is) p h
 
   pub one_ends : (xs : List A) (i : ℕ) → length xs ≤ i → OneOf P xs ↔ OneOf P (drop i xs) → ¬ OneOf P xs
   one_ends xs i l h = one_none xs (drop i xs) (drop_all i xs l) h
 
   pub all_steps : (xs : List A) (i : ℕ) (x : A) → i < length xs → x ≡ get_or xs i x → P x → AllByRecursion P xs ↔ AllByRecursion P (drop i xs) → AllByRecursion P xs ↔ AllByRecursion P (drop (i + 1) xs)
-  all_steps xs i x l is p h = all_later xs (drop i xs) (drop (i + 1) xs) x (left_at xs i x l is) p h
+  all_steps xs i x l is p h = all_later xs (drop i xs) (drop (i + 1) xs) x (drop_at xs i x l is) p h
 
   pub all_stops : (xs : List A) (i : ℕ) (x : A) → i < length xs → x ≡ get_or xs i x → ¬ P x → AllByRecursion P xs ↔ AllByRecursion P (drop i xs) → ¬ AllByRecursion P xs
-  all_stops xs i x l is n h = all_fails xs (drop i xs) (drop (i + 1) xs) x (left_at xs i x l is) n h
+  all_stops xs i x l is n h = all_fails xs (drop i xs) (drop (i + 1) xs) x (drop_at xs i x l is) n h
 
   pub all_ends : (xs : List A) (i : ℕ) → length xs ≤ i → AllByRecursion P xs ↔ AllByRecursion P (drop i xs) → AllByRecursion P xs
   all_ends xs i l h = all_done xs (drop i xs) (drop_all i xs l) h

@@ -8,12 +8,12 @@ use Rattle.pact_paths.specs.Paths.{Location, key}
 use Rattle.pact_rules.specs.Rules.{Rules}
 use Rattle.pact_rules.specs.TreeView.{tree_view, list_view, object_view}
 use Rattle.pact_rules.specs.declared.tree.Tree.{Tree, List as ListOf, Object}
-use Rattle.pact_rules.proofs.HoldingLemmas.{Entry, view-List, view-Object, view-lookup}
-use Rattle.pact_rules.specs.Holding.{get_field, has_keys_of}
+use Rattle.pact_rules.proofs.MatchingLemmas.{Entry, view-List, view-Object, view-lookup}
+use Rattle.pact_rules.specs.Matching.{get_field, has_keys_of}
 use Rattle.std.specs.Cmp.Lexicographic.{slice_cmp}
 use Rattle.std.specs.Map.{lookup}
 use Rattle.std.specs.BTreeMap.{is_at}
-use Rattle.reply_check.specs.Computed.{meets, expected_items, expected_fields, first_or, example, if_there, fits, items_fit, members_fit}
+use Rattle.reply_check.specs.Computed.{meets_here, expected_items, expected_fields, first_or, example, if_there, fits, items_fit, members_fit}
 use Rattle.reply_check.specs.Fitting.{get_node}
 
 -- nothing is expected
@@ -33,18 +33,18 @@ get_node_view [] i = refl
 get_node_view (t ∷ ts) zero = refl
 get_node_view (t ∷ ts) (suc i) = get_node_view ts i
 
-pub list_without_example : (rules : Rules) (at : Location) (x : Node) (actual : Tree) (v : Vec Tree Global) → actual ≡ ListOf v → meets rules at x (tree_view actual) ≡ true → expected_items x ≡ no_nodes
+pub list_without_example : (rules : Rules) (at : Location) (x : Node) (actual : Tree) (v : Vec Tree Global) → actual ≡ ListOf v → meets_here rules at x (tree_view actual) ≡ true → expected_items x ≡ no_nodes
     → true ≡ fits rules at x (tree_view actual)
 list_without_example rules at x actual v is m none =
     let seen : tree_view actual ≡ list (list_view v.items) = ap tree_view is ∙ view-List v in
-    let met : meets rules at x (list (list_view v.items)) ≡ true = ap (meets rules at x) (sym seen) ∙ m in
+    let met : meets_here rules at x (list (list_view v.items)) ≡ true = ap (meets_here rules at x) (sym seen) ∙ m in
     sym (ap (fits rules at x) seen ∙ both_true met (ap (λ xs. items_fit rules at xs 0 (list_view v.items)) none ∙ no_items_expected rules at 0 (list_view v.items)))
 
-pub object_without_example : (rules : Rules) (at : Location) (x : Node) (actual : Tree) (m : BTreeMap (String Global) Tree) → actual ≡ Object m → meets rules at x (tree_view actual) ≡ true → expected_fields x ≡ no_fields
+pub object_without_example : (rules : Rules) (at : Location) (x : Node) (actual : Tree) (m : BTreeMap (String Global) Tree) → actual ≡ Object m → meets_here rules at x (tree_view actual) ≡ true → expected_fields x ≡ no_fields
     → true ≡ fits rules at x (tree_view actual)
 object_without_example rules at x actual m is h none =
     let seen : tree_view actual ≡ object (object_view m.entries) = ap tree_view is ∙ view-Object m in
-    let met : meets rules at x (object (object_view m.entries)) ≡ true = ap (meets rules at x) (sym seen) ∙ h in
+    let met : meets_here rules at x (object (object_view m.entries)) ≡ true = ap (meets_here rules at x) (sym seen) ∙ h in
     sym (ap (fits rules at x) seen ∙ both_true met (ap (λ fs. has_keys_of fs (object_view m.entries) && members_fit rules at fs (object_view m.entries)) none ∙ no_members_expected rules at (object_view m.entries)))
 
 -- ---- members

@@ -1,24 +1,40 @@
 -- The computed form says just what the relation says.
-use Rattle.std.proofs.Common.{◌≡◌, ◌⊎◌, inl, inr, ◌↔◌, ℕ, zero, suc, ◌+◌, Bool, true, false, ◌&&◌, List, [], ◌∷◌, ◌++◌, Option, Some, None, is_some, IsTrue, refl, sym, ap, ◌∙◌, subst, arith, bytes_eq}
+use Rattle.std.proofs.Common.{option_and_then, slice_get, ◌≡◌, ◌⊎◌, inl, inr, ◌↔◌, ℕ, zero, suc, ◌+◌, Bool, true, false, ◌&&◌, List, [], ◌∷◌, ◌++◌, Option, Some, None, is_some, IsTrue, refl, sym, ap, ◌∙◌, subst, arith, bytes_eq}
 use Rattle.std.proofs.lemmas.Bool.{and_from, and_parts, false≢true}
 use Rattle.std.proofs.lemmas.Slice.Eq.{bytes_eq-Decides}
 use Rattle.std.proofs.lemmas.Option.{none-some}
 use Rattle.pact_paths.specs.Paths.{Location, key, item}
 use Rattle.pact_rules.specs.Trees.{Node, null, truth, whole, text, list, object, Nodes, no_nodes, node, Fields, no_fields, field}
-use Rattle.pact_rules.specs.Rules.{Rules, BodyRule}
-use Rattle.pact_rules.specs.Holding.{get_field, has_keys_of}
-use Rattle.reply_check.specs.Fitting.{rule_for, get_node, HasItem, HasField, HasMember, Expects, IsObject, IsExample, MeetsBy, Meets, Fits, fitting}
-use Rattle.reply_check.specs.Computed.{meets_by, meets, first_or, example, expected_items, expected_fields, if_there, fits, items_fit, members_fit}
+use Rattle.pact_rules.specs.Rules.{Rules, BodyRule, IsInOrder}
+use Rattle.pact_rules.specs.Choice.{chosen}
+use Rattle.pact_rules.proofs.ChoiceLemmas.{chosen_is_choice, choice_unique}
+use Rattle.pact_rules.specs.Matching.{get_field, has_keys_of}
+use Rattle.reply_check.specs.Fitting.{IsRuleFor, get_node, HasItem, HasField, HasMember, Expects, IsObject, IsExample, MeetsRule, MeetsHere, Fits, fitting}
+use Rattle.reply_check.specs.Computed.{rule_for, meets_rule, meets_here, first_or, example, expected_items, expected_fields, if_there, fits, items_fit, members_fit}
 
 -- ---- at a location itself
 
-meets_so : (o : Option BodyRule) (at : Location) (x y : Node) → meets_by o at x y ≡ true → MeetsBy o at x y
-meets_so None at x y h = h
-meets_so (Some rule) at x y h = h
+rule_is : (rules : Rules) (order : IsInOrder rules.body) (at : Location) → IsRuleFor rules at (rule_for rules at)
+rule_is rules order at = (chosen rules.body at, chosen_is_choice rules.body at order, refl)
 
-so_meets : (o : Option BodyRule) (at : Location) (x y : Node) → MeetsBy o at x y → meets_by o at x y ≡ true
-so_meets None at x y h = h
-so_meets (Some rule) at x y h = h
+rule_alone : (rules : Rules) (order : IsInOrder rules.body) (at : Location) (rule : Option BodyRule) → IsRuleFor rules at rule → rule ≡ rule_for rules at
+rule_alone rules order at rule h =
+    h.2 ∙ ap (option_and_then (slice_get rules.body)) (choice_unique rules.body at h.0 (chosen rules.body at) h.1 (chosen_is_choice rules.body at order))
+
+rule_met : (rule : Option BodyRule) (at : Location) (x y : Node) → meets_rule rule at x y ≡ true → MeetsRule rule at x y
+rule_met None at x y h = h
+rule_met (Some rule) at x y h = h
+
+met_rule : (rule : Option BodyRule) (at : Location) (x y : Node) → MeetsRule rule at x y → meets_rule rule at x y ≡ true
+met_rule None at x y h = h
+met_rule (Some rule) at x y h = h
+
+-- the computed choice is the one choice
+meets_so : (rules : Rules) (order : IsInOrder rules.body) (at : Location) (x y : Node) → meets_here rules at x y ≡ true → MeetsHere rules at x y
+meets_so rules order at x y h = (rule_for rules at, rule_is rules order at, rule_met (rule_for rules at) at x y h)
+
+so_meets : (rules : Rules) (order : IsInOrder rules.body) (at : Location) (x y : Node) → MeetsHere rules at x y → meets_here rules at x y ≡ true
+so_meets rules order at x y h = met_rule (rule_for rules at) at x y (subst (λ rule. MeetsRule rule at x y) (rule_alone rules order at h.0 h.1) h.2)
 
 -- ---- members
 
@@ -127,52 +143,52 @@ so_example (object fs) i e h = absurd (none-some e h)
 -- ---- the whole
 
 mutual
-  pub fits_so : (rules : Rules) (at : Location) (x y : Node) → fits rules at x y ≡ true → Fits rules at x y
-  fits_so rules at x null h = fitting at x null (meets_so (rule_for rules at) at x null h) (λ i e t is found. absurd found) (λ k e is found. absurd found) (λ k e t is found. absurd found)
-  fits_so rules at x (truth b) h = fitting at x (truth b) (meets_so (rule_for rules at) at x (truth b) h) (λ i e t is found. absurd found) (λ k e is found. absurd found) (λ k e t is found. absurd found)
-  fits_so rules at x (whole n) h = fitting at x (whole n) (meets_so (rule_for rules at) at x (whole n) h) (λ i e t is found. absurd found) (λ k e is found. absurd found) (λ k e t is found. absurd found)
-  fits_so rules at x (text s) h = fitting at x (text s) (meets_so (rule_for rules at) at x (text s) h) (λ i e t is found. absurd found) (λ k e is found. absurd found) (λ k e t is found. absurd found)
-  fits_so rules at x (list ys) h =
-      let both = and_parts (meets rules at x (list ys)) (items_fit rules at (expected_items x) 0 ys) h in
-      fitting at x (list ys) (meets_so (rule_for rules at) at x (list ys) both.0)
-      (λ i e t is found. items_so rules at (expected_items x) 0 ys both.1 i i e t (omega arith) (example_so x i e is) found)
+  pub fits_so : (rules : Rules) (order : IsInOrder rules.body) (at : Location) (x y : Node) → fits rules at x y ≡ true → Fits rules at x y
+  fits_so rules order at x null h = fitting at x null (meets_so rules order at x null h) (λ i e t is found. absurd found) (λ k e is found. absurd found) (λ k e t is found. absurd found)
+  fits_so rules order at x (truth b) h = fitting at x (truth b) (meets_so rules order at x (truth b) h) (λ i e t is found. absurd found) (λ k e is found. absurd found) (λ k e t is found. absurd found)
+  fits_so rules order at x (whole n) h = fitting at x (whole n) (meets_so rules order at x (whole n) h) (λ i e t is found. absurd found) (λ k e is found. absurd found) (λ k e t is found. absurd found)
+  fits_so rules order at x (text s) h = fitting at x (text s) (meets_so rules order at x (text s) h) (λ i e t is found. absurd found) (λ k e is found. absurd found) (λ k e t is found. absurd found)
+  fits_so rules order at x (list ys) h =
+      let both = and_parts (meets_here rules at x (list ys)) (items_fit rules at (expected_items x) 0 ys) h in
+      fitting at x (list ys) (meets_so rules order at x (list ys) both.0)
+      (λ i e t is found. items_so rules order at (expected_items x) 0 ys both.1 i i e t (omega arith) (example_so x i e is) found)
       (λ k e is found. absurd found) (λ k e t is found. absurd found)
-  fits_so rules at x (object gs) h =
-      let both = and_parts (meets rules at x (object gs)) (has_keys_of (expected_fields x) gs && members_fit rules at (expected_fields x) gs) h in
+  fits_so rules order at x (object gs) h =
+      let both = and_parts (meets_here rules at x (object gs)) (has_keys_of (expected_fields x) gs && members_fit rules at (expected_fields x) gs) h in
       let members = and_parts (has_keys_of (expected_fields x) gs) (members_fit rules at (expected_fields x) gs) both.1 in
-      fitting at x (object gs) (meets_so (rule_for rules at) at x (object gs) both.0)
+      fitting at x (object gs) (meets_so rules order at x (object gs) both.0)
       (λ i e t is found. absurd found)
       (λ k e is found. let t = value_of (get_field k gs) (keys_so (expected_fields x) gs members.0 k e (expects_so x k e is)) in (t.0, found_member k gs t.0 t.1))
-      (λ k e t is found. members_so rules at (expected_fields x) gs members.1 k e t (expects_so x k e is) found)
+      (λ k e t is found. members_so rules order at (expected_fields x) gs members.1 k e t (expects_so x k e is) found)
 
-  items_so : (rules : Rules) (at : Location) (xs : Nodes) (i : ℕ) (ys : Nodes) → items_fit rules at xs i ys ≡ true
+  items_so : (rules : Rules) (order : IsInOrder rules.body) (at : Location) (xs : Nodes) (i : ℕ) (ys : Nodes) → items_fit rules at xs i ys ≡ true
       → (j p : ℕ) (e t : Node) → p ≡ i + j → example xs p ≡ Some e → get_node ys j ≡ Some t → Fits rules (at ++ item p ∷ []) e t
-  items_so rules at xs i no_nodes h j p e t sum is found = absurd (none-some t found)
-  items_so rules at xs i (node y ys) h zero p e t sum is found =
+  items_so rules order at xs i no_nodes h j p e t sum is found = absurd (none-some t found)
+  items_so rules order at xs i (node y ys) h zero p e t sum is found =
       let here_is : i ≡ p = omega arith in
       let both = and_parts (if_there (example xs i) (λ x. fits rules (at ++ item i ∷ []) x y)) (items_fit rules at xs (suc i) ys) h in
       subst (λ p. Fits rules (at ++ item p ∷ []) e t) here_is
       (subst (λ t. Fits rules (at ++ item i ∷ []) e t) (some_alike y t found)
-      (fits_so rules (at ++ item i ∷ []) e y (sym (ap (λ o. if_there o (λ x. fits rules (at ++ item i ∷ []) x y)) (ap (example xs) here_is ∙ is)) ∙ both.0)))
-  items_so rules at xs i (node y ys) h (suc j) p e t sum is found =
+      (fits_so rules order (at ++ item i ∷ []) e y (sym (ap (λ o. if_there o (λ x. fits rules (at ++ item i ∷ []) x y)) (ap (example xs) here_is ∙ is)) ∙ both.0)))
+  items_so rules order at xs i (node y ys) h (suc j) p e t sum is found =
       let both = and_parts (if_there (example xs i) (λ x. fits rules (at ++ item i ∷ []) x y)) (items_fit rules at xs (suc i) ys) h in
-      items_so rules at xs (suc i) ys both.1 j p e t (omega arith) is found
+      items_so rules order at xs (suc i) ys both.1 j p e t (omega arith) is found
 
-  members_so : (rules : Rules) (at : Location) (fs gs : Fields) → members_fit rules at fs gs ≡ true
+  members_so : (rules : Rules) (order : IsInOrder rules.body) (at : Location) (fs gs : Fields) → members_fit rules at fs gs ≡ true
       → (k : List ℕ) (e t : Node) → get_field k fs ≡ Some e → HasField gs k t → Fits rules (at ++ key k ∷ []) e t
-  members_so rules at fs no_fields h k e t is found = absurd found
-  members_so rules at fs (field l y gs) h k e t is (inl found) =
+  members_so rules order at fs no_fields h k e t is found = absurd found
+  members_so rules order at fs (field l y gs) h k e t is (inl found) =
       let both = and_parts (if_there (get_field l fs) (λ x. fits rules (at ++ key l ∷ []) x y)) (members_fit rules at fs gs) h in
       subst (λ k. Fits rules (at ++ key k ∷ []) e t) found.0
       (subst (λ t. Fits rules (at ++ key l ∷ []) e t) found.1
-      (fits_so rules (at ++ key l ∷ []) e y (sym (ap (λ o. if_there o (λ x. fits rules (at ++ key l ∷ []) x y)) (ap (λ m. get_field m fs) found.0 ∙ is)) ∙ both.0)))
-  members_so rules at fs (field l y gs) h k e t is (inr found) =
+      (fits_so rules order (at ++ key l ∷ []) e y (sym (ap (λ o. if_there o (λ x. fits rules (at ++ key l ∷ []) x y)) (ap (λ m. get_field m fs) found.0 ∙ is)) ∙ both.0)))
+  members_so rules order at fs (field l y gs) h k e t is (inr found) =
       let both = and_parts (if_there (get_field l fs) (λ x. fits rules (at ++ key l ∷ []) x y)) (members_fit rules at fs gs) h in
-      members_so rules at fs gs both.1 k e t is found
+      members_so rules order at fs gs both.1 k e t is found
 
 -- what fitting says of one location
 record Parts (rules : Rules) (at : Location) (x y : Node) : Type 0 where
-  meeting : Meets rules at x y
+  meeting : MeetsHere rules at x y
   items : (i : ℕ) (e t : Node) → IsExample x i e → HasItem y i t → Fits rules (at ++ item i ∷ []) e t
   keys : (k : List ℕ) (e : Node) → Expects x k e → IsObject y → (t : Node) × HasMember y k t
   members : (k : List ℕ) (e t : Node) → Expects x k e → HasMember y k t → Fits rules (at ++ key k ∷ []) e t
@@ -193,40 +209,40 @@ there_so None test h = refl
 there_so (Some e) test h = h e refl
 
 mutual
-  pub so_fits : (rules : Rules) (at : Location) (x y : Node) → Fits rules at x y → fits rules at x y ≡ true
-  so_fits rules at x null h = so_meets (rule_for rules at) at x null (parts_of rules at x null h).meeting
-  so_fits rules at x (truth b) h = so_meets (rule_for rules at) at x (truth b) (parts_of rules at x (truth b) h).meeting
-  so_fits rules at x (whole n) h = so_meets (rule_for rules at) at x (whole n) (parts_of rules at x (whole n) h).meeting
-  so_fits rules at x (text s) h = so_meets (rule_for rules at) at x (text s) (parts_of rules at x (text s) h).meeting
-  so_fits rules at x (list ys) h =
+  pub so_fits : (rules : Rules) (order : IsInOrder rules.body) (at : Location) (x y : Node) → Fits rules at x y → fits rules at x y ≡ true
+  so_fits rules order at x null h = so_meets rules order at x null (parts_of rules at x null h).meeting
+  so_fits rules order at x (truth b) h = so_meets rules order at x (truth b) (parts_of rules at x (truth b) h).meeting
+  so_fits rules order at x (whole n) h = so_meets rules order at x (whole n) (parts_of rules at x (whole n) h).meeting
+  so_fits rules order at x (text s) h = so_meets rules order at x (text s) (parts_of rules at x (text s) h).meeting
+  so_fits rules order at x (list ys) h =
       let p = parts_of rules at x (list ys) h in
-      and_from (meets rules at x (list ys)) (items_fit rules at (expected_items x) 0 ys) (so_meets (rule_for rules at) at x (list ys) p.meeting)
-      (so_items rules at (expected_items x) 0 ys (λ j q e t sum is found. let same : j ≡ q = omega arith in
+      and_from (meets_here rules at x (list ys)) (items_fit rules at (expected_items x) 0 ys) (so_meets rules order at x (list ys) p.meeting)
+      (so_items rules order at (expected_items x) 0 ys (λ j q e t sum is found. let same : j ≡ q = omega arith in
       p.items q e t (so_example x q e is) (subst (λ n. get_node ys n ≡ Some t) same found)))
-  so_fits rules at x (object gs) h =
+  so_fits rules order at x (object gs) h =
       let p = parts_of rules at x (object gs) h in
-      and_from (meets rules at x (object gs)) (has_keys_of (expected_fields x) gs && members_fit rules at (expected_fields x) gs) (so_meets (rule_for rules at) at x (object gs) p.meeting)
+      and_from (meets_here rules at x (object gs)) (has_keys_of (expected_fields x) gs && members_fit rules at (expected_fields x) gs) (so_meets rules order at x (object gs) p.meeting)
       (and_from (has_keys_of (expected_fields x) gs) (members_fit rules at (expected_fields x) gs)
       (so_keys (expected_fields x) (expected_fields x) gs (λ k t found. member_found k (expected_fields x) t found)
       (λ k e is. let t = p.keys k e (so_expects x k e is) tt in member_found k gs t.0 t.1))
-      (so_members rules at (expected_fields x) gs (λ k e t is found. p.members k e t (so_expects x k e is) found)))
+      (so_members rules order at (expected_fields x) gs (λ k e t is found. p.members k e t (so_expects x k e is) found)))
 
-  so_items : (rules : Rules) (at : Location) (xs : Nodes) (i : ℕ) (ys : Nodes)
+  so_items : (rules : Rules) (order : IsInOrder rules.body) (at : Location) (xs : Nodes) (i : ℕ) (ys : Nodes)
       → ((j p : ℕ) (e t : Node) → p ≡ i + j → example xs p ≡ Some e → get_node ys j ≡ Some t → Fits rules (at ++ item p ∷ []) e t) → items_fit rules at xs i ys ≡ true
-  so_items rules at xs i no_nodes all = refl
-  so_items rules at xs i (node y ys) all =
+  so_items rules order at xs i no_nodes all = refl
+  so_items rules order at xs i (node y ys) all =
       and_from (if_there (example xs i) (λ x. fits rules (at ++ item i ∷ []) x y)) (items_fit rules at xs (suc i) ys)
-      (there_so (example xs i) (λ x. fits rules (at ++ item i ∷ []) x y) (λ e is. so_fits rules (at ++ item i ∷ []) e y (all 0 i e y (omega arith) is refl)))
-      (so_items rules at xs (suc i) ys (λ j p e t sum is found. all (suc j) p e t (omega arith) is found))
+      (there_so (example xs i) (λ x. fits rules (at ++ item i ∷ []) x y) (λ e is. so_fits rules order (at ++ item i ∷ []) e y (all 0 i e y (omega arith) is refl)))
+      (so_items rules order at xs (suc i) ys (λ j p e t sum is found. all (suc j) p e t (omega arith) is found))
 
-  so_members : (rules : Rules) (at : Location) (fs gs : Fields)
+  so_members : (rules : Rules) (order : IsInOrder rules.body) (at : Location) (fs gs : Fields)
       → ((k : List ℕ) (e t : Node) → get_field k fs ≡ Some e → HasField gs k t → Fits rules (at ++ key k ∷ []) e t) → members_fit rules at fs gs ≡ true
-  so_members rules at fs no_fields all = refl
-  so_members rules at fs (field l y gs) all =
+  so_members rules order at fs no_fields all = refl
+  so_members rules order at fs (field l y gs) all =
       and_from (if_there (get_field l fs) (λ x. fits rules (at ++ key l ∷ []) x y)) (members_fit rules at fs gs)
-      (there_so (get_field l fs) (λ x. fits rules (at ++ key l ∷ []) x y) (λ e is. so_fits rules (at ++ key l ∷ []) e y (all l e y is (inl (refl, refl)))))
-      (so_members rules at fs gs (λ k e t is found. all k e t is (inr found)))
+      (there_so (get_field l fs) (λ x. fits rules (at ++ key l ∷ []) x y) (λ e is. so_fits rules order (at ++ key l ∷ []) e y (all l e y is (inl (refl, refl)))))
+      (so_members rules order at fs gs (λ k e t is found. all k e t is (inr found)))
 
 -- the computed form decides the relation
-pub fits_decides : (rules : Rules) (at : Location) (x y : Node) → IsTrue (fits rules at x y) ↔ Fits rules at x y
-fits_decides rules at x y = (fits_so rules at x y, so_fits rules at x y)
+pub fits_decides : (rules : Rules) (order : IsInOrder rules.body) (at : Location) (x y : Node) → IsTrue (fits rules at x y) ↔ Fits rules at x y
+fits_decides rules order at x y = (fits_so rules order at x y, so_fits rules order at x y)

@@ -13,7 +13,7 @@ use Rattle.pact_rules.specs.declared.rule_fault.RuleFault.TheVariants.{Pattern}
 use Rattle.pact_rules.proofs.ReadingLemmas.{reading_agrees}
 use Rattle.pact_file.specs.Headers.{HasHeaders}
 use Rattle.pact_file.specs.Pact.{Header, Interaction}
-use Rattle.pact_file.specs.Parts.{given, status_in, body_in}
+use Rattle.pact_file.specs.Parts.{optional_at, status_in, body_in}
 use Rattle.pact_file.specs.Rules.{TableRead, IsRulesOf}
 use Rattle.pact_rules.specs.Lists.{IsIn}
 use Rattle.reply_check.specs.Bodies.{MeetsBody}
@@ -43,7 +43,7 @@ one_table (Some d) a b h k =
 
 one_rules : (response : Data) (a b : Rules) → IsRulesOf response a → IsRulesOf response b → a ≡ b
 unfolding IsRulesOf
-one_rules response a b h k = one_table (given (codes "matchingRules") response) a b h k
+one_rules response a b h k = one_table (optional_at (codes "matchingRules") response) a b h k
 
 -- ---- patterns
 

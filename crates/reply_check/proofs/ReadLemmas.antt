@@ -1,61 +1,27 @@
 -- What a reading of replies that succeeds went through, and that what is read is sound.
-use Rattle.std.proofs.Common.{◌≡◌, ℕ, List, codes, Bool, true, false, is_some, Some, None, option_and_then, Result, Ok, Err, refl, sym, ◌∙◌, subst}
-use Rattle.std.specs.Prelude.{⊤}
+use Rattle.std.proofs.Common.{◌≡◌, ℕ, List, codes, is_some, option_and_then, Ok, subst}
 use Rattle.std.specs.Option.{ok_or}
-use Rattle.std.specs.Str.{IsUtf8, is_utf8}
-use Rattle.std.proofs.lemmas.Str.{is_utf8-from_IsUtf8, IsUtf8-from_is_utf8}
 use Rattle.serde_json.specs.Data.{Data}
 use Rattle.serde_json.specs.Find.{get, as_array, as_object}
-use Rattle.serde_json.specs.Read.{read}
-use Rattle.pact_rules.specs.TreeReading.{tree_in}
-use Rattle.pact_rules.specs.declared.tree.TreeFault.{TreeFault}
 use Rattle.pact_rules.specs.Outcome.{guard}
 use Rattle.pact_file.specs.Pact.{states_data}
 use Rattle.pact_file.specs.Parts.{text_at, object_at, states_in}
 use Rattle.pact_file.specs.Sound.{IsSound}
-use Rattle.pact_file.proofs.ReadLemmas.{read_sound, AllSound, listed_sound}
+use Rattle.pact_file.specs.Objects.{object_of}
+use Rattle.pact_file.proofs.Objects.{object_ok, object_sound}
+use Rattle.pact_file.proofs.ReadLemmas.{AllSound, listed_sound}
 use Rattle.pact_file.proofs.SoundParts.{of_get, of_object_at, of_array, of_states}
 use Rattle.pact_file.proofs.Steps.{bind_ok, found_ok, ok_same, then_some}
 use Rattle.reply_check.specs.Recorded.{Reply as Recorded, status_sent}
-use Rattle.reply_check.specs.ReplyParts.{json_of, tree_told, file_of, items_of, at, parts_at}
-use Rattle.reply_check.specs.declared.fault.RepliesFault.TheVariants.{NotJson, Shape}
-use Rattle.reply_check.specs.declared.fault.Place.TheVariants.{File, Replies}
-use Rattle.reply_check.specs.declared.fault.Part.TheVariants.{Whole, Description, States, Response, Status}
-
--- ---- a text as JSON
-
-pub is_json : (bytes : List ℕ) (d : Data) → IsUtf8 bytes → read bytes ≡ Some d → json_of bytes ≡ Some d
-unfolding json_of
-is_json bytes d text h = rw (is_utf8-from_IsUtf8 bytes text, h) refl
-
-choice : (b : Bool) (bytes : List ℕ) → is_utf8 bytes ≡ b → (IsUtf8 bytes → read bytes ≡ None) → json_of bytes ≡ None
-unfolding json_of
-choice true bytes is h = rw (is, h (IsUtf8-from_is_utf8 bytes is)) refl
-choice false bytes is h = rw is refl
-
-pub is_no_json : (bytes : List ℕ) → (IsUtf8 bytes → read bytes ≡ None) → json_of bytes ≡ None
-is_no_json bytes h = choice (is_utf8 bytes) bytes refl h
-
-json_case : (b : Bool) (bytes : List ℕ) (d : Data) → is_utf8 bytes ≡ b → json_of bytes ≡ Some d → (is_utf8 bytes ≡ true) × (read bytes ≡ Some d)
-unfolding json_of
-json_case true bytes d is h = (is, sym (rw is refl) ∙ h)
-json_case false bytes d is h = let none : None ≡ Some d = sym (rw is refl) ∙ h in absurd cc
-
-told_ok : {A : Type 0} (r : Result A TreeFault) (x : ⊤) → tree_told r ≡ Ok x → (a : A) × (r ≡ Ok a)
-told_ok (Ok a) x h = (a, refl)
-told_ok (Err e) x h = absurd cc
+use Rattle.reply_check.specs.ReplyParts.{as_file_fault, file_of, items_of, at, parts_at}
+use Rattle.reply_check.specs.declared.fault.RepliesFault.TheVariants.{Shape}
+use Rattle.reply_check.specs.declared.fault.Place.TheVariants.{Replies}
+use Rattle.pact_file.specs.declared.fault.Part.TheVariants.{Whole, Description, States, Response, Status}
 
 -- ---- soundness
 
 pub file_sound : (bytes : List ℕ) (d : Data) → file_of bytes ≡ Ok d → IsSound 100 d
-unfolding file_of
-file_sound bytes d e =
-    let json = bind_ok (ok_or (json_of bytes) NotJson) _ d e in
-    let tree = bind_ok (tree_told (tree_in json.0)) _ d json.2 in
-    let is = bind_ok (guard (is_some (as_object json.0)) (Shape File)) _ d tree.2 in
-    let text = json_case (is_utf8 bytes) bytes json.0 refl (found_ok (json_of bytes) NotJson json.0 json.1) in
-    let found = told_ok (tree_in json.0) tree.0 tree.1 in
-    subst (IsSound 100) (ok_same _ _ is.2) (read_sound bytes json.0 found.0 (IsUtf8-from_is_utf8 bytes text.0) text.1 found.1)
+file_sound bytes d e = object_sound bytes d (object_ok as_file_fault (object_of bytes) d e)
 
 pub items_sound : (file : Data) (ds : List Data) → IsSound 100 file → items_of file ≡ Ok ds → AllSound ds
 unfolding items_of

@@ -19,7 +19,7 @@ use Rattle.pact_file.specs.Sound.{IsSound}
 use Rattle.pact_file.proofs.OrderedSets.{one_states}
 use Rattle.reply_check.specs.Recorded.{Reply}
 use Rattle.reply_check.specs.Replies.{AreRivals, HasRivals}
-use Rattle.reply_check.proofs.Deciding.{by_test, left_at}
+use Rattle.reply_check.proofs.Deciding.{by_test, drop_at}
 
 -- the descriptions are equal, and so are the states where their texts are
 pub same_key : (d b t e : List ℕ) (ss ts : List State) (r : Bool) → r ≡ (bytes_eq d b && bytes_eq (compact_text (states_data ss)) t) → b ≡ e → t ≡ compact_text (states_data ts)
@@ -133,18 +133,18 @@ was_absent : (added there : Bool) → added ≡ not there → added ≡ true →
 was_absent added true is new = absurd (true≢false (sym new ∙ is))
 was_absent added false is new = refl
 
-module _ (xs : List Reply) (i : ℕ) (r : Reply) (k : Key) (old : BTreeSet Key) (added : Bool) (within : i < length xs) (stands : r ≡ get_or xs i r) (h : IsKeyOf r k) (told : added ≡ not (contains key_cmp old k))
+module _ (xs : List Reply) (i : ℕ) (r : Reply) (k : Key) (old : BTreeSet Key) (added : Bool) (within : i < length xs) (stands : r ≡ get_or xs i r) (h : IsKeyOf r k) (added_is : added ≡ not (contains key_cmp old k))
     (s : AreSeen old (take i xs)) where
   pub rival_found : added ≡ false → HasRivals xs
   rival_found isnt =
-      subst HasRivals (ap (λ ys. take i xs ++ ys) (sym (left_at xs i r within stands)) ∙ take-append-drop i xs)
-      (rival_behind (take i xs) (drop (i + 1) xs) r k s.sound h (sym (s.known k) ∙ was_there added (contains key_cmp old k) told isnt))
+      subst HasRivals (ap (λ ys. take i xs ++ ys) (sym (drop_at xs i r within stands)) ∙ take-append-drop i xs)
+      (rival_behind (take i xs) (drop (i + 1) xs) r k s.sound h (sym (s.known k) ∙ was_there added (contains key_cmp old k) added_is isnt))
 
   pub one_seen : (new : BTreeSet Key) → added ≡ true → Updates key_cmp old new k true → AreSeen new (take (i + 1) xs)
   one_seen new is updates =
       subst (AreSeen new) (sym (take_more xs i r within ∙ ap (λ y. take i xs ++ y ∷ []) (sym stands))) (record {
         sound = all_and_last IsSoundReply (take i xs) r s.sound h.sound;
-        apart = still_apart (take i xs) r k s.sound h (sym (s.known k) ∙ was_absent added (contains key_cmp old k) told is) s.apart;
+        apart = still_apart (take i xs) r k s.sound h (sym (s.known k) ∙ was_absent added (contains key_cmp old k) added_is is) s.apart;
         known = λ q.
             updates.0 q ∙ ap₂ (λ a b. cond a true b) (key_at r k q h) (s.known q) ∙ last_or (is_key q r) (list_any (is_key q) (take i xs))
             ∙ sym (list_any-append (is_key q) (take i xs) (r ∷ []));

@@ -2,7 +2,7 @@
 use Rattle.std.proofs.Common.{◌≡◌, ◌↔◌, ℕ, Bool, true, false, ◌&&◌, ◌==◌, cond, List, [], ◌∷◌, ◌++◌, map, IsTrue, bytes_eq, refl, sym, ap, ap₂, ◌∙◌, arith}
 use Rattle.std.proofs.lemmas.Slice.Eq.{bytes_eq-Decides}
 use Rattle.std.proofs.lemmas.Bool.Decides.{nat_tests}
-use Rattle.reply_check.specs.HeaderValues.{is_blank, without_front, without_end, in_front, parts_between, counted}
+use Rattle.reply_check.specs.HeaderValues.{is_blank, without_front, without_end, in_front, parts_between, counting_parts}
 use Rattle.reply_check.proofs.Deciding.{by_test}
 
 -- ---- the bytes that are kept, where the first says whether a part begins
@@ -59,7 +59,7 @@ mutual
       (λ other. rw other (ap (in_front b) (kept_inside bs) ∙ sym (later_front b (parts_between bs))))
 
 -- what is kept has just the parts that count
-pub kept_parts : (value : List ℕ) → parts_between (kept true (without_end value)) ≡ counted value
+pub kept_parts : (value : List ℕ) → parts_between (kept true (without_end value)) ≡ counting_parts value
 kept_parts value = kept_begins (without_end value)
 
 -- ---- a value is known by its parts
@@ -92,8 +92,8 @@ pub same_bytes : (v w : List ℕ) → parts_between v ≡ parts_between w → v 
 same_bytes v w h = sym (joined_parts v) ∙ ap joined h ∙ joined_parts w
 
 -- the bytes that are kept of two values are compared
-pub same_counted : (a b kept_a kept_b u v : List ℕ) (t : Bool) → t ≡ bytes_eq u v → u ≡ kept_a → v ≡ kept_b → parts_between kept_a ≡ counted a → parts_between kept_b ≡ counted b → IsTrue t ↔ (counted a ≡ counted b)
-same_counted a b kept_a kept_b u v t is eu ev p q =
+pub same_counting_parts : (a b kept_a kept_b u v : List ℕ) (t : Bool) → t ≡ bytes_eq u v → u ≡ kept_a → v ≡ kept_b → parts_between kept_a ≡ counting_parts a → parts_between kept_b ≡ counting_parts b → IsTrue t ↔ (counting_parts a ≡ counting_parts b)
+same_counting_parts a b kept_a kept_b u v t is eu ev p q =
     let same : t ≡ bytes_eq kept_a kept_b = is ∙ ap₂ bytes_eq eu ev in (
       λ h. sym p ∙ ap parts_between ((bytes_eq-Decides kept_a kept_b).0 (sym same ∙ h)) ∙ q,
       λ h. same ∙ (bytes_eq-Decides kept_a kept_b).1 (same_bytes kept_a kept_b (p ∙ h ∙ sym q)),

@@ -10,7 +10,7 @@ use Rattle.reply_check.specs.Recorded.{Reply}
 use Rattle.reply_check.specs.Verdicts.{BelongsTo, IsKnown, AreKnown, Passes, Fails, IsAscending, AreFailing, UsesPattern}
 use Rattle.reply_check.proofs.Deciding.{by_test}
 
--- ---- places
+-- ---- indices
 
 all_weaker : (n : ℕ) (is : List ℕ) → AllByRecursion (λ i. i < n) is → AllByRecursion (λ i. i < n + 1) is
 all_weaker n [] h = tt
@@ -64,37 +64,37 @@ within xs i x is (inr past) = let none : None ≡ Some x = sym (slice_get_past x
 -- ---- so far
 
 module _ (interactions : List Interaction) (replies : List Reply) where
-  pub record IsSoFar (n : ℕ) (places : List ℕ) : Type 0 where
-    pub ascending : IsAscending places
-    pub below_all : AllByRecursion (λ i. i < n) places
-    pub failing : (i : ℕ) → i < n → IsIn i places ↔ Fails interactions replies i
+  pub record IsSoFar (n : ℕ) (indices : List ℕ) : Type 0 where
+    pub ascending : IsAscending indices
+    pub below_all : AllByRecursion (λ i. i < n) indices
+    pub failing : (i : ℕ) → i < n → IsIn i indices ↔ Fails interactions replies i
 
-  module _ (n : ℕ) (x : Interaction) (places : List ℕ) (stands : slice_get interactions n ≡ Some x) (h : IsSoFar n places) where
-    passing : (i : ℕ) → Passes replies x → (i < n) ⊎ (i ≡ n) → IsIn i places ↔ Fails interactions replies i
+  module _ (n : ℕ) (x : Interaction) (indices : List ℕ) (stands : slice_get interactions n ≡ Some x) (h : IsSoFar n indices) where
+    passing : (i : ℕ) → Passes replies x → (i < n) ⊎ (i ≡ n) → IsIn i indices ↔ Fails interactions replies i
     passing i p (inl l) = h.failing i l
     passing i p (inr same) = (
-      λ m. let l : i < n = below n places i h.below_all m in absurd (omega arith),
+      λ m. let l : i < n = below n indices i h.below_all m in absurd (omega arith),
       λ (y, is, fails). absurd (fails (subst (Passes replies) (same_Some x y (sym stands ∙ ap (slice_get interactions) (sym same) ∙ is)) p)),
     )
 
-    pub one_passes : Passes replies x → IsSoFar (n + 1) places
-    one_passes p = record { ascending = h.ascending; below_all = all_weaker n places h.below_all; failing = λ i l. passing i p (up_to n i l) }
+    pub one_passes : Passes replies x → IsSoFar (n + 1) indices
+    one_passes p = record { ascending = h.ascending; below_all = all_weaker n indices h.below_all; failing = λ i l. passing i p (up_to n i l) }
 
-    failing_one : (i : ℕ) → ¬ Passes replies x → (i < n) ⊎ (i ≡ n) → IsIn i (places ++ n ∷ []) ↔ Fails interactions replies i
-    failing_one i f (inl l) = (λ m. (h.failing i l).0 (earlier (of_push n places i m)), λ k. in_push n places i ((h.failing i l).1 k)) where
-      earlier : IsIn i places ⊎ (i ≡ n) → IsIn i places
+    failing_one : (i : ℕ) → ¬ Passes replies x → (i < n) ⊎ (i ≡ n) → IsIn i (indices ++ n ∷ []) ↔ Fails interactions replies i
+    failing_one i f (inl l) = (λ m. (h.failing i l).0 (earlier (of_push n indices i m)), λ k. in_push n indices i ((h.failing i l).1 k)) where
+      earlier : IsIn i indices ⊎ (i ≡ n) → IsIn i indices
       earlier (inl m) = m
       earlier (inr same) = absurd (omega arith)
-    failing_one i f (inr same) = (λ m. (x, ap (slice_get interactions) same ∙ stands, f), λ k. subst (λ j. IsIn j (places ++ n ∷ [])) (sym same) (last_in n places))
+    failing_one i f (inr same) = (λ m. (x, ap (slice_get interactions) same ∙ stands, f), λ k. subst (λ j. IsIn j (indices ++ n ∷ [])) (sym same) (last_in n indices))
 
-    pub one_fails : ¬ Passes replies x → IsSoFar (n + 1) (places ++ n ∷ [])
-    one_fails f = record { ascending = ascending_push n places h.below_all h.ascending; below_all = all_push n places h.below_all; failing = λ i l. failing_one i f (up_to n i l) }
+    pub one_fails : ¬ Passes replies x → IsSoFar (n + 1) (indices ++ n ∷ [])
+    one_fails f = record { ascending = ascending_push n indices h.below_all h.ascending; below_all = all_push n indices h.below_all; failing = λ i l. failing_one i f (up_to n i l) }
 
-  pub all_seen : (n : ℕ) (places : List ℕ) → n ≡ length interactions → IsSoFar n places → AreFailing interactions replies places
-  all_seen n places all h = record {
+  pub all_seen : (n : ℕ) (indices : List ℕ) → n ≡ length interactions → IsSoFar n indices → AreFailing interactions replies indices
+  all_seen n indices all h = record {
     ascending = h.ascending;
     failing = λ i. (
-      λ m. (h.failing i (below n places i h.below_all m)).0 m,
+      λ m. (h.failing i (below n indices i h.below_all m)).0 m,
       λ f. let l : i < length interactions = within interactions i f.0 f.1 (either i (length interactions)) in (h.failing i (omega arith)).1 f,
     );
   }
@@ -103,10 +103,10 @@ module _ (interactions : List Interaction) (replies : List Reply) where
 
 pub known_one : (interactions : List Interaction) (replies : List Reply) (n : ℕ) (x : Reply) → slice_get replies n ≡ Some x → IsKnown interactions x
     → ((j : ℕ) (r : Reply) → j < n → slice_get replies j ≡ Some r → IsKnown interactions r) → (j : ℕ) (r : Reply) → j < n + 1 → slice_get replies j ≡ Some r → IsKnown interactions r
-known_one interactions replies n x stands known before j r l is = by_place (up_to n j l) where
-  by_place : (j < n) ⊎ (j ≡ n) → IsKnown interactions r
-  by_place (inl k) = before j r k is
-  by_place (inr same) = subst (IsKnown interactions) (same_Some x r (sym stands ∙ ap (slice_get replies) (sym same) ∙ is)) known
+known_one interactions replies n x stands known before j r l is = by_index (up_to n j l) where
+  by_index : (j < n) ⊎ (j ≡ n) → IsKnown interactions r
+  by_index (inl k) = before j r k is
+  by_index (inr same) = subst (IsKnown interactions) (same_Some x r (sym stands ∙ ap (slice_get replies) (sym same) ∙ is)) known
 
 known_all : (interactions : List Interaction) (replies : List Reply) → ((j : ℕ) (r : Reply) → slice_get replies j ≡ Some r → IsKnown interactions r) → AreKnown interactions replies
 known_all interactions [] h = tt
@@ -115,18 +115,18 @@ known_all interactions (r ∷ rs) h = (h 0 r refl, known_all interactions rs (λ
 pub all_known : (interactions : List Interaction) (replies : List Reply) (n : ℕ) → n ≡ length replies → ((j : ℕ) (r : Reply) → j < n → slice_get replies j ≡ Some r → IsKnown interactions r) → AreKnown interactions replies
 all_known interactions replies n all before = known_all interactions replies (λ j r is. before j r (subst (λ k. j < k) (sym all) (within replies j r is (either j (length replies)))) is)
 
--- ---- what stands at a place
+-- ---- what stands at a index
 
 pub read_at : {A : Type 0} (xs : List A) (n : ℕ) (x : A) → n < length xs → x ≡ get_or xs n x → slice_get xs n ≡ Some x
 read_at xs n x l is = slice_get_read xs (length xs) n x refl l is
 
-at_place : {A : Type 0} (P : A → Type 0) (xs : List A) (n : ℕ) (x : A) → slice_get xs n ≡ Some x → P x → OneOf P xs
-at_place P [] n x is p = absurd cc
-at_place P (y ∷ ys) zero x is p = inl (subst P (sym (same_Some y x is)) p)
-at_place P (y ∷ ys) (suc n) x is p = inr (at_place P ys n x is p)
+at_index : {A : Type 0} (P : A → Type 0) (xs : List A) (n : ℕ) (x : A) → slice_get xs n ≡ Some x → P x → OneOf P xs
+at_index P [] n x is p = absurd cc
+at_index P (y ∷ ys) zero x is p = inl (subst P (sym (same_Some y x is)) p)
+at_index P (y ∷ ys) (suc n) x is p = inr (at_index P ys n x is p)
 
 pub belongs_at : (x : Interaction) (replies : List Reply) (n : ℕ) (r : Reply) → n < length replies → r ≡ get_or replies n r → BelongsTo x r → OneOf (λ s. BelongsTo x s) replies
-belongs_at x replies n r l is b = at_place (λ s. BelongsTo x s) replies n r (read_at replies n r l is) b
+belongs_at x replies n r l is b = at_index (λ s. BelongsTo x s) replies n r (read_at replies n r l is) b
 
 pub uses_at : (interactions : List Interaction) (replies : List Reply) (n : ℕ) (x : Interaction) → n < length interactions → x ≡ get_or interactions n x → OneOf (λ r. BelongsTo x r) replies × HasPattern x → UsesPattern interactions replies
-uses_at interactions replies n x l is h = at_place (λ y. OneOf (λ r. BelongsTo y r) replies × HasPattern y) interactions n x (read_at interactions n x l is) h
+uses_at interactions replies n x l is h = at_index (λ y. OneOf (λ r. BelongsTo y r) replies × HasPattern y) interactions n x (read_at interactions n x l is) h

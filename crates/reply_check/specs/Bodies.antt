@@ -14,12 +14,12 @@ is_empty (list ts) = false
 is_empty (object fs) = false
 
 -- an empty body asks for none or the same, whatever the rules say; any other must be there and fit at the root
-abbrev pub MeetsBy : Bool → Rules → Node → Option Node → Type 0
-MeetsBy true rules x actual = (actual ≡ None) ⊎ (actual ≡ Some x)
-MeetsBy false rules x None = ⊥
-MeetsBy false rules x (Some y) = Fits rules [] x y
+abbrev pub MeetsExpected : Bool → Rules → Node → Option Node → Type 0
+MeetsExpected true rules x actual = (actual ≡ None) ⊎ (actual ≡ Some x)
+MeetsExpected false rules x None = ⊥
+MeetsExpected false rules x (Some y) = Fits rules [] x y
 
 -- where none is expected, any body meets it
 abbrev pub MeetsBody : Rules → Option Node → Option Node → Type 0
 MeetsBody rules None actual = ⊤
-MeetsBody rules (Some x) actual = MeetsBy (is_empty x) rules x actual
+MeetsBody rules (Some x) actual = MeetsExpected (is_empty x) rules x actual

@@ -1,24 +1,31 @@
--- Whether an actual tree fits an expected one, computed from node to node: the relation of Fitting, as a truth value.
-use Rattle.std.specs.Prelude.{ℕ, suc, Bool, true, ◌&&◌, [], ◌∷◌, ◌++◌, Option, Some, None}
+-- For private clauses: whether an actual tree fits an expected one, computed from node to node as the code does it.
+-- It is the relation of `Fitting`, as a truth value.
+use Rattle.std.specs.Prelude.{option_and_then, slice_get, ℕ, suc, Bool, true, ◌&&◌, [], ◌∷◌, ◌++◌, Option, Some, None}
 use Rattle.pact_rules.specs.Trees.{Node, null, truth, whole, text, list, object, Nodes, no_nodes, node, Fields, no_fields, field}
 use Rattle.pact_paths.specs.Paths.{key, item, Location}
 use Rattle.pact_rules.specs.Rules.{Rules, BodyRule}
-use Rattle.pact_rules.specs.Holding.{get_field, has_keys_of, entry_holds}
-use Rattle.reply_check.specs.Fitting.{rule_for, are_alike, is_own_place, get_node}
+use Rattle.pact_rules.specs.Choice.{chosen}
+use Rattle.pact_rules.specs.Matching.{get_field, has_keys_of, entry_holds}
+use Rattle.reply_check.specs.Fitting.{are_alike, is_own_place, get_node}
 
--- the chosen rule's entry holds, its own place being where the path is as long as the location; without a rule the two are alike
-abbrev pub meets_by : Option BodyRule → Location → Node → Node → Bool
-meets_by None at x y = are_alike x y
-meets_by (Some r) at x y = entry_holds r.entry x y (is_own_place r at)
+-- the rule that is chosen at a location
+abbrev pub rule_for : Rules → Location → Option BodyRule
+rule_for rules at = option_and_then (slice_get rules.body) (chosen rules.body at)
 
-abbrev pub meets : Rules → Location → Node → Node → Bool
-meets rules at x y = meets_by (rule_for rules at) at x y
+-- the chosen rule's entry holds, its own place being where the path is as long as the location; without a rule the
+-- two are alike
+abbrev pub meets_rule : Option BodyRule → Location → Node → Node → Bool
+meets_rule None at x y = are_alike x y
+meets_rule (Some r) at x y = entry_holds r.entry x y (is_own_place r at)
+
+abbrev pub meets_here : Rules → Location → Node → Node → Bool
+meets_here rules at x y = meets_rule (rule_for rules at) at x y
 
 abbrev pub first_or : Nodes → Option Node → Option Node
 first_or xs (Some t) = Some t
 first_or xs None = get_node xs 0
 
--- the item at a place, or else the first, where there is one
+-- the item at an index, or else the first, where there is one
 abbrev pub example : Nodes → ℕ → Option Node
 example xs i = first_or xs (get_node xs i)
 
@@ -42,20 +49,24 @@ abbrev pub if_there : Option Node → (Node → Bool) → Bool
 if_there None test = true
 if_there (Some x) test = test x
 
--- the two meet; each item fits the expected one at its place, or else the first; each expected key is there and fits
+-- the two meet; each item fits the expected one of its index, or else the first; each expected key is there and fits
 abbrev mutual
   pub fits : Rules → Location → Node → Node → Bool
-  fits rules at x null = meets rules at x null
-  fits rules at x (truth b) = meets rules at x (truth b)
-  fits rules at x (whole n) = meets rules at x (whole n)
-  fits rules at x (text s) = meets rules at x (text s)
-  fits rules at x (list ys) = meets rules at x (list ys) && items_fit rules at (expected_items x) 0 ys
-  fits rules at x (object gs) = meets rules at x (object gs) && (has_keys_of (expected_fields x) gs && members_fit rules at (expected_fields x) gs)
+  fits rules at x null = meets_here rules at x null
+  fits rules at x (truth b) = meets_here rules at x (truth b)
+  fits rules at x (whole n) = meets_here rules at x (whole n)
+  fits rules at x (text s) = meets_here rules at x (text s)
+  fits rules at x (list ys) = meets_here rules at x (list ys) && items_fit rules at (expected_items x) 0 ys
+  fits rules at x (object gs) =
+      meets_here rules at x (object gs)
+      && (has_keys_of (expected_fields x) gs && members_fit rules at (expected_fields x) gs)
 
   pub items_fit : Rules → Location → Nodes → ℕ → Nodes → Bool
   items_fit rules at xs i no_nodes = true
-  items_fit rules at xs i (node y ys) = if_there (example xs i) (λ x. fits rules (at ++ item i ∷ []) x y) && items_fit rules at xs (suc i) ys
+  items_fit rules at xs i (node y ys) =
+      if_there (example xs i) (λ x. fits rules (at ++ item i ∷ []) x y) && items_fit rules at xs (suc i) ys
 
   pub members_fit : Rules → Location → Fields → Fields → Bool
   members_fit rules at fs no_fields = true
-  members_fit rules at fs (field k y gs) = if_there (get_field k fs) (λ x. fits rules (at ++ key k ∷ []) x y) && members_fit rules at fs gs
+  members_fit rules at fs (field k y gs) =
+      if_there (get_field k fs) (λ x. fits rules (at ++ key k ∷ []) x y) && members_fit rules at fs gs

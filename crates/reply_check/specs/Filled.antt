@@ -1,4 +1,4 @@
--- What is kept beside a reply is what its definitions give.
+-- For private clauses: what is kept beside a reply is what its definitions give.
 use Rattle.std.specs.Prelude.{◌≡◌, ℕ, List, Option, Some}
 use Rattle.serde_json.specs.Written.{compact_text}
 use Rattle.pact_rules.specs.Trees.{Node}
@@ -8,7 +8,8 @@ use Rattle.pact_file.specs.Parts.{body_in}
 use Rattle.pact_file.specs.Sound.{IsSound}
 use Rattle.reply_check.specs.Recorded.{Reply, status_sent}
 
-pub record IsFilled (r : Reply) (status : ℕ) (headers : List Header) (body : Option Node) (states_text : List ℕ) : Type 0 where
+pub record IsFilled (r : Reply) (status : ℕ) (headers : List Header) (body : Option Node)
+    (states_text : List ℕ) : Type 0 where
   pub sound : IsSound 97 (states_data r.states)
   pub has_status : status_sent r.response ≡ Some status
   pub has_headers : HasHeaders r.response headers

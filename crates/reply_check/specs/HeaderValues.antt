@@ -1,6 +1,6 @@
--- When a reply's header has the value that is expected where no rule speaks of it (this project's own choice): spaces and tabs
--- at both ends and behind commas don't count; and where a media type is expected without parameters, those of the reply and
--- the case of letters don't count either.
+-- When a reply's header has the value that is expected where no rule speaks of it (this project's own choice): spaces
+-- and tabs at both ends and behind commas don't count; and where a media type is expected without parameters, those
+-- of the reply and the case of letters don't count either.
 use Rattle.std.specs.Prelude.{◌≡◌, ◌==◌, ◌||◌, ◌&&◌, ℕ, Bool, true, false, not, List, [], ◌∷◌, map, if◌then◌else◌, bytes_eq, codes}
 use Rattle.std.specs.List.{list_any}
 use mathlib.Core.List.{reverse}
@@ -30,8 +30,8 @@ parts_between [] = [] ∷ []
 parts_between (b ∷ bs) = if b == 44 then [] ∷ parts_between bs else in_front b (parts_between bs)
 
 -- what counts of a value: its parts between commas, each without the blanks in front, and none at the end of the whole
-abbrev pub counted : List ℕ → List (List ℕ)
-counted value = map without_front (parts_between (without_end value))
+abbrev pub counting_parts : List ℕ → List (List ℕ)
+counting_parts value = map without_front (parts_between (without_end value))
 
 -- what stands before the first semicolon
 abbrev pub before_semicolon : List ℕ → List ℕ
@@ -43,8 +43,9 @@ abbrev pub is_plain_type : List ℕ → List ℕ → Bool
 is_plain_type name expected = bytes_eq name (codes "content-type") && not (list_any (λ b. b == 59) expected)
 
 abbrev pub HasValueBy : Bool → List ℕ → List ℕ → Type 0
-HasValueBy true expected sent = counted (str_to_ascii_lowercase expected) ≡ counted (before_semicolon (str_to_ascii_lowercase sent))
-HasValueBy false expected sent = counted expected ≡ counted sent
+HasValueBy true expected sent =
+    counting_parts (str_to_ascii_lowercase expected) ≡ counting_parts (before_semicolon (str_to_ascii_lowercase sent))
+HasValueBy false expected sent = counting_parts expected ≡ counting_parts sent
 
 -- what was sent under the name, which is in lower case, is the expected value
 abbrev pub HasValue : List ℕ → List ℕ → List ℕ → Type 0

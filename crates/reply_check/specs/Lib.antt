@@ -10,4 +10,4 @@ pub mod ReplyParts
 pub mod Replies
 pub mod Words
 pub mod Verdicts
-pub mod Told
+pub mod PartsView

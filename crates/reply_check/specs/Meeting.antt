@@ -1,11 +1,11 @@
--- When a recorded reply meets an interaction (this project's own choice): the status is equal, each expected header was sent
--- with a value that fits, and the body meets the expected one. Further headers are allowed.
+-- When a recorded reply meets an interaction (this project's own choice): the status is equal, each expected header
+-- was sent with a value that fits, and the body meets the expected one. Further headers are allowed.
 use Rattle.std.specs.Prelude.{◌≡◌, ℕ, true, false, List, Option, Some, None, IsTrue}
 use Rattle.serde_json.specs.Data.{Data}
 use Rattle.pact_rules.specs.Trees.{text}
 use Rattle.pact_rules.specs.Rules.{Rules, Entry, has_regex}
 use Rattle.pact_rules.specs.Tables.{header_entry}
-use Rattle.pact_rules.specs.Holding.{entry_holds}
+use Rattle.pact_rules.specs.Matching.{entry_holds}
 use Rattle.pact_file.specs.Pact.{Header, Interaction}
 use Rattle.pact_file.specs.Parts.{status_in, body_in, headers_found}
 use Rattle.pact_file.specs.Rules.{IsRulesOf}
@@ -35,7 +35,8 @@ pub record Meets (x : Interaction) (r : Reply) : Type 0 where
   pub status : (n : ℕ) × (status_in x.response ≡ Some n) × (status_sent r.response ≡ Some n)
   pub rules : Rules
   pub has_rules : IsRulesOf x.response rules
-  pub headers : (h : Header) → HasHeader x.response h → (sent : List ℕ) × HasHeader r.response (record { name = h.name; value = sent }) × FitsHeader rules h sent
+  pub headers : (h : Header) → HasHeader x.response h
+      → (sent : List ℕ) × HasHeader r.response (record { name = h.name; value = sent }) × FitsHeader rules h sent
   pub body : MeetsBody rules (body_in x.response) (body_in r.response)
 
 -- the rules of an interaction have a pattern, in an entry of its body or of a header

@@ -13,6 +13,9 @@ pub record Reply : Type 0 where
   pub states : List State
   pub response : Data
 
+abbrev pub reply_with : List ℕ → List State → Data → Reply
+reply_with description states response = record { description = description; states = states; response = response }
+
 -- the status, which has to be there
 unfoldable pub status_sent : Data → Option ℕ
 status_sent response = option_and_then status_at (get (codes "status") response)
@@ -20,5 +23,7 @@ status_sent response = option_and_then status_at (get (codes "status") response)
 -- how the logic stores a reply
 abbrev pub reply_code : Coded Reply
 reply_code =
-    code_by (List ℕ × (List State × Data)) (coded× (coded_list coded_ℕ) (coded× (coded_list state_code) data_code)) (λ r. (r.description, (r.states, r.response)))
+    code_by (List ℕ × (List State × Data))
+    (coded× (coded_list coded_ℕ) (coded× (coded_list state_code) data_code))
+    (λ r. (r.description, (r.states, r.response)))
     (λ p. record { description = p.0; states = p.1.0; response = p.1.1 }) (λ _. refl)

@@ -1,27 +1,21 @@
--- The replies of a file, or its first fault (this project's own choice): no JSON, no tree, no object, no list, then reply by
--- reply its parts, and last two replies for one interaction.
+-- The replies of a file, or its first fault (this project's own choice): no JSON, no tree, no object, no list, then
+-- reply by reply its parts, and last two replies for one interaction.
 use Rattle.std.specs.Prelude.{◌≡◌, ◌⊎◌, ℕ, List, [], ◌∷◌, Result, Ok, Err}
 use Rattle.serde_json.specs.Data.{Data}
-use Rattle.pact_file.specs.Headers.{HasHeaders, LacksHeaders}
-use Rattle.pact_file.specs.Pact.{Header}
+use Rattle.pact_file.specs.Headers.{HeadersRead}
 use Rattle.pact_rules.specs.Lists.{OneOf}
 use Rattle.pact_rules.specs.Reading.{just, ◌>>=◌, EachRead}
 use Rattle.reply_check.specs.Recorded.{Reply as Recorded}
 use Rattle.reply_check.specs.ReplyParts.{file_of, items_of, at, parts_at}
 use Rattle.reply_check.specs.declared.fault.RepliesFault.{RepliesFault}
 use Rattle.reply_check.specs.declared.fault.RepliesFault.TheVariants.{SameReplyTwice}
-use Rattle.reply_check.specs.declared.fault.Part.TheVariants.{Headers}
-
--- the headers of the reply i
-abbrev pub HeadersRead : ℕ → Data → Result (List Header) RepliesFault → Type 0
-HeadersRead i response (Ok headers) = HasHeaders response headers
-HeadersRead i response (Err fault) = LacksHeaders response × (fault ≡ at i Headers)
+use Rattle.pact_file.specs.declared.fault.Part.TheVariants.{Headers}
 
 -- a reply, in the order of its tests
 unfoldable pub ReplyRead : ℕ → Data → Result Recorded RepliesFault → Type 0
 ReplyRead i d = do
   reply ← just (parts_at i d)
-  headers ← HeadersRead i reply.response
+  headers ← HeadersRead (at i Headers) reply.response
   just (Ok reply)
 
 -- two replies for one interaction: of one description and one list of states

@@ -1,5 +1,5 @@
--- Which interactions of a pact fail by the replies that were recorded (this project's own choice). Replies stand in the order
--- of their file, interactions in that of the normal pact; places are counted from 0.
+-- Which interactions of a pact fail by the replies that were recorded (this project's own choice). Replies stand in
+-- the order of their file, interactions in that of the normal pact; indices are counted from 0.
 use Rattle.std.specs.Prelude.{◌≡◌, ◌↔◌, ◌<◌, ℕ, List, [], ◌∷◌, Some, slice_get, ⊤}
 use Rattle.std.specs.List.{AllByRecursion}
 use Rattle.pact_file.specs.Pact.{Interaction}
@@ -18,7 +18,7 @@ IsKnown interactions r = OneOf (λ x. BelongsTo x r) interactions
 abbrev pub AreKnown : List Interaction → List Reply → Type 0
 AreKnown interactions replies = AllByRecursion (λ r. IsKnown interactions r) replies
 
--- the reply at this place belongs to no interaction, and each before it does to one
+-- the reply at this index belongs to no interaction, and each before it does to one
 pub record IsFirstUnknown (interactions : List Interaction) (replies : List Reply) (i : ℕ) : Type 0 where
   pub reply : Reply
   pub stands : slice_get replies i ≡ Some reply
@@ -29,7 +29,7 @@ pub record IsFirstUnknown (interactions : List Interaction) (replies : List Repl
 abbrev pub Passes : List Reply → Interaction → Type 0
 Passes replies x = OneOf (λ r. BelongsTo x r × Meets x r) replies
 
--- the interaction at this place has no reply, or its reply doesn't meet it
+-- the interaction at this index has no reply, or its reply doesn't meet it
 abbrev pub Fails : List Interaction → List Reply → ℕ → Type 0
 Fails interactions replies i = (x : Interaction) × (slice_get interactions i ≡ Some x) × ¬ Passes replies x
 
@@ -37,10 +37,10 @@ abbrev pub IsAscending : List ℕ → Type 0
 IsAscending [] = ⊤
 IsAscending (i ∷ is) = AllByRecursion (λ j. i < j) is × IsAscending is
 
--- just the places of the failing interactions, ascending
-pub record AreFailing (interactions : List Interaction) (replies : List Reply) (places : List ℕ) : Type 0 where
-  pub ascending : IsAscending places
-  pub failing : (i : ℕ) → IsIn i places ↔ Fails interactions replies i
+-- just the indices of the failing interactions, ascending
+pub record AreFailing (interactions : List Interaction) (replies : List Reply) (indices : List ℕ) : Type 0 where
+  pub ascending : IsAscending indices
+  pub failing : (i : ℕ) → IsIn i indices ↔ Fails interactions replies i
 
 -- an interaction that has a reply has a pattern
 abbrev pub UsesPattern : List Interaction → List Reply → Type 0

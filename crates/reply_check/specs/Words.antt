@@ -1,5 +1,6 @@
 -- The texts of faults: a number, and where it helps a place (this project's own choice).
-use Rattle.std.specs.Prelude.{ℕ, List, [], ◌++◌, codes, decimal}
+use Rattle.std.specs.Prelude.{ℕ, List, ◌++◌, codes, decimal}
+use Rattle.pact_file.specs.Words.{part_text}
 use Rattle.pact_rules.specs.declared.tree.TreeFault.{TreeFault}
 use Rattle.pact_rules.specs.declared.tree.TreeFault.TheVariants as tree_fault
 use Rattle.reply_check.specs.declared.fault.RepliesFault.{RepliesFault}
@@ -8,17 +9,6 @@ use Rattle.reply_check.specs.declared.fault.CheckFault.{CheckFault}
 use Rattle.reply_check.specs.declared.fault.CheckFault.TheVariants as check_fault
 use Rattle.reply_check.specs.declared.fault.Place.{Place}
 use Rattle.reply_check.specs.declared.fault.Place.TheVariants.{File, Replies, Reply}
-use Rattle.reply_check.specs.declared.fault.Part.{Part}
-use Rattle.reply_check.specs.declared.fault.Part.TheVariants.{Whole, Description, States, Response, Status, Headers}
-
--- nothing of a reply as a whole
-abbrev pub part_text : Part → List ℕ
-part_text Whole = []
-part_text Description = codes ".description"
-part_text States = codes ".providerStates"
-part_text Response = codes ".response"
-part_text Status = codes ".status"
-part_text Headers = codes ".headers"
 
 abbrev pub place_text : Place → List ℕ
 place_text File = codes "file"
@@ -38,7 +28,7 @@ number_text (replies_fault.Tree fault) = tree_text fault
 number_text replies_fault.SameReplyTwice = codes "4"
 number_text replies_fault.Memory = codes "5"
 
--- `replies 2 replies[1].status`; want of memory is `memory`
+-- `replies 2 replies[1].status`; out of memory is `memory`
 abbrev pub replies_text : RepliesFault → List ℕ
 replies_text replies_fault.NotJson = codes "replies " ++ number_text replies_fault.NotJson
 replies_text (replies_fault.Shape place) = codes "replies " ++ number_text (replies_fault.Shape place)

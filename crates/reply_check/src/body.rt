@@ -1,18 +1,18 @@
 //! Whether a reply's body meets the one that is expected.
 
-ghost use Rattle.std.specs.Prelude.{◌≡◌, ◌↔◌, true, IfOk, IfErr, IsTrue, option_map};
+ghost use Rattle.std.specs.Prelude.{◌≡◌, ◌↔◌, true, IfOk, IfErr, IsTrue};
 ghost use Rattle.pact_rules.specs.Rules.{has_regex};
-ghost use Rattle.pact_rules.specs.TreeView.{tree_view};
-ghost use Rattle.pact_rules.specs.declared.holding.MatchFault.TheVariants.{Pattern};
+ghost use Rattle.pact_rules.specs.TreeView.{tree_view, optional_view};
+ghost use Rattle.pact_rules.specs.declared.matching.MatchFault.TheVariants.{Pattern};
 ghost use Rattle.reply_check.specs.Bodies.{is_empty as is_empty_of, MeetsBody};
 
 use crate::fit::{are_alike, fits};
 use pact_rules::{MatchFault, RuleTable, Tree};
 use std::alloc::Global;
 
-/// Whether a reply's body meets the expected one: none asks for nothing, null and the empty text for no body or the same,
-/// and any other must be there and fit at the root. `Memory` comes for want of memory alone, `Pattern` only where the table
-/// has a Regex matcher whose pattern is refused.
+/// Whether a reply's body meets the expected one: none asks for nothing, null and the empty text for no body or the
+/// same, and any other must be there and fit at the root. `Memory` comes only where no memory is left, `Pattern` only
+/// where the table has a Regex matcher whose pattern is refused.
 #[tactic(auto, using(crate::proofs::BodyLemmas::meets_any, crate::proofs::BodyLemmas::meets_none, crate::proofs::BodyLemmas::meets_empty, crate::proofs::BodyLemmas::meets_full))]
 pub fn body_meets(
     alloc: Global,
@@ -20,7 +20,8 @@ pub fn body_meets(
     expected: Option<&Tree>,
     actual: Option<&Tree>,
 ) -> Result<bool, MatchFault>
-    ensures value { IfOk result (λ b. IsTrue b ↔ MeetsBody rules.now (option_map (λ t. tree_view t.now) expected.entry) (option_map (λ t. tree_view t.now) actual.entry)) }
+    ensures value { IfOk result (λ b. IsTrue b
+        ↔ MeetsBody rules.now (optional_view expected.entry) (optional_view actual.entry)) }
     ensures pattern { IfErr result (λ e. e ≡ Pattern → has_regex rules.now ≡ true) }
 {
     let Some(expected) = expected else {

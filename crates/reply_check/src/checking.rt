@@ -2,10 +2,11 @@
 
 ghost use Rattle.std.specs.Prelude.{◌≡◌, ◌↔◌, ℕ, [], IfOk, IfErr, IsTrue, MatchOption};
 ghost use Rattle.pact_rules.specs.Lists.{OneOf};
-ghost use Rattle.pact_rules.specs.declared.holding.MatchFault.TheVariants.{Pattern};
+ghost use Rattle.pact_rules.specs.declared.matching.MatchFault.TheVariants.{Pattern};
 ghost use Rattle.reply_check.specs.declared.fault.CheckFault.TheVariants as fault;
 ghost use Rattle.reply_check.specs.Meeting.{Meets, HasPattern};
-ghost use Rattle.reply_check.specs.Verdicts.{BelongsTo, IsKnown, AreKnown, IsFirstUnknown, Passes, AreFailing, UsesPattern};
+ghost use Rattle.reply_check.specs.Verdicts.{BelongsTo, IsKnown, AreKnown, IsFirstUnknown, Passes, AreFailing};
+ghost use Rattle.reply_check.specs.Verdicts.{UsesPattern};
 
 use crate::fault::CheckFault;
 use crate::meet::meets;
@@ -15,7 +16,7 @@ use pact_rules::MatchFault;
 use std::alloc::Global;
 use std::marker::Model;
 
-/// Which interactions of a pact fail: their places, from 0 and ascending, in the order of the normal pact.
+/// Which interactions of a pact fail: their indices from 0, ascending, in the order of the normal pact.
 #[derive(Debug, Drop)]
 pub struct Verdict {
     failing: Vec<usize>,
@@ -30,7 +31,7 @@ impl Model for Verdict {
 }
 
 impl Verdict {
-    /// The places of the interactions that fail.
+    /// The indices of the interactions that fail.
     pub fn failing(&self) -> &[usize]
         ensures { result.now ≡ self.now }
     {
@@ -53,22 +54,26 @@ impl Verdict {
     }
 }
 
-/// Checks recorded replies against a pact. An interaction fails where it has no reply or its reply doesn't meet it: the status
-/// is equal, each expected header was sent with a value that fits, and the body meets the expected one. `UnknownInteraction`
-/// is looked at first; `Pattern` comes only where an interaction that has a reply has a pattern that is refused, and `Memory`
-/// for want of memory alone. (This project's own choice.)
+/// Checks recorded replies against a pact. An interaction fails where it has no reply or its reply doesn't meet it:
+/// the status is equal, each expected header was sent with a value that fits, and the body meets the expected one.
+/// `UnknownInteraction` is looked at first; `Pattern` comes only where an interaction that has a reply has a pattern
+/// that is refused, and `Memory` only where no memory is left. (This project's own choice.)
 pub fn check(alloc: Global, pact: &Pact, replies: &Replies) -> Result<Verdict, CheckFault>
-    ensures verdict { IfOk result (λ v. AreKnown pact.now.interactions replies.now × AreFailing pact.now.interactions replies.now v) }
-    ensures unknown { IfErr result (λ e. (i : ℕ) → e ≡ fault.UnknownInteraction i → IsFirstUnknown pact.now.interactions replies.now i) }
-    ensures pattern { IfErr result (λ e. e ≡ fault.Pattern → AreKnown pact.now.interactions replies.now × UsesPattern pact.now.interactions replies.now) }
+    ensures verdict { IfOk result (λ v. AreKnown pact.now.interactions replies.now
+        × AreFailing pact.now.interactions replies.now v) }
+    ensures unknown { IfErr result (λ e. (i : ℕ) → e ≡ fault.UnknownInteraction i
+        → IsFirstUnknown pact.now.interactions replies.now i) }
+    ensures pattern { IfErr result (λ e. e ≡ fault.Pattern
+        → AreKnown pact.now.interactions replies.now
+        × UsesPattern pact.now.interactions replies.now) }
 {
     let interactions = pact.interactions();
     let replies = replies.as_slice();
-    if let Some(place) = first_unknown(interactions, replies) {
-        return Err(CheckFault::UnknownInteraction(place));
+    if let Some(index) = first_unknown(interactions, replies) {
+        return Err(CheckFault::UnknownInteraction(index));
     }
     Ok(Verdict {
-        failing: failing_places(alloc, interactions, replies)?,
+        failing: failing_indices(alloc, interactions, replies)?,
     })
 }
 
@@ -89,13 +94,14 @@ fn is_known(interactions: &[Interaction], reply: &Reply) -> bool
     false
 }
 
-/// The place of the first reply that belongs to no interaction.
+/// The index of the first reply that belongs to no interaction.
 fn first_unknown(interactions: &[Interaction], replies: &[Reply]) -> Option<usize>
-    ensures { MatchOption result (AreKnown interactions.now replies.now) (λ i. IsFirstUnknown interactions.now replies.now i) }
+    ensures { MatchOption result (AreKnown interactions.now replies.now)
+        (λ i. IsFirstUnknown interactions.now replies.now i) }
 {
-    for (place, reply) in replies.iter().enumerate() {
+    for (index, reply) in replies.iter().enumerate() {
         if !is_known(interactions, reply) {
-            return Some(place);
+            return Some(index);
         }
     }
     None
@@ -103,8 +109,10 @@ fn first_unknown(interactions: &[Interaction], replies: &[Reply]) -> Option<usiz
 
 /// Whether a reply belongs to an interaction and meets it.
 fn answers(alloc: Global, interaction: &Interaction, reply: &Reply) -> Result<bool, MatchFault>
-    ensures value { IfOk result (λ b. IsTrue b ↔ (BelongsTo interaction.now reply.now × Meets interaction.now reply.now)) }
-    ensures pattern { IfErr result (λ e. e ≡ Pattern → BelongsTo interaction.now reply.now × HasPattern interaction.now) }
+    ensures value { IfOk result (λ b. IsTrue b
+        ↔ (BelongsTo interaction.now reply.now × Meets interaction.now reply.now)) }
+    ensures pattern { IfErr result (λ e. e ≡ Pattern
+        → BelongsTo interaction.now reply.now × HasPattern interaction.now) }
 {
     if !belongs(interaction, reply) {
         return Ok(false);
@@ -114,7 +122,8 @@ fn answers(alloc: Global, interaction: &Interaction, reply: &Reply) -> Result<bo
 
 fn passes(alloc: Global, interaction: &Interaction, replies: &[Reply]) -> Result<bool, MatchFault>
     ensures value { IfOk result (λ b. IsTrue b ↔ Passes replies.now interaction.now) }
-    ensures pattern { IfErr result (λ e. e ≡ Pattern → OneOf (λ r. BelongsTo interaction.now r) replies.now × HasPattern interaction.now) }
+    ensures pattern { IfErr result (λ e. e ≡ Pattern
+        → OneOf (λ r. BelongsTo interaction.now r) replies.now × HasPattern interaction.now) }
 {
     for reply in replies {
         if answers(alloc, interaction, reply)? {
@@ -124,18 +133,18 @@ fn passes(alloc: Global, interaction: &Interaction, replies: &[Reply]) -> Result
     Ok(false)
 }
 
-fn failing_places(
+fn failing_indices(
     alloc: Global,
     interactions: &[Interaction],
     replies: &[Reply],
 ) -> Result<Vec<usize>, MatchFault>
-    ensures places { IfOk result (λ v. AreFailing interactions.now replies.now v.items) }
+    ensures indices { IfOk result (λ v. AreFailing interactions.now replies.now v.items) }
     ensures pattern { IfErr result (λ e. e ≡ Pattern → UsesPattern interactions.now replies.now) }
 {
     let mut failing = Vec::new(alloc);
-    for (place, interaction) in interactions.iter().enumerate() {
+    for (index, interaction) in interactions.iter().enumerate() {
         if !passes(alloc, interaction, replies)? {
-            failing.push(place)?;
+            failing.push(index)?;
         }
     }
     Ok(failing)

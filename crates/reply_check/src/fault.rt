@@ -3,44 +3,10 @@
 ghost use Rattle.std.specs.Prelude.{◌≡◌, string_bytes, IfOk};
 ghost use Rattle.reply_check.specs.Words.{number_text};
 
+use pact_file::Part;
 use pact_rules::{MatchFault, TreeFault};
 use std::alloc::{AllocError, AllocFailed, Global};
 use std::fmt;
-
-/// A part of a reply.
-#[derive(Clone, Copy, Debug, PartialEq, Eq)]
-pub enum Part {
-    /// The reply isn't an object.
-    Whole,
-    /// `description` isn't a text.
-    Description,
-    /// `providerStates`, or `providerState` in its place, isn't as it must be.
-    States,
-    /// `response` isn't an object.
-    Response,
-    /// The response's `status` isn't a whole number from 100 to 999.
-    Status,
-    /// The response's `headers` aren't texts or lists of texts, or two names are equal without ASCII case.
-    Headers,
-}
-
-impl fmt::Display for Part {
-    ghost use Rattle.std.specs.Prelude.{Some};
-    ghost use Rattle.reply_check.specs.Words.{part_text};
-
-    ghost output = { λ part. Some (part_text part) };
-
-    fn fmt<W: fmt::Write>(&self, f: &mut fmt::Formatter<W>) -> fmt::Result {
-        match self {
-            Part::Whole => f.write_str(""),
-            Part::Description => f.write_str(".description"),
-            Part::States => f.write_str(".providerStates"),
-            Part::Response => f.write_str(".response"),
-            Part::Status => f.write_str(".status"),
-            Part::Headers => f.write_str(".headers"),
-        }
-    }
-}
 
 /// Where a file hasn't the shape of replies.
 #[derive(Clone, Copy, Debug, PartialEq, Eq)]
@@ -49,7 +15,7 @@ pub enum Place {
     File,
     /// `replies` isn't a list.
     Replies,
-    /// The reply at a place in the list, from 0, and its part.
+    /// The reply at an index of the list, from 0, and its part, which is never `Request`.
     Reply(usize, Part),
 }
 
@@ -68,8 +34,8 @@ impl fmt::Display for Place {
     }
 }
 
-/// The first fault of a file of replies, in this order: no JSON, no tree, no object, no list, reply by reply its parts, and
-/// two replies for one interaction.
+/// The first fault of a file of replies, in this order: no JSON, no tree, no object, no list, reply by reply its
+/// parts, and two replies for one interaction.
 #[derive(Clone, Copy, Debug, PartialEq, Eq)]
 pub enum RepliesFault {
     /// The bytes aren't UTF-8, or no JSON text, or nest over 127 deep.
@@ -124,8 +90,8 @@ impl fmt::Display for RepliesFault {
 }
 
 impl RepliesFault {
-    /// The fault's number and, where it helps, the place behind a space: what follows `replies ` in the fault's text. An error
-    /// is want of memory.
+    /// The fault's number and, where it helps, the place behind a space: what follows `replies ` in the fault's text.
+    /// An error means out of memory.
     pub fn number(&self, alloc: Global) -> Result<String, AllocError>
         ensures { IfOk result (λ s. string_bytes s ≡ number_text self.now) }
     {
@@ -156,7 +122,7 @@ impl<T: Drop> From<AllocFailed<T>> for RepliesFault {
 /// Why replies can't be checked against a pact. An unknown interaction is looked for first.
 #[derive(Clone, Copy, Debug, PartialEq, Eq)]
 pub enum CheckFault {
-    /// The reply at this place in the file, from 0, belongs to no interaction of the pact; it is the first such reply.
+    /// The reply at this index of the file, from 0, belongs to no interaction of the pact; it is the first such reply.
     UnknownInteraction(usize),
     /// The crate `regex` refuses a pattern of an interaction that has a reply, for another cause than memory.
     Pattern,
@@ -180,9 +146,9 @@ impl fmt::Display for CheckFault {
 }
 
 impl From<MatchFault> for CheckFault {
-    ghost use Rattle.reply_check.specs.Told.{check_told};
+    ghost use Rattle.reply_check.specs.PartsView.{as_check_fault};
 
-    ghost from_gives = { λ fault e. e ≡ check_told fault };
+    ghost from_gives = { λ fault e. e ≡ as_check_fault fault };
 
     fn from(fault: MatchFault) -> CheckFault {
         match fault {

@@ -5,28 +5,31 @@ ghost use Rattle.std.specs.List.{list_any, list_all};
 ghost use Rattle.pact_rules.specs.Trees.{no_nodes, no_fields};
 ghost use Rattle.pact_paths.specs.Paths.{Location};
 ghost use Rattle.pact_paths.specs.Locations.{step_view};
-ghost use Rattle.pact_rules.specs.Rules.{is_regex, has_regex};
+ghost use Rattle.pact_rules.specs.Rules.{is_regex, entry_has_regex, has_regex};
 ghost use Rattle.pact_rules.specs.RuleViews.{matcher_view, entry_view};
-ghost use Rattle.pact_rules.specs.TreeView.{tree_view, list_view, object_view};
-ghost use Rattle.pact_rules.specs.Walks.{walk};
-ghost use Rattle.pact_rules.specs.Holding.{holds as holds_of, entry_holds as entry_holds_of};
-ghost use Rattle.pact_rules.specs.declared.holding.MatchFault.TheVariants.{Pattern};
+ghost use Rattle.pact_rules.specs.TreeView.{tree_view, optional_view, list_view, object_view};
+ghost use Rattle.pact_rules.specs.Walks.{HasReached, WasStarted};
+ghost use Rattle.pact_rules.specs.Matching.{holds as holds_of, entry_holds as entry_holds_of};
+ghost use Rattle.pact_rules.specs.declared.matching.MatchFault.TheVariants.{Pattern};
 ghost use Rattle.reply_check.specs.Fitting.{Fits, are_alike as are_alike_of};
-ghost use Rattle.reply_check.specs.Computed.{fits as fits_of, items_fit as items_fit_of, members_fit as members_fit_of, meets as meets_of, example, expected_items, expected_fields};
+ghost use Rattle.reply_check.specs.Computed.{fits as fits_of, items_fit as items_fit_of};
+ghost use Rattle.reply_check.specs.Computed.{members_fit as members_fit_of, meets_here as meets_here_of, example};
+ghost use Rattle.reply_check.specs.Computed.{expected_items, expected_fields};
 
 use pact_rules::{Alive, Entry, MatchFault, Matcher, RuleTable, Step, Tree, has_keys_of, holds};
 use std::alloc::Global;
 use std::collections::BTreeMap;
 
-/// Whether the actual tree fits the expected one at the root, with the table's rules for bodies. `Memory` comes for want of
-/// memory alone, `Pattern` only where the table has a Regex matcher whose pattern is refused.
+/// Whether the actual tree fits the expected one at the root, with the table's rules for bodies. `Memory` comes only
+/// where no memory is left, `Pattern` only where the table has a Regex matcher whose pattern is refused.
 pub fn fits(
     alloc: Global,
     rules: &RuleTable,
     expected: &Tree,
     actual: &Tree,
 ) -> Result<bool, MatchFault>
-    ensures value { IfOk result (λ b. IsTrue b ↔ Fits rules.now [] (tree_view expected.now) (tree_view actual.now)) }
+    ensures value { IfOk result (λ b. IsTrue b
+        ↔ Fits rules.now [] (tree_view expected.now) (tree_view actual.now)) }
     ensures pattern { IfErr result (λ e. e ≡ Pattern → has_regex rules.now ≡ true) }
 {
     let alive = rules.start(alloc)?;
@@ -43,11 +46,12 @@ fn fits_here(
     actual: &Tree,
     expected: &Tree,
 ) -> Result<bool, MatchFault>
-    requires started { (at : Location) × (alive.now ≡ walk rules.now.body at) }
-    ensures value { IfOk result (λ b. (at : Location) → alive.now ≡ walk rules.now.body at → b ≡ fits_of rules.now at (tree_view expected.now) (tree_view actual.now)) }
+    requires started { WasStarted rules.now alive.now }
+    ensures value { IfOk result (λ b. (at : Location) → HasReached rules.now alive.now at
+        → b ≡ fits_of rules.now at (tree_view expected.now) (tree_view actual.now)) }
     ensures pattern { IfErr result (λ e. e ≡ Pattern → has_regex rules.now ≡ true) }
 {
-    if !meets(alloc, rules, alive, expected, actual)? {
+    if !meets_here(alloc, rules, alive, expected, actual)? {
         return Ok(false);
     }
     match actual {
@@ -74,8 +78,10 @@ fn fits_below(
     actual: &Tree,
     expected: &Tree,
 ) -> Result<bool, MatchFault>
-    requires started { (at : Location) × (alive.now ≡ walk rules.now.body at) }
-    ensures value { IfOk result (λ b. (at : Location) → alive.now ≡ walk rules.now.body at → b ≡ fits_of rules.now (at ++ step_view step.now ∷ []) (tree_view expected.now) (tree_view actual.now)) }
+    requires started { WasStarted rules.now alive.now }
+    ensures value { IfOk result (λ b. (at : Location) → HasReached rules.now alive.now at
+        → b ≡ fits_of rules.now (at ++ step_view step.now ∷ [])
+        (tree_view expected.now) (tree_view actual.now)) }
     ensures pattern { IfErr result (λ e. e ≡ Pattern → has_regex rules.now ≡ true) }
 {
     let below = alive.step(alloc, rules, step)?;
@@ -83,7 +89,8 @@ fn fits_below(
 }
 
 fn as_list(tree: &Tree) -> Option<&Vec<Tree>>
-    ensures { MatchOption result (expected_items (tree_view tree.now) ≡ no_nodes) (λ v. expected_items (tree_view tree.now) ≡ list_view v.now.items) }
+    ensures { MatchOption result (expected_items (tree_view tree.now) ≡ no_nodes)
+        (λ v. expected_items (tree_view tree.now) ≡ list_view v.now.items) }
 {
     match tree {
         Tree::List(items) => Some(items),
@@ -92,7 +99,8 @@ fn as_list(tree: &Tree) -> Option<&Vec<Tree>>
 }
 
 fn as_object(tree: &Tree) -> Option<&BTreeMap<String, Tree>>
-    ensures { MatchOption result (expected_fields (tree_view tree.now) ≡ no_fields) (λ m. expected_fields (tree_view tree.now) ≡ object_view m.now.entries) }
+    ensures { MatchOption result (expected_fields (tree_view tree.now) ≡ no_fields)
+        (λ m. expected_fields (tree_view tree.now) ≡ object_view m.now.entries) }
 {
     match tree {
         Tree::Object(members) => Some(members),
@@ -100,7 +108,7 @@ fn as_object(tree: &Tree) -> Option<&BTreeMap<String, Tree>>
     }
 }
 
-/// Whether each item fits the expected one at its place, or else the first expected one.
+/// Whether each item fits the expected one of its index, or else the first expected one.
 #[cycle(fitting)]
 fn items_fit(
     alloc: Global,
@@ -109,13 +117,15 @@ fn items_fit(
     actual: &Vec<Tree>,
     expected: &Vec<Tree>,
 ) -> Result<bool, MatchFault>
-    requires started { (at : Location) × (alive.now ≡ walk rules.now.body at) }
-    ensures value { IfOk result (λ b. (at : Location) → alive.now ≡ walk rules.now.body at → b ≡ items_fit_of rules.now at (list_view expected.now.items) 0 (list_view actual.now.items)) }
+    requires started { WasStarted rules.now alive.now }
+    ensures value { IfOk result (λ b. (at : Location) → HasReached rules.now alive.now at
+        → b ≡ items_fit_of rules.now at
+        (list_view expected.now.items) 0 (list_view actual.now.items)) }
     ensures pattern { IfErr result (λ e. e ≡ Pattern → has_regex rules.now ≡ true) }
 {
-    for (place, item) in actual.iter().enumerate() {
-        if let Some(example) = example_at(expected, place) {
-            let step = Step::Index(place as u64);
+    for (index, item) in actual.iter().enumerate() {
+        if let Some(example) = example_at(expected, index) {
+            let step = Step::Index(index as u64);
             if !fits_below(alloc, rules, alive, &step, item, example)? {
                 return Ok(false);
             }
@@ -133,8 +143,10 @@ fn members_fit(
     actual: &BTreeMap<String, Tree>,
     expected: &BTreeMap<String, Tree>,
 ) -> Result<bool, MatchFault>
-    requires started { (at : Location) × (alive.now ≡ walk rules.now.body at) }
-    ensures value { IfOk result (λ b. (at : Location) → alive.now ≡ walk rules.now.body at → b ≡ members_fit_of rules.now at (object_view expected.now.entries) (object_view actual.now.entries)) }
+    requires started { WasStarted rules.now alive.now }
+    ensures value { IfOk result (λ b. (at : Location) → HasReached rules.now alive.now at
+        → b ≡ members_fit_of rules.now at
+        (object_view expected.now.entries) (object_view actual.now.entries)) }
     ensures pattern { IfErr result (λ e. e ≡ Pattern → has_regex rules.now ≡ true) }
 {
     for (key, member) in actual.iter() {
@@ -148,29 +160,30 @@ fn members_fit(
     Ok(true)
 }
 
-/// The expected item at a place, or the first where the example is shorter.
-fn example_at(expected: &Vec<Tree>, place: usize) -> Option<&Tree>
-    ensures { option_map (λ t. tree_view t.now) result ≡ example (list_view expected.now.items) place }
+/// The expected item at an index, or the first where the example is shorter.
+fn example_at(expected: &Vec<Tree>, index: usize) -> Option<&Tree>
+    ensures { optional_view result ≡ example (list_view expected.now.items) index }
 {
-    expected.get(place).or(expected.first())
+    expected.get(index).or(expected.first())
 }
 
 /// Whether the two meet at this node: the chosen entry holds, or they are alike where none is.
-fn meets(
+fn meets_here(
     alloc: Global,
     rules: &RuleTable,
     alive: &Alive,
     expected: &Tree,
     actual: &Tree,
 ) -> Result<bool, MatchFault>
-    requires started { (at : Location) × (alive.now ≡ walk rules.now.body at) }
-    ensures value { IfOk result (λ b. (at : Location) → alive.now ≡ walk rules.now.body at → b ≡ meets_of rules.now at (tree_view expected.now) (tree_view actual.now)) }
+    requires started { WasStarted rules.now alive.now }
+    ensures value { IfOk result (λ b. (at : Location) → HasReached rules.now alive.now at
+        → b ≡ meets_here_of rules.now at (tree_view expected.now) (tree_view actual.now)) }
     ensures pattern { IfErr result (λ e. e ≡ Pattern → has_regex rules.now ≡ true) }
 {
     match alive.chosen(rules) {
-        Some(place) => {
+        Some(index) => {
             let own_place = alive.own_place(rules);
-            entry_holds(alloc, rules.entry(place), expected, actual, own_place)
+            entry_holds(alloc, rules.entry(index), expected, actual, own_place)
         }
         None => Ok(are_alike(expected, actual)),
     }
@@ -184,8 +197,9 @@ pub(crate) fn entry_holds(
     actual: &Tree,
     own_place: bool,
 ) -> Result<bool, MatchFault>
-    ensures value { IfOk result (λ b. b ≡ entry_holds_of (entry_view entry.now) (tree_view expected.now) (tree_view actual.now) own_place) }
-    ensures pattern { IfErr result (λ e. e ≡ Pattern → list_any is_regex (entry_view entry.now).matchers ≡ true) }
+    ensures value { IfOk result (λ b. b ≡ entry_holds_of (entry_view entry.now)
+        (tree_view expected.now) (tree_view actual.now) own_place) }
+    ensures pattern { IfErr result (λ e. e ≡ Pattern → entry_has_regex (entry_view entry.now) ≡ true) }
 {
     if entry.any {
         any_holds(alloc, &entry.matchers, expected, actual, own_place)
@@ -201,8 +215,11 @@ fn any_holds(
     actual: &Tree,
     own_place: bool,
 ) -> Result<bool, MatchFault>
-    ensures value { IfOk result (λ b. b ≡ list_any (λ m. holds_of m (tree_view expected.now) (tree_view actual.now) own_place) (map matcher_view matchers.now)) }
-    ensures pattern { IfErr result (λ e. e ≡ Pattern → list_any is_regex (map matcher_view matchers.now) ≡ true) }
+    ensures value { IfOk result (λ b. b ≡ list_any
+        (λ m. holds_of m (tree_view expected.now) (tree_view actual.now) own_place)
+        (map matcher_view matchers.now)) }
+    ensures pattern { IfErr result (λ e. e ≡ Pattern
+        → list_any is_regex (map matcher_view matchers.now) ≡ true) }
 {
     for matcher in matchers {
         if holds(alloc, matcher, expected, actual, own_place)? {
@@ -219,8 +236,11 @@ fn all_hold(
     actual: &Tree,
     own_place: bool,
 ) -> Result<bool, MatchFault>
-    ensures value { IfOk result (λ b. b ≡ list_all (λ m. holds_of m (tree_view expected.now) (tree_view actual.now) own_place) (map matcher_view matchers.now)) }
-    ensures pattern { IfErr result (λ e. e ≡ Pattern → list_any is_regex (map matcher_view matchers.now) ≡ true) }
+    ensures value { IfOk result (λ b. b ≡ list_all
+        (λ m. holds_of m (tree_view expected.now) (tree_view actual.now) own_place)
+        (map matcher_view matchers.now)) }
+    ensures pattern { IfErr result (λ e. e ≡ Pattern
+        → list_any is_regex (map matcher_view matchers.now) ≡ true) }
 {
     for matcher in matchers {
         if !holds(alloc, matcher, expected, actual, own_place)? {

@@ -2,7 +2,7 @@
 
 ghost use Rattle.std.specs.Prelude.{◌≡◌, ◌↔◌, true, IfOk, IfErr, IsTrue};
 ghost use Rattle.pact_rules.specs.Rules.{has_regex};
-ghost use Rattle.pact_rules.specs.declared.holding.MatchFault.TheVariants.{Pattern};
+ghost use Rattle.pact_rules.specs.declared.matching.MatchFault.TheVariants.{Pattern};
 ghost use Rattle.reply_check.specs.Meeting.{FitsHeader};
 ghost use Rattle.reply_check.specs.Sent.{IsFit, WasSent, WereSent};
 
@@ -63,8 +63,8 @@ fn is_fit(
     value_fits(alloc, rules, expected, sent.value())
 }
 
-/// Whether a value that was sent fits: the matchers of the header's entry hold on the two texts as read, or without an entry
-/// the values are the same but for what doesn't count.
+/// Whether a value that was sent fits: the matchers of the header's entry hold on the two texts as read, or without
+/// an entry the values are the same but for what doesn't count.
 fn value_fits(
     alloc: Global,
     rules: &RuleTable,

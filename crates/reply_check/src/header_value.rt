@@ -2,13 +2,16 @@
 
 ghost use Rattle.std.specs.Prelude.{◌≡◌, ◌↔◌, IfOk, IsTrue, string_bytes};
 ghost use Rattle.std.specs.Str.{str_to_ascii_lowercase};
-ghost use Rattle.reply_check.specs.HeaderValues.{is_blank as is_blank_byte, without_end as without_end_of, parts_between, counted as counted_of, before_semicolon as before_semicolon_of, is_plain_type as is_plain_type_of, HasValue};
+ghost use Rattle.reply_check.specs.HeaderValues.{is_blank as is_blank_byte, without_end as without_end_of};
+ghost use Rattle.reply_check.specs.HeaderValues.{parts_between, counting_parts};
+ghost use Rattle.reply_check.specs.HeaderValues.{before_semicolon as before_semicolon_of};
+ghost use Rattle.reply_check.specs.HeaderValues.{is_plain_type as is_plain_type_of, HasValue};
 
 use std::alloc::{AllocError, Global};
 
-/// Whether what was sent under a header's name, which is in lower case, is the expected value where no rule speaks of it:
-/// spaces and tabs at both ends and behind commas don't count; and where a media type is expected without parameters, those
-/// of the reply and the case of letters don't count either. An error is want of memory.
+/// Whether what was sent under a header's name, which is in lower case, is the expected value where no rule speaks of
+/// it: spaces and tabs at both ends and behind commas don't count; and where a media type is expected without
+/// parameters, those of the reply and the case of letters don't count either. An error means out of memory.
 pub(crate) fn has_value(
     alloc: Global,
     name: &str,
@@ -45,16 +48,16 @@ fn in_lower_case(alloc: Global, text: &str) -> Result<String, AllocError>
 
 /// Whether what counts of two values is the same.
 fn are_same(alloc: Global, expected: &[u8], sent: &[u8]) -> Result<bool, AllocError>
-    ensures { IfOk result (λ b. IsTrue b ↔ (counted_of expected.now ≡ counted_of sent.now)) }
+    ensures { IfOk result (λ b. IsTrue b ↔ (counting_parts expected.now ≡ counting_parts sent.now)) }
 {
-    let expected = counted(alloc, expected)?;
-    let sent = counted(alloc, sent)?;
+    let expected = counting_bytes(alloc, expected)?;
+    let sent = counting_bytes(alloc, sent)?;
     Ok(expected.as_slice() == sent.as_slice())
 }
 
 /// The value without the blanks that don't count.
-fn counted(alloc: Global, value: &[u8]) -> Result<Vec<u8>, AllocError>
-    ensures { IfOk result (λ v. parts_between v.items ≡ counted_of value.now) }
+fn counting_bytes(alloc: Global, value: &[u8]) -> Result<Vec<u8>, AllocError>
+    ensures { IfOk result (λ v. parts_between v.items ≡ counting_parts value.now) }
 {
     let mut kept = Vec::new(alloc);
     let mut begins = true;
@@ -80,9 +83,9 @@ fn without_end(value: &[u8]) -> &[u8]
 fn before_semicolon(value: &[u8]) -> &[u8]
     ensures { result.now ≡ before_semicolon_of value.now }
 {
-    for (place, byte) in value.iter().enumerate() {
+    for (index, byte) in value.iter().enumerate() {
         if *byte == b';' {
-            return &value[..place];
+            return &value[..index];
         }
     }
     value

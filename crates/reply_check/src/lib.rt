@@ -1,4 +1,5 @@
-//! Whether recorded replies meet a pact: status, headers and bodies against those that are expected, with the rules of a response.
+//! Whether recorded replies meet a pact: status, headers and bodies against those that are expected, with the rules
+//! of a response.
 #![tactic(auto)]
 
 mod body;
@@ -14,13 +15,9 @@ mod reply;
 
 pub use body::body_meets;
 pub use checking::{Verdict, check};
-pub use fault::{CheckFault, Part, Place, RepliesFault};
+pub use fault::{CheckFault, Place, RepliesFault};
 pub use fit::fits;
 pub use meet::meets;
+pub use pact_file::Part;
 pub use read::read_replies;
 pub use reply::{Replies, Reply};
-
-#[cfg(test)]
-mod plain_fit;
-#[cfg(test)]
-mod tests;

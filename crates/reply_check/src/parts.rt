@@ -13,11 +13,14 @@ ghost use Rattle.pact_rules.specs.Reading.{GivesOne};
 ghost use Rattle.reply_check.specs.Recorded.{status_sent};
 ghost use Rattle.reply_check.specs.Replies.{ReplyRead};
 ghost use Rattle.reply_check.specs.ReplyParts.{parts_at};
-ghost use Rattle.reply_check.specs.Told.{parts_view};
+ghost use Rattle.reply_check.specs.PartsView.{parts_view};
 
-use crate::fault::{Part, Place, RepliesFault};
+use crate::fault::{Place, RepliesFault};
 use crate::reply::Reply;
-use pact_file::{Header, State, body_of, read_headers, read_states, read_status, states_text};
+use pact_file::{
+    Header, Part, State, body_of, object_member, read_headers, read_states, read_status,
+    states_text, text_member,
+};
 use serde_json::Value;
 use std::alloc::{AllocError, Global};
 
@@ -31,25 +34,22 @@ struct Parts {
 }
 
 fn text_in<'a>(value: &'a Value, key: &str, place: Place) -> Result<&'a str, RepliesFault>
-    ensures { Gives Memory (λ s. s.now) result (ok_or (text_at key.now (view value.now)) (Shape place)) }
+    ensures { Gives Memory (λ s. s.now) result
+        (ok_or (text_at key.now (view value.now)) (Shape place)) }
 {
-    value
-        .get(key)
-        .and_then(Value::as_str)
-        .ok_or(RepliesFault::Shape(place))
+    text_member(value, key).ok_or(RepliesFault::Shape(place))
 }
 
 fn object_in<'a>(value: &'a Value, key: &str, place: Place) -> Result<&'a Value, RepliesFault>
-    ensures { Gives Memory (λ v. view v.now) result (ok_or (object_at key.now (view value.now)) (Shape place)) }
+    ensures { Gives Memory (λ v. view v.now) result
+        (ok_or (object_at key.now (view value.now)) (Shape place)) }
 {
-    value
-        .get(key)
-        .filter(|found| found.is_object())
-        .ok_or(RepliesFault::Shape(place))
+    object_member(value, key).ok_or(RepliesFault::Shape(place))
 }
 
 fn states_in(alloc: Global, value: &Value, place: Place) -> Result<Vec<State>, RepliesFault>
-    ensures { Gives Memory (λ v. v.items) result (ok_or (states_at (view value.now)) (Shape place)) }
+    ensures { Gives Memory (λ v. v.items) result
+        (ok_or (states_at (view value.now)) (Shape place)) }
 {
     read_states(alloc, value)?.ok_or(RepliesFault::Shape(place))
 }
@@ -62,7 +62,8 @@ fn status_of(response: &Value) -> Option<u16>
 }
 
 fn status_in(response: &Value, place: Place) -> Result<u16, RepliesFault>
-    ensures { Gives Memory (λ n. n) result (ok_or (status_sent (view response.now)) (Shape place)) }
+    ensures { Gives Memory (λ n. n) result
+        (ok_or (status_sent (view response.now)) (Shape place)) }
 {
     status_of(response).ok_or(RepliesFault::Shape(place))
 }
@@ -87,7 +88,7 @@ fn read_parts(alloc: Global, index: usize, value: &Value) -> Result<Parts, Repli
     })
 }
 
-fn finished(alloc: Global, parts: Parts, headers: Vec<Header>) -> Result<Reply, AllocError>
+fn reply_of(alloc: Global, parts: Parts, headers: Vec<Header>) -> Result<Reply, AllocError>
     requires states { IsSound 97 (states_data parts.states.items) }
     requires response { IsSound 97 (view parts.response) }
     requires status { status_sent (view parts.response) ≡ Some parts.status }
@@ -107,7 +108,7 @@ fn finished(alloc: Global, parts: Parts, headers: Vec<Header>) -> Result<Reply, 
     })
 }
 
-/// The reply that stands at this place, or its first fault.
+/// The reply at this index, or its first fault.
 pub(crate) fn read_reply(alloc: Global, index: usize, value: &Value) -> Result<Reply, RepliesFault>
     requires { IsSound 98 (view value.now) }
     ensures { GivesOne Memory (λ r. r) result (ReplyRead index (view value.now)) }
@@ -115,6 +116,6 @@ pub(crate) fn read_reply(alloc: Global, index: usize, value: &Value) -> Result<R
     let parts = read_parts(alloc, index, value)?;
     match read_headers(alloc, &parts.response)? {
         None => Err(RepliesFault::Shape(Place::Reply(index, Part::Headers))),
-        Some(headers) => Ok(finished(alloc, parts, headers)?),
+        Some(headers) => Ok(reply_of(alloc, parts, headers)?),
     }
 }

@@ -1,61 +1,42 @@
 //! Reading a file of recorded replies.
 
 ghost use Rattle.std.specs.Prelude.{◌≡◌, ◌↔◌, map, IfOk, IsTrue};
-ghost use Rattle.std.specs.Option.{ok_or};
 ghost use Rattle.serde_json.specs.View.{view, items_view};
-ghost use Rattle.pact_rules.specs.TreeReading.{tree_in};
 ghost use Rattle.pact_rules.specs.Outcome.{Gives};
 ghost use Rattle.pact_file.specs.Sound.{AreSound};
-ghost use Rattle.reply_check.specs.declared.fault.RepliesFault.TheVariants.{Memory, NotJson};
+ghost use Rattle.reply_check.specs.declared.fault.RepliesFault.TheVariants.{Memory};
 ghost use Rattle.pact_rules.specs.Reading.{EachRead, GivesOne};
-ghost use Rattle.reply_check.specs.ReplyParts.{json_of, tree_told, file_of, items_of};
+ghost use Rattle.reply_check.specs.ReplyParts.{as_file_fault, file_of, items_of};
 ghost use Rattle.reply_check.specs.Replies.{ReplyRead, HasRivals, RepliesRead};
 
 use crate::fault::{Place, RepliesFault};
 use crate::parts::read_reply;
 use crate::reply::{Replies, Reply};
-use pact_rules::{TreeFault, tree_of};
+use pact_file::{FileFault, list_member, read_object};
 use serde_json::Value;
 use std::alloc::{AllocError, Global};
 use std::collections::BTreeSet;
 
-#[tactic(auto, unfolding(crate::specs::ReplyParts::json_of))]
-fn read_json(alloc: Global, bytes: &[u8]) -> Result<Value, RepliesFault>
-    ensures { Gives Memory view result (ok_or (json_of bytes.now) NotJson) }
+/// A fault of a file as that of a file of replies.
+fn file_fault(fault: FileFault) -> RepliesFault
+    ensures { result ≡ as_file_fault fault }
 {
-    match Value::from_slice(alloc, bytes) {
-        Ok(value) => Ok(value),
-        Err(e) => {
-            if e.is_memory() {
-                Err(RepliesFault::Memory)
-            } else {
-                Err(RepliesFault::NotJson)
-            }
-        }
+    match fault {
+        FileFault::NotJson => RepliesFault::NotJson,
+        FileFault::Tree(fault) => RepliesFault::Tree(fault),
+        FileFault::NotObject => RepliesFault::Shape(Place::File),
+        FileFault::Memory => RepliesFault::Memory,
     }
 }
 
-fn check_tree(alloc: Global, value: &Value) -> Result<(), RepliesFault>
-    ensures { Gives Memory (λ x. x) result (tree_told (tree_in (view value.now))) }
-{
-    match tree_of(alloc, value) {
-        Ok(_) => Ok(()),
-        Err(TreeFault::NotWhole) => Err(RepliesFault::Tree(TreeFault::NotWhole)),
-        Err(TreeFault::TooDeep) => Err(RepliesFault::Tree(TreeFault::TooDeep)),
-        Err(TreeFault::Memory) => Err(RepliesFault::Memory),
-    }
-}
-
-#[tactic(auto, unfolding(crate::specs::ReplyParts::file_of))]
+#[tactic(auto, using(pact_file::proofs::Objects::fault_as))]
 fn read_file(alloc: Global, bytes: &[u8]) -> Result<Value, RepliesFault>
     ensures { Gives Memory view result (file_of bytes.now) }
 {
-    let value = read_json(alloc, bytes)?;
-    check_tree(alloc, &value)?;
-    if !value.is_object() {
-        return Err(RepliesFault::Shape(Place::File));
+    match read_object(alloc, bytes) {
+        Ok(file) => Ok(file),
+        Err(fault) => Err(file_fault(fault)),
     }
-    Ok(value)
 }
 
 /// The values that stand as replies.
@@ -63,9 +44,7 @@ fn read_file(alloc: Global, bytes: &[u8]) -> Result<Value, RepliesFault>
 fn items_in(file: &Value) -> Result<&Vec<Value>, RepliesFault>
     ensures { Gives Memory (λ v. map view v.now.items) result (items_of (view file.now)) }
 {
-    file.get("replies")
-        .and_then(Value::as_array)
-        .ok_or(RepliesFault::Shape(Place::Replies))
+    list_member(file, "replies").ok_or(RepliesFault::Shape(Place::Replies))
 }
 
 fn read_list(alloc: Global, items: &[Value]) -> Result<Vec<Reply>, RepliesFault>
@@ -79,7 +58,7 @@ fn read_list(alloc: Global, items: &[Value]) -> Result<Vec<Reply>, RepliesFault>
     Ok(found)
 }
 
-/// Whether two replies are for one interaction. An error is want of memory.
+/// Whether two replies are for one interaction. An error means out of memory.
 fn have_rivals(alloc: Global, replies: &[Reply]) -> Result<bool, AllocError>
     ensures { IfOk result (λ b. IsTrue b ↔ HasRivals replies.now) }
 {
@@ -92,10 +71,10 @@ fn have_rivals(alloc: Global, replies: &[Reply]) -> Result<bool, AllocError>
     Ok(false)
 }
 
-/// Reads recorded replies: an object whose `replies` is a list, each with a text `description`, provider states as in a pact
-/// file, and an object `response` with a `status` from 100 to 999, headers as in a pact file and an optional `body`. No two
-/// have one description and one list of states. The bytes are any. Each fault is the first one in the order of
-/// `RepliesFault`'s documentation. `Memory` comes for want of memory alone. (This project's own choice.)
+/// Reads recorded replies: an object whose `replies` is a list, each with a text `description`, provider states as in
+/// a pact file, and an object `response` with a `status` from 100 to 999, headers as in a pact file and an optional
+/// `body`. No two have one description and one list of states. The bytes are any. Each fault is the first one in the
+/// order of `RepliesFault`'s documentation. `Memory` comes only where no memory is left. (This project's own choice.)
 pub fn read_replies(alloc: Global, bytes: &[u8]) -> Result<Replies, RepliesFault>
     ensures { GivesOne Memory (λ r. r) result (RepliesRead bytes.now) }
 {

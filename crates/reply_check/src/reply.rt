@@ -2,7 +2,7 @@
 
 ghost use Rattle.std.specs.Prelude.{◌≡◌, ◌&&◌, Some, bytes_eq, option_map};
 ghost use Rattle.serde_json.specs.Written.{compact_text};
-ghost use Rattle.pact_rules.specs.TreeView.{tree_view};
+ghost use Rattle.pact_rules.specs.TreeView.{optional_view};
 ghost use Rattle.pact_file.specs.Headers.{HasHeaders};
 ghost use Rattle.pact_file.specs.Pact.{states_data};
 ghost use Rattle.pact_file.specs.Parts.{body_in};
@@ -30,16 +30,17 @@ impl Model for Reply {
     ghost use Rattle.std.specs.Prelude.{string_bytes, option_map};
     ghost use Rattle.serde_json.specs.View.{view as seen};
     ghost use Rattle.pact_rules.specs.TreeView.{tree_view};
-    ghost use Rattle.reply_check.specs.Recorded.{Reply as Stands, reply_code};
+    ghost use Rattle.reply_check.specs.Recorded.{Reply as ReplyModel, reply_code, reply_with};
     ghost use Rattle.reply_check.specs.Filled.{IsFilled};
 
-    ghost Value = { Stands };
+    ghost Value = { ReplyModel };
 
     ghost coded = { reply_code };
 
-    ghost view = { λ a. record { description = string_bytes a.description; states = a.states.items; response = seen a.response } };
+    ghost view = { λ a. reply_with (string_bytes a.description) a.states.items (seen a.response) };
 
-    ghost invariant = { λ a. IsFilled (record { description = string_bytes a.description; states = a.states.items; response = seen a.response })
+    ghost invariant = { λ a. IsFilled
+        (reply_with (string_bytes a.description) a.states.items (seen a.response))
         a.status a.headers.items (option_map tree_view a.body) (string_bytes a.states_text) };
 }
 
@@ -61,7 +62,8 @@ impl Reply {
 
     /// Whether the reply is for the interaction of this description and of provider states with this text.
     pub(crate) fn is_for(&self, description: &str, states_text: &str) -> bool
-        ensures same { result ≡ (bytes_eq self.now.description description.now && bytes_eq (compact_text (states_data self.now.states)) states_text.now) }
+        ensures same { result ≡ (bytes_eq self.now.description description.now
+            && bytes_eq (compact_text (states_data self.now.states)) states_text.now) }
         ensures sound { IsSound 97 (states_data self.now.states) }
     {
         self.description.as_str() == description && self.states_text.as_str() == states_text
@@ -83,7 +85,7 @@ impl Reply {
 
     /// The body, where there is one.
     pub fn body(&self) -> Option<&Tree>
-        ensures { option_map (λ t. tree_view t.now) result ≡ body_in self.now.response }
+        ensures { optional_view result ≡ body_in self.now.response }
     {
         self.body.as_ref()
     }
@@ -98,10 +100,10 @@ pub struct Replies {
 impl Model for Replies {
     ghost use Rattle.std.specs.Prelude.{List};
     ghost use Rattle.std.specs.Coded.{coded_list};
-    ghost use Rattle.reply_check.specs.Recorded.{Reply as Stands, reply_code};
+    ghost use Rattle.reply_check.specs.Recorded.{Reply as ReplyModel, reply_code};
     ghost use Rattle.reply_check.specs.Replies.{HasRivals};
 
-    ghost Value = { List Stands };
+    ghost Value = { List ReplyModel };
 
     ghost coded = { coded_list reply_code };
 

@@ -3,7 +3,7 @@ use Rattle.std.proofs.lemmas.Result.{err_from_is_err_and}
 use Rattle.serde_json.specs.View.{view}
 use Rattle.pact_file.specs.Interactions.{at}
 use Rattle.pact_file.specs.Normal.{InteractionRead}
-use Rattle.pact_file.specs.Told.{parts_view}
+use Rattle.pact_file.specs.PartsView.{parts_view}
 use Rattle.pact_file.specs.declared.fault.Part.TheVariants.{Headers}
 use Rattle.pact_file.proofs.ReadLemmas.{parts_sound}
 use Rattle.pact_file.proofs.interaction.read_interaction.Goals as goal
@@ -26,14 +26,14 @@ returns-in_err-rules-in-Some c =
     rw (p.1, p.2) (λ memory.
     (Ok (parts_view c.in_ok-parts.parts), c.in_ok-parts.ensures.parts, (Ok c.in-Some.headers.items, rw c.in-Some.is at c.in_ok-read_headers.ensures, (Err c.in_err-rules-in-Some.field-0.0, c.in_err-rules-in-Some.ensures.read memory, refl))))
 
-pub finished-requires-clause-sound : goal.finished-requires-clause-sound
-finished-requires-clause-sound c = parts_sound c.args.index (view c.args.value.now) (parts_view c.in_ok-parts.parts) c.requires c.in_ok-parts.ensures.parts
+pub interaction_of-requires-clause-sound : goal.interaction_of-requires-clause-sound
+interaction_of-requires-clause-sound c = parts_sound c.args.index (view c.args.value.now) (parts_view c.in_ok-parts.parts) c.requires c.in_ok-parts.ensures.parts
 
 pub returns-in-None : goal.returns-in-None
 unfolding InteractionRead
 returns-in-None c = λ memory. (Ok (parts_view c.in_ok-parts.parts), c.in_ok-parts.ensures.parts, (Err (at c.args.index Headers), (rw c.in-None.is at c.in_ok-read_headers.ensures, refl), refl))
 
-pub returns-in_ok-finished-in-Some : goal.returns-in_ok-finished-in-Some
+pub returns-in_ok-interaction_of-in-Some : goal.returns-in_ok-interaction_of-in-Some
 unfolding InteractionRead
-returns-in_ok-finished-in-Some c =
-    (Ok (parts_view c.in_ok-parts.parts), c.in_ok-parts.ensures.parts, (Ok c.in-Some.headers.items, rw c.in-Some.is at c.in_ok-read_headers.ensures, (Ok c.in_ok-rules-in-Some.rules, c.in_ok-rules-in-Some.ensures.read, ap Ok (sym c.in_ok-finished-in-Some.ensures))))
+returns-in_ok-interaction_of-in-Some c =
+    (Ok (parts_view c.in_ok-parts.parts), c.in_ok-parts.ensures.parts, (Ok c.in-Some.headers.items, rw c.in-Some.is at c.in_ok-read_headers.ensures, (Ok c.in_ok-rules-in-Some.rules, c.in_ok-rules-in-Some.ensures.read, ap Ok (sym c.in_ok-interaction_of-in-Some.ensures))))

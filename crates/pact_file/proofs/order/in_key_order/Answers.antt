@@ -3,22 +3,22 @@ use Rattle.std.specs.Option.{ok_or}
 use Rattle.std.proofs.lemmas.Result.{err_from_is_err_and}
 use Rattle.pact_file.specs.Pact.{key_cmp}
 use Rattle.pact_file.specs.declared.fault.PactFault.TheVariants.{SameInteraction}
-use Rattle.pact_file.specs.Placing.{placed, same_text}
-use Rattle.pact_file.proofs.Places.{order_goes, order_ends, order_done, none_left}
+use Rattle.pact_file.specs.Sorting.{insert_sorted, same_text}
+use Rattle.pact_file.proofs.SortingSteps.{order_goes, order_ends, order_done, none_left}
 use Rattle.pact_file.proofs.Steps.{found_ok, lacks_err}
 use Rattle.pact_file.proofs.order.in_key_order.Goals as goal
 
 pub loop-new-preserved : goal.loop-new-preserved
 loop-new-preserved c =
     let l = c.loop-new in
-    order_goes key_cmp same_text l.list.items l.new-iterator.rest.items c.in-Some.new c.next.new.self.rest.items c.place.new.list.items _ c.in-Some.ensures.steps.0 (found_ok _ SameInteraction _ c.in_ok-place.ensures) l.invariant
+    order_goes key_cmp same_text l.list.items l.new-iterator.rest.items c.in-Some.new c.next.new.self.rest.items c.insert_interaction.new.list.items _ c.in-Some.ensures.steps.0 (found_ok _ SameInteraction _ c.in_ok-insert_interaction.ensures) l.invariant
 
-pub returns-in_err-place : goal.returns-in_err-place
-returns-in_err-place c =
+pub returns-in_err-insert_interaction : goal.returns-in_err-insert_interaction
+returns-in_err-insert_interaction c =
     let l = c.loop-new in
     let p = err_from_is_err_and c.from_residual.result c.from_residual.ensures.1 in
     rw (p.1, p.2) (λ memory.
-    let h = lacks_err (placed key_cmp same_text c.in-Some.new l.list.items) SameInteraction _ (c.in_err-place.ensures memory) in
+    let h = lacks_err (insert_sorted key_cmp same_text c.in-Some.new l.list.items) SameInteraction _ (c.in_err-insert_interaction.ensures memory) in
     ap (λ o. ok_or o SameInteraction) (order_ends key_cmp same_text l.list.items l.new-iterator.rest.items c.in-Some.new c.next.new.self.rest.items _ c.in-Some.ensures.steps.0 h.0 l.invariant)
     ∙ ap Err h.1)
 

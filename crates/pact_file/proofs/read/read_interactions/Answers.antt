@@ -4,7 +4,7 @@ use Rattle.std.proofs.lemmas.Result.{err_from_is_err_and}
 use Rattle.serde_json.specs.View.{view, items_view}
 use Rattle.pact_file.specs.Normal.{InteractionRead, InteractionsRead}
 use Rattle.pact_file.specs.Pact.{key_cmp}
-use Rattle.pact_file.specs.Placing.{placed_all, same_text}
+use Rattle.pact_file.specs.Sorting.{insert_all_sorted, same_text}
 use Rattle.pact_rules.specs.Reading.{EachRead}
 use Rattle.pact_file.specs.Sound.{AreSound}
 use Rattle.pact_file.specs.declared.fault.PactFault.TheVariants.{SameInteraction}
@@ -38,4 +38,4 @@ returns c =
     let xs = c.in_ok-found.found.items in
     let read : EachRead InteractionRead 0 (map view vs) (Ok xs) = subst (λ ys. EachRead InteractionRead 0 (map view ys) (Ok xs)) c.as_slice.ensures.value c.in_ok-found.ensures in
     let good = each_sound 0 (map view vs) xs (items_sound (view c.args.file.now) (map view vs) c.requires c.in_ok-items.ensures) read in
-    from_gives (λ v. v.items) c.in_key_order.result (ok_or (placed_all key_cmp same_text [] xs) SameInteraction) _ (λ a is. (Ok (map view vs), c.in_ok-items.ensures, (Ok xs, read, ordered xs a good is))) c.in_key_order.ensures
+    from_gives (λ v. v.items) c.in_key_order.result (ok_or (insert_all_sorted key_cmp same_text [] xs) SameInteraction) _ (λ a is. (Ok (map view vs), c.in_ok-items.ensures, (Ok xs, read, ordered xs a good is))) c.in_key_order.ensures

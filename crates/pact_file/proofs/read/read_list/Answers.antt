@@ -1,7 +1,8 @@
-use Rattle.std.proofs.Common.{◌≡◌, ◌+◌, ◌∷◌, [], drop, map, ap, sym, ◌∙◌, subst, arith}
+use Rattle.std.proofs.Common.{List, ◌≡◌, ◌+◌, ◌∷◌, [], drop, map, ap, sym, ◌∙◌, subst, arith}
 use Rattle.std.proofs.lemmas.List.{drop_more, drop_all}
 use Rattle.std.proofs.lemmas.Result.{err_from_is_err_and}
 use Rattle.serde_json.specs.View.{view}
+use Rattle.pact_file.specs.Pact.{Interaction}
 use Rattle.pact_file.specs.Normal.{InteractionRead}
 use Rattle.pact_rules.proofs.Each.{Completes, goes_on, ends, is_done, begins}
 use Rattle.pact_file.proofs.ReadLemmas.{value_sound}
@@ -28,7 +29,7 @@ loop-index-preserved c =
     let xs = c.args.items.now in
     let x = c.index-items-index.result in
     let here : drop l.index xs ≡ x ∷ drop (l.index + 1) xs = drop_more xs l.index x (omega arith) ∙ ap (λ y. y ∷ drop (l.index + 1) xs) (sym c.index-items-index.is) in
-    subst (λ front. Completes InteractionRead front (l.index + 1) (map view (drop (l.index + 1) xs)) (map view xs)) (sym c.in_ok-push.ensures.items)
+    subst (λ front. Completes InteractionRead front (l.index + 1) (map view (drop (l.index + 1) xs)) (map view xs)) (sym {A = List Interaction} c.in_ok-push.ensures.items)
     (goes_on InteractionRead l.found.items l.index (view x) (map view (drop l.index xs)) (map view (drop (l.index + 1) xs)) (map view xs) c.in_ok-read_interaction.field-0 (ap (map view) here) c.in_ok-read_interaction.ensures l.invariant)
 
 pub returns : goal.returns

@@ -3,7 +3,7 @@ use Rattle.std.proofs.lemmas.Result.{err_from_is_err_and}
 use Rattle.serde_json.specs.View.{view}
 use Rattle.pact_file.specs.Normal.{Normal}
 use Rattle.pact_file.specs.Pact.{Pact, normal_text}
-use Rattle.pact_file.proofs.ReadLemmas.{file_sound, interactions_whole, too_long, short_enough, made}
+use Rattle.pact_file.proofs.ReadLemmas.{file_sound, interactions_whole, too_long, short_enough, same_pact}
 use Rattle.pact_file.proofs.read.read_pact.Goals as goal
 
 pub returns-in_err-file : goal.returns-in_err-file
@@ -60,7 +60,7 @@ returns c =
     let text : string_bytes c.in_ok-text.text ≡ normal_text p =
     subst (λ ys. string_bytes c.in_ok-text.text ≡ normal_text (record { consumer = c.in_ok-consumer.consumer.now; provider = c.in_ok-consumer.provider.now; interactions = ys })) c.as_slice.ensures.value c.in_ok-text.ensures in
     let same : p ≡ record { consumer = string_bytes c.in_ok-from_str.field-0; provider = string_bytes c.in_ok-from_str-2.field-0; interactions = xs } =
-    made xs (sym c.in_ok-from_str.ensures.ok) (sym c.in_ok-from_str-2.ensures.ok) in (
+    same_pact xs (sym c.in_ok-from_str.ensures.ok) (sym c.in_ok-from_str-2.ensures.ok) in (
       Ok (view c.in_ok-file.file),
       c.in_ok-file.ensures,
       (

@@ -4,7 +4,7 @@ use Rattle.pact_rules.specs.RuleViews.{matcher_view}
 use Rattle.pact_rules.specs.Trees.{node}
 use Rattle.pact_rules.specs.TreeView.{tree_view, list_view}
 use Rattle.pact_rules.specs.RuleReading.{no_pattern, matchers_at}
-use Rattle.pact_rules.specs.Holding.{is_pattern}
+use Rattle.pact_rules.specs.Matching.{is_pattern}
 use Rattle.pact_rules.proofs.PatternLemmas.{with_front, front_more, none_more}
 use Rattle.pact_rules.proofs.rule_reader.matchers_of.Goals as goal
 

@@ -5,7 +5,7 @@ use Rattle.pact_rules.specs.RuleViews.{rule_view}
 use Rattle.pact_rules.proofs.ChoiceLemmas.{as_candidate}
 use Rattle.pact_rules.proofs.table.best_of.Given as goal
 
--- the best of the rules from the place on
-abbrev pub invariant-loop-place : goal.invariant-loop-place
-invariant-loop-place l =
-    l.found ≡ as_candidate l.place (map step_view l.location) (best (drop l.place (map rule_view l.rules)) (map step_view l.location))
+-- the best of the rules from the index on
+abbrev pub invariant-loop-index : goal.invariant-loop-index
+invariant-loop-index l =
+    l.found ≡ as_candidate l.index (map step_view l.location) (best (drop l.index (map rule_view l.rules)) (map step_view l.location))

@@ -1,5 +1,5 @@
 use Rattle.std.proofs.Common.{◌∙◌, string_bytes, sym, ap}
-use Rattle.pact_rules.specs.Holding.{is_pattern}
+use Rattle.pact_rules.specs.Matching.{is_pattern}
 use Rattle.pact_rules.specs.TreeView.{tree_view, object_view}
 use Rattle.pact_rules.specs.Outcome.{◌>>=◌}
 use Rattle.pact_rules.specs.RuleReading.{no_pattern}

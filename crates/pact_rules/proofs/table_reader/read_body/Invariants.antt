@@ -1,5 +1,5 @@
 use Rattle.std.proofs.Common.{◌≡◌, Err}
-use Rattle.pact_rules.specs.Holding.{is_pattern}
+use Rattle.pact_rules.specs.Matching.{is_pattern}
 use Rattle.pact_rules.specs.Rules.{rule_text}
 use Rattle.pact_rules.specs.RuleViews.{rule_view, body_rules}
 use Rattle.pact_rules.specs.RuleReading.{no_pattern}

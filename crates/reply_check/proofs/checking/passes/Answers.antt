@@ -1,16 +1,16 @@
 use Rattle.std.proofs.Common.{rules, ◌≡◌, arith}
 use Rattle.pact_rules.specs.Lists.{OneOf}
-use Rattle.pact_rules.specs.declared.holding.MatchFault.TheVariants.{Pattern}
+use Rattle.pact_rules.specs.declared.matching.MatchFault.TheVariants.{Pattern}
 use Rattle.reply_check.specs.Meeting.{Meets, HasPattern}
 use Rattle.reply_check.specs.Recorded.{Reply}
 use Rattle.reply_check.specs.Verdicts.{BelongsTo}
-use Rattle.reply_check.proofs.Deciding.{yes, no, not_so, one_steps, one_stops, one_ends}
+use Rattle.reply_check.proofs.Deciding.{decides_true, decides_false, decides_not, one_steps, one_stops, one_ends}
 use Rattle.reply_check.proofs.VerdictLemmas.{belongs_at}
 use Rattle.reply_check.proofs.checking.passes.Goals as goal
 
 pub returns-then-branch-clause-value : goal.returns-then-branch-clause-value
 returns-then-branch-clause-value c =
-    yes (one_stops (λ (r : Reply). BelongsTo c.args.interaction.now r × Meets c.args.interaction.now r) c.args.replies.now c.loop-reply.reply-index c.reply-item.result (omega arith) c.reply-item.is
+    decides_true (one_stops (λ (r : Reply). BelongsTo c.args.interaction.now r × Meets c.args.interaction.now r) c.args.replies.now c.loop-reply.reply-index c.reply-item.result (omega arith) c.reply-item.is
     (c.in_ok-answers.ensures.value.0 c.if-branch.true) c.loop-reply.invariant)
 
 pub returns-in_err-answers-clause-pattern : goal.returns-in_err-answers-clause-pattern
@@ -23,7 +23,7 @@ returns-in_err-answers-clause-pattern c =
 pub loop-reply-preserved : goal.loop-reply-preserved
 loop-reply-preserved c =
     one_steps (λ (r : Reply). BelongsTo c.args.interaction.now r × Meets c.args.interaction.now r) c.args.replies.now c.loop-reply.reply-index c.reply-item.result (omega arith) c.reply-item.is
-    (not_so c.in_ok-answers.field-0 c.if-branch.false c.in_ok-answers.ensures.value) c.loop-reply.invariant
+    (decides_not c.in_ok-answers.field-0 c.if-branch.false c.in_ok-answers.ensures.value) c.loop-reply.invariant
 
 pub returns-clause-value : goal.returns-clause-value
-returns-clause-value c = no (one_ends (λ (r : Reply). BelongsTo c.args.interaction.now r × Meets c.args.interaction.now r) c.args.replies.now c.loop-reply.reply-index (omega arith) c.loop-reply.invariant)
+returns-clause-value c = decides_false (one_ends (λ (r : Reply). BelongsTo c.args.interaction.now r × Meets c.args.interaction.now r) c.args.replies.now c.loop-reply.reply-index (omega arith) c.loop-reply.invariant)

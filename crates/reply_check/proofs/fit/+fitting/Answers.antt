@@ -1,17 +1,17 @@
 use Rattle.std.proofs.Common.{◌∙◌, true, false, Some, None, string_bytes, refl, sym, ap}
 use Rattle.pact_rules.specs.TreeView.{tree_view, object_view}
-use Rattle.pact_rules.proofs.HoldingLemmas.{Entry}
+use Rattle.pact_rules.proofs.MatchingLemmas.{Entry}
 use Rattle.reply_check.specs.Computed.{members_fit}
 use Rattle.reply_check.proofs.FitLemmas.{list_without_example, object_without_example, expected_at, not_expected, member_step, member_fits}
 use Rattle.reply_check.proofs.fit.+fitting.Goals as goal
 
 pub fits_here-returns-in-None-clause-value : goal.fits_here-returns-in-None-clause-value
 fits_here-returns-in-None-clause-value t c = λ at h.
-    list_without_example c.args.rules.now at (tree_view c.args.expected.now) c.args.actual.now c.in-List.items c.in-List.is (sym (c.in_ok-meets.ensures.value at h) ∙ c.if-not-branch.false) c.in-None.ensures
+    list_without_example c.args.rules.now at (tree_view c.args.expected.now) c.args.actual.now c.in-List.items c.in-List.is (sym (c.in_ok-meets_here.ensures.value at h) ∙ c.if-not-branch.false) c.in-None.ensures
 
 pub fits_here-returns-in-None-as_object-clause-value : goal.fits_here-returns-in-None-as_object-clause-value
 fits_here-returns-in-None-as_object-clause-value t c = λ at h.
-    object_without_example c.args.rules.now at (tree_view c.args.expected.now) c.args.actual.now c.in-Object.members c.in-Object.is (sym (c.in_ok-meets.ensures.value at h) ∙ c.if-not-branch.false) c.in-None-as_object.ensures
+    object_without_example c.args.rules.now at (tree_view c.args.expected.now) c.args.actual.now c.in-Object.members c.in-Object.is (sym (c.in_ok-meets_here.ensures.value at h) ∙ c.if-not-branch.false) c.in-None-as_object.ensures
 
 pub members_fit-returns-then-not-branch-clause-value : goal.members_fit-returns-then-not-branch-clause-value
 members_fit-returns-then-not-branch-clause-value t c = λ at h.

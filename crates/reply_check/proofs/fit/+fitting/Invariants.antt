@@ -1,17 +1,17 @@
 use Rattle.std.proofs.Common.{◌≡◌, drop}
 use Rattle.pact_paths.specs.Paths.{Location}
 use Rattle.pact_rules.specs.TreeView.{list_view, object_view}
-use Rattle.pact_rules.specs.Walks.{walk}
+use Rattle.pact_rules.specs.Walks.{HasReached}
 use Rattle.reply_check.specs.Computed.{items_fit, members_fit}
 use Rattle.reply_check.proofs.fit.+fitting.Given as goal
 
 -- all fit just where those that are left do
-abbrev pub invariant-items_fit-loop-place : goal.invariant-items_fit-loop-place
-invariant-items_fit-loop-place l =
+abbrev pub invariant-items_fit-loop-index : goal.invariant-items_fit-loop-index
+invariant-items_fit-loop-index l =
     let xs = list_view l.expected.items in
-    (at : Location) → l.alive ≡ walk l.rules.body at → items_fit l.rules at xs 0 (list_view l.actual.items) ≡ items_fit l.rules at xs l.place (list_view (drop l.place l.item-items))
+    (at : Location) → HasReached l.rules l.alive at → items_fit l.rules at xs 0 (list_view l.actual.items) ≡ items_fit l.rules at xs l.index (list_view (drop l.index l.item-items))
 
 abbrev pub invariant-members_fit-loop-key : goal.invariant-members_fit-loop-key
 invariant-members_fit-loop-key l =
     let fs = object_view l.expected.entries in
-    (at : Location) → l.alive ≡ walk l.rules.body at → members_fit l.rules at fs (object_view l.actual.entries) ≡ members_fit l.rules at fs (object_view l.key-iterator)
+    (at : Location) → HasReached l.rules l.alive at → members_fit l.rules at fs (object_view l.actual.entries) ≡ members_fit l.rules at fs (object_view l.key-iterator)

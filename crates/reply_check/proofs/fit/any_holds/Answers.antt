@@ -2,7 +2,7 @@ use Rattle.std.proofs.Common.{rules, ◌≡◌, true, map, arith}
 use Rattle.std.specs.List.{list_any}
 use Rattle.pact_rules.specs.Rules.{is_regex}
 use Rattle.pact_rules.specs.RuleViews.{matcher_view}
-use Rattle.pact_rules.specs.declared.holding.MatchFault.TheVariants.{Pattern}
+use Rattle.pact_rules.specs.declared.matching.MatchFault.TheVariants.{Pattern}
 use Rattle.reply_check.proofs.WalkLemmas.{regex_among}
 use Rattle.reply_check.proofs.fit.any_holds.Goals as goal
 

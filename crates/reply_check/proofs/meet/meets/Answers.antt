@@ -1,13 +1,13 @@
 use Rattle.std.proofs.Common.{option_map}
 use Rattle.pact_rules.specs.TreeView.{tree_view}
-use Rattle.reply_check.proofs.Deciding.{no, not_so}
+use Rattle.reply_check.proofs.Deciding.{decides_false, decides_not}
 use Rattle.reply_check.proofs.MeetLemmas.{headers_lack, meets_by_body}
 use Rattle.reply_check.proofs.meet.meets.Goals as goal
 
 pub returns-then-not-branch-clause-value : goal.returns-then-not-branch-clause-value
 returns-then-not-branch-clause-value c =
-    no (headers_lack c.args.interaction.now c.args.reply.now c.rules-rules.result.now c.headers.result.now c.headers-2.result.now c.rules-rules.ensures c.headers.ensures c.headers-2.ensures
-    (not_so c.in_ok-headers_meet.field-0 c.if-not-branch.true c.in_ok-headers_meet.ensures.value))
+    decides_false (headers_lack c.args.interaction.now c.args.reply.now c.rules-rules.result.now c.headers.result.now c.headers-2.result.now c.rules-rules.ensures c.headers.ensures c.headers-2.ensures
+    (decides_not c.in_ok-headers_meet.field-0 c.if-not-branch.true c.in_ok-headers_meet.ensures.value))
 
 pub returns-clause-value : goal.returns-clause-value
 returns-clause-value c =

@@ -1,5 +1,5 @@
 use Rattle.std.proofs.Common.{arith}
-use Rattle.reply_check.proofs.Deciding.{yes, no}
+use Rattle.reply_check.proofs.Deciding.{decides_true, decides_false}
 use Rattle.reply_check.proofs.RivalLemmas.{IsKeyOf, none_seen, rival_found, one_seen, all_seen}
 use Rattle.reply_check.proofs.read.have_rivals.Goals as goal
 
@@ -10,7 +10,7 @@ pub returns-then-not-branch : goal.returns-then-not-branch
 returns-then-not-branch c =
     let l = c.loop-reply in
     let key : IsKeyOf c.reply-item.result (c.description.result, c.states_text.result) = record { description = c.description.ensures; states_text = c.states_text.ensures.text; sound = c.states_text.ensures.sound } in
-    yes
+    decides_true
     (rival_found c.args.replies.now l.reply-index c.reply-item.result (c.description.result, c.states_text.result) l.seen c.in_ok-insert.field-0 (omega arith) c.reply-item.is key c.in_ok-insert.ensures.added l.invariant
     c.if-not-branch.true)
 
@@ -22,4 +22,4 @@ loop-reply-preserved c =
     c.insert.new.self c.if-not-branch.false c.in_ok-insert.ensures.updates
 
 pub returns : goal.returns
-returns c = no (all_seen c.args.replies.now c.loop-reply.reply-index c.loop-reply.seen (omega arith) c.loop-reply.invariant)
+returns c = decides_false (all_seen c.args.replies.now c.loop-reply.reply-index c.loop-reply.seen (omega arith) c.loop-reply.invariant)

@@ -5,7 +5,7 @@ use Rattle.pact_file.specs.Sound.{AreSound}
 use Rattle.pact_file.proofs.ReadLemmas.{values_sound}
 use Rattle.pact_rules.specs.Reading.{EachRead}
 use Rattle.reply_check.specs.Replies.{HasRivals, ReplyRead, RepliesRead}
-use Rattle.reply_check.proofs.Deciding.{not_so}
+use Rattle.reply_check.proofs.Deciding.{decides_not}
 use Rattle.reply_check.proofs.ReadLemmas.{file_sound, items_sound}
 use Rattle.reply_check.proofs.read.read_replies.Goals as goal
 
@@ -47,7 +47,7 @@ returns-then-branch c = λ memory.
     (Ok (view c.in_ok-file.file), c.in_ok-file.ensures, (Ok (map view vs), c.in_ok-items.ensures, (Ok rs, read, (rivals, refl))))
 
 pub invariant_of-result : goal.invariant_of-result
-invariant_of-result c = λ rivals. not_so c.in_ok-have_rivals.field-0 c.if-branch.false c.in_ok-have_rivals.ensures (subst HasRivals (sym c.as_slice-2.ensures.value) rivals)
+invariant_of-result c = λ rivals. decides_not c.in_ok-have_rivals.field-0 c.if-branch.false c.in_ok-have_rivals.ensures (subst HasRivals (sym c.as_slice-2.ensures.value) rivals)
 
 pub returns : goal.returns
 unfolding RepliesRead
@@ -55,5 +55,5 @@ returns c =
     let vs = c.in_ok-items.items.now.items in
     let rs = c.in_ok-found.found.items in
     let read : EachRead ReplyRead 0 (map view vs) (Ok rs) = subst (λ xs. EachRead ReplyRead 0 (map view xs) (Ok rs)) c.as_slice.ensures.value c.in_ok-found.ensures in
-    let apart : ¬ HasRivals rs = λ rivals. not_so c.in_ok-have_rivals.field-0 c.if-branch.false c.in_ok-have_rivals.ensures (subst HasRivals (sym c.as_slice-2.ensures.value) rivals) in
+    let apart : ¬ HasRivals rs = λ rivals. decides_not c.in_ok-have_rivals.field-0 c.if-branch.false c.in_ok-have_rivals.ensures (subst HasRivals (sym c.as_slice-2.ensures.value) rivals) in
     (Ok (view c.in_ok-file.file), c.in_ok-file.ensures, (Ok (map view vs), c.in_ok-items.ensures, (Ok rs, read, (apart, refl))))

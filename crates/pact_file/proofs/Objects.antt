@@ -1,0 +1,79 @@
+-- A file that is one object: its text as JSON, and that what is read is sound.
+use Rattle.std.proofs.Common.{◌≡◌, Bool, true, false, cond, is_some, nat_le, List, ℕ, Option, Some, None, Result, Ok, Err, refl, sym, ap, ◌∙◌, subst}
+use Rattle.std.proofs.lemmas.Str.{is_utf8-from_IsUtf8, IsUtf8-from_is_utf8}
+use Rattle.std.specs.Str.{IsUtf8, is_utf8}
+use Rattle.serde_json.specs.Data.{Data}
+use Rattle.serde_json.specs.Read.{read}
+use Rattle.std.specs.Prelude.{⊤}
+use Rattle.std.specs.Option.{ok_or}
+use Rattle.serde_json.specs.Data.{depth}
+use Rattle.serde_json.specs.Find.{as_object}
+use Rattle.pact_rules.proofs.Bridge.{no_float}
+use Rattle.pact_rules.specs.Outcome.{guard}
+use Rattle.pact_rules.specs.Trees.{Node}
+use Rattle.pact_rules.specs.TreeReading.{whole_tree, whole_or, tree_in}
+use Rattle.pact_rules.specs.declared.tree.TreeFault.{TreeFault}
+use Rattle.pact_rules.specs.declared.tree.TreeFault.TheVariants.{TooDeep}
+use Rattle.pact_file.specs.Objects.{json_of, tree_or_fault, object_of, with_fault}
+use Rattle.pact_file.specs.Sound.{IsSound}
+use Rattle.pact_file.specs.declared.object.FileFault.TheVariants.{NotJson, NotObject}
+use Rattle.pact_file.proofs.ReadKept.{read_kept, at_most}
+use Rattle.pact_file.proofs.SoundData.{sound}
+use Rattle.pact_file.proofs.Steps.{bind_ok, found_ok, ok_same}
+
+-- ---- a text as JSON
+
+pub is_json : (bytes : List ℕ) (d : Data) → IsUtf8 bytes → read bytes ≡ Some d → json_of bytes ≡ Ok d
+unfolding json_of
+is_json bytes d text h = rw (is_utf8-from_IsUtf8 bytes text, h) refl
+
+choice : (b : Bool) (bytes : List ℕ) → is_utf8 bytes ≡ b → (IsUtf8 bytes → read bytes ≡ None) → json_of bytes ≡ Err NotJson
+unfolding json_of
+choice true bytes is h = rw (is, h (IsUtf8-from_is_utf8 bytes is)) refl
+choice false bytes is h = rw is refl
+
+pub is_no_json : (bytes : List ℕ) → (IsUtf8 bytes → read bytes ≡ None) → json_of bytes ≡ Err NotJson
+is_no_json bytes h = choice (is_utf8 bytes) bytes refl h
+
+-- ---- what is read is sound
+
+json_case : (t : Bool) (o : Option Data) (d : Data) → cond t (ok_or o NotJson) (Err NotJson) ≡ Ok d → (t ≡ true) × (o ≡ Some d)
+json_case true o d h = (refl, found_ok o NotJson d h)
+json_case false o d h = absurd cc
+
+tree_ok : {A : Type 0} (r : Result A TreeFault) (x : ⊤) → tree_or_fault r ≡ Ok x → (a : A) × (r ≡ Ok a)
+tree_ok (Ok a) x h = (a, refl)
+tree_ok (Err e) x h = absurd cc
+
+whole_case : (t : Bool) (o : Option Node) (n : Node) → cond t (whole_or o) (Err TooDeep) ≡ Ok n → (t ≡ true) × (o ≡ Some n)
+whole_case true None n h = absurd cc
+whole_case true (Some m) n h = (refl, ap Some (ok_same _ _ h))
+whole_case false o n h = absurd cc
+
+-- a value that is read of UTF-8 and that is a tree
+read_sound : (bytes : List ℕ) (d : Data) (t : Node) → IsUtf8 bytes → read bytes ≡ Some d → tree_in d ≡ Ok t → IsSound 100 d
+read_sound bytes d t utf8 is tree =
+    let parts = whole_case (nat_le (depth d) 100) (whole_tree d) t tree in
+    sound 100 d (read_kept bytes d utf8 is) (no_float d t parts.1) (at_most (depth d) 100 parts.0)
+
+pub object_sound : (bytes : List ℕ) (d : Data) → object_of bytes ≡ Ok d → IsSound 100 d
+unfolding object_of json_of
+object_sound bytes d e =
+    let json = bind_ok (json_of bytes) _ d e in
+    let tree = bind_ok (tree_or_fault (tree_in json.0)) _ d json.2 in
+    let is = bind_ok (guard (is_some (as_object json.0)) NotObject) _ d tree.2 in
+    let found_text = json_case (is_utf8 bytes) (read bytes) json.0 json.1 in
+    let found = tree_ok (tree_in json.0) tree.0 tree.1 in
+    subst (IsSound 100) (ok_same _ _ is.2) (read_sound bytes json.0 found.0 (IsUtf8-from_is_utf8 bytes found_text.0) found_text.1 found.1)
+
+-- ---- another fault for each
+
+pub object_ok : {A F G : Type 0} (convert : F → G) (r : Result A F) (x : A) → with_fault convert r ≡ Ok x → r ≡ Ok x
+object_ok convert (Ok y) x h = ap Ok (ok_same y x h)
+object_ok convert (Err e) x h = absurd cc
+
+-- what is given, under the other faults
+pub fault_as : {A F G : Type 0} (convert : F → G) (memory : F) (other : G) (r : Result A F) (e : F) (fault : G) → convert memory ≡ other → fault ≡ convert e → (¬ (e ≡ memory) → r ≡ Err e)
+    → ¬ (fault ≡ other) → with_fault convert r ≡ Err fault
+fault_as convert memory other r e fault same is h apart =
+    ap (with_fault convert) (h (λ k. apart (is ∙ ap convert k ∙ same))) ∙ ap Err (sym is)

@@ -1,0 +1,33 @@
+-- A file of JSON that is one object without fractions, or its first fault; pact files and files of replies are such.
+use Rattle.std.specs.Prelude.{ℕ, List, is_some, Result, Ok, Err, if◌then◌else◌, ⊤}
+use Rattle.std.specs.Option.{ok_or}
+use Rattle.std.specs.Str.{is_utf8}
+use Rattle.serde_json.specs.Data.{Data}
+use Rattle.serde_json.specs.Find.{as_object}
+use Rattle.serde_json.specs.Read.{read}
+use Rattle.pact_rules.specs.TreeReading.{tree_in}
+use Rattle.pact_rules.specs.declared.tree.TreeFault.{TreeFault}
+use Rattle.pact_rules.specs.Outcome.{◌>>=◌, guard}
+use Rattle.pact_file.specs.declared.object.FileFault.{FileFault}
+use Rattle.pact_file.specs.declared.object.FileFault.TheVariants.{NotJson, Tree, NotObject}
+
+-- the value that the bytes are, a text of JSON in UTF-8
+unfoldable pub json_of : List ℕ → Result Data FileFault
+json_of bytes = if is_utf8 bytes then ok_or (read bytes) NotJson else Err NotJson
+
+abbrev pub tree_or_fault : {A : Type 0} → Result A TreeFault → Result ⊤ FileFault
+tree_or_fault (Ok x) = Ok tt
+tree_or_fault (Err e) = Err (Tree e)
+
+-- an object without fractions that nests not too deep
+unfoldable pub object_of : List ℕ → Result Data FileFault
+object_of bytes = do
+  whole ← json_of bytes
+  tree ← tree_or_fault (tree_in whole)
+  is ← guard (is_some (as_object whole)) NotObject
+  Ok whole
+
+-- the same answer, with another fault for each
+abbrev pub with_fault : {A F G : Type 0} → (F → G) → Result A F → Result A G
+with_fault convert (Ok x) = Ok x
+with_fault convert (Err e) = Err (convert e)

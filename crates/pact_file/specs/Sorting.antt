@@ -1,0 +1,38 @@
+-- For private clauses: inserting one after another into a list whose keys rise.
+use Rattle.std.specs.Prelude.{◌≡◌, ◌≤◌, ◌++◌, ℕ, length, take, drop, List, [], ◌∷◌, Bool, false, Option, Some, None, option_map, option_and_then, if◌then◌else◌}
+use Rattle.std.specs.Ordering.{match_ordering}
+use Rattle.std.specs.declared.cmp.Ordering.{Ordering}
+use Rattle.std.specs.Str.{bytes_eq}
+use Rattle.serde_json.specs.Written.{compact_text}
+use Rattle.pact_file.specs.Pact.{Interaction, Header, interaction_data, name_cmp, key_cmp}
+
+-- one of a key that is there is kept once, if it is the same
+unfoldable pub insert_sorted : {A : Type 0} → (A → A → Ordering) → (A → A → Bool) → A → List A → Option (List A)
+insert_sorted cmp same x [] = Some (x ∷ [])
+insert_sorted cmp same x (y ∷ ys) =
+    match_ordering (cmp x y) (Some (x ∷ y ∷ ys)) (if same x y then Some (y ∷ ys) else None)
+    (option_map (λ more. y ∷ more) (insert_sorted cmp same x ys))
+
+unfoldable pub insert_all_sorted : {A : Type 0} → (A → A → Ordering) → (A → A → Bool) → List A → List A
+    → Option (List A)
+insert_all_sorted cmp same list [] = Some list
+insert_all_sorted cmp same list (x ∷ xs) =
+    option_and_then (λ more. insert_all_sorted cmp same more xs) (insert_sorted cmp same x list)
+
+abbrev pub same_text : Interaction → Interaction → Bool
+same_text x y = bytes_eq (compact_text (interaction_data x)) (compact_text (interaction_data y))
+
+abbrev pub never : Header → Header → Bool
+never x y = false
+
+-- a header in its place by name, where its name isn't there; an interaction in its place by key, where no other has
+-- the key
+abbrev pub with_header : Header → List Header → Option (List Header)
+with_header new list = insert_sorted name_cmp never new list
+
+abbrev pub with_interaction : Interaction → List Interaction → Option (List Interaction)
+with_interaction new list = insert_sorted key_cmp same_text new list
+
+-- it is the list with the new one in front of what stands from the index on
+abbrev pub IsInsertedAt : {A : Type 0} → A → List A → Option (List A) → ℕ → Type 0
+IsInsertedAt new list inserted at = (at ≤ length list) × (inserted ≡ Some (take at list ++ new ∷ drop at list))

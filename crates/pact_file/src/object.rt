@@ -1,0 +1,65 @@
+//! Files of JSON that are one object without fractions.
+
+ghost use Rattle.pact_file.specs.Objects.{json_of, tree_or_fault, object_of};
+ghost use Rattle.pact_file.specs.declared.object.FileFault.TheVariants.{Memory};
+ghost use Rattle.pact_rules.specs.Outcome.{Gives};
+ghost use Rattle.pact_rules.specs.TreeReading.{tree_in};
+ghost use Rattle.serde_json.specs.View.{view};
+
+use pact_rules::{TreeFault, tree_of};
+use serde_json::Value;
+use std::alloc::Global;
+
+/// Why bytes are no such object.
+#[derive(Clone, Copy, Debug, PartialEq, Eq)]
+pub enum FileFault {
+    /// The bytes aren't UTF-8, or no JSON text, or nest over 127 deep.
+    NotJson,
+    /// A number isn't whole, or lists and objects nest over 100 deep.
+    Tree(TreeFault),
+    /// The value isn't an object.
+    NotObject,
+    /// No memory was left.
+    Memory,
+}
+
+#[tactic(auto, unfolding(crate::specs::Objects::json_of))]
+fn read_json(alloc: Global, bytes: &[u8]) -> Result<Value, FileFault>
+    ensures { Gives Memory view result (json_of bytes.now) }
+{
+    match Value::from_slice(alloc, bytes) {
+        Ok(value) => Ok(value),
+        Err(e) => {
+            if e.is_memory() {
+                Err(FileFault::Memory)
+            } else {
+                Err(FileFault::NotJson)
+            }
+        }
+    }
+}
+
+fn check_tree(alloc: Global, value: &Value) -> Result<(), FileFault>
+    ensures { Gives Memory (λ x. x) result (tree_or_fault (tree_in (view value.now))) }
+{
+    match tree_of(alloc, value) {
+        Ok(_) => Ok(()),
+        Err(TreeFault::NotWhole) => Err(FileFault::Tree(TreeFault::NotWhole)),
+        Err(TreeFault::TooDeep) => Err(FileFault::Tree(TreeFault::TooDeep)),
+        Err(TreeFault::Memory) => Err(FileFault::Memory),
+    }
+}
+
+/// Reads bytes that are one JSON object in UTF-8, as a pact file and a file of replies are. The fault is the first
+/// one in the order of `FileFault`'s variants, and `Memory` comes only where no memory is left.
+#[tactic(auto, unfolding(crate::specs::Objects::object_of))]
+pub fn read_object(alloc: Global, bytes: &[u8]) -> Result<Value, FileFault>
+    ensures { Gives Memory view result (object_of bytes.now) }
+{
+    let value = read_json(alloc, bytes)?;
+    check_tree(alloc, &value)?;
+    if !value.is_object() {
+        return Err(FileFault::NotObject);
+    }
+    Ok(value)
+}

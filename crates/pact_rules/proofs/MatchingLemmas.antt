@@ -1,0 +1,126 @@
+-- Looking into trees, and finding patterns.
+use Rattle.std.proofs.Common.{rules, eqb, vec_len, Vec, BTreeMap, MatchBool, ◌&&◌, ◌≡◌, ◌↔◌, ◌≤◌, ◌||◌, suc, take, drop, length, ◌++◌, ⊎_elim, ℕ, ◌<◌, Bool, true, false, cond, List, [], ◌∷◌, get_or, Option, Some, None, option_map, is_some, IsSomeAnd, String, Global, string_bytes, nat_cmp, refl, sym, ap, ◌∙◌, arith, chars}
+use Rattle.std.proofs.lemmas.Map.Text.{is_eq-slice_cmp}
+use Rattle.std.specs.Cmp.Lexicographic.{slice_cmp}
+use Rattle.std.specs.Map.{lookup}
+use Rattle.std.specs.BTreeMap.{is_at}
+use Rattle.regex.specs.Patterns.{Re, find_str, default_config, Reads, SameCaptures}
+use Rattle.regex.specs.Strings.{regex_pattern, regex_source, regex_config, IsReadFromSource}
+use Rattle.regex.specs.declared.string.regex.Regex.{Regex}
+use Rattle.regex.proofs.ForCallers.{is_match_alike}
+use Rattle.regex_syntax.specs.Grammar.{Names, group_count, read}
+use Rattle.regex_syntax.specs.Brackets.{Nested}
+use Rattle.regex.specs.Names.{names_of}
+use Rattle.std.specs.Str.Iter.{HasSubslice}
+use Rattle.std.proofs.lemmas.Slice.Eq.{bytes_eq-Decides}
+use Rattle.std.proofs.lemmas.Bool.{or_cases}
+use Rattle.std.proofs.lemmas.Bool.Decides.{same_from_decides}
+use Rattle.std.proofs.lemmas.List.{take_at, take-append-drop}
+use Rattle.pact_rules.specs.Trees.{Node, list, object}
+use Rattle.pact_rules.specs.TreeView.{tree_view, object_view, list_view}
+use Rattle.pact_rules.specs.Matching.{get_field, pattern_of, is_found, nodes_len, begins, contains, equal_here, within, at_least, at_most, holds, passes, text_form}
+use Rattle.pact_rules.specs.RuleViews.{matcher_view}
+use Rattle.pact_rules.specs.declared.table.Matcher as code
+use Rattle.pact_rules.specs.declared.table.Matcher.TheVariants.{Include}
+use Rattle.std.proofs.lemmas.Str.Pattern.{contains_text}
+use Rattle.std.specs.Str.Pattern.{HasMatch, FindsText}
+use Rattle.pact_rules.specs.declared.tree.Tree.{Tree, List as ListOf, Object, the_lemmas}
+
+abbrev pub Entry : Type 0
+Entry = String Global × Tree
+
+found_or : (b c : Bool) (t : Tree) (rest : Option Tree) (d : Option Node) → b ≡ c → option_map tree_view rest ≡ d → option_map tree_view (cond b (Some t) rest) ≡ cond c (Some (tree_view t)) d
+found_or true c t rest d e h = rw (sym e) refl
+found_or false c t rest d e h = rw (sym e) h
+
+-- what a map has at a key
+pub view-lookup : (name : List ℕ) (es : List Entry) → option_map tree_view (lookup (is_at (λ k. slice_cmp nat_cmp name (string_bytes k))) es) ≡ get_field name (object_view es)
+view-lookup name [] = refl
+view-lookup name (e ∷ es) = found_or _ _ e.1 _ _ (is_eq-slice_cmp name (string_bytes e.0)) (view-lookup name es)
+
+pub is_some-view : (o : Option Tree) → is_some (option_map tree_view o) ≡ is_some o
+is_some-view None = refl
+is_some-view (Some t) = refl
+
+found_if : (o : Option (Nested Re × Names)) (most : ℕ) (a : Re) (names : Names) (hay : List ℕ) → ((k : ℕ) → get_or hay k 0 < 256)
+    → IsSomeAnd o (λ (re, found). (re.depth ≤ most) × SameCaptures a re.value × (names ≡ found) × (group_count a ≤ length names))
+    → is_some (find_str a hay 0) ≡ is_found (option_map (λ found. found.0.value) o) hay
+found_if None most a names hay bytes h = absurd h
+found_if (Some x) most a names hay bytes h = is_match_alike h.1 hay bytes true 0
+
+-- a regex finds what the pattern of its text finds
+pub found_as_read : (r : Regex) (source hay : List ℕ) → regex_source r ≡ source → regex_config r ≡ default_config → IsReadFromSource r → ((k : ℕ) → get_or hay k 0 < 256)
+    → is_some (find_str (regex_pattern r) hay 0) ≡ is_found (pattern_of source) hay
+unfolding Reads
+found_as_read r source hay is config reads bytes =
+    let as_read : Reads default_config source r.pattern.program.hir (names_of r.pattern.names.items) = rw (is, config) at reads in
+    found_if (read default_config (chars source)) default_config.nest_limit (regex_pattern r) (names_of r.pattern.names.items) hay bytes as_read
+
+pub nodes_len_view : (ts : List Tree) → nodes_len (list_view ts) ≡ length ts
+nodes_len_view [] = refl
+nodes_len_view (t ∷ ts) = ap suc (nodes_len_view ts)
+
+-- ---- a text in a text
+
+or_true : (b : Bool) → (b || true) ≡ true
+or_true true = refl
+or_true false = refl
+
+begins_here : (part bs : List ℕ) → begins part bs ≡ true → HasSubslice bs part
+begins_here part bs h = ([], drop (length part) bs, sym (ap (λ xs. xs ++ drop (length part) bs) ((bytes_eq-Decides part (take (length part) bs)).0 h) ∙ take-append-drop (length part) bs))
+
+contains_sound : (part bs : List ℕ) → contains part bs ≡ true → HasSubslice bs part
+contains_sound part [] h = begins_here part [] h
+contains_sound part (b ∷ bs) h =
+    ⊎_elim (λ e. begins_here part (b ∷ bs) e) (λ e. let rest = contains_sound part bs e in (b ∷ rest.0, rest.1, ap (λ xs. b ∷ xs) rest.2)) (or_cases (begins part (b ∷ bs)) (contains part bs) h)
+
+contains_front : (part bs : List ℕ) → begins part bs ≡ true → contains part bs ≡ true
+contains_front part [] h = h
+contains_front part (b ∷ bs) h = rw h refl
+
+contains_complete : (part a b : List ℕ) → contains part (a ++ (part ++ b)) ≡ true
+contains_complete part [] b = contains_front part (part ++ b) ((bytes_eq-Decides part (take (length part) (part ++ b))).1 (sym (take_at part b (length part) refl)))
+contains_complete part (x ∷ a) b = rw (contains_complete part a b) (or_true (begins part (x ∷ (a ++ (part ++ b)))))
+
+pub contains_decides : (r : Bool) (part bs : List ℕ) → (r ≡ true) ↔ HasSubslice bs part → r ≡ contains part bs
+contains_decides r part bs h =
+    same_from_decides r (contains part bs) h (contains_sound part bs, λ s. ap (contains part) s.2 ∙ contains_complete part s.0 s.1)
+
+-- ---- the arms
+
+pub view-List : (v : Vec Tree Global) → tree_view (ListOf v) ≡ list (list_view v.items)
+view-List v = search (rules, the_lemmas)
+
+pub view-Object : (m : BTreeMap (String Global) Tree) → tree_view (Object m) ≡ object (object_view m.entries)
+view-Object m = search (rules, the_lemmas)
+
+pub len_view : (v : Vec Tree Global) → nodes_len (list_view v.items) ≡ vec_len v
+len_view v = nodes_len_view v.items ∙ omega (arith, v.ok)
+
+pub equal_lists : (a b : Tree) (v w : Vec Tree Global) (m n : ℕ) → a ≡ ListOf v → b ≡ ListOf w → m ≡ vec_len v → n ≡ vec_len w → eqb m n ≡ equal_here (tree_view a) (tree_view b)
+equal_lists a b v w m n ea eb em en =
+    ap (λ k. eqb k n) em ∙ ap (eqb (vec_len v)) en
+    ∙ sym (ap (λ x. equal_here x (tree_view b)) (ap tree_view ea ∙ view-List v) ∙ ap (equal_here (list (list_view v.items))) (ap tree_view eb ∙ view-List w)
+    ∙ ap (λ k. eqb k (nodes_len (list_view w.items))) (len_view v) ∙ ap (eqb (vec_len v)) (len_view w))
+
+pub within_lists : (min max : Option ℕ) (a b : Tree) (v w : Vec Tree Global) (n : ℕ) → a ≡ ListOf v → b ≡ ListOf w → n ≡ vec_len w → within min max (tree_view a) (tree_view b) ≡ (at_least min n && at_most max n)
+within_lists min max a b v w n ea eb en =
+    ap (λ x. within min max x (tree_view b)) (ap tree_view ea ∙ view-List v) ∙ ap (within min max (list (list_view v.items))) (ap tree_view eb ∙ view-List w)
+    ∙ ap (λ k. at_least min k && at_most max k) (len_view w ∙ sym en)
+
+pub include_holds : (m : code.Matcher) (x y : Node) (own : Bool) (part : String Global) (t p : List ℕ) (r : Bool) → m ≡ Include part → Some t ≡ text_form y → p ≡ string_bytes part
+    → MatchBool r (HasMatch (FindsText p) t) (FindsText p t None) → r ≡ holds (matcher_view m) x y own
+include_holds m x y own part t p r em et ep h =
+    contains_decides r p t (contains_text r p t h) ∙ ap (λ q. contains q t) ep ∙ ap (passes (contains (string_bytes part))) et ∙ ap (λ n. holds (matcher_view n) x y own) (sym em)
+
+read_if : (o : Option (Nested Re × Names)) (most : ℕ) (a : Re) (names : Names)
+    → IsSomeAnd o (λ (re, found). (re.depth ≤ most) × SameCaptures a re.value × (names ≡ found) × (group_count a ≤ length names)) → is_some (option_map (λ found. found.0.value) o) ≡ true
+read_if None most a names h = absurd h
+read_if (Some x) most a names h = refl
+
+-- the grammar reads what was built
+pub built_is_read : (r : Regex) (source : List ℕ) → regex_source r ≡ source → regex_config r ≡ default_config → IsReadFromSource r → is_some (pattern_of source) ≡ true
+unfolding Reads
+built_is_read r source is config reads =
+    let as_read : Reads default_config source r.pattern.program.hir (names_of r.pattern.names.items) = rw (is, config) at reads in
+    read_if (read default_config (chars source)) default_config.nest_limit (regex_pattern r) (names_of r.pattern.names.items) as_read

@@ -1,0 +1,12 @@
+-- For private clauses: rules beside their weights, as `best_of` compares them.
+use Rattle.std.specs.Prelude.{Bool, ◌&&◌, ◌||◌, ◌==◌, nat_lt, Option, Some, None, if◌then◌else◌}
+use Rattle.pact_rules.specs.declared.table.Candidate.{Candidate}
+
+-- heavier, or as heavy and longer
+abbrev pub outweighs : Candidate → Candidate → Bool
+outweighs a b = nat_lt b.weight a.weight || (a.weight == b.weight && nat_lt b.tokens a.tokens)
+
+-- the earlier one, unless the one found behind it outweighs it; a rule of no weight is never one
+abbrev pub better_of : Candidate → Option Candidate → Option Candidate
+better_of earlier None = if nat_lt 0 earlier.weight then Some earlier else None
+better_of earlier (Some found) = if outweighs found earlier then Some found else Some earlier

@@ -1,0 +1,21 @@
+-- For private clauses: the entries of a walk as the code keeps them.
+use Rattle.std.specs.Prelude.{◌≡◌, ℕ, true, List, map}
+use Rattle.pact_paths.specs.Paths.{Token, Location}
+use Rattle.pact_paths.specs.Weights.{is_alive, exact_tokens}
+use Rattle.pact_rules.specs.RuleViews.{rule_view}
+use Rattle.pact_rules.specs.Walks.{Walk, walk, step_count}
+use Rattle.pact_rules.specs.declared.table.BodyRule.{BodyRule}
+use Rattle.pact_rules.specs.declared.walk.Survivor.{Survivor}
+
+-- the index of an entry's rule, and how many of its tokens are exact
+abbrev pub survivor_view : Survivor → ℕ × ℕ
+survivor_view s = (s.index, s.exact)
+
+-- the entries, after so many steps, are the walk of the rules to the location
+abbrev pub AreLeftAt : List BodyRule → ℕ → List Survivor → Location → Type 0
+AreLeftAt rules steps entries at =
+    ◌≡◌ {A = Walk} (record { steps = steps; alive = map survivor_view entries }) (walk (map rule_view rules) at)
+
+-- after so many steps the location leaves the path alive, with so many exact tokens
+abbrev pub IsLeftAt : List Token → ℕ → ℕ → Location → Type 0
+IsLeftAt path steps exact at = (steps ≡ step_count at) × (is_alive path at ≡ true) × (exact ≡ exact_tokens path at)
