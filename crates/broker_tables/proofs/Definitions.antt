@@ -1,83 +1,92 @@
--- The texts that make the tables define them.
-use Rattle.std.proofs.Common.{◌≡◌, refl, Ok}
+-- The texts that make the tables and the indexes define them.
+use Rattle.std.proofs.Common.{refl, take}
+use Rattle.sqlite.specs.Listing.{understood}
 use Rattle.sqlite_tied.specs.Compute.{everything}
-use Rattle.sqlite.specs.Compile.{table_defined_by}
-use Rattle.sqlite_resolve.specs.Compile.{index_defined_by}
 use Rattle.broker_tables.specs.Schema as schema
+use Rattle.table_access.specs.Statements.{indexed_by}
+use Rattle.broker_tables.specs.Schema.{no_schema, schema_of, all_tables, all_indexes}
+use Rattle.broker_tables.specs.Making.{table_texts, index_texts}
 use Rattle.broker_tables.specs.declared.create.TheConstants.{META, TEAMS, PACTICIPANTS, VERSIONS, BRANCHES, ENVIRONMENTS, GRANTS, CONTENTS, CONTRACTS, RESULTS, LATEST, DEPLOYED, RELEASED, CHECKED_RESULTS, STRICT_ENVIRONMENTS, CONTENTS_BY_DIGEST, CONTRACTS_BY_CONTENT, LATEST_BY_PROVIDER_VERSION, VERSIONS_BY_PACTICIPANT}
+use Rattle.broker_tables.proofs.Written.{DefinesTable, DefinesIndex, AreDefinedTables, AreDefinedIndexes}
 
-pub what_meta : table_defined_by META.now ≡ Ok schema.meta
-unfolding everything
-what_meta = refl
+meta_text : DefinesTable (schema_of (take 0 all_tables)) META.now schema.meta
+unfolding understood everything
+meta_text = record { means = record { is = refl; plain = (refl, refl); unlisted = refl }; whole = refl; defined = refl; uncounted = refl }
 
-pub what_teams : table_defined_by TEAMS.now ≡ Ok schema.teams
-unfolding everything
-what_teams = refl
+teams_text : DefinesTable (schema_of (take 1 all_tables)) TEAMS.now schema.teams
+unfolding understood everything
+teams_text = record { means = record { is = refl; plain = (refl, refl); unlisted = refl }; whole = refl; defined = refl; uncounted = refl }
 
-pub what_pacticipants : table_defined_by PACTICIPANTS.now ≡ Ok schema.pacticipants
-unfolding everything
-what_pacticipants = refl
+pacticipants_text : DefinesTable (schema_of (take 2 all_tables)) PACTICIPANTS.now schema.pacticipants
+unfolding understood everything
+pacticipants_text = record { means = record { is = refl; plain = (refl, refl); unlisted = refl }; whole = refl; defined = refl; uncounted = refl }
 
-pub what_versions : table_defined_by VERSIONS.now ≡ Ok schema.versions
-unfolding everything
-what_versions = refl
+versions_text : DefinesTable (schema_of (take 3 all_tables)) VERSIONS.now schema.versions
+unfolding understood everything
+versions_text = record { means = record { is = refl; plain = (refl, refl); unlisted = refl }; whole = refl; defined = refl; uncounted = refl }
 
-pub what_branches : table_defined_by BRANCHES.now ≡ Ok schema.branches
-unfolding everything
-what_branches = refl
+branches_text : DefinesTable (schema_of (take 4 all_tables)) BRANCHES.now schema.branches
+unfolding understood everything
+branches_text = record { means = record { is = refl; plain = (refl, refl); unlisted = refl }; whole = refl; defined = refl; uncounted = refl }
 
-pub what_environments : table_defined_by ENVIRONMENTS.now ≡ Ok schema.environments
-unfolding everything
-what_environments = refl
+environments_text : DefinesTable (schema_of (take 5 all_tables)) ENVIRONMENTS.now schema.environments
+unfolding understood everything
+environments_text = record { means = record { is = refl; plain = (refl, refl); unlisted = refl }; whole = refl; defined = refl; uncounted = refl }
 
-pub what_grants : table_defined_by GRANTS.now ≡ Ok schema.grants
-unfolding everything
-what_grants = refl
+grants_text : DefinesTable (schema_of (take 6 all_tables)) GRANTS.now schema.grants
+unfolding understood everything
+grants_text = record { means = record { is = refl; plain = (refl, refl); unlisted = refl }; whole = refl; defined = refl; uncounted = refl }
 
-pub what_contents : table_defined_by CONTENTS.now ≡ Ok schema.contents
-unfolding everything
-what_contents = refl
+contents_text : DefinesTable (schema_of (take 7 all_tables)) CONTENTS.now schema.contents
+unfolding understood everything
+contents_text = record { means = record { is = refl; plain = (refl, refl); unlisted = refl }; whole = refl; defined = refl; uncounted = refl }
 
-pub what_contracts : table_defined_by CONTRACTS.now ≡ Ok schema.contracts
-unfolding everything
-what_contracts = refl
+contracts_text : DefinesTable (schema_of (take 8 all_tables)) CONTRACTS.now schema.contracts
+unfolding understood everything
+contracts_text = record { means = record { is = refl; plain = (refl, refl); unlisted = refl }; whole = refl; defined = refl; uncounted = refl }
 
-pub what_results : table_defined_by RESULTS.now ≡ Ok schema.results
-unfolding everything
-what_results = refl
+results_text : DefinesTable (schema_of (take 9 all_tables)) RESULTS.now schema.results
+unfolding understood everything
+results_text = record { means = record { is = refl; plain = (refl, refl); unlisted = refl }; whole = refl; defined = refl; uncounted = refl }
 
-pub what_latest : table_defined_by LATEST.now ≡ Ok schema.latest
-unfolding everything
-what_latest = refl
+latest_text : DefinesTable (schema_of (take 10 all_tables)) LATEST.now schema.latest
+unfolding understood everything
+latest_text = record { means = record { is = refl; plain = (refl, refl); unlisted = refl }; whole = refl; defined = refl; uncounted = refl }
 
-pub what_deployed : table_defined_by DEPLOYED.now ≡ Ok schema.deployed
-unfolding everything
-what_deployed = refl
+deployed_text : DefinesTable (schema_of (take 11 all_tables)) DEPLOYED.now schema.deployed
+unfolding understood everything
+deployed_text = record { means = record { is = refl; plain = (refl, refl); unlisted = refl }; whole = refl; defined = refl; uncounted = refl }
 
-pub what_released : table_defined_by RELEASED.now ≡ Ok schema.released
-unfolding everything
-what_released = refl
+released_text : DefinesTable (schema_of (take 12 all_tables)) RELEASED.now schema.released
+unfolding understood everything
+released_text = record { means = record { is = refl; plain = (refl, refl); unlisted = refl }; whole = refl; defined = refl; uncounted = refl }
 
-pub what_checked_results : table_defined_by CHECKED_RESULTS.now ≡ Ok schema.checked_results
-unfolding everything
-what_checked_results = refl
+checked_results_text : DefinesTable (schema_of (take 13 all_tables)) CHECKED_RESULTS.now schema.checked_results
+unfolding understood everything
+checked_results_text = record { means = record { is = refl; plain = (refl, refl); unlisted = refl }; whole = refl; defined = refl; uncounted = refl }
 
-pub what_strict_environments : table_defined_by STRICT_ENVIRONMENTS.now ≡ Ok schema.strict_environments
-unfolding everything
-what_strict_environments = refl
+strict_environments_text : DefinesTable (schema_of (take 14 all_tables)) STRICT_ENVIRONMENTS.now schema.strict_environments
+unfolding understood everything
+strict_environments_text = record { means = record { is = refl; plain = (refl, refl); unlisted = refl }; whole = refl; defined = refl; uncounted = refl }
 
-pub what_contents_by_digest : index_defined_by schema.contents_by_digest.0 CONTENTS_BY_DIGEST.now ≡ Ok schema.contents_by_digest.1
-unfolding everything
-what_contents_by_digest = refl
+contents_by_digest_text : DefinesIndex (indexed_by (schema_of all_tables) (take 0 all_indexes)) CONTENTS_BY_DIGEST.now schema.contents_by_digest
+unfolding understood everything
+contents_by_digest_text = record { at = 7; means = record { is = refl; plain = (refl, refl); unlisted = refl }; whole = refl; there = refl; defined = refl }
 
-pub what_contracts_by_content : index_defined_by schema.contracts_by_content.0 CONTRACTS_BY_CONTENT.now ≡ Ok schema.contracts_by_content.1
-unfolding everything
-what_contracts_by_content = refl
+contracts_by_content_text : DefinesIndex (indexed_by (schema_of all_tables) (take 1 all_indexes)) CONTRACTS_BY_CONTENT.now schema.contracts_by_content
+unfolding understood everything
+contracts_by_content_text = record { at = 8; means = record { is = refl; plain = (refl, refl); unlisted = refl }; whole = refl; there = refl; defined = refl }
 
-pub what_latest_by_provider_version : index_defined_by schema.latest_by_provider_version.0 LATEST_BY_PROVIDER_VERSION.now ≡ Ok schema.latest_by_provider_version.1
-unfolding everything
-what_latest_by_provider_version = refl
+latest_by_provider_version_text : DefinesIndex (indexed_by (schema_of all_tables) (take 2 all_indexes)) LATEST_BY_PROVIDER_VERSION.now schema.latest_by_provider_version
+unfolding understood everything
+latest_by_provider_version_text = record { at = 10; means = record { is = refl; plain = (refl, refl); unlisted = refl }; whole = refl; there = refl; defined = refl }
 
-pub what_versions_by_pacticipant : index_defined_by schema.versions_by_pacticipant.0 VERSIONS_BY_PACTICIPANT.now ≡ Ok schema.versions_by_pacticipant.1
-unfolding everything
-what_versions_by_pacticipant = refl
+versions_by_pacticipant_text : DefinesIndex (indexed_by (schema_of all_tables) (take 3 all_indexes)) VERSIONS_BY_PACTICIPANT.now schema.versions_by_pacticipant
+unfolding understood everything
+versions_by_pacticipant_text = record { at = 3; means = record { is = refl; plain = (refl, refl); unlisted = refl }; whole = refl; there = refl; defined = refl }
+
+pub tables_defined : AreDefinedTables no_schema table_texts
+tables_defined = (meta_text, (teams_text, (pacticipants_text, (versions_text, (branches_text, (environments_text, (grants_text, (contents_text, (contracts_text, (results_text, (latest_text, (deployed_text, (released_text, (checked_results_text, (strict_environments_text, tt)))))))))))))))
+
+pub indexes_defined : AreDefinedIndexes (schema_of all_tables) index_texts
+indexes_defined = (contents_by_digest_text, (contracts_by_content_text, (latest_by_provider_version_text, (versions_by_pacticipant_text, tt))))

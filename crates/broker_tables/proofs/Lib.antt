@@ -9,3 +9,5 @@ pub mod References
 pub mod Growth
 pub mod Opening
 pub mod Newest
+pub mod Written
+pub mod NextRow

@@ -5,12 +5,11 @@ use Rattle.std.specs.List.{enumerate_from}
 use Rattle.std.proofs.lemmas.Grind.{reverse_onto}
 use Rattle.sqlite.specs.Order.{Row}
 use Rattle.std.proofs.lemmas.List.{length-map}
-use Rattle.table_access.specs.Columns.{text, whole_at}
+use Rattle.table_access.specs.Columns.{whole_at}
 use Rattle.broker_core.specs.declared.command.Version.{Version}
-use Rattle.broker_core.specs.Text.{Text}
 use Rattle.broker_core.specs.State.{Verification}
 use Rattle.broker_tables.specs.Numbers.{numbered}
-use Rattle.broker_tables.specs.Holds.{AreContents, AreResults, with_digest, result_in, result_of}
+use Rattle.broker_tables.specs.Holds.{AreResults, result_in, result_of}
 
 abbrev last_of : {A : Type 0} → A → List A → A
 last_of x [] = x
@@ -54,10 +53,7 @@ module _ {X : Type 0} (entry : Row → X) where
       let same : n ≡ 1 + length xs = cc in
       same ∙ (let f : 1 + length xs ≡ length (x ∷ xs) = omega arith in f)
 
--- how many contents there are, and how many results
-pub newest_content : (contents : List Text) (rows : List Row) (found : Option ℕ) → AreContents contents rows → option_map pos found ≡ option_map (whole_at 0) (slice_get (reverse rows) 0) → unwrap_or found 0 ≡ length contents
-newest_content contents rows found are read = newest (λ r. (text 2 r, text 3 r)) rows (map with_digest contents) found are read ∙ length-map contents with_digest
-
+-- how many results there are
 pub newest_result : (versions : List Version) (results : List Verification) (rows checked : List Row) (found : Option ℕ) → AreResults versions results rows checked → option_map pos found ≡ option_map (whole_at 0) (slice_get (reverse rows) 0)
     → unwrap_or found 0 ≡ length results
 newest_result versions results rows checked found are read = newest (result_in checked) rows (map (result_of versions) results) found are read ∙ length-map results (result_of versions)

@@ -1,6 +1,7 @@
 -- What the tables that were made hold.
 use Rattle.std.proofs.Common.{◌≡◌, ℕ, List, [], ◌∷◌, ◌++◌, fold, false, refl, sym, ap, subst, subst₂, ◌∙◌, codes}
 use Rattle.std.specs.List.{AllByRecursion}
+use Rattle.std.proofs.lemmas.List.Sums.{fold-append}
 use Rattle.sqlite.specs.Table.{Table}
 use Rattle.sqlite.specs.Schema.{Schema}
 use Rattle.sqlite.specs.Tree.{Trees}
@@ -13,19 +14,15 @@ use Rattle.table_access.proofs.Creation.{made_schema, made_keeps, made_empty, ma
 use Rattle.table_access.proofs.Indexing.{indexes_schema, indexes_keep, indexes_kept}
 use Rattle.table_access.proofs.SoundLemmas.{at_has}
 use Rattle.broker_core.specs.Text.{Text, same_text}
-use Rattle.broker_core.specs.State.{State as Broker, opening}
+use Rattle.broker_core.specs.State.{opening}
 use Rattle.broker_tables.specs.Schema as schema
 use Rattle.broker_tables.specs.Schema.{schema_of, all_tables, all_indexes}
-use Rattle.broker_tables.specs.Making.{IsBlank, HasTables, HasAll, IsMarked}
+use Rattle.broker_tables.specs.Making.{IsBlank, HasTables, HasAll}
 use Rattle.broker_tables.specs.Holds.{Holds, IsMeta, format, AreTeams, ArePacticipants, AreVersions, AreBranches, AreEnvironments, AreGrants, AreContents, AreContracts, AreResults, AreLatest, AreDeployed, AreReleased}
 use Rattle.broker_tables.proofs.Placed.{meta}
 
 pub blank_kept : (db : Database) → IsBlank db → IsKept db
 blank_kept db blank = record { sound = blank.sound; numbered = subst (λ (s : Schema). AllByRecursion (λ t. IsNumbered (db.trees t.tree)) s.tables) (sym blank.schema) tt }
-
-fold_append : (s : Schema) (xs ys : List Table) → fold created s (xs ++ ys) ≡ fold created (fold created s xs) ys
-fold_append s [] ys = refl
-fold_append s (x ∷ xs) ys = fold_append (created s x) xs ys
 
 all_append : {X : Type 0} (P : X → Type 0) (xs ys : List X) → AllByRecursion P xs → AllByRecursion P ys → AllByRecursion P (xs ++ ys)
 all_append P [] ys one two = two
@@ -48,7 +45,7 @@ pub has_more : (before part : List Table) (n : ℕ) (office : Text) (old new : D
 has_more before part n office old new among has makes =
     let keeps : KeepsRows (schema_of before).tables old.trees new.trees = subst (λ (s : Schema). KeepsRows s.tables old.trees new.trees) has.schema (made_keeps part old new makes) in
     let rows : new.trees 0 ≡ old.trees 0 = at_has (λ t. new.trees t.tree ≡ old.trees t.tree) (schema_of before).tables meta keeps among in
-    let is : fold created (schema_of before) part ≡ schema_of (before ++ part) = sym (fold_append schema.no_schema before part) in
+    let is : fold created (schema_of before) part ≡ schema_of (before ++ part) = sym (fold-append created schema.no_schema before part) in
     record {
       schema = made_schema part old new makes ∙ ap (λ s. fold created s part) has.schema ∙ is;
       kept = made_kept part old new makes has.kept;
@@ -85,7 +82,3 @@ opens office db has = let e = has.empty in record {
   deployed = subst (AreDeployed [] (opening office).deployed) (sym (e.1.1.1.1.1.1.1.1.1.1.1.0 refl)) (λ q p i. refl);
   released = subst (AreReleased [] (opening office).released) (sym (e.1.1.1.1.1.1.1.1.1.1.1.1.0 refl)) (λ q v. refl);
 }
-
--- a database that holds a state tells its format
-pub held_marked : (db : Database) (s : Broker) → Holds db s → IsMarked format s.office db
-held_marked db s held = record { tables = _; indexes = _; schema = held.broker.schema; row = held.meta }

@@ -57,9 +57,6 @@ all_calm =
     (tt, (tt, (((refl, refl), tt), (((refl, refl), tt), (((refl, refl), tt), (tt, (((refl, refl), ((refl, refl), tt)), (tt, (((refl, refl), ((refl, refl), ((refl, refl), tt))), (((refl, refl), ((refl, refl), ((refl, refl), tt))), (((refl, refl), ((refl, refl), ((refl, refl), tt))), (((refl, refl), ((refl, refl), ((refl, refl), tt))), (((refl, refl), ((refl, refl), tt)), (((refl, refl), tt), (((refl, refl), tt), tt)))))))))))))))
 
 module _ (db : Database) (broker : IsBroker db) where
-  pub meta_there : slice_get db.schema.tables 0 ≡ Some meta
-  meta_there = ap (λ (s : Schema). slice_get s.tables 0) broker.schema
-
   pub teams_there : slice_get db.schema.tables 1 ≡ Some teams
   teams_there = ap (λ (s : Schema). slice_get s.tables 1) broker.schema
 

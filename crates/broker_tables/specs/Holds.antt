@@ -19,7 +19,8 @@ use Rattle.broker_tables.specs.Schema.{broker_schema}
 use Rattle.broker_tables.specs.Rows.{rows_of, truth, maybe_text, value_at, stands_at}
 use Rattle.broker_tables.specs.Numbers.{numbered, number_of}
 
--- The tables are the broker's and each obeys its columns, keys, checks and references, and its rows are in the order of their numbers.
+-- The tables are the broker's and each obeys its columns, keys, checks and references, and its rows are in the
+-- order of their numbers.
 pub record IsBroker (db : Database) : Type 0 where
   pub schema : db.schema ≡ broker_schema
   pub kept : IsKept db
@@ -32,7 +33,8 @@ format = 2
 
 -- one row: its number, the format, and the digest of the office's token
 abbrev pub IsMeta : ℕ → Text → List Row → Type 0
-IsMeta n office rows = map {B = ℤ × ℤ × Text} (λ r. (whole_at 0 r, whole_at 2 r, text 3 r)) rows ≡ (pos 1, pos n, office) ∷ []
+IsMeta n office rows =
+    map {B = ℤ × ℤ × Text} (λ r. (whole_at 0 r, whole_at 2 r, text 3 r)) rows ≡ (pos 1, pos n, office) ∷ []
 
 -- a team: its name, and the digest of its token
 abbrev pub AreTeams : (Text → Option Text) → List Row → Type 0
@@ -49,18 +51,23 @@ AreVersions versions rows = map (λ r. (whole_at 0 r, version (text 2 r) (text 3
 -- a version's number, and a branch that it is on
 abbrev pub AreBranches : List Version → (Version × Text → Bool) → List Row → Type 0
 AreBranches versions branches rows = (v : Version) (branch : Text)
-    → option_map_or (λ n. stands_at (by_both int_cmp text_cmp) (λ r. (whole_at 1 r, text 2 r)) rows (pos n, branch)) (number_of versions v) false ≡ branches (v, branch)
+    → option_map_or
+    (λ n. stands_at (by_both int_cmp text_cmp) (λ r. (whole_at 1 r, text 2 r)) rows (pos n, branch))
+    (number_of versions v) false
+    ≡ branches (v, branch)
 
 -- an environment: its name, whether it is gated, and whether its name stands among the strict ones
 abbrev pub marks_in : List Row → Row → Marks
 marks_in strict r = record { gated = truth 2 r; strict = stands_at text_cmp (text 1) strict (text 1 r) }
 
 abbrev pub AreEnvironments : (Text → Option Marks) → List Row → List Row → Type 0
-AreEnvironments environments rows strict = (e : Text) → value_at text_cmp (text 1) (marks_in strict) rows e ≡ environments e
+AreEnvironments environments rows strict =
+    (e : Text) → value_at text_cmp (text 1) (marks_in strict) rows e ≡ environments e
 
 -- a team, and an environment for which it has a grant
 abbrev pub AreGrants : (Text × Text → Bool) → List Row → Type 0
-AreGrants grants rows = (team e : Text) → stands_at (by_both text_cmp text_cmp) (λ r. (text 1 r, text 2 r)) rows (team, e) ≡ grants (team, e)
+AreGrants grants rows = (team e : Text)
+    → stands_at (by_both text_cmp text_cmp) (λ r. (text 1 r, text 2 r)) rows (team, e) ≡ grants (team, e)
 
 -- a text with its digest
 abbrev pub with_digest : Text → Text × Text
@@ -73,7 +80,10 @@ AreContents contents rows = map (λ r. (whole_at 0 r, (text 2 r, text 3 r))) row
 -- a contract: the number of the consumer version, the provider, and the number of the content
 abbrev pub AreContracts : List Version → (Version × Text → Option ℕ) → List Row → Type 0
 AreContracts versions contracts rows = (v : Version) (provider : Text)
-    → option_and_then (λ n. value_at (by_both int_cmp text_cmp) (λ r. (whole_at 1 r, text 2 r)) (whole_at 3) rows (pos n, provider)) (number_of versions v) ≡ option_map pos (contracts (v, provider))
+    → option_and_then
+    (λ n. value_at (by_both int_cmp text_cmp) (λ r. (whole_at 1 r, text 2 r)) (whole_at 3) rows (pos n, provider))
+    (number_of versions v)
+    ≡ option_map pos (contracts (v, provider))
 
 -- a result without its number
 pub record ResultRow : Type 0 where
@@ -109,28 +119,37 @@ result_of versions r = record {
 
 -- the results in the order of their numbers, from 1 without gaps
 abbrev pub AreResults : List Version → List Verification → List Row → List Row → Type 0
-AreResults versions results rows checked = map (λ r. (whole_at 0 r, result_in checked r)) rows ≡ numbered (map (result_of versions) results)
+AreResults versions results rows checked =
+    map (λ r. (whole_at 0 r, result_in checked r)) rows ≡ numbered (map (result_of versions) results)
 
 -- a content, the number of a version of the provider, and the number of the latest result for them
 abbrev pub AreLatest : Broker → List Row → Type 0
 AreLatest s rows = (content : ℕ) (v : Version)
-    → option_and_then (λ n. value_at (by_both int_cmp int_cmp) (λ r. (whole_at 1 r, whole_at 2 r)) (whole_at 3) rows (pos content, pos n)) (number_of s.versions v)
+    → option_and_then
+    (λ n. value_at (by_both int_cmp int_cmp) (λ r. (whole_at 1 r, whole_at 2 r)) (whole_at 3) rows (pos content, pos n))
+    (number_of s.versions v)
     ≡ option_map (λ e. pos e.0) (latest_result s content v)
 
 -- an environment, a pacticipant and an instance, and the number of the version there, which is one of that pacticipant
 abbrev pub AreDeployed : List Version → (Text × Text × Text → Option Text) → List Row → Type 0
 AreDeployed versions deployed rows = (e p instance : Text)
-    → option_map Some (value_at (by_both text_cmp (by_both text_cmp text_cmp)) (λ r. (text 1 r, (text 2 r, text 3 r))) (whole_at 4) rows (e, (p, instance)))
+    → option_map Some
+    (value_at (by_both text_cmp (by_both text_cmp text_cmp)) (λ r. (text 1 r, (text 2 r, text 3 r))) (whole_at 4)
+    rows (e, (p, instance)))
     ≡ option_map (λ name. option_map pos (number_of versions (version p name))) (deployed (e, p, instance))
 
 -- an environment, and the number of a version that is released there
 abbrev pub AreReleased : List Version → (Text × Version → Bool) → List Row → Type 0
 AreReleased versions released rows = (e : Text) (v : Version)
-    → option_map_or (λ n. stands_at (by_both text_cmp int_cmp) (λ r. (text 1 r, whole_at 2 r)) rows (e, pos n)) (number_of versions v) false ≡ released (e, v)
+    → option_map_or
+    (λ n. stands_at (by_both text_cmp int_cmp) (λ r. (text 1 r, whole_at 2 r)) rows (e, pos n))
+    (number_of versions v) false
+    ≡ released (e, v)
 
 -- ---- the whole
 
--- The database holds the state: each field of the state is what the rows of its tables say. A database whose rows break a rule holds none.
+-- The database holds the state: each field of the state is what the rows of its tables say. A database whose
+-- rows break a rule holds none.
 pub record Holds (db : Database) (s : Broker) : Type 0 where
   pub broker : IsBroker db
   pub meta : IsMeta format s.office (rows_of db (codes "meta"))
@@ -138,7 +157,8 @@ pub record Holds (db : Database) (s : Broker) : Type 0 where
   pub pacticipants : ArePacticipants s.pacticipants (rows_of db (codes "pacticipants"))
   pub versions : AreVersions s.versions (rows_of db (codes "versions"))
   pub branches : AreBranches s.versions s.branches (rows_of db (codes "branches"))
-  pub environments : AreEnvironments s.environments (rows_of db (codes "environments")) (rows_of db (codes "strict_environments"))
+  pub environments : AreEnvironments s.environments (rows_of db (codes "environments"))
+      (rows_of db (codes "strict_environments"))
   pub grants : AreGrants s.grants (rows_of db (codes "grants"))
   pub contents : AreContents s.contents (rows_of db (codes "contents"))
   pub contracts : AreContracts s.versions s.contracts (rows_of db (codes "contracts"))
@@ -163,8 +183,12 @@ QueriesInPlace old new r P = CallsStore old new r (IsRead old new P)
 
 -- the state that the database holds leads to another, which it holds now
 abbrev pub Changes : State → State → Result (Unit {0}) StoreFault → (Broker → Broker → Type 0) → Type 0
-Changes old new r Next = CallsStore old new r (λ _. (s : Broker) → Holds old.now s → (t : Broker) → Next s t → Holds new.now t)
+Changes old new r Next =
+    CallsStore old new r (λ _. (s : Broker) → Holds old.now s → (t : Broker) → Next s t → Holds new.now t)
 
 -- where the state that the database holds allows it, an answer, and another state that the database holds now
-abbrev pub ChangesAndAnswers : {A : Type 0} → State → State → Result A StoreFault → (Broker → Type 0) → (A → Broker → Broker → Type 0) → Type 0
-ChangesAndAnswers old new r Allows Next = CallsStore old new r (λ a. (s : Broker) → Holds old.now s → Allows s → (t : Broker) × Next a s t × Holds new.now t)
+abbrev pub ChangesAndAnswers : {A : Type 0} → State → State → Result A StoreFault → (Broker → Type 0)
+    → (A → Broker → Broker → Type 0) → Type 0
+ChangesAndAnswers old new r Allows Next =
+    CallsStore old new r
+    (λ a. (s : Broker) → Holds old.now s → Allows s → (t : Broker) × Next a s t × Holds new.now t)

@@ -11,4 +11,5 @@ numbered xs = map (λ e. (pos e.0, e.1)) (enumerate_from 1 xs)
 
 -- the number of a version, none where the version isn't there
 abbrev pub number_of : List Version → Version → Option ℕ
-number_of versions v = find pair_cmp (v.pacticipant, v.name) (map (λ e. ((e.1.pacticipant, e.1.name), e.0)) (enumerate_from 1 versions))
+number_of versions v = find pair_cmp (v.pacticipant, v.name)
+    (map (λ e. ((e.1.pacticipant, e.1.name), e.0)) (enumerate_from 1 versions))

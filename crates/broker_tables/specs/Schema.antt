@@ -1,5 +1,7 @@
--- The tables of the broker's database, format 2 (this project's own): names, columns and keys, as SQLite reads the texts that make them.
--- A place counts the columns from 1. Place 0 is a row's number, for which a column stands that is an INTEGER PRIMARY KEY.
+-- The tables of the broker's database, format 2 (this project's own): names, columns and keys, as SQLite reads
+-- the texts that make them.
+-- A place counts the columns from 1. Place 0 is a row's number, for which a column stands that is an INTEGER
+-- PRIMARY KEY.
 use Rattle.std.specs.Prelude.{ℕ, pos, true, false, List, [], ◌∷◌, ◌++◌, Some, None, codes, fold, map}
 use Rattle.sqlite.specs.Table.{Table}
 use Rattle.sqlite.specs.Schema.{Schema}
@@ -24,7 +26,14 @@ abbrev pub texts : List ℕ → Column
 texts name = record { name = name; kind = Text; is_strict = true; not_null = true; default = Null; collation = Binary }
 
 abbrev pub numbers : List ℕ → Column
-numbers name = record { name = name; kind = Integer; is_strict = true; not_null = true; default = Null; collation = Binary }
+numbers name = record {
+  name = name;
+  kind = Integer;
+  is_strict = true;
+  not_null = true;
+  default = Null;
+  collation = Binary;
+}
 
 -- NULL where there is none
 abbrev pub optional : Column → Column
@@ -32,7 +41,14 @@ optional column = record column { not_null = false }
 
 -- REFERENCES: the column at this place is that column of a row of the other table
 abbrev pub to : ℕ → List ℕ → List ℕ → Reference
-to place table column = record { columns = place ∷ []; parent = table; parent_columns = column ∷ []; on_delete = NoAction; on_update = NoAction; is_deferred = false }
+to place table column = record {
+  columns = place ∷ [];
+  parent = table;
+  parent_columns = column ∷ [];
+  on_delete = NoAction;
+  on_update = NoAction;
+  is_deferred = false;
+}
 
 -- CHECK: the column at this place is this number
 abbrev pub is_number : ℕ → ℕ → Term
@@ -42,13 +58,16 @@ is_number place n = op2 (Compare Eq Binary) (col 1 place) (lit (Int (pos n)))
 abbrev pub is_truth : ℕ → Term
 is_truth place = op2 Or (is_number place 0) (is_number place 1)
 
--- a table by its name, its columns, the places of its PRIMARY KEY, of each key that stands once, its REFERENCES and its CHECKs
+-- a table by its name, its columns, the places of its PRIMARY KEY, of each key that stands once, its REFERENCES
+-- and its CHECKs
 abbrev pub table : List ℕ → List Column → List ℕ → List (List ℕ) → List Reference → List Term → Table
-table name columns primary uniques references checks = plain_table name 0 columns None primary uniques (map (λ _. plain) uniques) checks references
+table name columns primary uniques references checks =
+    plain_table name 0 columns None primary uniques (map (λ _. plain) uniques) checks references
 
 -- the first column is the row's number
 abbrev pub numbered : List ℕ → List Column → List (List ℕ) → List Reference → List Term → Table
-numbered name columns uniques references checks = record (table name columns (0 ∷ []) uniques references checks) { key = Some 0 }
+numbered name columns uniques references checks =
+    record (table name columns (0 ∷ []) uniques references checks) { key = Some 0 }
 
 -- the PRIMARY KEY is the one key
 abbrev pub keyed : List ℕ → List Column → List ℕ → List Reference → List Term → Table
@@ -69,7 +88,8 @@ pacticipants = keyed (codes "pacticipants") (texts (codes "name") ∷ texts (cod
     (1 ∷ []) (to 2 (codes "teams") (codes "name") ∷ []) []
 
 abbrev pub versions : Table
-versions = numbered (codes "versions") (numbers (codes "number") ∷ texts (codes "pacticipant") ∷ texts (codes "version") ∷ [])
+versions = numbered (codes "versions")
+    (numbers (codes "number") ∷ texts (codes "pacticipant") ∷ texts (codes "version") ∷ [])
     ((2 ∷ 3 ∷ []) ∷ []) (to 2 (codes "pacticipants") (codes "name") ∷ []) []
 
 abbrev pub branches : Table
@@ -89,21 +109,39 @@ contents = numbered (codes "contents") (numbers (codes "number") ∷ texts (code
     [] [] []
 
 abbrev pub contracts : Table
-contracts = keyed (codes "contracts") (numbers (codes "version_number") ∷ texts (codes "provider") ∷ numbers (codes "content") ∷ [])
-    (1 ∷ 2 ∷ []) (to 1 (codes "versions") (codes "number") ∷ to 2 (codes "pacticipants") (codes "name") ∷ to 3 (codes "contents") (codes "number") ∷ []) []
+contracts = keyed (codes "contracts")
+    (numbers (codes "version_number") ∷ texts (codes "provider") ∷ numbers (codes "content") ∷ [])
+    (1 ∷ 2 ∷ [])
+    (to 1 (codes "versions") (codes "number") ∷ to 2 (codes "pacticipants") (codes "name")
+    ∷ to 3 (codes "contents") (codes "number") ∷ [])
+    []
 
 -- SQLite's UNIQUE takes no two NULLs for equal, so a run stands once with its provider where there is one
 abbrev pub results : Table
-results = numbered (codes "results") (numbers (codes "number") ∷ numbers (codes "content") ∷ texts (codes "provider") ∷ numbers (codes "provider_version") ∷ numbers (codes "pass") ∷ optional (texts (codes "run")) ∷ [])
-    ((3 ∷ 6 ∷ []) ∷ []) (to 2 (codes "contents") (codes "number") ∷ to 3 (codes "pacticipants") (codes "name") ∷ to 4 (codes "versions") (codes "number") ∷ []) (is_truth 5 ∷ [])
+results = numbered (codes "results")
+    (numbers (codes "number") ∷ numbers (codes "content") ∷ texts (codes "provider")
+    ∷ numbers (codes "provider_version") ∷ numbers (codes "pass") ∷ optional (texts (codes "run")) ∷ [])
+    ((3 ∷ 6 ∷ []) ∷ [])
+    (to 2 (codes "contents") (codes "number") ∷ to 3 (codes "pacticipants") (codes "name")
+    ∷ to 4 (codes "versions") (codes "number") ∷ [])
+    (is_truth 5 ∷ [])
 
 abbrev pub latest : Table
-latest = keyed (codes "latest") (numbers (codes "content") ∷ numbers (codes "provider_version") ∷ numbers (codes "result") ∷ [])
-    (1 ∷ 2 ∷ []) (to 1 (codes "contents") (codes "number") ∷ to 2 (codes "versions") (codes "number") ∷ to 3 (codes "results") (codes "number") ∷ []) []
+latest = keyed (codes "latest")
+    (numbers (codes "content") ∷ numbers (codes "provider_version") ∷ numbers (codes "result") ∷ [])
+    (1 ∷ 2 ∷ [])
+    (to 1 (codes "contents") (codes "number") ∷ to 2 (codes "versions") (codes "number")
+    ∷ to 3 (codes "results") (codes "number") ∷ [])
+    []
 
 abbrev pub deployed : Table
-deployed = keyed (codes "deployed") (texts (codes "environment") ∷ texts (codes "pacticipant") ∷ texts (codes "instance") ∷ numbers (codes "version_number") ∷ [])
-    (1 ∷ 2 ∷ 3 ∷ []) (to 1 (codes "environments") (codes "name") ∷ to 2 (codes "pacticipants") (codes "name") ∷ to 4 (codes "versions") (codes "number") ∷ []) []
+deployed = keyed (codes "deployed")
+    (texts (codes "environment") ∷ texts (codes "pacticipant") ∷ texts (codes "instance")
+    ∷ numbers (codes "version_number") ∷ [])
+    (1 ∷ 2 ∷ 3 ∷ [])
+    (to 1 (codes "environments") (codes "name") ∷ to 2 (codes "pacticipants") (codes "name")
+    ∷ to 4 (codes "versions") (codes "number") ∷ [])
+    []
 
 abbrev pub released : Table
 released = keyed (codes "released") (texts (codes "environment") ∷ numbers (codes "version_number") ∷ [])
@@ -138,7 +176,8 @@ contract_part = contracts ∷ results ∷ latest ∷ []
 abbrev pub deploy_part : List Table
 deploy_part = deployed ∷ released ∷ []
 
--- all tables. Those of evidence and of strict environments are the last: a database of format 1 gets the same schema by making them
+-- all tables. Those of evidence and of strict environments are the last: a database of format 1 gets the same
+-- schema by making them
 abbrev pub all_tables : List Table
 all_tables = registry_part ++ contents ∷ contract_part ++ deploy_part ++ checked_results ∷ strict_environments ∷ []
 
@@ -146,7 +185,17 @@ all_tables = registry_part ++ contents ∷ contract_part ++ deploy_part ++ check
 
 -- a table whose rows are at this place, and an index of its columns at those places. More rows may have the same
 abbrev pub index_on : Table → ℕ → List ℕ → List ℕ → Table × Index
-index_on table tree name columns = (record table { tree = tree }, record { name = name; tree = 0; table = tree; columns = columns; order = plain; is_unique = false })
+index_on table tree name columns = (
+  record table { tree = tree },
+  record {
+    name = name;
+    tree = 0;
+    table = tree;
+    columns = columns;
+    order = plain;
+    is_unique = false;
+  },
+)
 
 abbrev pub contents_by_digest : Table × Index
 contents_by_digest = index_on contents 14 (codes "contents_by_digest") (2 ∷ [])

@@ -4,3 +4,8 @@
 #![tactic(auto)]
 
 pub mod create;
+mod making;
+mod numbers;
+
+pub use making::make_each;
+pub use numbers::next_number;

@@ -57,7 +57,7 @@ use Rattle.broker_tables.proofs.Placed.{contents, contents_there}
 use Rattle.broker_core.specs.Text.{same_text}
 use Rattle.content_store.specs.Contents.{ContentsBy, AreContentsBy, with_digest_by, text_in, is_among, found_in, IsPut}
 use Rattle.content_store.proofs.TextNumbers.{same_is, none_before, with_new}
-use Rattle.content_store.proofs.NextRow.{next_row}
+use Rattle.broker_tables.proofs.NextRow.{next_row}
 
 module _ (db : Database) (broker : IsBroker db) where
   pub numbered_rows : IsNumbered (db.trees 14)

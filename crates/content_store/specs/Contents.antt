@@ -24,7 +24,8 @@ with_digest_by digest body = (digest body, body)
 
 -- the texts in the order of their numbers, from 1 without gaps, each with its digest
 abbrev pub AreContentsBy : (Text → Text) → List Text → List Row → Type 0
-AreContentsBy digest texts rows = map (λ r. (whole_at 0 r, (text 2 r, text 3 r))) rows ≡ numbered (map (with_digest_by digest) texts)
+AreContentsBy digest texts rows =
+    map (λ r. (whole_at 0 r, (text 2 r, text 3 r))) rows ≡ numbered (map (with_digest_by digest) texts)
 
 -- The tables are the broker's, and the one of contents has these texts. All of them were stored by this digest.
 pub record ContentsBy (digest : Text → Text) (db : Database) (texts : List Text) : Type 0 where
@@ -33,7 +34,8 @@ pub record ContentsBy (digest : Text → Text) (db : Database) (texts : List Tex
 
 -- each table but this one is as it was
 abbrev pub KeepsOthers : List ℕ → Database → Database → Type 0
-KeepsOthers name old new = AllByRecursion (λ t. same_text t.name name ≡ false → rows_of new t.name ≡ rows_of old t.name) broker_schema.tables
+KeepsOthers name old new =
+    AllByRecursion (λ t. same_text t.name name ≡ false → rows_of new t.name ≡ rows_of old t.name) broker_schema.tables
 
 -- ---- texts and their numbers
 
@@ -72,8 +74,10 @@ IsReadBy digest old new P a = (texts : List Text) → ContentsBy digest old.now 
 abbrev pub IsReadByAny : {A : Type 0} → State → State → (A → List Text → Type 0) → A → Type 0
 IsReadByAny old new P a = (digest : Text → Text) → IsReadBy digest old new P a
 
--- The text has this number, and it is one of the contents now. Where it was one before, nothing changes; else it is the last. All other tables are as they were.
-pub record IsPut (digest : Text → Text) (body : Text) (texts : List Text) (number : ℕ) (old new : Database) : Type 0 where
+-- The text has this number, and it is one of the contents now. Where it was one before, nothing changes; else
+-- it is the last. All other tables are as they were.
+pub record IsPut (digest : Text → Text) (body : Text) (texts : List Text) (number : ℕ)
+    (old new : Database) : Type 0 where
   pub number_is : number ≡ number_in texts body
   pub contents : ContentsBy digest new (with_text texts body)
   pub others : KeepsOthers (codes "contents") old new
@@ -81,12 +85,17 @@ pub record IsPut (digest : Text → Text) (body : Text) (texts : List Text) (num
 
 -- a text is put among the contents, all stored by this digest
 abbrev pub IsPutBy : (Text → Text) → Text → State → State → ℕ → Type 0
-IsPutBy digest body old new number = (texts : List Text) → ContentsBy digest old.now texts → IsPut digest body texts number old.now new.now
+IsPutBy digest body old new number =
+    (texts : List Text) → ContentsBy digest old.now texts → IsPut digest body texts number old.now new.now
 
 -- a text that isn't there is put among them, whatever its number is to be
 abbrev pub IsNewBy : (Text → Text) → Text → State → State → ℕ → Type 0
-IsNewBy digest body old new number = (texts : List Text) → ContentsBy digest old.now texts → is_among texts body ≡ false → IsPut digest body texts number old.now new.now
+IsNewBy digest body old new number =
+    (texts : List Text) → ContentsBy digest old.now texts → is_among texts body ≡ false
+    → IsPut digest body texts number old.now new.now
 
 -- a text that isn't there is put among them under the number that is its own
 abbrev pub IsPutUnder : (Text → Text) → Text → State → State → ℕ → Type 0
-IsPutUnder digest body old new number = (texts : List Text) → ContentsBy digest old.now texts → is_among texts body ≡ false → number ≡ length texts + 1 → IsPut digest body texts number old.now new.now
+IsPutUnder digest body old new number =
+    (texts : List Text) → ContentsBy digest old.now texts → is_among texts body ≡ false
+    → number ≡ length texts + 1 → IsPut digest body texts number old.now new.now

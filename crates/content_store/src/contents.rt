@@ -1,5 +1,5 @@
 //! The normal texts of pacts, each once under its number, beside its digest.
-ghost use Rattle.std.specs.Prelude.{◌≡◌, ◌+◌, ◌≤◌, pos, List, ℕ, IfOk, IfErr, IfSome, IfNone, length, option_map, string_bytes};
+ghost use Rattle.std.specs.Prelude.{◌≡◌, pos, List, ℕ, IfOk, IfErr, length, option_map, string_bytes};
 ghost use Rattle.std.specs.List.{find as first};
 ghost use Rattle.sqlite.specs.Held.{state};
 ghost use Rattle.sqlite.specs.Order.{column};
@@ -11,6 +11,7 @@ ghost use Rattle.broker_core.specs.Text.{Text, same_text};
 ghost use Rattle.content_store.specs.Contents.{hex_of, found_in, text_in, IsReadBy, IsReadByAny, IsPutBy, IsPutUnder, IsNewBy};
 
 use crate::digester::{Digester, digest_digits};
+use broker_tables::next_number;
 use sqlite::types::{ToSql, ValueRef};
 use sqlite::{Alter, Connection, Row, params};
 use table_access::{StoreFault, change, number_in, number_of, select, text_at, text_of};
@@ -18,9 +19,11 @@ use table_access::{StoreFault, change, number_in, number_of, select, text_at, te
 /// The text with this number, or `None` where there is none.
 ///
 /// # Errors
-/// `StoreFault::Memory` for want of memory; `StoreFault::Store` where the database refused the query, or for a number above 2^63 - 1, which no row can have.
+/// `StoreFault::Memory` where the database is out of memory, or there is none for the answer; `StoreFault::Store` where it refused the query, or for a number above 2^63 - 1, which no row can have.
 pub fn get<S: Alter>(conn: &mut Connection<S>, number: u64) -> Result<Option<String>, StoreFault>
-    ensures { CallsTables (state S.Store conn.old) (state S.Store conn.new) result (IsReadByAny (state S.Store conn.old) (state S.Store conn.new) (λ found texts. option_map string_bytes found ≡ text_in texts number)) }
+    ensures { CallsTables (state S.Store conn.old) (state S.Store conn.new) result
+        (IsReadByAny (state S.Store conn.old) (state S.Store conn.new)
+        (λ found texts. option_map string_bytes found ≡ text_in texts number)) }
 {
     match i64::try_from(number) {
         Ok(number) => text_of(
@@ -35,9 +38,11 @@ pub fn get<S: Alter>(conn: &mut Connection<S>, number: u64) -> Result<Option<Str
 /// How many texts there are: the number of the newest, or 0.
 ///
 /// # Errors
-/// `StoreFault::Memory` for want of memory; `StoreFault::Store` where the database refused the query or holds no number there.
+/// `StoreFault::Memory` where the database is out of memory; `StoreFault::Store` where it refused the query or holds no number there.
 pub fn content_count<S: Alter>(conn: &mut Connection<S>) -> Result<u64, StoreFault>
-    ensures { CallsStore (state S.Store conn.old) (state S.Store conn.new) result (IsReadByAny (state S.Store conn.old) (state S.Store conn.new) (λ count texts. count ≡ length texts)) }
+    ensures { CallsStore (state S.Store conn.old) (state S.Store conn.new) result
+        (IsReadByAny (state S.Store conn.old) (state S.Store conn.new)
+        (λ count texts. count ≡ length texts)) }
 {
     match number_of(
         conn,
@@ -62,7 +67,9 @@ fn has_text(row: &Row, body: &str) -> Result<bool, StoreFault>
 
 /// The number in the first row that has this text, if one has it. `StoreFault::Store` where a row has no text, or no number.
 fn number_among(rows: &[Row], body: &str) -> Result<Option<u32>, StoreFault>
-    ensures ok { IfOk result (λ found. option_map (λ n. Int (pos n)) found ≡ option_map (λ row. column row 0) (first (λ row. same_text body.now (text 1 row)) rows.now)) }
+    ensures ok { IfOk result
+        (λ found. option_map (λ n. Int (pos n)) found ≡ option_map (λ row. column row 0)
+        (first (λ row. same_text body.now (text 1 row)) rows.now)) }
     ensures store { IfErr result (λ f. f ≡ StoreFault.Store) }
 {
     for row in rows {
@@ -84,7 +91,10 @@ fn find_beside<S: Alter>(
     digest: &[u8],
     body: &str,
 ) -> Result<Option<u32>, StoreFault>
-    ensures { CallsStore (state S.Store conn.old) (state S.Store conn.new) result (λ found. (by : Text → Text) → by body.now ≡ digest.now → IsReadBy by (state S.Store conn.old) (state S.Store conn.new) (λ found texts. found ≡ found_in texts body.now) found) }
+    ensures { CallsStore (state S.Store conn.old) (state S.Store conn.new) result
+        (λ found. (by : Text → Text) → by body.now ≡ digest.now →
+        IsReadBy by (state S.Store conn.old) (state S.Store conn.new)
+        (λ found texts. found ≡ found_in texts body.now) found) }
 {
     match select(
         conn,
@@ -99,31 +109,21 @@ fn find_beside<S: Alter>(
 /// The number of the text, or `None` where it isn't stored.
 ///
 /// # Errors
-/// `StoreFault::Memory` for want of memory; `StoreFault::Store` where the database refused the query, or where a row has no number below 2^32.
+/// `StoreFault::Memory` where the database is out of memory; `StoreFault::Store` where it refused the query, or where a row has no number below 2^32.
 pub fn find<S: Alter, D: Digester>(
     conn: &mut Connection<S>,
     digester: &D,
     body: &str,
 ) -> Result<Option<u64>, StoreFault>
-    ensures { CallsStore (state S.Store conn.old) (state S.Store conn.new) result (IsReadBy (hex_of D.digest_of) (state S.Store conn.old) (state S.Store conn.new) (λ found texts. found ≡ found_in texts body.now)) }
+    ensures { CallsStore (state S.Store conn.old) (state S.Store conn.new) result
+        (IsReadBy (hex_of D.digest_of) (state S.Store conn.old) (state S.Store conn.new)
+        (λ found texts. found ≡ found_in texts body.now)) }
 {
     let digest = digest_digits(digester, body.as_bytes());
     match find_beside(conn, &digest, body) {
         Ok(Some(number)) => Ok(Some(u64::from(number))),
         Ok(None) => Ok(None),
         Err(fault) => Err(fault),
-    }
-}
-
-/// The number after so many, if there is one.
-fn next_number(count: u64) -> Option<u32>
-    ensures some { IfSome result (λ n. n ≡ count + 1) }
-    ensures none { IfNone result (4294967295 ≤ count) }
-{
-    if count < 4_294_967_295 {
-        Some(count as u32 + 1)
-    } else {
-        None
     }
 }
 
@@ -134,7 +134,9 @@ fn put_under<'a, S: Alter>(
     digest: &'a [u8],
     body: &'a str,
 ) -> Result<(), StoreFault>
-    ensures { CallsStore (state S.Store conn.old) (state S.Store conn.new) result (λ _. (by : Text → Text) → by body.now ≡ digest.now → IsPutUnder by body.now (state S.Store conn.old) (state S.Store conn.new) number) }
+    ensures { CallsStore (state S.Store conn.old) (state S.Store conn.new) result
+        (λ _. (by : Text → Text) → by body.now ≡ digest.now →
+        IsPutUnder by body.now (state S.Store conn.old) (state S.Store conn.new) number) }
 {
     change(
         conn,
@@ -145,7 +147,9 @@ fn put_under<'a, S: Alter>(
 
 /// Adds a text that isn't there, with this digest, and answers its number, which is the next one.
 fn add<S: Alter>(conn: &mut Connection<S>, digest: &[u8], body: &str) -> Result<u32, StoreFault>
-    ensures { CallsStore (state S.Store conn.old) (state S.Store conn.new) result (λ number. (by : Text → Text) → by body.now ≡ digest.now → IsNewBy by body.now (state S.Store conn.old) (state S.Store conn.new) number) }
+    ensures { CallsStore (state S.Store conn.old) (state S.Store conn.new) result
+        (λ number. (by : Text → Text) → by body.now ≡ digest.now →
+        IsNewBy by body.now (state S.Store conn.old) (state S.Store conn.new) number) }
 {
     match content_count(conn) {
         Ok(count) => match next_number(count) {
@@ -162,13 +166,14 @@ fn add<S: Alter>(conn: &mut Connection<S>, digest: &[u8], body: &str) -> Result<
 /// The number of the text, which is stored under the next one where it isn't stored yet. Each text that is there was stored by this digester.
 ///
 /// # Errors
-/// `StoreFault::Memory` for want of memory; `StoreFault::Store` where the database refused a statement, or where the numbers are used up.
+/// `StoreFault::Memory` where the database is out of memory; `StoreFault::Store` where it refused a statement, or where the numbers are used up.
 pub fn put<S: Alter, D: Digester>(
     conn: &mut Connection<S>,
     digester: &D,
     body: &str,
 ) -> Result<u64, StoreFault>
-    ensures { CallsStore (state S.Store conn.old) (state S.Store conn.new) result (IsPutBy (hex_of D.digest_of) body.now (state S.Store conn.old) (state S.Store conn.new)) }
+    ensures { CallsStore (state S.Store conn.old) (state S.Store conn.new) result
+        (IsPutBy (hex_of D.digest_of) body.now (state S.Store conn.old) (state S.Store conn.new)) }
 {
     let digest = digest_digits(digester, body.as_bytes());
     match find_beside(conn, &digest, body) {

@@ -6,8 +6,6 @@
 mod contents;
 mod digester;
 mod making;
-#[cfg(test)]
-mod tests;
 
 pub use contents::{content_count, find, get, put};
 pub use digester::{Digester, Sha256Digester, digest_text};

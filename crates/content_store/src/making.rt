@@ -6,25 +6,31 @@ ghost use Rattle.table_access.specs.Statements.{Makes, Indexes};
 ghost use Rattle.broker_tables.specs.Schema.{registry_part, contents, schema_of, all_tables, contents_by_digest};
 
 use broker_tables::create::{CONTENTS, CONTENTS_BY_DIGEST};
+use broker_tables::make_each;
 use sqlite::{Alter, Connection};
-use table_access::{StoreFault, change};
+use table_access::StoreFault;
 
 /// Makes the table of contents, without rows, after those of the registry. These keep their rows.
 ///
 /// # Errors
-/// `StoreFault::Memory` for want of memory; `StoreFault::Store` where the database refused the table.
+/// `StoreFault::Memory` where the database is out of memory; `StoreFault::Store` where it refused the table.
 pub fn make_tables<S: Alter>(conn: &mut Connection<S>) -> Result<(), StoreFault>
-    ensures { CallsStore (state S.Store conn.old) (state S.Store conn.new) result (λ _. (state S.Store conn.old).now.schema ≡ schema_of registry_part → Makes (contents ∷ []) (state S.Store conn.old).now (state S.Store conn.new).now) }
+    ensures { CallsStore (state S.Store conn.old) (state S.Store conn.new) result
+        (λ _. (state S.Store conn.old).now.schema ≡ schema_of registry_part →
+        Makes (contents ∷ []) (state S.Store conn.old).now (state S.Store conn.new).now) }
 {
-    change(conn, CONTENTS, &[])
+    make_each(conn, &[CONTENTS])
 }
 
 /// Makes the index of contents by their digest, once all tables are made. These keep their rows.
 ///
 /// # Errors
-/// `StoreFault::Memory` for want of memory; `StoreFault::Store` where the database refused the index.
+/// `StoreFault::Memory` where the database is out of memory; `StoreFault::Store` where it refused the index.
 pub fn make_index<S: Alter>(conn: &mut Connection<S>) -> Result<(), StoreFault>
-    ensures { CallsStore (state S.Store conn.old) (state S.Store conn.new) result (λ _. (state S.Store conn.old).now.schema ≡ schema_of all_tables → Indexes (state S.Store conn.old).now (state S.Store conn.new).now contents_by_digest.0 contents_by_digest.1) }
+    ensures { CallsStore (state S.Store conn.old) (state S.Store conn.new) result
+        (λ _. (state S.Store conn.old).now.schema ≡ schema_of all_tables →
+        Indexes (state S.Store conn.old).now (state S.Store conn.new).now
+        contents_by_digest.0 contents_by_digest.1) }
 {
-    change(conn, CONTENTS_BY_DIGEST, &[])
+    make_each(conn, &[CONTENTS_BY_DIGEST])
 }

@@ -9,8 +9,6 @@ use Rattle.sqlite.specs.Edit.{next_rowid, with_rowid}
 use Rattle.sqlite.specs.Rowids.TheVariants.{Chosen}
 use Rattle.sqlite.specs.declared.types.Value.TheVariants.{Null, Int, Text}
 use Rattle.sqlite.specs.Order.{Row, column}
-use Rattle.sqlite.specs.Cast.{cast}
-use Rattle.sqlite.specs.Kind.TheVariants.{Integer}
 use Rattle.sqlite.specs.Term.{col, lit}
 use Rattle.sqlite.specs.Source.TheVariants.{Values}
 use Rattle.sqlite.specs.Command.{Command}
@@ -96,12 +94,12 @@ held_content db s v n p held is = sym (ap (option_and_then (λ k. content_at (db
 pub content_found : (n : ℕ) (p : List ℕ) (old new : State) (rows : List Row) (found : Option ℕ) (s : Broker) (v : Version) → Holds old.now s → number_of s.versions v ≡ Some n → Shown content_sql (Int (pos n) ∷ Text p ∷ []) old new rows
     → option_map (λ n. Int (pos n)) found ≡ option_map (λ r. column r 0) (slice_get rows 0) → found ≡ s.contracts (v, p)
 content_found n p old new rows found s v held is h read = named found (s.contracts (v, p)) (
-  number_found found rows read
-  ∙ looks_up_at marked_total exact_marked key (whole_at 3) _ (whole_at 0) (λ r. refl) (pos n, p) _ (old.now.trees 15) rows
-      (all_where (by_both int_cmp text_cmp) (old.now.trees 15) key (pos n, p) (by_two 1 2) (Int (pos n) ∷ Text p ∷ []) (by_key old.now held.broker n p)) (keys old.now held.broker)
-      (selects content_sql (Int (pos n) ∷ Text p ∷ []) old new 15 _ _ _ _ (content_means old.now held.broker) rows h)
-  ∙ held_content old.now s v n p held is
-)
+    number_found found rows read
+    ∙ looks_up_at marked_total exact_marked key (whole_at 3) _ (whole_at 0) (λ r. refl) (pos n, p) _ (old.now.trees 15) rows
+    (all_where (by_both int_cmp text_cmp) (old.now.trees 15) key (pos n, p) (by_two 1 2) (Int (pos n) ∷ Text p ∷ []) (by_key old.now held.broker n p)) (keys old.now held.broker)
+    (selects content_sql (Int (pos n) ∷ Text p ∷ []) old new 15 _ _ _ _ (content_means old.now held.broker) rows h)
+    ∙ held_content old.now s v n p held is
+    )
 
 -- ---- a contract is put in
 

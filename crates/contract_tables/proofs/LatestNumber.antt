@@ -1,5 +1,5 @@
 -- The number of the latest result.
-use Rattle.std.proofs.Common.{◌≡◌, ℕ, ℤ, pos, codes, List, [], ◌∷◌, refl, sym, ap, ◌∙◌, slice_get, Some, None, Option}
+use Rattle.std.proofs.Common.{◌≡◌, ℕ, pos, codes, List, [], ◌∷◌, refl, sym, ap, ◌∙◌, slice_get, Some, None, Option}
 use Rattle.std.specs.Prelude.{option_map, option_and_then}
 use Rattle.std.specs.Ordering.{eq_by_cmp, int_cmp}
 use Rattle.std.specs.Cmp.{int_cmp_total}
@@ -55,9 +55,9 @@ twice (Some e) = refl
 pub newest_found : (c n : ℕ) (old new : State) (rows : List Row) (found : Option ℕ) (s : Broker) (v : Version) → Holds old.now s → number_of s.versions v ≡ Some n → Shown newest_sql (Int (pos c) ∷ Int (pos n) ∷ []) old new rows
     → option_map (λ n. Int (pos n)) found ≡ option_map (λ r. column r 0) (slice_get rows 0) → found ≡ option_map (λ e. e.0) (latest_result s c v)
 newest_found c n old new rows found s v held is h read = named found (option_map (λ e. e.0) (latest_result s c v)) (
-  number_found found rows read
-  ∙ looks_up_at numbers_total exact_numbers key (whole_at 3) _ (whole_at 0) (λ r. refl) (pos c, pos n) _ (old.now.trees 19) rows
-      (all_where (by_both int_cmp int_cmp) (old.now.trees 19) key (pos c, pos n) (by_two 1 2) (Int (pos c) ∷ Int (pos n) ∷ []) (by_key old.now held.broker c n)) (keys old.now held.broker)
-      (selects newest_sql (Int (pos c) ∷ Int (pos n) ∷ []) old new 19 _ _ _ _ (newest_means old.now held.broker) rows h)
-  ∙ sym (ap (option_and_then (λ k. latest_at (old.now.trees 19) c k)) is) ∙ held.latest c v ∙ twice (latest_result s c v)
-)
+    number_found found rows read
+    ∙ looks_up_at numbers_total exact_numbers key (whole_at 3) _ (whole_at 0) (λ r. refl) (pos c, pos n) _ (old.now.trees 19) rows
+    (all_where (by_both int_cmp int_cmp) (old.now.trees 19) key (pos c, pos n) (by_two 1 2) (Int (pos c) ∷ Int (pos n) ∷ []) (by_key old.now held.broker c n)) (keys old.now held.broker)
+    (selects newest_sql (Int (pos c) ∷ Int (pos n) ∷ []) old new 19 _ _ _ _ (newest_means old.now held.broker) rows h)
+    ∙ sym (ap (option_and_then (λ k. latest_at (old.now.trees 19) c k)) is) ∙ held.latest c v ∙ twice (latest_result s c v)
+    )

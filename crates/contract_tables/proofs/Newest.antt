@@ -1,5 +1,5 @@
 -- The latest result for a content and a version, after one more result.
-use Rattle.std.proofs.Common.{◌≡◌, ◌==◌, inl, inr, ℕ, ℤ, pos, ◌+◌, List, [], ◌∷◌, ◌++◌, length, filter, Bool, true, false, cond, ◌&&◌, refl, sym, ap, ◌∙◌, Some, None, Option, arith}
+use Rattle.std.proofs.Common.{◌≡◌, ◌==◌, inl, inr, ℕ, pos, ◌+◌, List, [], ◌∷◌, ◌++◌, length, filter, Bool, true, false, cond, ◌&&◌, refl, sym, ap, ◌∙◌, Some, None, Option, arith}
 use Rattle.std.specs.Prelude.{option_map, option_and_then}
 use Rattle.std.specs.List.{last_or, enumerate_from}
 use Rattle.std.specs.Ordering.{eq_by_cmp, int_cmp}
@@ -8,7 +8,7 @@ use Rattle.std.specs.FinMap.{int_cmp-IsAntisymmetric}
 use Rattle.std.proofs.lemmas.Map.Views.{exact_unsigned_eq}
 use Rattle.std.proofs.lemmas.Bool.{cases_Bool}
 use Rattle.sqlite.specs.Order.{Row}
-use Rattle.table_access.specs.Columns.{pair_cmp, by_both}
+use Rattle.table_access.specs.Columns.{by_both}
 use Rattle.broker_core.specs.declared.command.Version.{Version}
 use Rattle.broker_core.specs.Text.{same_version}
 use Rattle.broker_core.specs.State.{State as Broker, Verification, latest_result, last_row}

@@ -1,5 +1,5 @@
 -- The statements on results, on those that the broker checked, and on the latest ones.
-use Rattle.std.proofs.Common.{◌≡◌, inl, inr, ℕ, ℤ, pos, codes, List, [], ◌∷◌, ◌++◌, Bool, true, false, ◌||◌, cond, refl, sym, ap, subst, ◌∙◌, slice_get, Some, None, Option, Ok}
+use Rattle.std.proofs.Common.{◌≡◌, inl, inr, ℕ, ℤ, pos, codes, List, [], ◌∷◌, ◌++◌, Bool, true, false, ◌||◌, refl, sym, ap, subst, ◌∙◌, slice_get, Some, None, Option, Ok}
 use Rattle.std.specs.Prelude.{if◌then◌else◌}
 use Rattle.std.specs.Ordering.{eq_by_cmp, int_cmp}
 use Rattle.std.specs.Cmp.{eq_by_cmp_equiv, Equal-is, int_cmp_total}
@@ -29,7 +29,7 @@ use Rattle.sqlite_schema.specs.Rules.{agree}
 use Rattle.sqlite_value.specs.Keys.{plain}
 use Rattle.sqlite_tied.specs.Compute.{everything}
 use Rattle.table_access.specs.Columns.{whole_at, by_both}
-use Rattle.table_access.specs.Statements.{from_table, shows, ChangesOnly}
+use Rattle.table_access.specs.Statements.{from_table, shows}
 use Rattle.table_access.proofs.Values.{cast_null, cast_int}
 use Rattle.table_access.proofs.Steps.{Means, inserts}
 use Rattle.table_access.proofs.Upsert.{upsert_leaves, Upserted}

@@ -1,7 +1,6 @@
 -- The three statements that record a result, one after another, lead from the state that the database holds to the one with that result.
 use Rattle.std.proofs.Common.{◌≡◌, inl, inr, ℕ, ℤ, pos, ◌+◌, ◌<◌, codes, List, [], ◌∷◌, ◌++◌, map, length, Bool, true, false, ◌&&◌, ◌||◌, cond, refl, sym, ap, subst, subst₂, ◌∙◌, Some, None, Option, arith}
 use Rattle.std.specs.Prelude.{option_map, if◌then◌else◌}
-use Rattle.std.specs.List.{AllByRecursion}
 use Rattle.std.specs.Ordering.{eq_by_cmp, is_eq, int_cmp}
 use Rattle.std.specs.Cmp.{eq_by_cmp_equiv, Equal-is, int_cmp_total}
 use Rattle.std.specs.FinMap.{int_cmp-IsAntisymmetric}
@@ -28,15 +27,15 @@ use Rattle.sqlite_keyed.proofs.RuleLemmas.{first_of_both}
 use Rattle.sqlite_tied.specs.Compute.{everything}
 use Rattle.table_access.specs.Columns.{whole_at, by_both}
 use Rattle.table_access.specs.Sound.{IsNumbered}
-use Rattle.table_access.specs.Statements.{IsAdded, ChangesOnly}
+use Rattle.table_access.specs.Statements.{IsAdded}
 use Rattle.table_access.proofs.Values.{same_ints}
 use Rattle.table_access.proofs.SoundLemmas.{at_has, all_of, has_place}
 use Rattle.broker_core.specs.State.{State as Broker, Verification}
 use Rattle.broker_core.specs.declared.command.Version.{Version}
 use Rattle.broker_tables.specs.Schema.{broker_schema, to}
-use Rattle.broker_tables.specs.Rows.{rows_of, stands_at, truth_in, text_or_null}
+use Rattle.broker_tables.specs.Rows.{stands_at, truth_in, text_or_null}
 use Rattle.broker_tables.specs.Numbers.{numbered, number_of}
-use Rattle.broker_tables.specs.Holds.{Holds, IsBroker, AreResults, AreLatest, ResultRow, result_in, result_of}
+use Rattle.broker_tables.specs.Holds.{Holds, IsBroker, AreResults, ResultRow, result_in, result_of}
 use Rattle.broker_tables.proofs.Frames.{Frame, frame_of, frame_then, still_broker, results_change}
 use Rattle.broker_tables.proofs.Standing.{stands_put}
 use Rattle.broker_tables.proofs.Growth.{none_stands}
@@ -44,7 +43,7 @@ use Rattle.broker_tables.proofs.References.{any_has, row_number}
 use Rattle.broker_tables.proofs.Placed.{results, results_there, checked_results, checked_results_there}
 use Rattle.contract_tables.specs.Verified.{latest_at, result_row, result_for, run_value, PutsRow, Marks, Points}
 use Rattle.contract_tables.proofs.Newest.{latest_grows}
-use Rattle.contract_tables.proofs.NextRow.{next_row}
+use Rattle.broker_tables.proofs.NextRow.{next_row}
 
 -- ---- a row that is marked as checked is the one of a result, by the table's REFERENCES
 
@@ -180,9 +179,12 @@ module _ (s : Broker) (r : Verification) (n : ℕ) (is : number_of s.versions r.
 
 -- the mark of a result that was checked
 pub is_marked : (checked : Bool) (number : ℕ) (old new : State) → checked ≡ true → PutsRow 25 (Int (pos number) ∷ Null ∷ []) old new → Marks checked number old new
-is_marked checked number old new is put = (put.0, λ k.
-    stands_put int_cmp (whole_at 0) (old.now.trees 25) (new.now.trees 25) (Int (pos number) ∷ Null ∷ []) put.1 k
-    ∙ sym (ap (λ b. (b && eq_by_cmp int_cmp k (pos number)) || stands_at int_cmp (whole_at 0) (old.now.trees 25) k) is))
+is_marked checked number old new is put = (
+  put.0,
+  λ k.
+      stands_put int_cmp (whole_at 0) (old.now.trees 25) (new.now.trees 25) (Int (pos number) ∷ Null ∷ []) put.1 k
+      ∙ sym (ap (λ b. (b && eq_by_cmp int_cmp k (pos number)) || stands_at int_cmp (whole_at 0) (old.now.trees 25) k) is),
+)
 
 -- no mark, where it wasn't
 pub not_marked : (checked : Bool) (number : ℕ) (c : State) → checked ≡ false → Marks checked number c c

@@ -1,4 +1,5 @@
--- What a contract and a result change of the state, and what the three statements that record a result make of the rows.
+-- What a contract and a result change of the state, and what the three statements that record a result make of
+-- the rows.
 use Rattle.std.specs.Prelude.{◌≡◌, ◌+◌, ◌≤◌, ℕ, ℤ, pos, Bool, ◌&&◌, ◌||◌, IsTrue, List, [], ◌∷◌, ◌++◌, length, Option, Some, None, is_some, cond, if◌then◌else◌}
 use Rattle.std.specs.Ordering.{eq_by_cmp, int_cmp}
 use Rattle.sqlite.specs.declared.types.Value.{Value}
@@ -13,20 +14,25 @@ use Rattle.broker_core.specs.State.{State as Broker, Verification}
 use Rattle.broker_tables.specs.Rows.{value_at, stands_at}
 use Rattle.broker_tables.specs.Numbers.{number_of}
 
--- the version of this number has no contract with the provider, which is there, as the content is; now the content is its contract
+-- the version of this number has no contract with the provider, which is there, as the content is; now the
+-- content is its contract
 abbrev pub AddsContract : ℕ → Text → ℕ → Broker → Broker → Type 0
-AddsContract number provider content s t = (v : Version) × (number_of s.versions v ≡ Some number) × (s.contracts (v, provider) ≡ None)
+AddsContract number provider content s t =
+    (v : Version) × (number_of s.versions v ≡ Some number) × (s.contracts (v, provider) ≡ None)
     × IsTrue (is_some (s.pacticipants provider)) × (1 ≤ content) × (content ≤ length s.contents)
     × (t ≡ record s { contracts = put_at (same_pair same_version same_text) s.contracts (v, provider) (Some content) })
 
 -- a result of this version
 abbrev pub result_for : ℕ → Version → Bool → Bool → Option Text → Verification
-result_for content v pass checked run = record { content = content; version = v; pass = pass; checked = checked; run = run }
+result_for content v pass checked run =
+    record { content = content; version = v; pass = pass; checked = checked; run = run }
 
 -- the number is the next, the version of that number is one of the provider, and the result stands last
 abbrev pub RecordsResult : ℕ → ℕ → Text → ℕ → Bool → Bool → Option Text → Broker → Broker → Type 0
-RecordsResult number content provider version_number pass checked run s t = (v : Version) × (number_of s.versions v ≡ Some version_number) × (v.pacticipant ≡ provider)
-    × (number ≡ length s.results + 1) × (t ≡ record s { results = s.results ++ result_for content v pass checked run ∷ [] })
+RecordsResult number content provider version_number pass checked run s t =
+    (v : Version) × (number_of s.versions v ≡ Some version_number) × (v.pacticipant ≡ provider)
+    × (number ≡ length s.results + 1)
+    × (t ≡ record s { results = s.results ++ result_for content v pass checked run ∷ [] })
 
 -- ---- the statements that record a result. Between them the database holds no state, so each is told by the rows
 
@@ -38,7 +44,8 @@ run_value None = value.Null
 -- the row of a result
 abbrev pub result_row : ℕ → ℕ → Text → ℕ → Bool → Option Text → Row
 result_row number content provider version pass run =
-    value.Int (pos number) ∷ value.Null ∷ value.Int (pos content) ∷ value.Text provider ∷ value.Int (pos version) ∷ value.Int (if pass then pos 1 else pos 0) ∷ run_value run ∷ []
+    value.Int (pos number) ∷ value.Null ∷ value.Int (pos content) ∷ value.Text provider
+    ∷ value.Int (pos version) ∷ value.Int (if pass then pos 1 else pos 0) ∷ run_value run ∷ []
 
 -- the row is put into the table of this tree, and no other table changes
 abbrev pub PutsRow : ℕ → Row → State → State → Type 0
@@ -46,12 +53,23 @@ PutsRow tree row old new = ChangesOnly tree old new × IsAdded (old.now.trees tr
 
 -- the number of the latest result for a content and the number of a version
 abbrev pub latest_at : List Row → ℕ → ℕ → Option ℤ
-latest_at rows content version = value_at (by_both int_cmp int_cmp) (λ r. (whole_at 1 r, whole_at 2 r)) (whole_at 3) rows (pos content, pos version)
+latest_at rows content version =
+    value_at (by_both int_cmp int_cmp) (λ r. (whole_at 1 r, whole_at 2 r))
+    (whole_at 3) rows (pos content, pos version)
 
--- the result is now the one for this content and the number of this version, all others keep theirs, and no other table changes
+-- the result is now the one for this content and the number of this version, all others keep theirs, and no
+-- other table changes
 abbrev pub Points : ℕ → ℕ → ℕ → State → State → Type 0
-Points content version result old new = ChangesOnly 19 old new × ((c v : ℕ) → latest_at (new.now.trees 19) c v ≡ cond (eq_by_cmp (by_both int_cmp int_cmp) (pos c, pos v) (pos content, pos version)) (Some (pos result)) (latest_at (old.now.trees 19) c v))
+Points content version result old new =
+    ChangesOnly 19 old new
+    × ((c v : ℕ) → latest_at (new.now.trees 19) c v
+    ≡ cond (eq_by_cmp (by_both int_cmp int_cmp) (pos c, pos v) (pos content, pos version))
+    (Some (pos result)) (latest_at (old.now.trees 19) c v))
 
--- where the result was checked, its number is among those of checked results; all others stand as they did, and no other table changes
+-- where the result was checked, its number is among those of checked results; all others stand as they did, and
+-- no other table changes
 abbrev pub Marks : Bool → ℕ → State → State → Type 0
-Marks checked number old new = ChangesOnly 25 old new × ((k : ℤ) → stands_at int_cmp (whole_at 0) (new.now.trees 25) k ≡ ((checked && eq_by_cmp int_cmp k (pos number)) || stands_at int_cmp (whole_at 0) (old.now.trees 25) k))
+Marks checked number old new =
+    ChangesOnly 25 old new
+    × ((k : ℤ) → stands_at int_cmp (whole_at 0) (new.now.trees 25) k
+    ≡ ((checked && eq_by_cmp int_cmp k (pos number)) || stands_at int_cmp (whole_at 0) (old.now.trees 25) k))

@@ -12,13 +12,15 @@ use table_access::{StoreFault, change, number_of};
 /// The number of the content that the version of this number has for the provider, or `None` where it has no contract with it.
 ///
 /// # Errors
-/// `StoreFault::Memory` for want of memory; `StoreFault::Store` where the database refused the query or holds no number there.
+/// `StoreFault::Memory` where the database is out of memory; `StoreFault::Store` where it refused the query or holds no number there.
 pub fn contract_of<S: Alter>(
     conn: &mut Connection<S>,
     version_number: u32,
     provider: &str,
 ) -> Result<Option<u32>, StoreFault>
-    ensures { QueriesInPlace (state S.Store conn.old) (state S.Store conn.new) result (λ found s. (v : VersionModel) → number_in s.versions v ≡ Some version_number → found ≡ s.contracts (v, provider.now)) }
+    ensures { QueriesInPlace (state S.Store conn.old) (state S.Store conn.new) result
+        (λ found s. (v : VersionModel) → number_in s.versions v ≡ Some version_number →
+        found ≡ s.contracts (v, provider.now)) }
 {
     number_of(
         conn,
@@ -30,14 +32,15 @@ pub fn contract_of<S: Alter>(
 /// Gives the version of this number a contract with a provider, with which it has none.
 ///
 /// # Errors
-/// `StoreFault::Memory` for want of memory; `StoreFault::Store` where the database refused the row.
+/// `StoreFault::Memory` where the database is out of memory; `StoreFault::Store` where it refused the row.
 pub fn add_contract<S: Alter>(
     conn: &mut Connection<S>,
     version_number: u32,
     provider: &str,
     content: u32,
 ) -> Result<(), StoreFault>
-    ensures { Changes (state S.Store conn.old) (state S.Store conn.new) result (AddsContract version_number provider.now content) }
+    ensures { Changes (state S.Store conn.old) (state S.Store conn.new) result
+        (AddsContract version_number provider.now content) }
 {
     change(
         conn,

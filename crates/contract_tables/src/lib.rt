@@ -1,7 +1,7 @@
 //! The tables of contracts and of their verification: which content a consumer version has for a provider, the results, the latest of them, and those that the broker checked itself.
 //!
 //! Each call is made inside a transaction. Where it fails, nothing of it is committed, and the transaction is to be given up.
-//! `StoreFault::Memory` comes where the database has no memory or a growth was refused, and `StoreFault::Store` where it refused a statement for another cause.
+//! `StoreFault::Memory` comes where the database has no memory or an allocation failed, and `StoreFault::Store` where it refused a statement for another cause.
 #![tactic(auto)]
 
 mod contracts;

@@ -23,7 +23,10 @@ fn put_run<S: Alter>(
     pass: bool,
     run: &str,
 ) -> Result<(), StoreFault>
-    ensures { CallsStore (state S.Store conn.old) (state S.Store conn.new) result (λ _. IsBroker (state S.Store conn.old).now → PutsRow 17 (result_row number content provider.now version_number pass (Some run.now)) (state S.Store conn.old) (state S.Store conn.new)) }
+    ensures { CallsStore (state S.Store conn.old) (state S.Store conn.new) result
+        (λ _. IsBroker (state S.Store conn.old).now →
+        PutsRow 17 (result_row number content provider.now version_number pass (Some run.now))
+        (state S.Store conn.old) (state S.Store conn.new)) }
 {
     change(
         conn,
@@ -41,7 +44,10 @@ fn put_plain<S: Alter>(
     version_number: u32,
     pass: bool,
 ) -> Result<(), StoreFault>
-    ensures { CallsStore (state S.Store conn.old) (state S.Store conn.new) result (λ _. IsBroker (state S.Store conn.old).now → PutsRow 17 (result_row number content provider.now version_number pass None) (state S.Store conn.old) (state S.Store conn.new)) }
+    ensures { CallsStore (state S.Store conn.old) (state S.Store conn.new) result
+        (λ _. IsBroker (state S.Store conn.old).now →
+        PutsRow 17 (result_row number content provider.now version_number pass None)
+        (state S.Store conn.old) (state S.Store conn.new)) }
 {
     change(
         conn,
@@ -60,7 +66,11 @@ fn put_result<S: Alter>(
     pass: bool,
     run: Option<&str>,
 ) -> Result<(), StoreFault>
-    ensures { CallsStore (state S.Store conn.old) (state S.Store conn.new) result (λ _. IsBroker (state S.Store conn.old).now → PutsRow 17 (result_row number content provider.now version_number pass (option_map (λ text. text.now) run.entry)) (state S.Store conn.old) (state S.Store conn.new)) }
+    ensures { CallsStore (state S.Store conn.old) (state S.Store conn.new) result
+        (λ _. IsBroker (state S.Store conn.old).now →
+        PutsRow 17
+        (result_row number content provider.now version_number pass (option_map (λ text. text.now) run.entry))
+        (state S.Store conn.old) (state S.Store conn.new)) }
 {
     match run {
         Some(run) => put_run(conn, number, content, provider, version_number, pass, run),
@@ -70,7 +80,9 @@ fn put_result<S: Alter>(
 
 /// Marks a result as checked.
 fn mark_checked<S: Alter>(conn: &mut Connection<S>, number: u32) -> Result<(), StoreFault>
-    ensures { CallsStore (state S.Store conn.old) (state S.Store conn.new) result (λ _. IsBroker (state S.Store conn.old).now → PutsRow 25 (Int (pos number) ∷ Null ∷ []) (state S.Store conn.old) (state S.Store conn.new)) }
+    ensures { CallsStore (state S.Store conn.old) (state S.Store conn.new) result
+        (λ _. IsBroker (state S.Store conn.old).now →
+        PutsRow 25 (Int (pos number) ∷ Null ∷ []) (state S.Store conn.old) (state S.Store conn.new)) }
 {
     change(
         conn,
@@ -81,7 +93,9 @@ fn mark_checked<S: Alter>(conn: &mut Connection<S>, number: u32) -> Result<(), S
 
 /// Marks a result as checked where it was.
 fn mark<S: Alter>(conn: &mut Connection<S>, number: u32, checked: bool) -> Result<(), StoreFault>
-    ensures { CallsStore (state S.Store conn.old) (state S.Store conn.new) result (λ _. IsBroker (state S.Store conn.old).now → Marks checked number (state S.Store conn.old) (state S.Store conn.new)) }
+    ensures { CallsStore (state S.Store conn.old) (state S.Store conn.new) result
+        (λ _. IsBroker (state S.Store conn.old).now →
+        Marks checked number (state S.Store conn.old) (state S.Store conn.new)) }
 {
     if checked {
         mark_checked(conn, number)
@@ -97,7 +111,9 @@ fn point_latest<S: Alter>(
     version_number: u32,
     number: u32,
 ) -> Result<(), StoreFault>
-    ensures { CallsStore (state S.Store conn.old) (state S.Store conn.new) result (λ _. IsBroker (state S.Store conn.old).now → Points content version_number number (state S.Store conn.old) (state S.Store conn.new)) }
+    ensures { CallsStore (state S.Store conn.old) (state S.Store conn.new) result
+        (λ _. IsBroker (state S.Store conn.old).now →
+        Points content version_number number (state S.Store conn.old) (state S.Store conn.new)) }
 {
     change(
         conn,
@@ -109,7 +125,7 @@ fn point_latest<S: Alter>(
 /// Records the result of verifying a content with a version of its provider, under the next number: it is the latest one for them.
 ///
 /// # Errors
-/// `StoreFault::Memory` for want of memory; `StoreFault::Store` where the database refused a row.
+/// `StoreFault::Memory` where the database is out of memory; `StoreFault::Store` where it refused a row.
 pub fn record_result<S: Alter>(
     conn: &mut Connection<S>,
     number: u32,
@@ -120,7 +136,9 @@ pub fn record_result<S: Alter>(
     checked: bool,
     run: Option<&str>,
 ) -> Result<(), StoreFault>
-    ensures { Changes (state S.Store conn.old) (state S.Store conn.new) result (RecordsResult number content provider.now version_number pass checked (option_map (λ text. text.now) run.entry)) }
+    ensures { Changes (state S.Store conn.old) (state S.Store conn.new) result
+        (RecordsResult number content provider.now version_number pass checked
+        (option_map (λ text. text.now) run.entry)) }
 {
     match put_result(conn, number, content, provider, version_number, pass, run) {
         Ok(()) => match mark(conn, number, checked) {
@@ -134,13 +152,15 @@ pub fn record_result<S: Alter>(
 /// The number of the latest result for a content and the version of this number, or `None` where there is none.
 ///
 /// # Errors
-/// `StoreFault::Memory` for want of memory; `StoreFault::Store` where the database refused the query or holds no number there.
+/// `StoreFault::Memory` where the database is out of memory; `StoreFault::Store` where it refused the query or holds no number there.
 pub fn latest_number<S: Alter>(
     conn: &mut Connection<S>,
     content: u32,
     version_number: u32,
 ) -> Result<Option<u32>, StoreFault>
-    ensures { QueriesInPlace (state S.Store conn.old) (state S.Store conn.new) result (λ found s. (v : VersionModel) → number_in s.versions v ≡ Some version_number → found ≡ option_map (λ e. e.0) (latest_result s content v)) }
+    ensures { QueriesInPlace (state S.Store conn.old) (state S.Store conn.new) result
+        (λ found s. (v : VersionModel) → number_in s.versions v ≡ Some version_number →
+        found ≡ option_map (λ e. e.0) (latest_result s content v)) }
 {
     number_of(
         conn,

@@ -1,5 +1,5 @@
 -- One look-up after another, over a list.
-use Rattle.std.proofs.Common.{◌≡◌, ◌<◌, ◌+◌, ℕ, List, [], ◌++◌, length, take, get_or, refl, sym, ◌∙◌, ap, subst, Ok, Err, Some, Option}
+use Rattle.std.proofs.Common.{◌≡◌, ◌<◌, ◌+◌, ℕ, List, [], ◌++◌, length, take, get_or, sym, ◌∙◌, ap, subst, Ok, Err, Option}
 use Rattle.std.specs.Prelude.{Contains, filter_map, ⊤}
 use Rattle.std.specs.List.{cons_option}
 use Rattle.sqlite.specs.State.{State}

@@ -1,4 +1,3 @@
-pub mod TableTexts
 pub mod DeployedRows
 pub mod DeployedState
 pub mod VersionRows
@@ -8,4 +7,3 @@ pub mod ReleasedRows
 pub mod NeedLemmas
 pub mod NeedOrders
 pub mod ConsumerLoop
-pub mod ContractRows

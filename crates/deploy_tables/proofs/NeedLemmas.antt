@@ -1,22 +1,21 @@
 -- The pairs of what is read are the needs.
-use Rattle.std.proofs.Common.{◌≡◌, ◌≢◌, ◌⊎◌, ℕ, List, [], ◌∷◌, ◌++◌, map, refl, sym, ◌∙◌, ap, subst, inl, inr, Bool, true, false, ◌&&◌, Ordering, Less, Equal, Greater}
-use Rattle.std.specs.Prelude.{Option, Some, None, option_map, option_and_then, Contains, filter_map, flat_map, IsSomeAnd, MatchOption, ⊤, ◌↔◌, if◌then◌else◌, nat_eq}
+use Rattle.std.proofs.Common.{◌≡◌, ◌≢◌, ◌⊎◌, ℕ, List, [], ◌∷◌, map, refl, sym, ◌∙◌, ap, subst, inl, inr, Bool, true, false, Ordering, Less, Equal, Greater}
+use Rattle.std.specs.Prelude.{Option, Some, None, option_map, option_and_then, Contains, filter_map, flat_map, IsSomeAnd, MatchOption, ⊤, ◌↔◌, if◌then◌else◌}
 use Rattle.std.specs.List.{AllByRecursion}
 use Rattle.std.specs.List.Sorted.{IsStrictlySortedBy}
-use Rattle.std.specs.Ordering.{ordering_then, nat_cmp, is_eq, eq_by_cmp}
+use Rattle.std.specs.Ordering.{ordering_then, nat_cmp}
 use Rattle.std.specs.Option.{option_cmp}
-use Rattle.std.specs.Cmp.{IsTotalOrder, on_total, then_total, nat_cmp_total, tied_itself}
-use Rattle.std.specs.Cmp.Lexicographic.{nat_list_cmp_total, options_total}
+use Rattle.std.specs.Cmp.{nat_cmp_total, tied_itself}
 use Rattle.std.proofs.lemmas.List.Elements.{Contains-append_cases, Contains-append_left, Contains-append_right}
 use Rattle.broker_core.specs.declared.command.Version.{Version}
 use Rattle.broker_core.specs.declared.need.Need.{Need}
 use Rattle.broker_core.specs.Text.{Text, text_cmp, same_text, version}
 use Rattle.broker_core.specs.State.{State, latest}
-use Rattle.broker_core.specs.Gate.{Stands, consumer_of, NeedsStanding, NeedsAbsent, NeedsAsProvider, IsNeed}
+use Rattle.broker_core.specs.Gate.{Stands, consumer_of, NeedsAsProvider, IsNeed}
 use Rattle.broker_core.specs.Listing.{Lists}
 use Rattle.broker_core.proofs.Lists.{contains_none, contains_cases, contains_here, contains_later, Contains-from_filter_map, Contains-filter_map}
 use Rattle.broker_core.proofs.Judgement.{Contains-from_flat_map, Contains-flat_map, text_is, text_refl}
-use Rattle.broker_core.proofs.Order.{text_tied, both_equal}
+use Rattle.broker_core.proofs.Order.{text_tied}
 use Rattle.broker_tables.specs.Numbers.{number_of}
 use Rattle.deploy_tables.specs.declared.needs.StandingVersion.{StandingVersion}
 use Rattle.deploy_tables.specs.declared.needs.OwnContract.{OwnContract}

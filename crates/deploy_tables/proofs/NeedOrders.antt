@@ -1,16 +1,15 @@
 -- The orders of standing versions and of pairs.
-use Rattle.std.proofs.Common.{◌≡◌, refl, sym, ◌∙◌, ap, subst, Bool, true, rules, ℕ, List}
-use Rattle.std.specs.Prelude.{Option, Some, None, nat_eq, ◌&&◌, Contains, ◌↔◌, IsPermutation, IsSorted}
+use Rattle.std.proofs.Common.{◌≡◌, refl, sym, ◌∙◌, ap, subst, Bool, rules, ℕ, List}
+use Rattle.std.specs.Prelude.{Option, Some, None, nat_eq, ◌&&◌, Contains, IsPermutation, IsSorted}
 use Rattle.std.specs.List.{dedup}
 use Rattle.std.specs.declared.cmp.Ordering.{Ordering}
-use Rattle.std.specs.declared.cmp.Ordering.TheVariants.{Less, Equal, Greater}
-use Rattle.std.specs.Ordering.{ordering_then, nat_cmp, is_eq, eq_by_cmp}
+use Rattle.std.specs.declared.cmp.Ordering.TheVariants.{Equal}
+use Rattle.std.specs.Ordering.{nat_cmp, is_eq, eq_by_cmp}
 use Rattle.std.specs.Option.{option_cmp, option_eq}
 use Rattle.std.specs.Cmp.{IsTotalOrder, IsEquivalence, on_total, then_total, nat_cmp_total, both_tied, eq_by_cmp_equiv, Equal-is}
 use Rattle.std.specs.Cmp.Rules.{comparing}
 use Rattle.std.specs.Cmp.Lexicographic.{nat_list_cmp_total, options_total, texts_ties, pointwise}
 use Rattle.std.specs.FinMap.{nat_cmp-IsAntisymmetric}
-use Rattle.broker_core.specs.Text.{Text, text_cmp}
 use Rattle.broker_core.specs.Listing.{Lists}
 use Rattle.broker_core.proofs.Order.{text_tied, both_equal}
 use Rattle.broker_core.proofs.Lists.{sorted_dedup}

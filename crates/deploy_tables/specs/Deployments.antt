@@ -7,4 +7,6 @@ use Rattle.broker_tables.specs.Numbers.{number_of}
 
 -- the version of this number, one of the pacticipant, is deployed there in place of what was, and all else is as it was
 abbrev pub RecordsDeployed : Text → Text → Text → ℕ → State → State → Type 0
-RecordsDeployed e p instance number s t = (v : Version) × (number_of s.versions v ≡ Some number) × (v.pacticipant ≡ p) × (t ≡ record s { deployed = put_at same_place s.deployed (e, p, instance) (Some v.name) })
+RecordsDeployed e p instance number s t =
+    (v : Version) × (number_of s.versions v ≡ Some number) × (v.pacticipant ≡ p)
+    × (t ≡ record s { deployed = put_at same_place s.deployed (e, p, instance) (Some v.name) })

@@ -2,6 +2,8 @@
 use Rattle.std.specs.Prelude.{◌≡◌, ℕ, ◌<◌, List, length, IsUtf8}
 use Rattle.sqlite.specs.Order.{Row, column}
 use Rattle.sqlite.specs.declared.types.Value.TheVariants.{Text}
+use Rattle.table_access.specs.declared.StoreFault.{StoreFault}
+use Rattle.table_access.specs.declared.StoreFault.TheVariants.{Store}
 use Rattle.table_access.specs.Reading.{IsTextAt}
 use Rattle.broker_core.specs.Name.{IsName}
 use Rattle.broker_core.specs.declared.command.Version.{Version}
@@ -9,7 +11,8 @@ use Rattle.broker_core.specs.declared.answer.DeployedItem.{DeployedItem}
 
 -- the columns are the pacticipant, the instance and the version's name
 abbrev pub IsDeployedRow : Row → DeployedItem → Type 0
-IsDeployedRow row item = (column row 0 ≡ Text item.pacticipant) × (column row 1 ≡ Text item.instance) × (column row 2 ≡ Text item.version)
+IsDeployedRow row item = (column row 0 ≡ Text item.pacticipant) × (column row 1 ≡ Text item.instance)
+    × (column row 2 ≡ Text item.version)
 
 -- the columns are the pacticipant and the version's name
 abbrev pub IsReleasedRow : Row → Version → Type 0
@@ -26,3 +29,10 @@ ReadsAsDeployed row = IsNameAt 0 row × IsTextAt 1 row × IsNameAt 2 row
 -- the row reads as a version that is released
 abbrev pub ReadsAsReleased : Row → Type 0
 ReadsAsReleased row = IsNameAt 0 row × IsNameAt 1 row
+
+-- Store comes only where the row doesn't read, and wherever its first column is no name
+abbrev pub FailsAsDeployed : Row → StoreFault → Type 0
+FailsAsDeployed row fault = (fault ≡ Store → ¬ ReadsAsDeployed row) × ((¬ IsNameAt 0 row) → fault ≡ Store)
+
+abbrev pub FailsAsReleased : Row → StoreFault → Type 0
+FailsAsReleased row fault = (fault ≡ Store → ¬ ReadsAsReleased row) × ((¬ IsNameAt 0 row) → fault ≡ Store)

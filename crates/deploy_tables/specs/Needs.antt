@@ -1,4 +1,5 @@
--- What a version needs in an environment, from the parts that are read: what stands there, its own contracts, and those that are with it.
+-- What a version needs in an environment, from the parts that are read: what stands there, its own contracts,
+-- and those that are with it.
 use Rattle.std.specs.Prelude.{Contains, ◌≡◌, ◌≢◌, ℕ, List, [], ◌∷◌, ◌++◌, map, filter_map, flat_map, Option, Some, None, option_map, option_and_then, if◌then◌else◌, IsTrue, pos}
 use Rattle.sqlite.specs.Order.{Row, column}
 use Rattle.sqlite.specs.declared.types.Value.TheVariants.{Int, Text as SqlText}
@@ -11,6 +12,8 @@ use Rattle.broker_core.specs.Text.{Text, text_cmp, same_text, version}
 use Rattle.broker_core.specs.State.{State, latest}
 use Rattle.broker_core.specs.Gate.{Stands}
 use Rattle.broker_tables.specs.Numbers.{number_of}
+use Rattle.table_access.specs.declared.StoreFault.{StoreFault}
+use Rattle.table_access.specs.declared.StoreFault.TheVariants.{Store}
 use Rattle.table_access.specs.Reading.{IsNumberRow}
 use Rattle.deploy_tables.specs.Listings.{IsNameAt}
 use Rattle.deploy_tables.specs.declared.needs.StandingVersion.{StandingVersion}
@@ -23,27 +26,37 @@ use Rattle.deploy_tables.specs.declared.needs.Pair.{Pair}
 
 -- the version stands there, and this is its number
 abbrev pub IsStanding : State → Text → StandingVersion → Type 0
-IsStanding s e x = Stands s e (version x.pacticipant x.name) × (number_of s.versions (version x.pacticipant x.name) ≡ Some x.number)
+IsStanding s e x = Stands s e (version x.pacticipant x.name)
+    × (number_of s.versions (version x.pacticipant x.name) ≡ Some x.number)
 
 -- the version is deployed there in some instance, and this is its number
 abbrev pub IsDeployedThere : State → Text → StandingVersion → Type 0
-IsDeployedThere s e x = ((instance : Text) × (s.deployed (e, x.pacticipant, instance) ≡ Some x.name)) × (number_of s.versions (version x.pacticipant x.name) ≡ Some x.number)
+IsDeployedThere s e x = ((instance : Text) × (s.deployed (e, x.pacticipant, instance) ≡ Some x.name))
+    × (number_of s.versions (version x.pacticipant x.name) ≡ Some x.number)
 
 -- the version is released there, and this is its number
 abbrev pub IsReleasedThere : State → Text → StandingVersion → Type 0
-IsReleasedThere s e x = IsTrue (s.released (e, version x.pacticipant x.name)) × (number_of s.versions (version x.pacticipant x.name) ≡ Some x.number)
+IsReleasedThere s e x = IsTrue (s.released (e, version x.pacticipant x.name))
+    × (number_of s.versions (version x.pacticipant x.name) ≡ Some x.number)
 
 -- the versions that are deployed there have numbers
 abbrev pub AreDeployedNumbered : State → Text → Type 0
-AreDeployedNumbered s e = (p instance name : Text) → s.deployed (e, p, instance) ≡ Some name → (n : ℕ) × (number_of s.versions (version p name) ≡ Some n)
+AreDeployedNumbered s e =
+    (p instance name : Text) → s.deployed (e, p, instance) ≡ Some name
+    → (n : ℕ) × (number_of s.versions (version p name) ≡ Some n)
 
 -- the columns are the version's number, its pacticipant and its name
 abbrev pub IsStandingRow : Row → StandingVersion → Type 0
-IsStandingRow row x = (column row 0 ≡ Int (pos x.number)) × (column row 1 ≡ SqlText x.pacticipant) × (column row 2 ≡ SqlText x.name)
+IsStandingRow row x = (column row 0 ≡ Int (pos x.number)) × (column row 1 ≡ SqlText x.pacticipant)
+    × (column row 2 ≡ SqlText x.name)
 
 -- the row reads as a version with its number
 abbrev pub ReadsAsStanding : Row → Type 0
 ReadsAsStanding row = IsNumberRow row × IsNameAt 1 row × IsNameAt 2 row
+
+-- Store comes only where the row doesn't read, and wherever its first column is no number
+abbrev pub FailsAsStanding : Row → StoreFault → Type 0
+FailsAsStanding row fault = (fault ≡ Store → ¬ ReadsAsStanding row) × ((¬ IsNumberRow row) → fault ≡ Store)
 
 -- each version that stands there has a number
 abbrev pub AreNumbered : State → Text → Type 0
@@ -51,7 +64,8 @@ AreNumbered s e = (w : Version) → Stands s e w → (n : ℕ) × (number_of s.v
 
 -- in the order of pacticipants and names
 abbrev pub standing_cmp : StandingVersion → StandingVersion → Ordering
-standing_cmp x y = ordering_then (text_cmp x.pacticipant y.pacticipant) (ordering_then (text_cmp x.name y.name) (nat_cmp x.number y.number))
+standing_cmp x y = ordering_then (text_cmp x.pacticipant y.pacticipant)
+    (ordering_then (text_cmp x.name y.name) (nat_cmp x.number y.number))
 
 -- v has this contract
 abbrev pub IsOwnContract : State → Version → OwnContract → Type 0
@@ -59,11 +73,13 @@ IsOwnContract s v c = s.contracts (v, c.provider) ≡ Some c.content
 
 -- a version of another pacticipant stands there, and has this contract with the pacticipant of v
 abbrev pub IsConsumerContract : State → Version → Text → ConsumerContract → Type 0
-IsConsumerContract s v e c = (c.consumer ≢ v.pacticipant) × Stands s e (version c.consumer c.consumer_version) × (s.contracts (version c.consumer c.consumer_version, v.pacticipant) ≡ Some c.content)
+IsConsumerContract s v e c = (c.consumer ≢ v.pacticipant) × Stands s e (version c.consumer c.consumer_version)
+    × (s.contracts (version c.consumer c.consumer_version, v.pacticipant) ≡ Some c.content)
 
 -- their numbers are right
 abbrev pub HaveNumbers : State → List StandingVersion → Type 0
-HaveNumbers s standing = (x : StandingVersion) → Contains standing x → number_of s.versions (version x.pacticipant x.name) ≡ Some x.number
+HaveNumbers s standing = (x : StandingVersion) → Contains standing x
+    → number_of s.versions (version x.pacticipant x.name) ≡ Some x.number
 
 -- the contract that this version has with the pacticipant, where it is a version of another
 abbrev pub consumer_in : State → Text → StandingVersion → Option ConsumerContract
@@ -73,11 +89,23 @@ consumer_in s p x = if same_text x.pacticipant p then None else option_map (λ c
 
 -- a contract of v with this version, where that is one of the provider
 abbrev pub with_partner : Version → OwnContract → StandingVersion → Option Pair
-with_partner v c x = if same_text x.pacticipant c.provider then Some (record { consumer = v.pacticipant; consumer_version = v.name; provider = c.provider; partner = Some (record { name = x.name; number = x.number }); content = c.content }) else None
+with_partner v c x = if same_text x.pacticipant c.provider then Some (record {
+  consumer = v.pacticipant;
+  consumer_version = v.name;
+  provider = c.provider;
+  partner = Some (record { name = x.name; number = x.number });
+  content = c.content;
+}) else None
 
 -- with no version of its provider
 abbrev pub without_partner : Version → OwnContract → Pair
-without_partner v c = record { consumer = v.pacticipant; consumer_version = v.name; provider = c.provider; partner = None; content = c.content }
+without_partner v c = record {
+  consumer = v.pacticipant;
+  consumer_version = v.name;
+  provider = c.provider;
+  partner = None;
+  content = c.content;
+}
 
 abbrev pub or_one : {X : Type 0} → List X → X → List X
 or_one [] x = x ∷ []
@@ -89,7 +117,13 @@ consumed v standing c = or_one (filter_map (with_partner v c) standing) (without
 
 -- a contract with the pacticipant of v, and v, whose number is n
 abbrev pub provided : Version → ℕ → ConsumerContract → Pair
-provided v n c = record { consumer = c.consumer; consumer_version = c.consumer_version; provider = v.pacticipant; partner = Some (record { name = v.name; number = n }); content = c.content }
+provided v n c = record {
+  consumer = c.consumer;
+  consumer_version = c.consumer_version;
+  provider = v.pacticipant;
+  partner = Some (record { name = v.name; number = n });
+  content = c.content;
+}
 
 abbrev pub pairs_among : Version → ℕ → List OwnContract → List StandingVersion → List ConsumerContract → List Pair
 pairs_among v n own standing consumers = flat_map (consumed v standing) own ++ map (provided v n) consumers

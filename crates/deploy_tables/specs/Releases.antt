@@ -11,8 +11,11 @@ IsVersion number s = (v : Version) × (number_of s.versions v ≡ Some number)
 
 -- the version of this number is released there, where it wasn't, and all else is as it was
 abbrev pub RecordsReleased : Text → ℕ → State → State → Type 0
-RecordsReleased e number s t = (v : Version) × (number_of s.versions v ≡ Some number) × (s.released (e, v) ≡ false) × (t ≡ record s { released = put_at (same_pair same_text same_version) s.released (e, v) true })
+RecordsReleased e number s t = (v : Version) × (number_of s.versions v ≡ Some number)
+    × (s.released (e, v) ≡ false)
+    × (t ≡ record s { released = put_at (same_pair same_text same_version) s.released (e, v) true })
 
 -- the version of this number isn't released there any more, and all else is as it was
 abbrev pub EndsSupport : Text → ℕ → State → State → Type 0
-EndsSupport e number s t = (v : Version) × (number_of s.versions v ≡ Some number) × (t ≡ record s { released = put_at (same_pair same_text same_version) s.released (e, v) false })
+EndsSupport e number s t = (v : Version) × (number_of s.versions v ≡ Some number)
+    × (t ≡ record s { released = put_at (same_pair same_text same_version) s.released (e, v) false })

@@ -2,39 +2,30 @@
 ghost use Rattle.std.specs.Prelude.{◌≡◌, ◌++◌, [], IfOk, Some, option_map, filter_map};
 ghost use Rattle.std.specs.List.{cons_option};
 ghost use Rattle.sqlite.specs.Held.{state};
-ghost use Rattle.broker_core.specs.declared.command.Version.{Version as VersionModel};
 ghost use Rattle.broker_core.specs.Text.{version as version_named};
 ghost use Rattle.broker_tables.specs.Numbers.{number_of as number_in};
-ghost use Rattle.broker_tables.specs.Holds.{Queries, QueriesInPlace};
+ghost use Rattle.broker_tables.specs.Holds.{Queries};
 ghost use Rattle.deploy_tables.specs.Needs.{HaveNumbers, consumer_in};
 
 use crate::needs::{ConsumerContract, StandingVersion};
 use broker_core::name::Name;
-use sqlite::{Alter, Connection, params};
+use contract_tables::contract_of;
+use sqlite::{Alter, Connection};
 use std::alloc::Global;
-use table_access::{StoreFault, number_of};
+use table_access::StoreFault;
 
-/// The number of the content of the contract that the version of that number has with the provider.
-fn contract_of<S: Alter>(
-    conn: &mut Connection<S>,
-    number: u32,
-    provider: &str,
-) -> Result<Option<u32>, StoreFault>
-    ensures { QueriesInPlace (state S.Store conn.old) (state S.Store conn.new) result (λ found s. (v : VersionModel) → number_in s.versions v ≡ Some number → found ≡ s.contracts (v, provider.now)) }
-{
-    number_of(
-        conn,
-        "SELECT content FROM contracts WHERE version_number = ?1 AND provider = ?2",
-        params![number, provider],
-    )
-}
-
-/// A contract of this version, or none; the error is want of memory.
+/// A contract of this version, or none. An `Err` is out of memory.
 fn consumer_contract(
     other: &StandingVersion,
     content: Option<u32>,
 ) -> Result<Option<ConsumerContract>, StoreFault>
-    ensures { IfOk result (λ found. found ≡ option_map (λ content. record { consumer = other.now.pacticipant; consumer_version = other.now.name; content = content }) content) }
+    ensures { IfOk result
+        (λ found. found ≡ option_map
+        (λ content. record {
+          consumer = other.now.pacticipant;
+          consumer_version = other.now.name;
+          content = content;
+        }) content) }
 {
     let Some(content) = content else {
         return Ok(None);
@@ -55,7 +46,9 @@ fn contract_with<S: Alter>(
     pacticipant: &Name,
     other: &StandingVersion,
 ) -> Result<Option<ConsumerContract>, StoreFault>
-    ensures { Queries (state S.Store conn.old) (state S.Store conn.new) result (λ found s. number_in s.versions (version_named other.now.pacticipant other.now.name) ≡ Some other.now.number → found ≡ consumer_in s pacticipant.now other.now) }
+    ensures { Queries (state S.Store conn.old) (state S.Store conn.new) result
+        (λ found s. number_in s.versions (version_named other.now.pacticipant other.now.name)
+        ≡ Some other.now.number → found ≡ consumer_in s pacticipant.now other.now) }
 {
     if other.pacticipant == *pacticipant {
         return Ok(None);
@@ -67,7 +60,10 @@ fn contract_with<S: Alter>(
 }
 
 /// Puts the contract at the end, where there is one.
-fn keep(found: &mut Vec<ConsumerContract>, contract: Option<ConsumerContract>) -> Result<(), StoreFault>
+fn keep(
+    found: &mut Vec<ConsumerContract>,
+    contract: Option<ConsumerContract>,
+) -> Result<(), StoreFault>
     ensures { IfOk result (λ _. found.new.items ≡ found.old.items ++ cons_option contract []) }
 {
     match contract {
@@ -82,14 +78,16 @@ fn keep(found: &mut Vec<ConsumerContract>, contract: Option<ConsumerContract>) -
 /// The contracts that these versions have with the pacticipant, its own aside.
 ///
 /// # Errors
-/// `StoreFault::Memory` for want of memory; `StoreFault::Store` where the database refused a query.
+/// `StoreFault::Memory` where the database is out of memory, or there is none for the answer; `StoreFault::Store` where it refused a query.
 pub fn consumer_contracts<S: Alter>(
     alloc: Global,
     conn: &mut Connection<S>,
     pacticipant: &Name,
     standing: &[StandingVersion],
 ) -> Result<Vec<ConsumerContract>, StoreFault>
-    ensures { Queries (state S.Store conn.old) (state S.Store conn.new) result (λ found s. HaveNumbers s standing.now → found.items ≡ filter_map (consumer_in s pacticipant.now) standing.now) }
+    ensures { Queries (state S.Store conn.old) (state S.Store conn.new) result
+        (λ found s. HaveNumbers s standing.now →
+        found.items ≡ filter_map (consumer_in s pacticipant.now) standing.now) }
 {
     let mut found = Vec::new(alloc);
     for other in standing {

@@ -14,7 +14,7 @@ use table_access::{StoreFault, change, number_of};
 /// Whether the version of that number, one of the pacticipant, is deployed in the environment as that instance.
 ///
 /// # Errors
-/// `StoreFault::Memory` for want of memory; `StoreFault::Store` where the database refused the query, or where the row holds no number of a version.
+/// `StoreFault::Memory` where the database is out of memory; `StoreFault::Store` where it refused the query, or where the row holds no number of a version.
 pub fn is_deployed<S: Alter>(
     conn: &mut Connection<S>,
     environment: &str,
@@ -22,7 +22,10 @@ pub fn is_deployed<S: Alter>(
     instance: &str,
     number: u32,
 ) -> Result<bool, StoreFault>
-    ensures { QueriesInPlace (state S.Store conn.old) (state S.Store conn.new) result (λ has s. (v : VersionModel) → number_in s.versions v ≡ Some number → v.pacticipant ≡ pacticipant.now → has ≡ is_text v.name (s.deployed (environment.now, pacticipant.now, instance.now))) }
+    ensures { QueriesInPlace (state S.Store conn.old) (state S.Store conn.new) result
+        (λ has s. (v : VersionModel) → number_in s.versions v ≡ Some number →
+        v.pacticipant ≡ pacticipant.now →
+        has ≡ is_text v.name (s.deployed (environment.now, pacticipant.now, instance.now))) }
 {
     match number_of(
         conn,
@@ -48,7 +51,7 @@ fn is_number(found: Option<u32>, number: u32) -> bool
 /// The version is one of the pacticipant, and the environment is there.
 ///
 /// # Errors
-/// `StoreFault::Memory` for want of memory; `StoreFault::Store` where the database refused the row.
+/// `StoreFault::Memory` where the database is out of memory; `StoreFault::Store` where it refused the row.
 pub fn record_deployed<S: Alter>(
     conn: &mut Connection<S>,
     environment: &str,
@@ -56,7 +59,8 @@ pub fn record_deployed<S: Alter>(
     instance: &str,
     number: u32,
 ) -> Result<(), StoreFault>
-    ensures { Changes (state S.Store conn.old) (state S.Store conn.new) result (RecordsDeployed environment.now pacticipant.now instance.now number) }
+    ensures { Changes (state S.Store conn.old) (state S.Store conn.new) result
+        (RecordsDeployed environment.now pacticipant.now instance.now number) }
 {
     change(
         conn,

@@ -1,7 +1,7 @@
 //! The tables of what stands where: the versions that are deployed in an environment, and those that are released there.
 //!
 //! Each call is made inside a transaction. It answers a fact of the broker's state that the database holds, or changes that state in one place; where it fails, nothing of it is committed, and the transaction is to be given up.
-//! `StoreFault::Memory` comes where the database has no memory or a growth was refused, and `StoreFault::Store` where it refused a statement for another cause, or where a row breaks the tables' rules.
+//! `StoreFault::Memory` comes where the database has no memory or an allocation failed, and `StoreFault::Store` where it refused a statement for another cause, or where a row breaks the tables' rules.
 #![tactic(auto)]
 
 mod consumers;
@@ -11,8 +11,6 @@ mod making;
 pub mod needs;
 mod releases;
 mod standing;
-#[cfg(test)]
-mod tests;
 
 pub use consumers::consumer_contracts;
 pub use deployments::{is_deployed, record_deployed};

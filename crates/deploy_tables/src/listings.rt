@@ -1,5 +1,5 @@
 //! What stands in an environment, listed.
-ghost use Rattle.std.specs.Prelude.{◌≡◌, IsTrue, IfOk, IfErr, Some, string_bytes};
+ghost use Rattle.std.specs.Prelude.{◌≡◌, ◌↔◌, IsTrue, IfOk, IfErr, Some, string_bytes};
 ghost use Rattle.sqlite.specs.Held.{state};
 ghost use Rattle.sqlite.specs.Order.{column};
 ghost use Rattle.sqlite.specs.declared.types.Value.TheVariants.{Text as SqlText};
@@ -7,19 +7,19 @@ ghost use Rattle.table_access.specs.Reading.{IsTextAt};
 ghost use Rattle.broker_core.specs.Listing.{Lists};
 ghost use Rattle.broker_core.specs.Machine.{deployed_cmp, version_cmp};
 ghost use Rattle.broker_tables.specs.Holds.{Queries};
-ghost use Rattle.deploy_tables.specs.Listings.{IsDeployedRow, IsReleasedRow, IsNameAt, ReadsAsDeployed, ReadsAsReleased};
+ghost use Rattle.deploy_tables.specs.Listings.{IsDeployedRow, IsReleasedRow, IsNameAt, FailsAsDeployed, FailsAsReleased};
 
 use broker_core::answer::DeployedItem;
 use broker_core::command::Version;
 use broker_core::name::{Name, NameFault, Text};
 use sqlite::{Alter, Connection, Row, params};
 use std::alloc::Global;
-use table_access::{StoreFault, ReadRow, list_of, text_at};
+use table_access::{ReadRow, StoreFault, list_of, text_at};
 
-/// The text in a column.
+/// The text in a column. `StoreFault::Store` exactly where there is none.
 fn text_in(alloc: Global, row: &Row, at: usize) -> Result<String, StoreFault>
     ensures ok { IfOk result (λ text. column row.now at ≡ SqlText (string_bytes text)) }
-    ensures told { IfErr result (λ f. f ≡ StoreFault.Store → ¬ IsTextAt at row.now) }
+    ensures cause { IfErr result (λ f. (f ≡ StoreFault.Store) ↔ (¬ IsTextAt at row.now)) }
 {
     match text_at(row, at) {
         Some(text) => match String::from_str(alloc, text) {
@@ -30,10 +30,10 @@ fn text_in(alloc: Global, row: &Row, at: usize) -> Result<String, StoreFault>
     }
 }
 
-/// The name in a column.
+/// The name in a column. `StoreFault::Store` exactly where there is none.
 pub(crate) fn name_in(alloc: Global, row: &Row, at: usize) -> Result<Name, StoreFault>
-    ensures ok { IfOk result (λ name. column row.now at ≡ SqlText name) }
-    ensures told { IfErr result (λ f. f ≡ StoreFault.Store → ¬ IsNameAt at row.now) }
+    ensures ok { IfOk result (λ name. (column row.now at ≡ SqlText name) × IsNameAt at row.now) }
+    ensures cause { IfErr result (λ f. (f ≡ StoreFault.Store) ↔ (¬ IsNameAt at row.now)) }
 {
     match text_at(row, at) {
         Some(text) => match Name::new(alloc, text) {
@@ -53,7 +53,7 @@ impl ReadRow for DeployedRow {
 
     ghost reads_as = { IsDeployedRow };
 
-    ghost is_readable = { ReadsAsDeployed };
+    ghost fails_as = { FailsAsDeployed };
 
     fn read(alloc: Global, row: &Row) -> Result<DeployedItem, StoreFault> {
         let pacticipant = name_in(alloc, row, 0)?;
@@ -75,7 +75,7 @@ impl ReadRow for ReleasedRow {
 
     ghost reads_as = { IsReleasedRow };
 
-    ghost is_readable = { ReadsAsReleased };
+    ghost fails_as = { FailsAsReleased };
 
     fn read(alloc: Global, row: &Row) -> Result<Version, StoreFault> {
         let pacticipant = name_in(alloc, row, 0)?;
@@ -87,13 +87,15 @@ impl ReadRow for ReleasedRow {
 /// What is deployed in the environment, each once, in the order of pacticipants and instances.
 ///
 /// # Errors
-/// `StoreFault::Memory` for want of memory; `StoreFault::Store` where the database refused the query, or where a row holds a text that is no name.
+/// `StoreFault::Memory` where the database is out of memory, or there is none for the answer; `StoreFault::Store` where it refused the query, or where a row holds a text that is no name.
 pub fn deployed<S: Alter>(
     alloc: Global,
     conn: &mut Connection<S>,
     environment: &str,
 ) -> Result<Vec<DeployedItem>, StoreFault>
-    ensures { Queries (state S.Store conn.old) (state S.Store conn.new) result (λ items s. Lists deployed_cmp (λ x. s.deployed (environment.now, x.pacticipant, x.instance) ≡ Some x.version) items.items) }
+    ensures { Queries (state S.Store conn.old) (state S.Store conn.new) result
+        (λ items s. Lists deployed_cmp
+        (λ x. s.deployed (environment.now, x.pacticipant, x.instance) ≡ Some x.version) items.items) }
 {
     list_of::<DeployedRow, S>(
         alloc,
@@ -106,13 +108,14 @@ pub fn deployed<S: Alter>(
 /// The versions that are released in the environment, each once, in the order of pacticipants and versions.
 ///
 /// # Errors
-/// `StoreFault::Memory` for want of memory; `StoreFault::Store` where the database refused the query, or where a row holds a text that is no name.
+/// `StoreFault::Memory` where the database is out of memory, or there is none for the answer; `StoreFault::Store` where it refused the query, or where a row holds a text that is no name.
 pub fn released<S: Alter>(
     alloc: Global,
     conn: &mut Connection<S>,
     environment: &str,
 ) -> Result<Vec<Version>, StoreFault>
-    ensures { Queries (state S.Store conn.old) (state S.Store conn.new) result (λ items s. Lists version_cmp (λ v. IsTrue (s.released (environment.now, v))) items.items) }
+    ensures { Queries (state S.Store conn.old) (state S.Store conn.new) result
+        (λ items s. Lists version_cmp (λ v. IsTrue (s.released (environment.now, v))) items.items) }
 {
     list_of::<ReleasedRow, S>(
         alloc,

@@ -101,7 +101,8 @@ fn with_partners(
     contract: &OwnContract,
     standing: &[StandingVersion],
 ) -> Result<Vec<Pair>, AllocError>
-    ensures { IfOk result (λ pairs. pairs.items ≡ filter_map (with_partner version.now contract.now) standing.now) }
+    ensures { IfOk result
+        (λ pairs. pairs.items ≡ filter_map (with_partner version.now contract.now) standing.now) }
 {
     let mut pairs = Vec::new(alloc);
     for other in standing {
@@ -157,7 +158,8 @@ fn all_pairs(
     standing: &[StandingVersion],
     consumers: &[ConsumerContract],
 ) -> Result<Vec<Pair>, AllocError>
-    ensures { IfOk result (λ pairs. pairs.items ≡ pairs_among version.now number own.now standing.now consumers.now) }
+    ensures { IfOk result
+        (λ pairs. pairs.items ≡ pairs_among version.now number own.now standing.now consumers.now) }
 {
     let mut pairs = Vec::new(alloc);
     for contract in own {
@@ -179,7 +181,9 @@ pub fn pairs_of(
     standing: &[StandingVersion],
     consumers: &[ConsumerContract],
 ) -> Result<Vec<Pair>, AllocError>
-    ensures { IfOk result (λ pairs. Lists pair_cmp (Contains (pairs_among version.now number own.now standing.now consumers.now)) pairs.items) }
+    ensures { IfOk result
+        (λ pairs. Lists pair_cmp
+        (Contains (pairs_among version.now number own.now standing.now consumers.now)) pairs.items) }
 {
     let mut pairs = all_pairs(alloc, version, number, own, standing, consumers)?;
     pairs.sort_unstable();

@@ -12,13 +12,15 @@ use table_access::{StoreFault, change, has_row};
 /// Whether the version of that number is released in the environment.
 ///
 /// # Errors
-/// `StoreFault::Memory` for want of memory; `StoreFault::Store` where the database refused the query.
+/// `StoreFault::Memory` where the database is out of memory; `StoreFault::Store` where it refused the query.
 pub fn is_released<S: Alter>(
     conn: &mut Connection<S>,
     environment: &str,
     number: u32,
 ) -> Result<bool, StoreFault>
-    ensures { QueriesInPlace (state S.Store conn.old) (state S.Store conn.new) result (λ has s. (v : VersionModel) → number_in s.versions v ≡ Some number → has ≡ s.released (environment.now, v)) }
+    ensures { QueriesInPlace (state S.Store conn.old) (state S.Store conn.new) result
+        (λ has s. (v : VersionModel) → number_in s.versions v ≡ Some number →
+        has ≡ s.released (environment.now, v)) }
 {
     has_row(
         conn,
@@ -30,13 +32,14 @@ pub fn is_released<S: Alter>(
 /// Releases the version of that number in the environment, which is there; it isn't released there yet.
 ///
 /// # Errors
-/// `StoreFault::Memory` for want of memory; `StoreFault::Store` where the database refused the row.
+/// `StoreFault::Memory` where the database is out of memory; `StoreFault::Store` where it refused the row.
 pub fn record_released<S: Alter>(
     conn: &mut Connection<S>,
     environment: &str,
     number: u32,
 ) -> Result<(), StoreFault>
-    ensures { Changes (state S.Store conn.old) (state S.Store conn.new) result (RecordsReleased environment.now number) }
+    ensures { Changes (state S.Store conn.old) (state S.Store conn.new) result
+        (RecordsReleased environment.now number) }
 {
     change(
         conn,
@@ -51,7 +54,8 @@ fn remove_released<S: Alter>(
     environment: &str,
     number: u32,
 ) -> Result<(), StoreFault>
-    ensures { Changes (state S.Store conn.old) (state S.Store conn.new) result (EndsSupport environment.now number) }
+    ensures { Changes (state S.Store conn.old) (state S.Store conn.new) result
+        (EndsSupport environment.now number) }
 {
     change(
         conn,
@@ -63,13 +67,16 @@ fn remove_released<S: Alter>(
 /// Ends the support of the version of that number in the environment, and answers whether it was released there. All other releases stay.
 ///
 /// # Errors
-/// `StoreFault::Memory` for want of memory; `StoreFault::Store` where the database refused the query or the change.
+/// `StoreFault::Memory` where the database is out of memory; `StoreFault::Store` where it refused the query or the change.
 pub fn end_support<S: Alter>(
     conn: &mut Connection<S>,
     environment: &str,
     number: u32,
 ) -> Result<bool, StoreFault>
-    ensures { ChangesAndAnswers (state S.Store conn.old) (state S.Store conn.new) result (IsVersion number) (λ stood s t. EndsSupport environment.now number s t × ((v : VersionModel) → number_in s.versions v ≡ Some number → stood ≡ s.released (environment.now, v))) }
+    ensures { ChangesAndAnswers (state S.Store conn.old) (state S.Store conn.new) result
+        (IsVersion number) (λ stood s t. EndsSupport environment.now number s t
+        × ((v : VersionModel) → number_in s.versions v ≡ Some number →
+        stood ≡ s.released (environment.now, v))) }
 {
     match is_released(conn, environment, number) {
         Ok(stood) => match remove_released(conn, environment, number) {

@@ -3,13 +3,13 @@ ghost use Rattle.std.specs.Prelude.{Contains, ◌↔◌};
 ghost use Rattle.sqlite.specs.Held.{state};
 ghost use Rattle.broker_tables.specs.Holds.{Queries};
 ghost use Rattle.deploy_tables.specs.declared.needs.StandingVersion.{StandingVersion as StandingModel};
-ghost use Rattle.deploy_tables.specs.Needs.{IsDeployedThere, AreDeployedNumbered, IsStandingRow, ReadsAsStanding};
+ghost use Rattle.deploy_tables.specs.Needs.{IsDeployedThere, AreDeployedNumbered, IsStandingRow, FailsAsStanding};
 
 use crate::listings::name_in;
 use crate::needs::StandingVersion;
 use sqlite::{Alter, Connection, Row, params};
 use std::alloc::Global;
-use table_access::{StoreFault, ReadRow, list_of, number_in};
+use table_access::{ReadRow, StoreFault, list_of, number_in};
 
 /// A version's number, its pacticipant and its name.
 struct StandingRow;
@@ -19,7 +19,7 @@ impl ReadRow for StandingRow {
 
     ghost reads_as = { IsStandingRow };
 
-    ghost is_readable = { ReadsAsStanding };
+    ghost fails_as = { FailsAsStanding };
 
     fn read(alloc: Global, row: &Row) -> Result<StandingVersion, StoreFault> {
         let number = number_in(row)?;
@@ -36,13 +36,15 @@ impl ReadRow for StandingRow {
 /// The versions that are deployed in the environment, in any instance, with their numbers; one that is in two instances stands twice.
 ///
 /// # Errors
-/// `StoreFault::Memory` for want of memory; `StoreFault::Store` where the database refused the query, or where a row doesn't read.
+/// `StoreFault::Memory` where the database is out of memory, or there is none for the answer; `StoreFault::Store` where it refused the query, or where a row doesn't read.
 pub fn deployed_versions<S: Alter>(
     alloc: Global,
     conn: &mut Connection<S>,
     environment: &str,
 ) -> Result<Vec<StandingVersion>, StoreFault>
-    ensures { Queries (state S.Store conn.old) (state S.Store conn.new) result (λ items s. ((x : StandingModel) → Contains items.items x ↔ IsDeployedThere s environment.now x) × AreDeployedNumbered s environment.now) }
+    ensures { Queries (state S.Store conn.old) (state S.Store conn.new) result
+        (λ items s. ((x : StandingModel) → Contains items.items x ↔ IsDeployedThere s environment.now x)
+        × AreDeployedNumbered s environment.now) }
 {
     list_of::<StandingRow, S>(
         alloc,

@@ -5,7 +5,6 @@ pub mod GrantRows
 pub mod VersionRows
 pub mod BranchRows
 pub mod EnvironmentRows
-pub mod TableTexts
 pub mod MetaRow
 pub mod FoundFormat
 pub mod BranchNumbers

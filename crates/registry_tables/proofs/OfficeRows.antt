@@ -1,7 +1,8 @@
 -- The query on meta.
-use Rattle.std.proofs.Common.{◌≡◌, ℕ, codes, List, [], ◌∷◌, refl, ap, ◌∙◌, slice_get, Some, filter, map}
+use Rattle.std.proofs.Common.{◌≡◌, inl, inr, ℕ, codes, List, [], ◌∷◌, IsTrue, Some, refl, ap, subst, ◌∙◌, slice_get, filter, map, arith}
 use Rattle.std.specs.Prelude.{option_map}
 use Rattle.std.specs.List.Sorted.{IsPermutation}
+use Rattle.std.proofs.lemmas.List.Sorted.{length_permutation}
 use Rattle.sqlite.proofs.Callers.{one_permutation}
 use Rattle.sqlite.specs.Order.{Row}
 use Rattle.sqlite.specs.Term.{col}
@@ -11,9 +12,14 @@ use Rattle.sqlite.specs.Effect.{Database}
 use Rattle.sqlite.specs.State.{State, Shown}
 use Rattle.sqlite.specs.Listing.{understood}
 use Rattle.sqlite_tied.specs.Compute.{everything}
+use Rattle.table_access.specs.declared.StoreFault.{StoreFault}
+use Rattle.table_access.specs.declared.StoreFault.TheVariants.{Memory}
+use Rattle.table_access.specs.Calls.{IsEnded}
+use Rattle.table_access.specs.Reading.{FailsToTake, TellsText}
 use Rattle.table_access.specs.Columns.{text}
 use Rattle.table_access.specs.Statements.{from_table, keeps, shows}
 use Rattle.table_access.proofs.Steps.{Means, selects}
+use Rattle.table_access.proofs.CallLemmas.{query_by, refused_memory}
 use Rattle.broker_core.specs.State.{State as Broker}
 use Rattle.broker_tables.specs.Schema.{broker_schema}
 use Rattle.broker_tables.specs.Holds.{Holds, IsBroker, IsMeta, format}
@@ -41,3 +47,13 @@ one_row n (r ∷ q ∷ rows) out x one same = absurd cc
 
 pub office_found : (old new : State) (rows : List Row) (s : Broker) → Holds old.now s → Shown office_sql [] old new rows → option_map (text 0) (slice_get rows 0) ≡ Some s.office
 office_found old new rows s held h = one_row format (old.now.trees 0) rows s.office held.meta (selects office_sql [] old new 0 _ _ _ _ (office_means old.now held.broker) rows h)
+
+-- where meta has no row, only the store is ever out of memory
+no_first : (out : List Row) (row : Row) → IsPermutation {X = Row} [] out → slice_get out 0 ≡ Some row → ⊥
+no_first [] row same first = absurd cc
+no_first (r ∷ out) row same first = let none = length_permutation [] (r ∷ out) same in absurd (omega (arith, none))
+
+pub no_office : (old new : State) (fault : StoreFault) → IsBroker old.now → old.now.trees 0 ≡ [] → FailsToTake TellsText office_sql [] old new fault → IsTrue old.in_transaction → fault ≡ Memory → IsEnded old new Memory
+no_office old new fault broker none (inl refused) inside is = refused_memory old new refused.0 fault refused.1 (query_by office_sql [] old new refused.0 refused.2) is
+no_office old new fault broker none (inr (rows, shown, row, first, tells)) inside is =
+    absurd (no_first rows row (subst (λ xs. IsPermutation (map (shows (col 1 3 ∷ []) []) (filter (keeps [] []) xs)) rows) none (selects office_sql [] old new 0 _ _ _ _ (office_means old.now broker) rows shown)) first)

@@ -1,16 +1,14 @@
 -- The statements on versions.
-use Rattle.std.proofs.Common.{◌≡◌, inl, inr, ℕ, ℤ, pos, ◌+◌, ◌<◌, nat_lt, cond, codes, List, [], ◌∷◌, ◌++◌, map, length, true, false, Bool, refl, sym, ap, subst, ◌∙◌, slice_get, Some, None, Option, Ok, unwrap_or, arith, append-nil, Less, Equal, Greater}
+use Rattle.std.proofs.Common.{◌≡◌, ℕ, pos, ◌+◌, codes, List, [], ◌∷◌, ◌++◌, length, false, refl, sym, ap, ◌∙◌, slice_get, Some, None, Option, Ok, unwrap_or}
 use Rattle.std.specs.Prelude.{option_map, is_some}
-use Rattle.std.specs.List.{enumerate_from}
-use Rattle.std.proofs.lemmas.List.{map-append}
 use Rattle.std.specs.Ordering.{eq_by_cmp, int_cmp}
-use Rattle.sqlite.specs.Tree.{IsAscending, rowid}
+use Rattle.sqlite.specs.Tree.{IsAscending}
 use Rattle.sqlite.specs.Edit.{with_rowid}
 use Rattle.sqlite.specs.Rowids.TheVariants.{Chosen}
 use Rattle.sqlite.specs.Cast.{cast_all}
 use Rattle.sqlite.specs.declared.types.Value.{Value}
 use Rattle.sqlite.specs.declared.types.Value.TheVariants.{Null, Int, Text}
-use Rattle.sqlite.specs.Order.{Row, column, value_cmp}
+use Rattle.sqlite.specs.Order.{Row, column}
 use Rattle.sqlite.specs.Term.{col, lit}
 use Rattle.sqlite.specs.Source.TheVariants.{Values}
 use Rattle.sqlite.specs.Command.{Command}
@@ -20,8 +18,6 @@ use Rattle.sqlite.specs.Effect.{Database}
 use Rattle.sqlite.specs.State.{State, Shown, Executes}
 use Rattle.sqlite.specs.Listing.{understood}
 use Rattle.sqlite_rules.specs.Lists.{Has}
-use Rattle.sqlite_rules.proofs.TableLemmas.{int_is}
-use Rattle.sqlite_value.proofs.OrderLemmas.{value_cmp-Int}
 use Rattle.sqlite_tied.specs.Compute.{everything}
 use Rattle.table_access.specs.Columns.{text, text_cmp, pair_cmp, whole_at, by_both}
 use Rattle.table_access.specs.Statements.{from_table, up_to, newest, by_two}
@@ -40,14 +36,13 @@ use Rattle.std.specs.Option.{option_map_or}
 use Rattle.registry_tables.specs.Registry.{AddsVersion}
 use Rattle.broker_tables.specs.Schema.{broker_schema}
 use Rattle.broker_tables.specs.Rows.{stands_at}
-use Rattle.broker_tables.specs.Numbers.{numbered, number_of}
-use Rattle.broker_tables.specs.Holds.{Holds, IsBroker, AreVersions}
+use Rattle.broker_tables.specs.Numbers.{number_of}
+use Rattle.broker_tables.specs.Holds.{Holds, IsBroker}
 use Rattle.broker_tables.proofs.Frames.{meant, frame_of, Frame}
 use Rattle.broker_tables.proofs.Growth.{versions_grow}
 use Rattle.broker_tables.proofs.Newest.{newest as newest_count}
+use Rattle.broker_tables.proofs.NextRow.{next_row}
 use Rattle.broker_tables.proofs.NumberLemmas.{version_row, known_numbered, newly_numbered, none_numbered}
-use Rattle.broker_tables.proofs.References.{row_number}
-use Rattle.std.proofs.lemmas.Bool.{ltb-true}
 use Rattle.broker_tables.proofs.Orders.{pairs_total, exact_pair}
 use Rattle.broker_tables.proofs.Placed.{versions, versions_there}
 
@@ -137,48 +132,6 @@ put_text : Means broker_schema put_sql put_command
 unfolding understood everything
 put_text = record { is = refl; plain = (refl, refl); unlisted = refl }
 
-ascending_middle : (R : Row → Row → Type 0) (front back : List Row) (a b : Row) → IsAscending R (front ++ a ∷ b ∷ back) → R a b
-ascending_middle R [] back a b up = up.0.0
-ascending_middle R (f ∷ front) back a b up = ascending_middle R front back a b up.1
-
-has_middle : (front back : List Row) (b : Row) → Has (front ++ b ∷ back) b
-has_middle [] back b = inl refl
-has_middle (f ∷ front) back b = inr (has_middle front back b)
-
-not_past : (n k : ℕ) → k < 1 + n → int_cmp (pos (n + 1)) (pos k) ≡ Less → ⊥
-not_past n k low less = go (nat_lt (n + 1) k) refl (nat_lt k (n + 1)) less
-  where
-    go : (b : Bool) → nat_lt (n + 1) k ≡ b → (c : Bool) → cond b Less (cond c Greater Equal) ≡ Less → ⊥
-    go true e c h = absurd (let past = ltb-true (n + 1) k e in omega (arith, low, past))
-    go false e true h = absurd cc
-    go false e false h = absurd cc
-
--- the row with the next number stands last
-module _ (vs : List Version) (old new : List Row) (made : Row) (are : AreVersions vs old) (numbered : IsNumbered new) (is : whole_at 0 made ≡ pos (length vs + 1)) where
-  id_of : (r : Row) → Has new r → rowid r ≡ Int (whole_at 0 r)
-  id_of r has = int_is (rowid r) (at_has _ new r numbered.1 has)
-
-  stands_last : (front back : List Row) → old ≡ front ++ back → new ≡ front ++ made ∷ back → new ≡ old ++ made ∷ []
-  stands_last front [] was now = now ∙ ap (λ rows. rows ++ made ∷ []) (sym (was ∙ append-nil front))
-  stands_last front (b ∷ back) was now =
-      let among : Has old b = subst (λ rows. Has rows b) (sym was) (has_middle front back b) in
-      let low = row_number _ old vs 1 are b among in
-      let less : value_cmp (rowid made) (rowid b) ≡ Less = ascending_middle _ front back made b (subst (IsAscending (λ x y. value_cmp (rowid x) (rowid y) ≡ Less)) now numbered.0) in
-      let one : rowid made ≡ Int (whole_at 0 made) = id_of made (subst (λ rows. Has rows made) (sym now) (has_middle front (b ∷ back) made)) in
-      let two : rowid b ≡ Int (whole_at 0 b) = id_of b (subst (λ rows. Has rows b) (sym now) (later front)) in
-      let ordered : int_cmp (pos (length vs + 1)) (pos low.0) ≡ Less =
-      ap (λ k. int_cmp k (pos low.0)) (sym is) ∙ ap (int_cmp (whole_at 0 made)) (sym low.1) ∙ sym (value_cmp-Int (whole_at 0 made) (whole_at 0 b))
-      ∙ sym (ap (λ v. value_cmp v (rowid b)) one ∙ ap (value_cmp (Int (whole_at 0 made))) two) ∙ less in
-      absurd (not_past (length vs) low.0 low.2 ordered)
-    where
-      later : (fs : List Row) → Has (fs ++ made ∷ b ∷ back) b
-      later [] = inr (inl refl)
-      later (f ∷ fs) = inr (later fs)
-
-entries_grow : (n : ℕ) (vs : List Version) (v : Version) → map {B = ℤ × Version} (λ e. (pos e.0, e.1)) (enumerate_from n (vs ++ v ∷ [])) ≡ map (λ e. (pos e.0, e.1)) (enumerate_from n vs) ++ (pos (n + length vs), v) ∷ []
-entries_grow n [] v = ap (λ k. (pos k, v) ∷ []) (let e : n ≡ n + 0 = omega arith in e)
-entries_grow n (w ∷ vs) v = ap (λ more. (pos n, w) ∷ more) (entries_grow (n + 1) vs v ∙ ap (λ k. map (λ e. (pos e.0, e.1)) (enumerate_from (n + 1) vs) ++ (pos k, v) ∷ []) (let e : n + 1 + length vs ≡ n + length (w ∷ vs) = omega arith in e))
-
 pub version_put : (number : ℕ) (p name : List ℕ) (old new : State) (count : ℕ) (s : Broker) → Holds old.now s → is_known s (version p name) ≡ false → number ≡ length s.versions + 1
     → Executes put_sql (Int (pos number) ∷ Text p ∷ Text name ∷ []) old new (Ok count) → Holds new.now (record s { versions = s.versions ++ version p name ∷ [] })
 version_put number p name old new count s held free is h =
@@ -188,11 +141,8 @@ version_put number p name old new count s held free is h =
     _ _ made made refl as_stored (meant old.now held.broker put_sql put_text) count h in
     let frame : Frame (codes "versions" ∷ []) old.now new.now = frame_of (codes "versions" ∷ []) 6 refl old new held.broker it.0 in
     let now_broker : IsBroker new.now = record { schema = frame.schema ∙ held.broker.schema; kept = frame.kept held.broker.kept } in
-    let rows : new.now.trees 6 ≡ old.now.trees 6 ++ made ∷ [] = stands_last s.versions (old.now.trees 6) (new.now.trees 6) made held.versions (numbered_rows new.now now_broker) (ap pos is) it.1.front it.1.back it.1.was it.1.is in
-    let entry : Row → ℤ × Version = λ r. (whole_at 0 r, version (text 2 r) (text 3 r)) in
-    versions_grow old.now new.now s (version p name) held free frame (
-    ap (map entry) rows ∙ map-append entry (old.now.trees 6) (made ∷ []) ∙ ap (λ es. es ++ (pos number, version p name) ∷ []) held.versions
-    ∙ ap (λ k. numbered s.versions ++ (pos k, version p name) ∷ []) (let e : number ≡ 1 + length s.versions = omega (arith, is) in e) ∙ sym (entries_grow 1 s.versions (version p name)))
+    versions_grow old.now new.now s (version p name) held free frame
+    (next_row (λ r. version (text 2 r) (text 3 r)) s.versions (old.now.trees 6) (new.now.trees 6) made held.versions (numbered_rows new.now now_broker) (ap pos is) it.1)
 
 -- a version that isn't there is on no branch
 pub no_branch : (db : Database) (s : Broker) (v : Version) → Holds db s → is_known s v ≡ false → (branch : List ℕ) → s.branches (v, branch) ≡ false

@@ -17,12 +17,14 @@ use Rattle.broker_tables.specs.Holds.{IsMeta}
 -- the name is new, and no team has a token of this digest
 abbrev pub AddsTeam : Text → Text → State → State → Type 0
 AddsTeam team digest s t =
-    (s.teams team ≡ None) × ((other : Text) → ¬ (s.teams other ≡ Some digest)) × (t ≡ record s { teams = put_at same_text s.teams team (Some digest) })
+    (s.teams team ≡ None) × ((other : Text) → ¬ (s.teams other ≡ Some digest))
+    × (t ≡ record s { teams = put_at same_text s.teams team (Some digest) })
 
 -- the name is new, and the team is there
 abbrev pub AddsPacticipant : Text → Text → State → State → Type 0
 AddsPacticipant p team s t =
-    (s.pacticipants p ≡ None) × IsTrue (is_some (s.teams team)) × (t ≡ record s { pacticipants = put_at same_text s.pacticipants p (Some team) })
+    (s.pacticipants p ≡ None) × IsTrue (is_some (s.teams team))
+    × (t ≡ record s { pacticipants = put_at same_text s.pacticipants p (Some team) })
 
 -- the team and the environment are there, and the grant isn't
 abbrev pub AddsGrant : Text → Text → State → State → Type 0
@@ -32,44 +34,57 @@ AddsGrant team e s t =
 
 -- the grant stands
 abbrev pub RemovesGrant : Text → Text → State → State → Type 0
-RemovesGrant team e s t = (s.grants (team, e) ≡ true) × (t ≡ record s { grants = put_at (same_pair same_text same_text) s.grants (team, e) false })
+RemovesGrant team e s t = (s.grants (team, e) ≡ true)
+    × (t ≡ record s { grants = put_at (same_pair same_text same_text) s.grants (team, e) false })
 
 abbrev pub marks : Bool → Bool → Marks
 marks gated strict = record { gated = gated; strict = strict }
 
 -- the name is new
 abbrev pub AddsEnvironment : Text → Marks → State → State → Type 0
-AddsEnvironment e marks s t = (s.environments e ≡ None) × (t ≡ record s { environments = put_at same_text s.environments e (Some marks) })
+AddsEnvironment e marks s t = (s.environments e ≡ None)
+    × (t ≡ record s { environments = put_at same_text s.environments e (Some marks) })
 
 -- the environment is there
 abbrev pub MakesStrict : Text → State → State → Type 0
-MakesStrict e s t = (m : Marks) × (s.environments e ≡ Some m) × (t ≡ record s { environments = put_at same_text s.environments e (Some (marks m.gated true)) })
+MakesStrict e s t = (m : Marks) × (s.environments e ≡ Some m)
+    × (t ≡ record s { environments = put_at same_text s.environments e (Some (marks m.gated true)) })
 
 -- the version is new, its pacticipant is there, and there is room for one more
 abbrev pub AllowsVersion : Version → State → Type 0
-AllowsVersion v s = (is_known s v ≡ false) × IsTrue (is_some (s.pacticipants v.pacticipant)) × (has_room s.versions ≡ true)
+AllowsVersion v s = (is_known s v ≡ false) × IsTrue (is_some (s.pacticipants v.pacticipant))
+    × (has_room s.versions ≡ true)
+
+-- and the number is the next
+abbrev pub AllowsVersionAs : ℕ → Version → State → Type 0
+AllowsVersionAs number v s = AllowsVersion v s × (number ≡ length s.versions + 1)
 
 -- the version stands last and has the next number, which is the one that is answered; it is on no branch
 abbrev pub AddsVersion : Version → ℕ → State → State → Type 0
 AddsVersion v number s t =
-    (t ≡ record s { versions = s.versions ++ v ∷ [] }) × (number ≡ length s.versions + 1) × (number_of t.versions v ≡ Some number) × ((branch : Text) → t.branches (v, branch) ≡ false)
+    (t ≡ record s { versions = s.versions ++ v ∷ [] }) × (number ≡ length s.versions + 1)
+    × (number_of t.versions v ≡ Some number) × ((branch : Text) → t.branches (v, branch) ≡ false)
 
 -- the version is new, and the number is the next
 abbrev pub PutsVersion : ℕ → Version → State → State → Type 0
-PutsVersion number v s t = (is_known s v ≡ false) × (number ≡ length s.versions + 1) × (t ≡ record s { versions = s.versions ++ v ∷ [] })
+PutsVersion number v s t = (is_known s v ≡ false) × (number ≡ length s.versions + 1)
+    × (t ≡ record s { versions = s.versions ++ v ∷ [] })
 
 -- the version with this number isn't on the branch
 abbrev pub AddsBranch : ℕ → Text → State → State → Type 0
 AddsBranch number branch s t =
-    (v : Version) × (number_of s.versions v ≡ Some number) × (s.branches (v, branch) ≡ false) × (t ≡ record s { branches = put_at (same_pair same_version same_text) s.branches (v, branch) true })
+    (v : Version) × (number_of s.versions v ≡ Some number) × (s.branches (v, branch) ≡ false)
+    × (t ≡ record s { branches = put_at (same_pair same_version same_text) s.branches (v, branch) true })
 
 -- in a database with the tables of the registry, of which meta has no row: meta has this one, and all other rows stay
 abbrev pub PutsMeta : ℕ → Text → Database → Database → Type 0
 PutsMeta n digest old new =
     old.schema ≡ schema_of registry_part → IsKept old → rows_of old (codes "meta") ≡ []
     → (new.schema ≡ old.schema) × IsKept new × IsMeta n digest (rows_of new (codes "meta"))
-    × AllByRecursion (λ t. same_text t.name (codes "meta") ≡ false → new.trees t.tree ≡ old.trees t.tree) (schema_of registry_part).tables
+    × AllByRecursion (λ t. same_text t.name (codes "meta") ≡ false → new.trees t.tree ≡ old.trees t.tree)
+    (schema_of registry_part).tables
 
 -- the number of a version of the pacticipant that is on the branch
 abbrev pub IsBranchNumber : State → Text → Text → ℕ → Type 0
-IsBranchNumber s p branch n = (v : Version) × (number_of s.versions v ≡ Some n) × (v.pacticipant ≡ p) × (s.branches (v, branch) ≡ true)
+IsBranchNumber s p branch n = (v : Version) × (number_of s.versions v ≡ Some n) × (v.pacticipant ≡ p)
+    × (s.branches (v, branch) ≡ true)

@@ -3,7 +3,7 @@ ghost use Rattle.std.specs.Prelude.{◌≡◌, Some, pos};
 ghost use Rattle.std.specs.Ordering.{nat_cmp, flip_args};
 ghost use Rattle.sqlite.specs.Order.{column};
 ghost use Rattle.sqlite.specs.declared.types.Value.TheVariants.{Int};
-ghost use Rattle.table_access.specs.Reading.{IsNumberRow};
+ghost use Rattle.table_access.specs.Reading.{TellsNumber};
 ghost use Rattle.broker_core.specs.Listing.{Lists};
 ghost use Rattle.sqlite.specs.Held.{state};
 ghost use Rattle.broker_core.specs.declared.command.Version.{Version as VersionModel};
@@ -13,18 +13,20 @@ ghost use Rattle.registry_tables.specs.Registry.{AddsBranch, IsBranchNumber};
 
 use sqlite::{Alter, Connection, Row, params};
 use std::alloc::Global;
-use table_access::{StoreFault, ReadRow, change, has_row, list_of, number_in};
+use table_access::{ReadRow, StoreFault, change, has_row, list_of, number_in};
 
 /// Whether the version with this number is on the branch.
 ///
 /// # Errors
-/// `StoreFault::Memory` for want of memory; `StoreFault::Store` where the database refused the query.
+/// `StoreFault::Memory` where the database is out of memory; `StoreFault::Store` where it refused the query.
 pub fn on_branch<S: Alter>(
     conn: &mut Connection<S>,
     number: u32,
     branch: &str,
 ) -> Result<bool, StoreFault>
-    ensures { QueriesInPlace (state S.Store conn.old) (state S.Store conn.new) result (λ has s. (v : VersionModel) → number_at s.versions v ≡ Some number → has ≡ s.branches (v, branch.now)) }
+    ensures { QueriesInPlace (state S.Store conn.old) (state S.Store conn.new) result
+        (λ has s. (v : VersionModel) → number_at s.versions v ≡ Some number →
+        has ≡ s.branches (v, branch.now)) }
 {
     has_row(
         conn,
@@ -36,13 +38,14 @@ pub fn on_branch<S: Alter>(
 /// Puts the version with this number on a branch that it isn't on.
 ///
 /// # Errors
-/// `StoreFault::Memory` for want of memory; `StoreFault::Store` where the database refused the row.
+/// `StoreFault::Memory` where the database is out of memory; `StoreFault::Store` where it refused the row.
 pub fn add_branch<S: Alter>(
     conn: &mut Connection<S>,
     number: u32,
     branch: &str,
 ) -> Result<(), StoreFault>
-    ensures { Changes (state S.Store conn.old) (state S.Store conn.new) result (AddsBranch number branch.now) }
+    ensures { Changes (state S.Store conn.old) (state S.Store conn.new) result
+        (AddsBranch number branch.now) }
 {
     change(
         conn,
@@ -59,7 +62,7 @@ impl ReadRow for NumberRow {
 
     ghost reads_as = { λ row number. column row 0 ≡ Int (pos number) };
 
-    ghost is_readable = { IsNumberRow };
+    ghost fails_as = { TellsNumber };
 
     fn read(_alloc: Global, row: &Row) -> Result<u32, StoreFault> {
         number_in(row)
@@ -69,14 +72,16 @@ impl ReadRow for NumberRow {
 /// The numbers of the pacticipant's versions that are on the branch, each once, the greatest first.
 ///
 /// # Errors
-/// `StoreFault::Memory` for want of memory; `StoreFault::Store` where the database refused the query or holds no number there.
+/// `StoreFault::Memory` where the database is out of memory, or there is none for the answer; `StoreFault::Store` where it refused the query or holds no number there.
 pub fn branch_numbers<S: Alter>(
     alloc: Global,
     conn: &mut Connection<S>,
     pacticipant: &str,
     branch: &str,
 ) -> Result<Vec<u32>, StoreFault>
-    ensures { Queries (state S.Store conn.old) (state S.Store conn.new) result (λ numbers s. Lists (flip_args nat_cmp) (IsBranchNumber s pacticipant.now branch.now) numbers.items) }
+    ensures { Queries (state S.Store conn.old) (state S.Store conn.new) result
+        (λ numbers s. Lists (flip_args nat_cmp)
+        (IsBranchNumber s pacticipant.now branch.now) numbers.items) }
 {
     list_of::<NumberRow, S>(
         alloc,

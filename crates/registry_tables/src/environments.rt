@@ -5,13 +5,15 @@ ghost use Rattle.broker_core.specs.declared.command.Marks.{Marks as MarksModel};
 ghost use Rattle.broker_tables.specs.Holds.{QueriesInPlace, Changes};
 ghost use Rattle.registry_tables.specs.Registry.{AddsEnvironment, marks, MakesStrict};
 
+use broker_core::command::Marks;
 use sqlite::{Alter, Connection, params};
 use table_access::{StoreFault, change, has_row, number_of};
 
 /// The truth value that a number stands for: 0 is false, and 1 true.
 fn truth_of(found: Option<u32>) -> Result<Option<bool>, StoreFault>
     ensures ok { IfOk result (λ truth. truth ≡ option_map (λ n. n == 1) found) }
-    ensures told { IfErr result (λ fault. (fault ≡ StoreFault.Store) × IsSomeAnd found (λ n. 1 < n)) }
+    ensures cause { IfErr result
+        (λ fault. (fault ≡ StoreFault.Store) × IsSomeAnd found (λ n. 1 < n)) }
 {
     match found {
         None => Ok(None),
@@ -24,9 +26,13 @@ fn truth_of(found: Option<u32>) -> Result<Option<bool>, StoreFault>
 /// Whether the environment is gated, or `None` where there is no such environment.
 ///
 /// # Errors
-/// `StoreFault::Memory` for want of memory; `StoreFault::Store` where the database refused the query or holds no truth value there.
-pub fn gated<S: Alter>(conn: &mut Connection<S>, environment: &str) -> Result<Option<bool>, StoreFault>
-    ensures { QueriesInPlace (state S.Store conn.old) (state S.Store conn.new) result (λ found s. found ≡ option_map (λ m. m.gated) (s.environments environment.now)) }
+/// `StoreFault::Memory` where the database is out of memory; `StoreFault::Store` where it refused the query or holds no truth value there.
+pub fn gated<S: Alter>(
+    conn: &mut Connection<S>,
+    environment: &str,
+) -> Result<Option<bool>, StoreFault>
+    ensures { QueriesInPlace (state S.Store conn.old) (state S.Store conn.new) result
+        (λ found s. found ≡ option_map (λ m. m.gated) (s.environments environment.now)) }
 {
     match number_of(
         conn,
@@ -40,7 +46,8 @@ pub fn gated<S: Alter>(conn: &mut Connection<S>, environment: &str) -> Result<Op
 
 /// Whether an environment that is there is strict.
 fn is_strict<S: Alter>(conn: &mut Connection<S>, environment: &str) -> Result<bool, StoreFault>
-    ensures { QueriesInPlace (state S.Store conn.old) (state S.Store conn.new) result (λ strict s. (m : MarksModel) → s.environments environment.now ≡ Some m → strict ≡ m.strict) }
+    ensures { QueriesInPlace (state S.Store conn.old) (state S.Store conn.new) result
+        (λ strict s. (m : MarksModel) → s.environments environment.now ≡ Some m → strict ≡ m.strict) }
 {
     has_row(
         conn,
@@ -49,21 +56,40 @@ fn is_strict<S: Alter>(conn: &mut Connection<S>, environment: &str) -> Result<bo
     )
 }
 
+/// The marks of the environment, or `None` where there is no such environment.
+///
+/// # Errors
+/// `StoreFault::Memory` where the database is out of memory; `StoreFault::Store` where it refused a query or holds no truth value there.
+pub fn marks_of<S: Alter>(
+    conn: &mut Connection<S>,
+    environment: &str,
+) -> Result<Option<Marks>, StoreFault>
+    ensures { QueriesInPlace (state S.Store conn.old) (state S.Store conn.new) result
+        (λ found s. found ≡ s.environments environment.now) }
+{
+    match gated(conn, environment) {
+        Ok(Some(gated)) => match is_strict(conn, environment) {
+            Ok(strict) => Ok(Some(Marks { gated, strict })),
+            Err(fault) => Err(fault),
+        },
+        Ok(None) => Ok(None),
+        Err(fault) => Err(fault),
+    }
+}
+
 /// Whether the environment is strict, or `None` where there is no such environment.
 ///
 /// # Errors
-/// `StoreFault::Memory` for want of memory; `StoreFault::Store` where the database refused a query or holds no truth value there.
+/// `StoreFault::Memory` where the database is out of memory; `StoreFault::Store` where it refused a query or holds no truth value there.
 pub fn strict_of<S: Alter>(
     conn: &mut Connection<S>,
     environment: &str,
 ) -> Result<Option<bool>, StoreFault>
-    ensures { QueriesInPlace (state S.Store conn.old) (state S.Store conn.new) result (λ found s. found ≡ option_map (λ m. m.strict) (s.environments environment.now)) }
+    ensures { QueriesInPlace (state S.Store conn.old) (state S.Store conn.new) result
+        (λ found s. found ≡ option_map (λ m. m.strict) (s.environments environment.now)) }
 {
-    match gated(conn, environment) {
-        Ok(Some(_)) => match is_strict(conn, environment) {
-            Ok(strict) => Ok(Some(strict)),
-            Err(fault) => Err(fault),
-        },
+    match marks_of(conn, environment) {
+        Ok(Some(marks)) => Ok(Some(marks.strict)),
         Ok(None) => Ok(None),
         Err(fault) => Err(fault),
     }
@@ -82,7 +108,8 @@ fn put_environment<S: Alter>(
     environment: &str,
     mark: u32,
 ) -> Result<(), StoreFault>
-    ensures { Changes (state S.Store conn.old) (state S.Store conn.new) result (AddsEnvironment environment.now (marks (mark == 1) false)) }
+    ensures { Changes (state S.Store conn.old) (state S.Store conn.new) result
+        (AddsEnvironment environment.now (marks (mark == 1) false)) }
 {
     change(
         conn,
@@ -93,7 +120,8 @@ fn put_environment<S: Alter>(
 
 /// Makes an environment strict.
 fn put_strict<S: Alter>(conn: &mut Connection<S>, environment: &str) -> Result<(), StoreFault>
-    ensures { Changes (state S.Store conn.old) (state S.Store conn.new) result (MakesStrict environment.now) }
+    ensures { Changes (state S.Store conn.old) (state S.Store conn.new) result
+        (MakesStrict environment.now) }
 {
     change(
         conn,
@@ -105,14 +133,15 @@ fn put_strict<S: Alter>(conn: &mut Connection<S>, environment: &str) -> Result<(
 /// Adds an environment of a new name with its two marks.
 ///
 /// # Errors
-/// `StoreFault::Memory` for want of memory; `StoreFault::Store` where the database refused a row.
+/// `StoreFault::Memory` where the database is out of memory; `StoreFault::Store` where it refused a row.
 pub fn add_environment<S: Alter>(
     conn: &mut Connection<S>,
     environment: &str,
     gated: bool,
     strict: bool,
 ) -> Result<(), StoreFault>
-    ensures { Changes (state S.Store conn.old) (state S.Store conn.new) result (AddsEnvironment environment.now (marks gated strict)) }
+    ensures { Changes (state S.Store conn.old) (state S.Store conn.new) result
+        (AddsEnvironment environment.now (marks gated strict)) }
 {
     match put_environment(conn, environment, number_for(gated)) {
         Ok(()) => if strict {

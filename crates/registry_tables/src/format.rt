@@ -52,7 +52,8 @@ fn is_meta(table: &Table) -> bool
 
 /// Whether the first table is `meta`.
 fn has_meta<S: Alter>(conn: &Connection<S>) -> bool
-    ensures { IsTrue result ↔ ((table : SqlTable) × (slice_get (state S.Store conn.now).now.schema.tables 0 ≡ Some table) × IsMetaTable table) }
+    ensures { IsTrue result ↔ ((table : SqlTable)
+        × (slice_get (state S.Store conn.now).now.schema.tables 0 ≡ Some table) × IsMetaTable table) }
 {
     match conn.schema().tables.as_slice().first() {
         Some(table) => is_meta(table),
@@ -62,8 +63,10 @@ fn has_meta<S: Alter>(conn: &Connection<S>) -> bool
 
 /// The number in the first column of the one row. `None` where there isn't just one.
 fn one_number(rows: &[Row]) -> Result<Option<u32>, StoreFault>
-    ensures ok { IfOk result (λ found. MatchOption found (length rows.now ≢ 1) (λ n. map (λ row. column row 0) rows.now ≡ Int (pos n) ∷ [])) }
-    ensures told { IfErr result (λ fault. fault ≡ StoreFault.Store) }
+    ensures ok { IfOk result
+        (λ found. MatchOption found (length rows.now ≢ 1)
+        (λ n. map (λ row. column row 0) rows.now ≡ Int (pos n) ∷ [])) }
+    ensures cause { IfErr result (λ fault. fault ≡ StoreFault.Store) }
 {
     match rows {
         [row] => match number_in(row) {
@@ -79,7 +82,8 @@ fn one_number(rows: &[Row]) -> Result<Option<u32>, StoreFault>
 /// # Errors
 /// `StoreFault::Memory` where the database has no memory; `StoreFault::Store` where it refused the query or holds no number there.
 pub fn format_of<S: Alter>(conn: &mut Connection<S>) -> Result<Option<u32>, StoreFault>
-    ensures { CallsStore (state S.Store conn.old) (state S.Store conn.new) result (λ found. Finds (state S.Store conn.old).now found) }
+    ensures { CallsStore (state S.Store conn.old) (state S.Store conn.new) result
+        (λ found. Finds (state S.Store conn.old).now found) }
 {
     if !has_meta(conn) {
         return Ok(None);

@@ -10,13 +10,14 @@ use table_access::{StoreFault, change, has_row};
 /// Whether the team has a grant for the environment.
 ///
 /// # Errors
-/// `StoreFault::Memory` for want of memory; `StoreFault::Store` where the database refused the query.
+/// `StoreFault::Memory` where the database is out of memory; `StoreFault::Store` where it refused the query.
 pub fn granted<S: Alter>(
     conn: &mut Connection<S>,
     team: &str,
     environment: &str,
 ) -> Result<bool, StoreFault>
-    ensures { QueriesInPlace (state S.Store conn.old) (state S.Store conn.new) result (λ has s. has ≡ s.grants (team.now, environment.now)) }
+    ensures { QueriesInPlace (state S.Store conn.old) (state S.Store conn.new) result
+        (λ has s. has ≡ s.grants (team.now, environment.now)) }
 {
     has_row(
         conn,
@@ -28,13 +29,14 @@ pub fn granted<S: Alter>(
 /// Grants a team the change of an environment, both of which are there; it has no such grant yet.
 ///
 /// # Errors
-/// `StoreFault::Memory` for want of memory; `StoreFault::Store` where the database refused the row.
+/// `StoreFault::Memory` where the database is out of memory; `StoreFault::Store` where it refused the row.
 pub fn add_grant<S: Alter>(
     conn: &mut Connection<S>,
     team: &str,
     environment: &str,
 ) -> Result<(), StoreFault>
-    ensures { Changes (state S.Store conn.old) (state S.Store conn.new) result (AddsGrant team.now environment.now) }
+    ensures { Changes (state S.Store conn.old) (state S.Store conn.new) result
+        (AddsGrant team.now environment.now) }
 {
     change(
         conn,
@@ -46,13 +48,14 @@ pub fn add_grant<S: Alter>(
 /// Takes back a grant that stands. All other grants stay.
 ///
 /// # Errors
-/// `StoreFault::Memory` for want of memory; `StoreFault::Store` where the database refused the statement.
+/// `StoreFault::Memory` where the database is out of memory; `StoreFault::Store` where it refused the statement.
 pub fn remove_grant<S: Alter>(
     conn: &mut Connection<S>,
     team: &str,
     environment: &str,
 ) -> Result<(), StoreFault>
-    ensures { Changes (state S.Store conn.old) (state S.Store conn.new) result (RemovesGrant team.now environment.now) }
+    ensures { Changes (state S.Store conn.old) (state S.Store conn.new) result
+        (RemovesGrant team.now environment.now) }
 {
     change(
         conn,

@@ -1,8 +1,10 @@
 //! The one row of the broker itself.
-ghost use Rattle.std.specs.Prelude.{◌≡◌, ◌↔◌, IsTrue, string_bytes};
+ghost use Rattle.std.specs.Prelude.{◌≡◌, ◌↔◌, [], IsTrue, codes, string_bytes};
 ghost use Rattle.sqlite.specs.Held.{state};
 ghost use Rattle.broker_tables.specs.Schema.{no_schema};
-ghost use Rattle.broker_tables.specs.Holds.{Queries};
+ghost use Rattle.table_access.specs.Calls.{TellsMemory};
+ghost use Rattle.broker_tables.specs.Holds.{IsBroker, Queries};
+ghost use Rattle.broker_tables.specs.Rows.{rows_of};
 
 use sqlite::{Alter, Connection};
 use table_access::{StoreFault, text_of};
@@ -10,9 +12,14 @@ use table_access::{StoreFault, text_of};
 /// The digest of the office's token.
 ///
 /// # Errors
-/// `StoreFault::Memory` for want of memory; `StoreFault::Store` where the database refused the query or has no such row.
+/// `StoreFault::Memory` where the database is out of memory, or there is no room for the digest;
+/// `StoreFault::Store` where it refused the query or has no such row.
 pub fn office_digest<S: Alter>(conn: &mut Connection<S>) -> Result<String, StoreFault>
-    ensures { Queries (state S.Store conn.old) (state S.Store conn.new) result (λ digest s. string_bytes digest ≡ s.office) }
+    ensures reads { Queries (state S.Store conn.old) (state S.Store conn.new) result
+        (λ digest s. string_bytes digest ≡ s.office) }
+    ensures memory { IsBroker (state S.Store conn.old).now →
+        rows_of (state S.Store conn.old).now (codes "meta") ≡ [] →
+        TellsMemory (state S.Store conn.old) (state S.Store conn.new) result }
 {
     match text_of(conn, "SELECT office_digest FROM meta", &[]) {
         Ok(Some(digest)) => Ok(digest),

@@ -10,12 +10,13 @@ use table_access::{StoreFault, change, text_of};
 /// The team that owns a pacticipant, or `None` where there is no such pacticipant.
 ///
 /// # Errors
-/// `StoreFault::Memory` for want of memory; `StoreFault::Store` where the database refused the query.
+/// `StoreFault::Memory` where the database is out of memory, or there is none for the answer; `StoreFault::Store` where it refused the query.
 pub fn owner_of<S: Alter>(
     conn: &mut Connection<S>,
     pacticipant: &str,
 ) -> Result<Option<String>, StoreFault>
-    ensures { Queries (state S.Store conn.old) (state S.Store conn.new) result (λ owner s. option_map string_bytes owner ≡ s.pacticipants pacticipant.now) }
+    ensures { Queries (state S.Store conn.old) (state S.Store conn.new) result
+        (λ owner s. option_map string_bytes owner ≡ s.pacticipants pacticipant.now) }
 {
     text_of(
         conn,
@@ -27,13 +28,14 @@ pub fn owner_of<S: Alter>(
 /// Adds a pacticipant of a new name, owned by a team that is there.
 ///
 /// # Errors
-/// `StoreFault::Memory` for want of memory; `StoreFault::Store` where the database refused the row.
+/// `StoreFault::Memory` where the database is out of memory; `StoreFault::Store` where it refused the row.
 pub fn add_pacticipant<S: Alter>(
     conn: &mut Connection<S>,
     pacticipant: &str,
     team: &str,
 ) -> Result<(), StoreFault>
-    ensures { Changes (state S.Store conn.old) (state S.Store conn.new) result (AddsPacticipant pacticipant.now team.now) }
+    ensures { Changes (state S.Store conn.old) (state S.Store conn.new) result
+        (AddsPacticipant pacticipant.now team.now) }
 {
     change(
         conn,

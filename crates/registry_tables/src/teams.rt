@@ -12,9 +12,13 @@ const DIGEST_OF_TEAM: &str = "SELECT token_digest FROM teams WHERE name = ?1";
 /// The digest of a team's token, or `None` where there is no such team.
 ///
 /// # Errors
-/// `StoreFault::Memory` for want of memory; `StoreFault::Store` where the database refused the query.
-pub fn digest_of<S: Alter>(conn: &mut Connection<S>, team: &str) -> Result<Option<String>, StoreFault>
-    ensures { Queries (state S.Store conn.old) (state S.Store conn.new) result (λ digest s. option_map string_bytes digest ≡ s.teams team.now) }
+/// `StoreFault::Memory` where the database is out of memory, or there is none for the answer; `StoreFault::Store` where it refused the query.
+pub fn digest_of<S: Alter>(
+    conn: &mut Connection<S>,
+    team: &str,
+) -> Result<Option<String>, StoreFault>
+    ensures { Queries (state S.Store conn.old) (state S.Store conn.new) result
+        (λ digest s. option_map string_bytes digest ≡ s.teams team.now) }
 {
     text_of(conn, DIGEST_OF_TEAM, params![team])
 }
@@ -22,9 +26,10 @@ pub fn digest_of<S: Alter>(conn: &mut Connection<S>, team: &str) -> Result<Optio
 /// Whether there is such a team.
 ///
 /// # Errors
-/// `StoreFault::Memory` for want of memory; `StoreFault::Store` where the database refused the query.
+/// `StoreFault::Memory` where the database is out of memory; `StoreFault::Store` where it refused the query.
 pub fn has_team<S: Alter>(conn: &mut Connection<S>, team: &str) -> Result<bool, StoreFault>
-    ensures { QueriesInPlace (state S.Store conn.old) (state S.Store conn.new) result (λ has s. has ≡ is_some (s.teams team.now)) }
+    ensures { QueriesInPlace (state S.Store conn.old) (state S.Store conn.new) result
+        (λ has s. has ≡ is_some (s.teams team.now)) }
 {
     has_row(conn, DIGEST_OF_TEAM, params![team])
 }
@@ -32,12 +37,15 @@ pub fn has_team<S: Alter>(conn: &mut Connection<S>, team: &str) -> Result<bool, 
 /// The team whose token has this digest, or `None` where no team's has.
 ///
 /// # Errors
-/// `StoreFault::Memory` for want of memory; `StoreFault::Store` where the database refused the query.
+/// `StoreFault::Memory` where the database is out of memory, or there is none for the answer; `StoreFault::Store` where it refused the query.
 pub fn team_of_digest<S: Alter>(
     conn: &mut Connection<S>,
     digest: &str,
 ) -> Result<Option<String>, StoreFault>
-    ensures { Queries (state S.Store conn.old) (state S.Store conn.new) result (λ team s. MatchOption team ((t : List ℕ) → ¬ (s.teams t ≡ Some digest.now)) (λ name. s.teams (string_bytes name) ≡ Some digest.now)) }
+    ensures { Queries (state S.Store conn.old) (state S.Store conn.new) result
+        (λ team s. MatchOption team
+        ((t : List ℕ) → ¬ (s.teams t ≡ Some digest.now))
+        (λ name. s.teams (string_bytes name) ≡ Some digest.now)) }
 {
     text_of(
         conn,
@@ -49,9 +57,14 @@ pub fn team_of_digest<S: Alter>(
 /// Adds a team of a new name, whose token's digest no other team has.
 ///
 /// # Errors
-/// `StoreFault::Memory` for want of memory; `StoreFault::Store` where the database refused the row.
-pub fn add_team<S: Alter>(conn: &mut Connection<S>, team: &str, digest: &str) -> Result<(), StoreFault>
-    ensures { Changes (state S.Store conn.old) (state S.Store conn.new) result (AddsTeam team.now digest.now) }
+/// `StoreFault::Memory` where the database is out of memory; `StoreFault::Store` where it refused the row.
+pub fn add_team<S: Alter>(
+    conn: &mut Connection<S>,
+    team: &str,
+    digest: &str,
+) -> Result<(), StoreFault>
+    ensures { Changes (state S.Store conn.old) (state S.Store conn.new) result
+        (AddsTeam team.now digest.now) }
 {
     change(
         conn,

@@ -1,25 +1,28 @@
 //! Versions of pacticipants, and their numbers.
-ghost use Rattle.std.specs.Prelude.{◌≡◌, ◌+◌, ◌<◌, ◌≤◌, IfSome, IfNone, length, is_some};
+ghost use Rattle.std.specs.Prelude.{◌≡◌, length, is_some};
 ghost use Rattle.sqlite.specs.Held.{state};
 ghost use Rattle.broker_core.specs.Text.{version as version_named};
 ghost use Rattle.broker_core.specs.Request.{is_known};
 ghost use Rattle.broker_tables.specs.Numbers.{number_of as number_in};
 ghost use Rattle.broker_tables.specs.Holds.{QueriesInPlace, Changes, ChangesAndAnswers};
-ghost use Rattle.registry_tables.specs.Registry.{AllowsVersion, AddsVersion, PutsVersion};
+ghost use Rattle.registry_tables.specs.Registry.{AllowsVersion, AllowsVersionAs, AddsVersion, PutsVersion};
 
+use broker_tables::next_number;
 use sqlite::{Alter, Connection, params};
 use table_access::{StoreFault, change, number_of};
 
 /// The number of a version, by its pacticipant and its name, or `None` where there is no such version.
 ///
 /// # Errors
-/// `StoreFault::Memory` for want of memory; `StoreFault::Store` where the database refused the query or holds no number there.
+/// `StoreFault::Memory` where the database is out of memory; `StoreFault::Store` where it refused the query or holds no number there.
 pub fn version_of<S: Alter>(
     conn: &mut Connection<S>,
     pacticipant: &str,
     version: &str,
 ) -> Result<Option<u32>, StoreFault>
-    ensures { QueriesInPlace (state S.Store conn.old) (state S.Store conn.new) result (λ found s. (found ≡ number_in s.versions (version_named pacticipant.now version.now)) × (is_some found ≡ is_known s (version_named pacticipant.now version.now))) }
+    ensures { QueriesInPlace (state S.Store conn.old) (state S.Store conn.new) result
+        (λ found s. (found ≡ number_in s.versions (version_named pacticipant.now version.now))
+        × (is_some found ≡ is_known s (version_named pacticipant.now version.now))) }
 {
     number_of(
         conn,
@@ -31,9 +34,10 @@ pub fn version_of<S: Alter>(
 /// How many versions there are: the number of the newest, or 0.
 ///
 /// # Errors
-/// `StoreFault::Memory` for want of memory; `StoreFault::Store` where the database refused the query or holds no number there.
+/// `StoreFault::Memory` where the database is out of memory; `StoreFault::Store` where it refused the query or holds no number there.
 pub fn version_count<S: Alter>(conn: &mut Connection<S>) -> Result<u64, StoreFault>
-    ensures { QueriesInPlace (state S.Store conn.old) (state S.Store conn.new) result (λ count s. count ≡ length s.versions) }
+    ensures { QueriesInPlace (state S.Store conn.old) (state S.Store conn.new) result
+        (λ count s. count ≡ length s.versions) }
 {
     match number_of(
         conn,
@@ -45,18 +49,6 @@ pub fn version_count<S: Alter>(conn: &mut Connection<S>) -> Result<u64, StoreFau
     }
 }
 
-/// The number after so many, if there is one.
-fn next_number(count: u64) -> Option<u32>
-    ensures some { IfSome result (λ n. n ≡ count + 1) }
-    ensures none { IfNone result (4294967295 ≤ count) }
-{
-    if count < 4_294_967_295 {
-        Some(count as u32 + 1)
-    } else {
-        None
-    }
-}
-
 /// Puts in a version under a number.
 fn put_version<S: Alter>(
     conn: &mut Connection<S>,
@@ -64,7 +56,8 @@ fn put_version<S: Alter>(
     pacticipant: &str,
     version: &str,
 ) -> Result<(), StoreFault>
-    ensures { Changes (state S.Store conn.old) (state S.Store conn.new) result (PutsVersion number (version_named pacticipant.now version.now)) }
+    ensures { Changes (state S.Store conn.old) (state S.Store conn.new) result
+        (PutsVersion number (version_named pacticipant.now version.now)) }
 {
     change(
         conn,
@@ -73,20 +66,39 @@ fn put_version<S: Alter>(
     )
 }
 
+/// Adds a version of a pacticipant that is there, under a new name, with the next number, which is one more than there are versions.
+///
+/// # Errors
+/// `StoreFault::Memory` where the database is out of memory; `StoreFault::Store` where it refused the row.
+pub fn add_version_as<S: Alter>(
+    conn: &mut Connection<S>,
+    number: u32,
+    pacticipant: &str,
+    version: &str,
+) -> Result<(), StoreFault>
+    ensures { ChangesAndAnswers (state S.Store conn.old) (state S.Store conn.new) result
+        (AllowsVersionAs number (version_named pacticipant.now version.now))
+        (λ _. AddsVersion (version_named pacticipant.now version.now) number) }
+{
+    put_version(conn, number, pacticipant, version)
+}
+
 /// Adds a version of a pacticipant that is there, under a new name, and answers its number, which is the next one.
 ///
 /// # Errors
-/// `StoreFault::Memory` for want of memory; `StoreFault::Store` where the database refused the query or the row.
+/// `StoreFault::Memory` where the database is out of memory; `StoreFault::Store` where it refused the query or the row.
 pub fn add_version<S: Alter>(
     conn: &mut Connection<S>,
     pacticipant: &str,
     version: &str,
 ) -> Result<u32, StoreFault>
-    ensures { ChangesAndAnswers (state S.Store conn.old) (state S.Store conn.new) result (AllowsVersion (version_named pacticipant.now version.now)) (AddsVersion (version_named pacticipant.now version.now)) }
+    ensures { ChangesAndAnswers (state S.Store conn.old) (state S.Store conn.new) result
+        (AllowsVersion (version_named pacticipant.now version.now))
+        (AddsVersion (version_named pacticipant.now version.now)) }
 {
     match version_count(conn) {
         Ok(count) => match next_number(count) {
-            Some(number) => match put_version(conn, number, pacticipant, version) {
+            Some(number) => match add_version_as(conn, number, pacticipant, version) {
                 Ok(()) => Ok(number),
                 Err(fault) => Err(fault),
             },

@@ -54,12 +54,12 @@ refused_left old new e (inr fails) = inr fails.3
 -- a statement that is refused leaves the transaction, or the store failed
 pub refused_fails : (old new : State) (e : Error) (fault : StoreFault) → fault ≡ fault_of e → IsRefused old new e → IsTrue old.in_transaction → FailsAs old new fault
 refused_fails old new e fault is (inl same) inside = inl (same.0.0.mode ∙ inside, λ _. same.0.0.is_open)
-refused_fails old new e fault is (inr fails) inside = inr (record { cause = fails.0; told = is ∙ ap fault_of fails.1; has = fails.2; over = fails.3.autocommit; blamed = fails.4 })
+refused_fails old new e fault is (inr fails) inside = inr (record { cause = fails.0; fault_is = is ∙ ap fault_of fails.1; has = fails.2; over = fails.3.autocommit; blamed = fails.4 })
 
--- want of memory ended the transaction
-pub refused_short : (old new : State) (e : Error) (fault : StoreFault) → fault ≡ fault_of e → IsRefused old new e → fault ≡ Memory → IsEnded old new Memory
-refused_short old new e fault is (inl same) short = absurd (let clash : Memory ≡ Store = sym short ∙ is ∙ same.1 in cc)
-refused_short old new e fault is (inr fails) short = record { cause = fails.0; told = sym short ∙ is ∙ ap fault_of fails.1; has = fails.2; over = fails.3.autocommit; blamed = fails.4 }
+-- where the store was out of memory, the transaction is ended
+pub refused_memory : (old new : State) (e : Error) (fault : StoreFault) → fault ≡ fault_of e → IsRefused old new e → fault ≡ Memory → IsEnded old new Memory
+refused_memory old new e fault is (inl same) short = absurd (let clash : Memory ≡ Store = sym short ∙ is ∙ same.1 in cc)
+refused_memory old new e fault is (inr fails) short = record { cause = fails.0; fault_is = sym short ∙ is ∙ ap fault_of fails.1; has = fails.2; over = fails.3.autocommit; blamed = fails.4 }
 
 pub shows_outside : (sql : List ℕ) (params : Row) (old : State) (db : Trees) → CommitsShowing sql params old db → old.in_transaction ≡ false
 unfolding CommitsShowing
@@ -125,7 +125,7 @@ has_since a b c Broken stays up h = was_shut a b stays h
 has_since a b c Unstorable stays up h = tt
 
 ended_since : (a b c : State) (e : StoreFault) → GoesOn a b → a.faults ≤ b.faults → IsEnded b c e → IsEnded a c e
-ended_since a b c e on up ended = record { cause = ended.cause; told = ended.told; has = has_since a b c ended.cause on.1 up ended.has; over = ended.over; blamed = ended.blamed }
+ended_since a b c e on up ended = record { cause = ended.cause; fault_is = ended.fault_is; has = has_since a b c ended.cause on.1 up ended.has; over = ended.over; blamed = ended.blamed }
 
 fails_since : (a b c : State) (e : StoreFault) → GoesOn a b → a.faults ≤ b.faults → FailsAs b c e → FailsAs a c e
 fails_since a b c e on up (inl goes) = inl (goes.0, λ h. goes.1 (on.1 h))
@@ -162,37 +162,37 @@ failed_then {A} {B} {C} old mid new a e P Q R one two = then_err old new e Q R (
 
 -- ---- calls that take no memory of their own
 
-pub short_ok : {A : Type 0} (old new : State) (a : A) → TellsMemory old new (Ok a)
-short_ok old new a clean inside is = absurd (cc)
+pub memory_ok : {A : Type 0} (old new : State) (a : A) → TellsMemory old new (Ok a)
+memory_ok old new a clean inside is = absurd (cc)
 
--- the want of memory of a call, handed on
-pub short_err : {A B : Type 0} (old new : State) (e : StoreFault) → TellsMemory {A = A} old new (Err e) → TellsMemory {A = B} old new (Err e)
-short_err old new e short clean inside is = short clean inside (let same : e ≡ Memory = (let h = is in cc) in ap Err same)
+-- that of a call, handed on
+pub memory_err : {A B : Type 0} (old new : State) (e : StoreFault) → TellsMemory {A = A} old new (Err e) → TellsMemory {A = B} old new (Err e)
+memory_err old new e short clean inside is = short clean inside (let same : e ≡ Memory = (let h = is in cc) in ap Err same)
 
-pub short_store : {A : Type 0} (old new : State) (e : StoreFault) → e ≡ Store → TellsMemory {A = A} old new (Err e)
-short_store old new e store clean inside is = absurd (let clash : Store ≡ Memory = (let same : e ≡ Memory = (let h = is in cc) in sym store ∙ same) in cc)
+pub memory_store : {A : Type 0} (old new : State) (e : StoreFault) → e ≡ Store → TellsMemory {A = A} old new (Err e)
+memory_store old new e store clean inside is = absurd (let clash : Store ≡ Memory = (let same : e ≡ Memory = (let h = is in cc) in sym store ∙ same) in cc)
 
 pub statement_with : {A : Type 0} (old new : State) (r : Result A StoreFault) (P Q : A → Type 0) → ((a : A) → P a → Q a) → CallsStore old new r P → CallsStore old new r Q
-statement_with old new r P Q more it = record { call = call_with old new r P Q more it.call; short = it.short }
+statement_with old new r P Q more it = record { call = call_with old new r P Q more it.call; memory = it.memory }
 
 -- another answer, computed from the first
 pub statement_ok : {A B : Type 0} (old new : State) (a : A) (b : B) (P : A → Type 0) (Q : B → Type 0) → (P a → Q b) → CallsStore old new (Ok a) P → CallsStore old new (Ok b) Q
-statement_ok old new a b P Q more it = record { call = then_ok old new a b P Q more it.call; short = short_ok old new b }
+statement_ok old new a b P Q more it = record { call = then_ok old new a b P Q more it.call; memory = memory_ok old new b }
 
 -- the failure of a statement, handed on
 pub statement_err : {A B : Type 0} (old new : State) (e : StoreFault) (P : A → Type 0) (Q : B → Type 0) → CallsStore old new (Err e) P → CallsStore old new (Err e) Q
-statement_err old new e P Q it = record { call = then_err old new e P Q it.call; short = short_err old new e it.short }
+statement_err old new e P Q it = record { call = then_err old new e P Q it.call; memory = memory_err old new e it.memory }
 
 -- a computation that fails only where a row breaks the rules, after a statement
 pub statement_result : {A B : Type 0} (old new : State) (a : A) (r : Result B StoreFault) (P : A → Type 0) (Q : B → Type 0) → IfOk r (λ b. P a → Q b) → IfErr r (λ e. e ≡ Store) → CallsStore old new (Ok a) P → CallsStore old new r Q
 statement_result old new a (Ok b) P Q more store it = statement_ok old new a b P Q more it
-statement_result old new a (Err e) P Q more store it = record { call = then_stop old new a e P Q it.call; short = short_store old new e store }
+statement_result old new a (Err e) P Q more store it = record { call = then_stop old new a e P Q it.call; memory = memory_store old new e store }
 
 -- one after another
 pub statement_seq : {A B : Type 0} (old mid new : State) (a : A) (r : Result B StoreFault) (P : A → Type 0) (Q R : B → Type 0) → (P a → (b : B) → Q b → R b) → CallsStore old mid (Ok a) P → CallsStore mid new r Q → CallsStore old new r R
 statement_seq old mid new a r P Q R more one two = record {
   call = seq old mid new a r P Q R more one.call two.call;
-  short = λ clean inside is.
+  memory = λ clean inside is.
       let on = one.call.goes_on (let mid_clean : HasCleanDisk mid = omega (arith, two.call.survives.clean, clean) in mid_clean) inside in
-      ended_since old mid new Memory on one.call.survives.counts (two.short clean on.0 is);
+      ended_since old mid new Memory on one.call.survives.counts (two.memory clean on.0 is);
 }

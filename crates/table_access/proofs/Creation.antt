@@ -12,7 +12,7 @@ use Rattle.sqlite.specs.Does.{Tally, lacks_sequence}
 use Rattle.sqlite.specs.State.{State, Executes, Writes}
 use Rattle.sqlite.specs.Listing.{understood}
 use Rattle.sqlite.proofs.Callers.{statement_of, runs_as}
-use Rattle.table_access.specs.Statements.{Creates, Makes, new_trees}
+use Rattle.table_access.specs.Statements.{Creates, Makes, MakesEach, new_trees}
 use Rattle.table_access.specs.Sound.{IsNumbered, IsKept}
 use Rattle.table_access.proofs.Steps.{Means, went, same_value}
 
@@ -54,13 +54,22 @@ keeps_then [] a b c one two = tt
 keeps_then (t ∷ tables) a b c one two = (two.0 ∙ one.0, keeps_then tables a b c one.1 two.1)
 
 -- one after another
-pub makes_then : (front back : List Table) (old mid new : Database) → Makes front old mid → Makes back mid new → Makes (front ++ back) old new
-makes_then [] back old mid new one two = subst (λ db. Makes back db new) one two
-makes_then (table ∷ front) back old mid new one two = (one.0, one.1, makes_then front back one.0 mid new one.2 two)
+pub each_then : {X : Type 0} (One : Database → Database → X → Type 0) (front back : List X) (old mid new : Database) → MakesEach One front old mid → MakesEach One back mid new → MakesEach One (front ++ back) old new
+each_then One [] back old mid new one two = subst (λ db. MakesEach One back db new) one two
+each_then One (x ∷ front) back old mid new one two = (one.0, one.1, each_then One front back one.0 mid new one.2 two)
+
+-- a single one
+pub each_single : {X : Type 0} (One : Database → Database → X → Type 0) (x : X) (old new : Database) → MakesEach One (x ∷ []) old new → One old new x
+each_single One x old new h = subst (λ db. One old db x) (sym h.2) h.1
+
+-- the schema that they leave
+pub each_schema : {X : Type 0} (One : Database → Database → X → Type 0) (next : Schema → X → Schema) → ((old new : Database) (x : X) → One old new x → new.schema ≡ next old.schema x)
+    → (xs : List X) (old new : Database) → MakesEach One xs old new → new.schema ≡ fold next old.schema xs
+each_schema One next law [] old new h = ap (λ (db : Database). db.schema) h
+each_schema One next law (x ∷ xs) old new h = each_schema One next law xs h.0 new h.2 ∙ ap (λ schema. fold next schema xs) (law old h.0 x h.1)
 
 pub made_schema : (tables : List Table) (old new : Database) → Makes tables old new → new.schema ≡ fold created old.schema tables
-made_schema [] old new h = ap (λ (db : Database). db.schema) h
-made_schema (table ∷ tables) old new h = made_schema tables h.0 new h.2 ∙ ap (λ schema. fold created schema tables) h.1.schema
+made_schema = each_schema Creates created (λ old new table made. made.schema)
 
 -- the tables that were there keep their rows
 pub made_keeps : (tables : List Table) (old new : Database) → Makes tables old new → KeepsRows old.schema.tables old.trees new.trees

@@ -12,9 +12,9 @@ use Rattle.sqlite.specs.Does.{Tally, AtPlace, Defines, MakesIndex}
 use Rattle.sqlite.specs.State.{State, Executes, Writes, mode_of}
 use Rattle.sqlite.specs.Listing.{understood}
 use Rattle.sqlite.proofs.Callers.{statement_of, runs_as}
-use Rattle.table_access.specs.Statements.{Indexes, MakesIndexes, indexed_by}
+use Rattle.table_access.specs.Statements.{Indexes, IndexesTable, MakesIndexes, with_index, indexed_by}
 use Rattle.table_access.specs.Sound.{IsNumbered, IsKept}
-use Rattle.table_access.proofs.Creation.{still_numbered, keeps_then}
+use Rattle.table_access.proofs.Creation.{still_numbered, keeps_then, each_then, each_schema}
 use Rattle.table_access.proofs.Steps.{Means, went, same_value}
 
 pub indexes : (sql : List ℕ) (old new : State) (at : ℕ) (table : Table) (index : Index) (count : ℕ) → Means old.now.schema sql (CreateIndex at) → statement_of sql (understood old.now.schema sql) ≡ sql
@@ -49,12 +49,10 @@ indexes_one sql schema at table index means whole there defined old new count is
 
 -- more indexes are made, after these
 pub indexes_then : (front back : List (Table × Index)) (old mid new : Database) → MakesIndexes front old mid → MakesIndexes back mid new → MakesIndexes (front ++ back) old new
-indexes_then [] back old mid new one two = subst (λ db. MakesIndexes back db new) one two
-indexes_then (first ∷ front) back old mid new one two = (one.0, one.1, indexes_then front back one.0 mid new one.2 two)
+indexes_then = each_then IndexesTable
 
 pub indexes_schema : (more : List (Table × Index)) (old new : Database) → MakesIndexes more old new → new.schema ≡ indexed_by old.schema more
-indexes_schema [] old new h = ap (λ (db : Database). db.schema) h
-indexes_schema (one ∷ more) old new h = indexes_schema more h.0 new h.2 ∙ ap (λ schema. indexed_by schema more) h.1.schema
+indexes_schema = each_schema IndexesTable with_index (λ old new one made. made.schema)
 
 -- the tables keep their rows
 pub indexes_keep : (more : List (Table × Index)) (old new : Database) → MakesIndexes more old new → KeepsRows old.schema.tables old.trees new.trees

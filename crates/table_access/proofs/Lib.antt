@@ -1,6 +1,5 @@
 pub mod Refusals
 pub mod Texts
-pub mod SchemaLemmas
 pub mod WriteLemmas
 pub mod Values
 pub mod SoundLemmas

@@ -50,9 +50,6 @@ and_true false = refl
 pub both_total : {A B : Type 0} {R : A → A → Ordering} {S : B → B → Ordering} → IsTotalOrder R → IsTotalOrder S → IsTotalOrder (by_both R S)
 both_total {A} {B} o p = then_total (on_total (λ (x : A × B). x.0) o) (on_total (λ (x : A × B). x.1) p)
 
-pub both_exact : {A B : Type 0} {R : A → A → Ordering} {S : B → B → Ordering} → IsAntisymmetric R → IsAntisymmetric S → IsAntisymmetric (by_both R S)
-both_exact {A} {B} {R} {S} one two = exact_pairs R S one two
-
 -- WHERE the column is a parameter
 abbrev pub is_param : ℕ → ℕ → Term
 is_param place param = op2 (Compare Eq Binary) (col 1 place) (col 0 param)

@@ -23,15 +23,16 @@ pub record KeepsLastCommit (old new : State) : Type 0 where
 abbrev pub GoesOn : State → State → Type 0
 GoesOn old new = IsTrue new.in_transaction × (IsTrue old.is_open → IsTrue new.is_open)
 
--- the store failed, which ended the transaction, and the fault tells its cause
+-- the store failed, which ended the transaction, and the fault stands for its cause
 pub record IsEnded (old new : State) (fault : StoreFault) : Type 0 where
   pub cause : StoreError
-  pub told : fault ≡ fault_of (store_error cause)
+  pub fault_is : fault ≡ fault_of (store_error cause)
   pub has : HasCause old new ⊤ cause
   pub over : new.in_transaction ≡ false
   pub blamed : Tells new.blamed cause
 
--- A statement was refused, a row broke the rules or a growth was refused, and the transaction is still open; or the store failed.
+-- A statement was refused, a row broke the rules or an allocation failed, and the transaction is still open; or
+-- the store failed.
 abbrev pub FailsAs : State → State → StoreFault → Type 0
 FailsAs old new fault = GoesOn old new ⊎ IsEnded old new fault
 
@@ -39,7 +40,8 @@ FailsAs old new fault = GoesOn old new ⊎ IsEnded old new fault
 abbrev pub TellsMemory : {A : Type 0} → State → State → Result A StoreFault → Type 0
 TellsMemory old new r = HasCleanDisk new → IsTrue old.in_transaction → r ≡ Err Memory → IsEnded old new Memory
 
--- P of the answer, in a transaction that goes on, or a failure. Nothing is committed, and a crash leaves what it left before.
+-- P of the answer, in a transaction that goes on, or a failure. Nothing is committed, and a crash leaves what
+-- it left before.
 pub record CallsTables {A : Type 0} (old new : State) (r : Result A StoreFault) (P : A → Type 0) : Type 0 where
   pub ok : HasCleanDisk new → IfOk r P
   pub goes_on : HasCleanDisk new → IsTrue old.in_transaction → OnOk r (GoesOn old new)
@@ -47,7 +49,7 @@ pub record CallsTables {A : Type 0} (old new : State) (r : Result A StoreFault) 
   pub commits : HasCleanDisk new → IsTrue old.in_transaction → KeepsLastCommit old new
   pub survives : Survives old new (λ _. old.in_transaction ≡ false)
 
--- A call that takes no memory of its own, as a statement, or some in turn: want of memory is the store's.
+-- A call that takes no memory of its own, as a statement, or some in turn: only the store may be out of memory.
 pub record CallsStore {A : Type 0} (old new : State) (r : Result A StoreFault) (P : A → Type 0) : Type 0 where
   pub call : CallsTables old new r P
-  pub short : TellsMemory old new r
+  pub memory : TellsMemory old new r

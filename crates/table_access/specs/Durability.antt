@@ -23,7 +23,8 @@ pub record HoldsDurably (P : Database → Type 0) (c : State) : Type 0 where
   pub held : IsTrue c.is_open → IsCommitted P c
   pub left : (trees : Trees) → c.may_leave trees → IsOnDisk P trees
 
--- A commit was refused. While the connection is open, the last commit is still of the first kind, and a crash leaves it.
+-- A commit was refused. While the connection is open, the last commit is still of the first kind, and a crash
+-- leaves it.
 -- Where a fault of the disk has shut the connection, a crash leaves one of the first kind or of the second.
 pub record HoldsEither (P Q : Database → Type 0) (c : State) : Type 0 where
   pub committed : IsTrue c.is_open → P c.committed

@@ -20,16 +20,24 @@ AreRead reads (r ∷ rows) (x ∷ items) = reads r x × AreRead reads rows items
 abbrev pub IsRefusedAs : List ℕ → Row → State → State → StoreFault → Type 0
 IsRefusedAs sql params old new fault = (e : Error) × (fault ≡ fault_of e) × FailsToQuery sql params old new e
 
--- Why a list isn't read: the query was refused, or a row that was shown doesn't read, or there was no room for it.
-abbrev pub FailsToRead : (Row → Type 0) → List ℕ → Row → State → State → StoreFault → Type 0
-FailsToRead is_readable sql params old new fault =
+-- Why a row isn't taken into a list: reading it failed, or it reads and there was no room for it.
+abbrev pub FailsToReadRow : {A : Type 0} → (Row → A → Type 0) → (Row → StoreFault → Type 0) → Row → StoreFault → Type 0
+FailsToReadRow {A} Reads Fails row fault = Fails row fault ⊎ ((fault ≡ Memory) × ((item : A) × Reads row item))
+
+-- Why a list isn't read: the query was refused, or a row that was shown isn't taken.
+abbrev pub FailsToRead : {A : Type 0} → (Row → A → Type 0) → (Row → StoreFault → Type 0) → List ℕ → Row → State
+    → State → StoreFault → Type 0
+FailsToRead Reads Fails sql params old new fault =
     IsRefusedAs sql params old new fault
-    ⊎ ((rows : List Row) × Shown sql params old new rows × (row : Row) × Has rows row × (fault ≡ Store → ¬ is_readable row))
+    ⊎ ((rows : List Row) × Shown sql params old new rows × (row : Row) × Has rows row
+    × FailsToReadRow Reads Fails row fault)
 
 -- Why the first row isn't read: the query was refused, or this is told of that row.
 abbrev pub FailsToTake : (Row → StoreFault → Type 0) → List ℕ → Row → State → State → StoreFault → Type 0
 FailsToTake Tells sql params old new fault =
-    IsRefusedAs sql params old new fault ⊎ ((rows : List Row) × Shown sql params old new rows × (row : Row) × (slice_get rows 0 ≡ Some row) × Tells row fault)
+    IsRefusedAs sql params old new fault
+    ⊎ ((rows : List Row) × Shown sql params old new rows × (row : Row) × (slice_get rows 0 ≡ Some row)
+    × Tells row fault)
 
 -- there is such a column, and it is a text in UTF-8
 abbrev pub IsTextAt : ℕ → Row → Type 0
@@ -39,9 +47,12 @@ IsTextAt at row = (at < length row) × ((text : List ℕ) × (column row at ≡ 
 abbrev pub IsNumberRow : Row → Type 0
 IsNumberRow row = (0 < length row) × ((n : ℕ) × (column row 0 ≡ Int (pos n)) × (n < 2 ^ 32))
 
--- Store where there is no text, and Memory where there is one, and no room for it
+-- Store where this doesn't stand in the row, and Memory where it does, and there is no room for it
+abbrev pub TellsWhether : Type 0 → StoreFault → Type 0
+TellsWhether Stands fault = ((fault ≡ Store) × (¬ Stands)) ⊎ ((fault ≡ Memory) × Stands)
+
 abbrev pub TellsText : Row → StoreFault → Type 0
-TellsText row fault = ((fault ≡ Store) × (¬ IsTextAt 0 row)) ⊎ ((fault ≡ Memory) × IsTextAt 0 row)
+TellsText row = TellsWhether (IsTextAt 0 row)
 
 -- Store, where there is no number
 abbrev pub TellsNumber : Row → StoreFault → Type 0

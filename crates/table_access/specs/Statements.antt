@@ -1,5 +1,5 @@
 -- The forms of statement that the tables are read and changed by.
-use Rattle.std.specs.Prelude.{ℕ, pos, negsuc, Bool, true, false, List, [], ◌∷◌, Option, None, ◌≡◌, ◌++◌, ◌≢◌, map, filter}
+use Rattle.std.specs.Prelude.{ℕ, pos, negsuc, Bool, true, false, List, [], ◌∷◌, Option, None, ◌≡◌, ◌++◌, ◌≢◌, map, filter, fold}
 use Rattle.std.specs.List.{list_all, flat_map, AllByRecursion}
 use Rattle.sqlite.specs.State.{State}
 use Rattle.sqlite.specs.Effect.{Database, IsDatabase}
@@ -80,7 +80,8 @@ pub record IsAdded (old new : List Row) (row : Row) : Type 0 where
   pub was : old ≡ front ++ back
   pub is : new ≡ front ++ row ∷ back
 
--- The table at this tree may have changed, and each other one is as it was. Nothing is committed while a transaction is open.
+-- The table at this tree may have changed, and each other one is as it was. Nothing is committed while a
+-- transaction is open.
 pub record ChangesOnly (tree : ℕ) (old new : State) : Type 0 where
   pub schema : new.now.schema ≡ old.now.schema
   pub kept : IsKept old.now → IsKept new.now
@@ -89,7 +90,8 @@ pub record ChangesOnly (tree : ℕ) (old new : State) : Type 0 where
   pub marks : new.marks ≡ old.marks
 
 -- a table with no AUTOINCREMENT and no computed default
-abbrev pub plain_table : List ℕ → ℕ → List Column → Option ℕ → List ℕ → List (List ℕ) → List Order → List Term → List Reference → Table
+abbrev pub plain_table : List ℕ → ℕ → List Column → Option ℕ → List ℕ → List (List ℕ) → List Order → List Term
+    → List Reference → Table
 plain_table name tree columns key primary uniques orders checks references = record {
   name = name;
   tree = tree;
@@ -126,20 +128,28 @@ pub record Indexes (old new : Database) (table : Table) (index : Index) : Type 0
   pub others : KeepsRows old.schema.tables old.trees new.trees
   pub sound : IsDatabase new
 
--- such indexes are made, each on its table, one after another
-abbrev pub MakesIndexes : List (Table × Index) → Database → Database → Type 0
-MakesIndexes [] old new = new ≡ old
-MakesIndexes (one ∷ more) old new = (mid : Database) × Indexes old mid one.0 one.1 × MakesIndexes more mid new
+-- such things are made, one after another
+abbrev pub MakesEach : {X : Type 0} → (Database → Database → X → Type 0) → List X → Database → Database → Type 0
+MakesEach One [] old new = new ≡ old
+MakesEach One (x ∷ xs) old new = (mid : Database) × One old mid x × MakesEach One xs mid new
 
--- the schema with such indexes
-abbrev pub indexed_by : Schema → List (Table × Index) → Schema
-indexed_by schema [] = schema
-indexed_by schema (one ∷ more) = indexed_by (indexed schema one.0 one.1) more
-
--- such tables are made, one after another
+-- such tables
 abbrev pub Makes : List Table → Database → Database → Type 0
-Makes [] old new = new ≡ old
-Makes (table ∷ tables) old new = (mid : Database) × Creates old mid table × Makes tables mid new
+Makes = MakesEach Creates
+
+-- an index on its table, and such indexes
+abbrev pub IndexesTable : Database → Database → Table × Index → Type 0
+IndexesTable old new one = Indexes old new one.0 one.1
+
+abbrev pub MakesIndexes : List (Table × Index) → Database → Database → Type 0
+MakesIndexes = MakesEach IndexesTable
+
+-- the schema with an index more, and with such indexes
+abbrev pub with_index : Schema → Table × Index → Schema
+with_index schema one = indexed schema one.0 one.1
+
+abbrev pub indexed_by : Schema → List (Table × Index) → Schema
+indexed_by = fold with_index
 
 -- the trees that they get
 abbrev pub new_trees : Schema → List Table → List ℕ

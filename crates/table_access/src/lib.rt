@@ -2,16 +2,16 @@
 //!
 //! The crate knows SQL and no table: a caller gives the text, and its contract says what the text does under the schema that is there.
 //! Each call on tables leaves the same promise, `CallsTables`: what it answers, that it commits nothing, how it fails, and that a crash leaves what it left before;
-//! one that takes no memory of its own leaves `CallsStore`, by which want of memory is the store's too.
+//! one that takes no memory of its own leaves `CallsStore`, by which only the store is ever out of memory.
 #![tactic(auto)]
 
-ghost use Rattle.std.specs.Prelude.{◌≡◌, ℕ, Ok, Err, false, [], List, IsTrue, IfOk, IfErr, OnOk, OnErr, codes};
-ghost use Rattle.sqlite.specs.State.{HasCleanDisk, Shows, KeepsCounts, Commits, IsUnchanged, IsRolledBack, Survives, IsLive, Executes, Shown};
+ghost use Rattle.std.specs.Prelude.{◌≡◌, ◌⊎◌, ℕ, Ok, Err, false, [], IsTrue, IfErr, OnOk, OnErr, codes};
+ghost use Rattle.sqlite.specs.State.{HasCleanDisk, Commits, IsUnchanged, IsRolledBack, Survives, IsLive, Executes, Shown};
 ghost use Rattle.sqlite.specs.declared.error.Error.{Error as SqlError};
 ghost use Rattle.sqlite.specs.Held.{state};
 ghost use Rattle.sqlite.specs.Values.{bound};
 ghost use Rattle.sqlite_resolve.specs.Compile.{first};
-ghost use Rattle.table_access.specs.Unit.{Begins, IsLeft};
+ghost use Rattle.table_access.specs.Unit.{Begins, IsLeft, IsOver};
 ghost use Rattle.table_access.specs.Calls.{KeepsLastCommit, CallsStore};
 ghost use Rattle.table_access.specs.Calls as spec;
 ghost use Rattle.table_access.specs.Reading.{IsRefusedAs};
@@ -21,21 +21,19 @@ use sqlite::types::ValueRef;
 use sqlite::{Alter, Connection, Error, ErrorCode, Row};
 
 mod rows;
-#[cfg(test)]
-mod tests;
 
-pub use rows::{ReadRow, count_of, has_row, list_of, number_in, number_of, text_at, text_of};
+pub use rows::{ReadRow, has_row, list_of, number_in, number_of, text_at, text_of};
 
 /// Why a call on the tables failed.
 #[derive(Clone, Copy, Debug, PartialEq, Eq)]
 pub enum StoreFault {
-    /// The database answered that it has no memory, or a growth was refused.
+    /// The database is out of memory, or an allocation failed.
     Memory,
     /// The database refused for any other cause, or a row was met that breaks the rules of its table.
     Store,
 }
 
-/// How an error of the database is told: want of memory as `Memory`, each other as `Store`.
+/// The fault that stands for an error of the database: `Memory` where it is out of memory, `Store` for each other.
 fn fault_of(error: Error) -> StoreFault
     ensures { result ≡ spec.fault_of error }
 {
@@ -55,9 +53,12 @@ impl From<Error> for StoreFault {
 
 /// Runs BEGIN.
 fn run_begin<S: Alter>(conn: &mut Connection<S>) -> Result<usize, Error>
-    ensures begun { HasCleanDisk (state S.Store conn.new) → OnOk result (Begins (state S.Store conn.old) (state S.Store conn.new)) }
-    ensures refused { HasCleanDisk (state S.Store conn.new) → OnErr result (IsLeft (state S.Store conn.old) (state S.Store conn.new)) }
-    ensures told { HasCleanDisk (state S.Store conn.new) → IfErr result (λ e. Executes (codes "BEGIN") [] (state S.Store conn.old) (state S.Store conn.new) (Err e)) }
+    ensures begun { HasCleanDisk (state S.Store conn.new) →
+        OnOk result (Begins (state S.Store conn.old) (state S.Store conn.new)) }
+    ensures refused { HasCleanDisk (state S.Store conn.new) →
+        OnErr result (IsLeft (state S.Store conn.old) (state S.Store conn.new)) }
+    ensures cause { HasCleanDisk (state S.Store conn.new) →
+        IfErr result (λ e. Executes (codes "BEGIN") [] (state S.Store conn.old) (state S.Store conn.new) (Err e)) }
     ensures survives { Survives (state S.Store conn.old) (state S.Store conn.new) (λ _. ⊥) }
 {
     conn.execute("BEGIN", &[])
@@ -65,18 +66,27 @@ fn run_begin<S: Alter>(conn: &mut Connection<S>) -> Result<usize, Error>
 
 /// Runs COMMIT. Where it is refused, the transaction is rolled back, or there was none.
 fn run_commit<S: Alter>(conn: &mut Connection<S>) -> Result<usize, Error>
-    ensures done { HasCleanDisk (state S.Store conn.new) → OnOk result (IsTrue (state S.Store conn.old).in_transaction × Commits (state S.Store conn.old) (state S.Store conn.new)) }
-    ensures refused { HasCleanDisk (state S.Store conn.new) → OnErr result (IsLeft (state S.Store conn.old) (state S.Store conn.new)) }
-    ensures survives { Survives (state S.Store conn.old) (state S.Store conn.new) (λ db. db ≡ (state S.Store conn.old).now.trees) }
+    ensures done { HasCleanDisk (state S.Store conn.new) →
+        OnOk result (IsTrue (state S.Store conn.old).in_transaction
+        × Commits (state S.Store conn.old) (state S.Store conn.new)) }
+    ensures refused { HasCleanDisk (state S.Store conn.new) →
+        OnErr result (IsLeft (state S.Store conn.old) (state S.Store conn.new)) }
+    ensures survives { Survives (state S.Store conn.old) (state S.Store conn.new)
+        (λ db. db ≡ (state S.Store conn.old).now.trees) }
 {
     conn.execute("COMMIT", &[])
 }
 
-/// Runs ROLLBACK.
+/// Runs ROLLBACK. It is refused only where there is no transaction, or where the store failed, which ended it.
 fn run_rollback<S: Alter>(conn: &mut Connection<S>) -> Result<usize, Error>
-    ensures undone { HasCleanDisk (state S.Store conn.new) → OnOk result (IsRolledBack (state S.Store conn.old) (state S.Store conn.new)) }
-    ensures refused { HasCleanDisk (state S.Store conn.new) → OnErr result (IsLeft (state S.Store conn.old) (state S.Store conn.new)) }
-    ensures told { HasCleanDisk (state S.Store conn.new) → IfErr result (λ e. Executes (codes "ROLLBACK") [] (state S.Store conn.old) (state S.Store conn.new) (Err e)) }
+    ensures undone { HasCleanDisk (state S.Store conn.new) →
+        OnOk result (IsRolledBack (state S.Store conn.old) (state S.Store conn.new)) }
+    ensures refused { HasCleanDisk (state S.Store conn.new) →
+        OnErr result (IsRolledBack (state S.Store conn.old) (state S.Store conn.new)
+        ⊎ (((state S.Store conn.old).in_transaction ≡ false)
+        × IsUnchanged (state S.Store conn.old) (state S.Store conn.new))) }
+    ensures cause { HasCleanDisk (state S.Store conn.new) →
+        IfErr result (λ e. Executes (codes "ROLLBACK") [] (state S.Store conn.old) (state S.Store conn.new) (Err e)) }
     ensures survives { Survives (state S.Store conn.old) (state S.Store conn.new) (λ _. ⊥) }
 {
     conn.execute("ROLLBACK", &[])
@@ -84,9 +94,13 @@ fn run_rollback<S: Alter>(conn: &mut Connection<S>) -> Result<usize, Error>
 
 /// Begins a transaction, where none is open. After an error none is begun, and what is committed is as it was.
 pub fn begin<S: Alter>(conn: &mut Connection<S>) -> Result<(), StoreFault>
-    ensures begun { HasCleanDisk (state S.Store conn.new) → OnOk result (Begins (state S.Store conn.old) (state S.Store conn.new)) }
-    ensures refused { HasCleanDisk (state S.Store conn.new) → OnErr result (IsLeft (state S.Store conn.old) (state S.Store conn.new)) }
-    ensures told { HasCleanDisk (state S.Store conn.new) → IfErr result (λ f. (e : SqlError) × (f ≡ spec.fault_of e) × Executes (codes "BEGIN") [] (state S.Store conn.old) (state S.Store conn.new) (Err e)) }
+    ensures begun { HasCleanDisk (state S.Store conn.new) →
+        OnOk result (Begins (state S.Store conn.old) (state S.Store conn.new)) }
+    ensures refused { HasCleanDisk (state S.Store conn.new) →
+        OnErr result (IsLeft (state S.Store conn.old) (state S.Store conn.new)) }
+    ensures cause { HasCleanDisk (state S.Store conn.new) →
+        IfErr result (λ f. (e : SqlError) × (f ≡ spec.fault_of e)
+        × Executes (codes "BEGIN") [] (state S.Store conn.old) (state S.Store conn.new) (Err e)) }
     ensures survives { Survives (state S.Store conn.old) (state S.Store conn.new) (λ _. ⊥) }
 {
     match run_begin(conn) {
@@ -95,13 +109,16 @@ pub fn begin<S: Alter>(conn: &mut Connection<S>) -> Result<(), StoreFault>
     }
 }
 
-/// Ends the transaction without committing, and says whether none is open any more.
-/// A statement that failed for memory or the disk may have ended it already. What is committed stays as it was. `false` comes only where the database refused ROLLBACK.
+/// Ends the transaction without committing. What is committed stays as it was, and no transaction is open any more.
+///
+/// `false` comes only where the database refused ROLLBACK, since the store failed; that ended the transaction too.
+/// Where an earlier failure has ended it already, nothing is left to do, and the answer is `true`.
 pub fn rollback<S: Alter>(conn: &mut Connection<S>) -> bool
-    ensures left { HasCleanDisk (state S.Store conn.new) → IsTrue result → IsTrue (state S.Store conn.new).is_open
-        → ((state S.Store conn.new).in_transaction ≡ false) × ((state S.Store conn.new).now ≡ (state S.Store conn.new).committed) }
-    ensures commit { HasCleanDisk (state S.Store conn.new) → KeepsLastCommit (state S.Store conn.old) (state S.Store conn.new) }
-    ensures told { HasCleanDisk (state S.Store conn.new) → result ≡ false → (e : SqlError) × Executes (codes "ROLLBACK") [] (state S.Store conn.old) (state S.Store conn.new) (Err e) }
+    ensures over { HasCleanDisk (state S.Store conn.new) → IsOver (state S.Store conn.new) }
+    ensures commit { HasCleanDisk (state S.Store conn.new) →
+        KeepsLastCommit (state S.Store conn.old) (state S.Store conn.new) }
+    ensures cause { HasCleanDisk (state S.Store conn.new) → result ≡ false →
+        (e : SqlError) × Executes (codes "ROLLBACK") [] (state S.Store conn.old) (state S.Store conn.new) (Err e) }
     ensures survives { Survives (state S.Store conn.old) (state S.Store conn.new) (λ _. ⊥) }
 {
     conn.is_autocommit() || run_rollback(conn).is_ok()
@@ -111,10 +128,15 @@ pub fn rollback<S: Alter>(conn: &mut Connection<S>) -> bool
 /// what was committed before stays while the connection is open; where a fault of the disk shut it, a crash may leave either.
 pub fn commit<S: Alter>(conn: &mut Connection<S>) -> bool
     ensures live { IsLive (state S.Store conn.old) }
-    ensures done { HasCleanDisk (state S.Store conn.new) → IsTrue result → Commits (state S.Store conn.old) (state S.Store conn.new) }
-    ensures refused { HasCleanDisk (state S.Store conn.new) → result ≡ false → KeepsLastCommit (state S.Store conn.old) (state S.Store conn.new) }
-    ensures survives { Survives (state S.Store conn.old) (state S.Store conn.new) (λ db. db ≡ (state S.Store conn.old).now.trees) }
+    ensures done { HasCleanDisk (state S.Store conn.new) → IsTrue result →
+        Commits (state S.Store conn.old) (state S.Store conn.new) }
+    ensures refused { HasCleanDisk (state S.Store conn.new) → result ≡ false →
+        KeepsLastCommit (state S.Store conn.old) (state S.Store conn.new) }
+    ensures over { HasCleanDisk (state S.Store conn.new) → result ≡ false → IsOver (state S.Store conn.new) }
+    ensures survives { Survives (state S.Store conn.old) (state S.Store conn.new)
+        (λ db. db ≡ (state S.Store conn.old).now.trees) }
 {
+    // Read for the proof: `schema` says that what an open connection shows is a database (the clause `live`).
     let _schema = conn.schema();
     if run_commit(conn).is_ok() {
         return true;
@@ -131,8 +153,12 @@ pub fn change<S: Alter>(
     params: &[ValueRef<'_>],
 ) -> Result<(), StoreFault>
     requires { IsWriteText (first sql.now) }
-    ensures leaves { CallsStore (state S.Store conn.old) (state S.Store conn.new) result (λ _. (count : ℕ) × Executes sql.now (bound params.now) (state S.Store conn.old) (state S.Store conn.new) (Ok count)) }
-    ensures told { HasCleanDisk (state S.Store conn.new) → IfErr result (λ f. (e : SqlError) × (f ≡ spec.fault_of e) × Executes sql.now (bound params.now) (state S.Store conn.old) (state S.Store conn.new) (Err e)) }
+    ensures leaves { CallsStore (state S.Store conn.old) (state S.Store conn.new) result
+        (λ _. (count : ℕ)
+        × Executes sql.now (bound params.now) (state S.Store conn.old) (state S.Store conn.new) (Ok count)) }
+    ensures cause { HasCleanDisk (state S.Store conn.new) →
+        IfErr result (λ f. (e : SqlError) × (f ≡ spec.fault_of e)
+        × Executes sql.now (bound params.now) (state S.Store conn.old) (state S.Store conn.new) (Err e)) }
 {
     match conn.execute(sql, params) {
         Ok(_) => Ok(()),
@@ -146,8 +172,10 @@ pub fn select<S: Alter>(
     sql: &str,
     params: &[ValueRef<'_>],
 ) -> Result<Vec<Row>, StoreFault>
-    ensures leaves { CallsStore (state S.Store conn.old) (state S.Store conn.new) result (λ rows. Shown sql.now (bound params.now) (state S.Store conn.old) (state S.Store conn.new) rows.items) }
-    ensures told { HasCleanDisk (state S.Store conn.new) → IfErr result (IsRefusedAs sql.now (bound params.now) (state S.Store conn.old) (state S.Store conn.new)) }
+    ensures leaves { CallsStore (state S.Store conn.old) (state S.Store conn.new) result
+        (λ rows. Shown sql.now (bound params.now) (state S.Store conn.old) (state S.Store conn.new) rows.items) }
+    ensures cause { HasCleanDisk (state S.Store conn.new) →
+        IfErr result (IsRefusedAs sql.now (bound params.now) (state S.Store conn.old) (state S.Store conn.new)) }
 {
     match conn.query_all(sql, params) {
         Ok(rows) => Ok(rows),

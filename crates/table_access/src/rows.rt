@@ -1,6 +1,6 @@
 //! Answers of queries, read into values.
 
-ghost use Rattle.std.specs.Prelude.{◌≡◌, pos, List, [], Some, IfOk, IfErr, IfSome, IfNone, length, option_map, is_some, string_bytes, slice_get};
+ghost use Rattle.std.specs.Prelude.{◌≡◌, pos, List, [], Some, IfOk, IfErr, IfSome, IfNone, option_map, is_some, string_bytes, slice_get};
 ghost use Rattle.sqlite.specs.State.{HasCleanDisk, Shown};
 ghost use Rattle.sqlite.specs.Held.{state};
 ghost use Rattle.sqlite.specs.Values.{bound};
@@ -9,7 +9,7 @@ ghost use Rattle.sqlite_rules.specs.Lists.{Has};
 ghost use Rattle.sqlite.specs.declared.types.Value.TheVariants.{Int, Text as SqlText};
 ghost use Rattle.table_access.specs.Calls.{CallsTables, CallsStore};
 ghost use Rattle.table_access.specs.Columns.{text};
-ghost use Rattle.table_access.specs.Reading.{AreRead, IsRefusedAs, FailsToRead, FailsToTake, IsTextAt, TellsText, TellsNumber};
+ghost use Rattle.table_access.specs.Reading.{AreRead, IsRefusedAs, FailsToRead, FailsToReadRow, FailsToTake, IsTextAt, TellsText, TellsNumber};
 
 use crate::{StoreFault, fault_of, select};
 use sqlite::types::ValueRef;
@@ -18,23 +18,27 @@ use std::alloc::Global;
 
 /// How a row of an answer is read into a value.
 pub trait ReadRow {
+    ghost use Rattle.table_access.specs.declared.StoreFault.{StoreFault};
+
     type Item: Drop;
 
-    // Whether the row reads as this value, and whether it reads as any.
+    // The row reads as this value.
     ghost reads_as: { SqlRow → Self.Item → Type 0 };
 
-    ghost is_readable: { SqlRow → Type 0 };
+    // Reading the row may fail so. It says of `StoreFault::Store` that the row doesn't read.
+    ghost fails_as: { SqlRow → StoreFault → Type 0 };
 
-    /// Reads a row. `StoreFault::Store` is answered only where the row doesn't read, `StoreFault::Memory` only where memory was refused.
+    /// Reads a row.
     fn read(alloc: Global, row: &Row) -> Result<Self::Item, StoreFault>
         ensures ok { IfOk result (reads_as row.now) }
-        ensures told { IfErr result (λ f. f ≡ StoreFault.Store → ¬ is_readable row.now) };
+        ensures cause { IfErr result (fails_as row.now) };
 }
 
 /// Reads each row.
 fn read_all<R: ReadRow>(alloc: Global, rows: &[Row]) -> Result<Vec<R::Item>, StoreFault>
     ensures ok { IfOk result (λ items. AreRead R.reads_as rows.now items.items) }
-    ensures told { IfErr result (λ f. (row : SqlRow) × Has rows.now row × (f ≡ StoreFault.Store → ¬ R.is_readable row)) }
+    ensures cause { IfErr result (λ f. (row : SqlRow) × Has rows.now row
+        × FailsToReadRow R.reads_as R.fails_as row f) }
 {
     let mut items = Vec::new(alloc);
     for row in rows {
@@ -56,26 +60,16 @@ pub fn list_of<R: ReadRow, S: Alter>(
     sql: &str,
     params: &[ValueRef<'_>],
 ) -> Result<Vec<R::Item>, StoreFault>
-    ensures leaves { CallsTables (state S.Store conn.old) (state S.Store conn.new) result (λ items. (rows : List SqlRow) × Shown sql.now (bound params.now) (state S.Store conn.old) (state S.Store conn.new) rows × AreRead R.reads_as rows items.items) }
-    ensures told { HasCleanDisk (state S.Store conn.new) → IfErr result (FailsToRead R.is_readable sql.now (bound params.now) (state S.Store conn.old) (state S.Store conn.new)) }
+    ensures leaves { CallsTables (state S.Store conn.old) (state S.Store conn.new) result
+        (λ items. (rows : List SqlRow)
+        × Shown sql.now (bound params.now) (state S.Store conn.old) (state S.Store conn.new) rows
+        × AreRead R.reads_as rows items.items) }
+    ensures cause { HasCleanDisk (state S.Store conn.new) →
+        IfErr result (FailsToRead R.reads_as R.fails_as sql.now (bound params.now)
+        (state S.Store conn.old) (state S.Store conn.new)) }
 {
     match select(conn, sql, params) {
         Ok(rows) => read_all::<R>(alloc, &rows),
-        Err(fault) => Err(fault),
-    }
-}
-
-/// How many rows a query shows.
-pub fn count_of<S: Alter>(
-    conn: &mut Connection<S>,
-    sql: &str,
-    params: &[ValueRef<'_>],
-) -> Result<usize, StoreFault>
-    ensures leaves { CallsStore (state S.Store conn.old) (state S.Store conn.new) result (λ count. (rows : List SqlRow) × Shown sql.now (bound params.now) (state S.Store conn.old) (state S.Store conn.new) rows × (count ≡ length rows)) }
-    ensures told { HasCleanDisk (state S.Store conn.new) → IfErr result (IsRefusedAs sql.now (bound params.now) (state S.Store conn.old) (state S.Store conn.new)) }
-{
-    match select(conn, sql, params) {
-        Ok(rows) => Ok(rows.len()),
         Err(fault) => Err(fault),
     }
 }
@@ -86,8 +80,12 @@ pub fn has_row<S: Alter>(
     sql: &str,
     params: &[ValueRef<'_>],
 ) -> Result<bool, StoreFault>
-    ensures leaves { CallsStore (state S.Store conn.old) (state S.Store conn.new) result (λ has. (rows : List SqlRow) × Shown sql.now (bound params.now) (state S.Store conn.old) (state S.Store conn.new) rows × (has ≡ is_some (slice_get rows 0))) }
-    ensures told { HasCleanDisk (state S.Store conn.new) → IfErr result (IsRefusedAs sql.now (bound params.now) (state S.Store conn.old) (state S.Store conn.new)) }
+    ensures leaves { CallsStore (state S.Store conn.old) (state S.Store conn.new) result
+        (λ has. (rows : List SqlRow)
+        × Shown sql.now (bound params.now) (state S.Store conn.old) (state S.Store conn.new) rows
+        × (has ≡ is_some (slice_get rows 0))) }
+    ensures cause { HasCleanDisk (state S.Store conn.new) →
+        IfErr result (IsRefusedAs sql.now (bound params.now) (state S.Store conn.old) (state S.Store conn.new)) }
 {
     match select(conn, sql, params) {
         Ok(rows) => Ok(!rows.is_empty()),
@@ -106,10 +104,11 @@ pub fn text_at(row: &Row, at: usize) -> Option<&str>
     }
 }
 
-/// The text in the first column of the first row, if there is a row. `StoreFault::Store` where there is no text, and `StoreFault::Memory` where there is one and no room for it.
+/// The text in the first column of the first row, if there is a row.
+/// `StoreFault::Store` where there is no text, and `StoreFault::Memory` where there is one and no room for it.
 fn first_text(alloc: Global, rows: &[Row]) -> Result<Option<String>, StoreFault>
     ensures ok { IfOk result (λ found. option_map string_bytes found ≡ option_map (text 0) (slice_get rows.now 0)) }
-    ensures told { IfErr result (λ f. (row : SqlRow) × (slice_get rows.now 0 ≡ Some row) × TellsText row f) }
+    ensures cause { IfErr result (λ f. (row : SqlRow) × (slice_get rows.now 0 ≡ Some row) × TellsText row f) }
 {
     match rows.first() {
         None => Ok(None),
@@ -126,7 +125,7 @@ fn first_text(alloc: Global, rows: &[Row]) -> Result<Option<String>, StoreFault>
 /// The whole number in the first column. `StoreFault::Store` where there is no number from 0 to 2^32 - 1.
 pub fn number_in(row: &Row) -> Result<u32, StoreFault>
     ensures ok { IfOk result (λ n. column row.now 0 ≡ Int (pos n)) }
-    ensures told { IfErr result (TellsNumber row.now) }
+    ensures cause { IfErr result (TellsNumber row.now) }
 {
     match row.get_ref(0) {
         Ok(ValueRef::Int(number)) => match u32::try_from(number) {
@@ -137,10 +136,12 @@ pub fn number_in(row: &Row) -> Result<u32, StoreFault>
     }
 }
 
-/// The whole number in the first column of the first row, if there is a row. `StoreFault::Store` where there is no number from 0 to 2^32 - 1.
+/// The whole number in the first column of the first row, if there is a row.
+/// `StoreFault::Store` where there is no number from 0 to 2^32 - 1.
 fn first_number(rows: &[Row]) -> Result<Option<u32>, StoreFault>
-    ensures ok { IfOk result (λ found. option_map (λ n. Int (pos n)) found ≡ option_map (λ row. column row 0) (slice_get rows.now 0)) }
-    ensures told { IfErr result (λ f. (row : SqlRow) × (slice_get rows.now 0 ≡ Some row) × TellsNumber row f) }
+    ensures ok { IfOk result
+        (λ found. option_map (λ n. Int (pos n)) found ≡ option_map (λ row. column row 0) (slice_get rows.now 0)) }
+    ensures cause { IfErr result (λ f. (row : SqlRow) × (slice_get rows.now 0 ≡ Some row) × TellsNumber row f) }
 {
     match rows.first() {
         None => Ok(None),
@@ -157,9 +158,13 @@ pub fn text_of<S: Alter>(
     sql: &str,
     params: &[ValueRef<'_>],
 ) -> Result<Option<String>, StoreFault>
-    ensures leaves { CallsTables (state S.Store conn.old) (state S.Store conn.new) result (λ found.
-        (rows : List SqlRow) × Shown sql.now (bound params.now) (state S.Store conn.old) (state S.Store conn.new) rows × (option_map string_bytes found ≡ option_map (text 0) (slice_get rows 0))) }
-    ensures told { HasCleanDisk (state S.Store conn.new) → IfErr result (FailsToTake TellsText sql.now (bound params.now) (state S.Store conn.old) (state S.Store conn.new)) }
+    ensures leaves { CallsTables (state S.Store conn.old) (state S.Store conn.new) result
+        (λ found. (rows : List SqlRow)
+        × Shown sql.now (bound params.now) (state S.Store conn.old) (state S.Store conn.new) rows
+        × (option_map string_bytes found ≡ option_map (text 0) (slice_get rows 0))) }
+    ensures cause { HasCleanDisk (state S.Store conn.new) →
+        IfErr result (FailsToTake TellsText sql.now (bound params.now)
+        (state S.Store conn.old) (state S.Store conn.new)) }
 {
     match select(conn, sql, params) {
         Ok(rows) => first_text(*rows.allocator(), &rows),
@@ -167,15 +172,20 @@ pub fn text_of<S: Alter>(
     }
 }
 
-/// The whole number in the first column of the first row that a query shows. None where it shows no row; `StoreFault::Store` where there is no number from 0 to 2^32 - 1.
+/// The whole number in the first column of the first row that a query shows. None where it shows no row;
+/// `StoreFault::Store` where there is no number from 0 to 2^32 - 1.
 pub fn number_of<S: Alter>(
     conn: &mut Connection<S>,
     sql: &str,
     params: &[ValueRef<'_>],
 ) -> Result<Option<u32>, StoreFault>
-    ensures leaves { CallsStore (state S.Store conn.old) (state S.Store conn.new) result (λ found.
-        (rows : List SqlRow) × Shown sql.now (bound params.now) (state S.Store conn.old) (state S.Store conn.new) rows × (option_map (λ n. Int (pos n)) found ≡ option_map (λ row. column row 0) (slice_get rows 0))) }
-    ensures told { HasCleanDisk (state S.Store conn.new) → IfErr result (FailsToTake TellsNumber sql.now (bound params.now) (state S.Store conn.old) (state S.Store conn.new)) }
+    ensures leaves { CallsStore (state S.Store conn.old) (state S.Store conn.new) result
+        (λ found. (rows : List SqlRow)
+        × Shown sql.now (bound params.now) (state S.Store conn.old) (state S.Store conn.new) rows
+        × (option_map (λ n. Int (pos n)) found ≡ option_map (λ row. column row 0) (slice_get rows 0))) }
+    ensures cause { HasCleanDisk (state S.Store conn.new) →
+        IfErr result (FailsToTake TellsNumber sql.now (bound params.now)
+        (state S.Store conn.old) (state S.Store conn.new)) }
 {
     match select(conn, sql, params) {
         Ok(rows) => first_number(&rows),

@@ -1,7 +1,7 @@
 use Rattle.sqlite.proofs.StateLemmas.{survives_weaker}
 use Rattle.table_access.proofs.Texts.{refused_by}
 use Rattle.table_access.proofs.WriteLemmas.{commits_outside, executes_inside}
-use Rattle.table_access.proofs.CallLemmas.{left_commit, shows_commit, refused_left, refused_fails, refused_short, short_ok}
+use Rattle.table_access.proofs.CallLemmas.{left_commit, shows_commit, refused_left, refused_fails, refused_memory, memory_ok}
 use Rattle.std.proofs.Common.{◌≡◌}
 use Rattle.table_access.specs.declared.StoreFault.TheVariants.{Memory}
 use Rattle.table_access.proofs.change.Goals as goal
@@ -15,7 +15,7 @@ returns-in-Ok-clause-leaves g c = record {
     commits = λ clean inside. shows_commit _ _ (executes_inside _ _ _ _ _ c.requires (c.in-Ok.ensures.runs clean) inside);
     survives = survives_weaker _ _ _ _ (λ _ db h. commits_outside _ _ _ db c.requires h) c.execute.ensures.survives;
   };
-  short = short_ok _ _ _;
+  memory = memory_ok _ _ _;
 }
 
 pub returns-in-Err-clause-leaves : goal.returns-in-Err-clause-leaves
@@ -27,8 +27,8 @@ returns-in-Err-clause-leaves g c = record {
     commits = λ clean inside. left_commit _ _ (refused_left _ _ _ (refused_by _ _ _ _ _ (c.in-Err.ensures.runs clean)));
     survives = survives_weaker _ _ _ _ (λ _ db h. commits_outside _ _ _ db c.requires h) c.execute.ensures.survives;
   };
-  short = λ clean inside is. refused_short _ _ _ c.fault_of.result c.fault_of.ensures (refused_by _ _ _ _ _ (c.in-Err.ensures.runs clean)) (let same : c.fault_of.result ≡ Memory = (let h = is in cc) in same);
+  memory = λ clean inside is. refused_memory _ _ _ c.fault_of.result c.fault_of.ensures (refused_by _ _ _ _ _ (c.in-Err.ensures.runs clean)) (let same : c.fault_of.result ≡ Memory = (let h = is in cc) in same);
 }
 
-pub returns-in-Err-clause-told : goal.returns-in-Err-clause-told
-returns-in-Err-clause-told g c clean = (c.in-Err.error, c.fault_of.ensures, c.in-Err.ensures.runs clean)
+pub returns-in-Err-clause-cause : goal.returns-in-Err-clause-cause
+returns-in-Err-clause-cause g c clean = (c.in-Err.error, c.fault_of.ensures, c.in-Err.ensures.runs clean)

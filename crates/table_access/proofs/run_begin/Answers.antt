@@ -18,8 +18,8 @@ returns-clause-begun g c clean = (begun _ _ _ (c.execute.ensures.runs clean)).0
 pub returns-clause-refused : goal.returns-clause-refused
 returns-clause-refused g c clean = (begun _ _ _ (c.execute.ensures.runs clean)).1
 
-pub returns-clause-told : goal.returns-clause-told
-returns-clause-told g c clean = on_error _ _ _ _ (c.execute.ensures.runs clean)
+pub returns-clause-cause : goal.returns-clause-cause
+returns-clause-cause g c clean = on_error _ _ _ _ (c.execute.ensures.runs clean)
 
 pub returns-clause-survives : goal.returns-clause-survives
 returns-clause-survives g c = survives_weaker _ _ _ _ (λ _ db h. begin_commits _ db h) c.execute.ensures.survives

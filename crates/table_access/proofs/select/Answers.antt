@@ -1,5 +1,5 @@
 use Rattle.sqlite.proofs.StateLemmas.{survives_weaker}
-use Rattle.table_access.proofs.CallLemmas.{left_commit, shows_commit, shown_inside, query_by, refused_left, refused_fails, refused_short, short_ok, shows_outside}
+use Rattle.table_access.proofs.CallLemmas.{left_commit, shows_commit, shown_inside, query_by, refused_left, refused_fails, refused_memory, memory_ok, shows_outside}
 use Rattle.std.proofs.Common.{◌≡◌}
 use Rattle.table_access.specs.declared.StoreFault.TheVariants.{Memory}
 use Rattle.table_access.proofs.select.Goals as goal
@@ -13,7 +13,7 @@ returns-in-Ok-clause-leaves g c = record {
     commits = λ clean inside. shows_commit _ _ (shown_inside _ _ _ _ _ (c.in-Ok.ensures.ok clean) inside);
     survives = survives_weaker _ _ _ _ (λ _ db h. shows_outside _ _ _ db h) c.query_all.ensures.survives;
   };
-  short = short_ok _ _ _;
+  memory = memory_ok _ _ _;
 }
 
 pub returns-in-Err-clause-leaves : goal.returns-in-Err-clause-leaves
@@ -25,8 +25,8 @@ returns-in-Err-clause-leaves g c = record {
     commits = λ clean inside. left_commit _ _ (refused_left _ _ _ (query_by _ _ _ _ _ (c.in-Err.ensures.err clean)));
     survives = survives_weaker _ _ _ _ (λ _ db h. shows_outside _ _ _ db h) c.query_all.ensures.survives;
   };
-  short = λ clean inside is. refused_short _ _ _ c.fault_of.result c.fault_of.ensures (query_by _ _ _ _ _ (c.in-Err.ensures.err clean)) (let same : c.fault_of.result ≡ Memory = (let h = is in cc) in same);
+  memory = λ clean inside is. refused_memory _ _ _ c.fault_of.result c.fault_of.ensures (query_by _ _ _ _ _ (c.in-Err.ensures.err clean)) (let same : c.fault_of.result ≡ Memory = (let h = is in cc) in same);
 }
 
-pub returns-in-Err-clause-told : goal.returns-in-Err-clause-told
-returns-in-Err-clause-told g c clean = (c.in-Err.error, c.fault_of.ensures, c.in-Err.ensures.err clean)
+pub returns-in-Err-clause-cause : goal.returns-in-Err-clause-cause
+returns-in-Err-clause-cause g c clean = (c.in-Err.error, c.fault_of.ensures, c.in-Err.ensures.err clean)

@@ -1,16 +1,16 @@
-use Rattle.std.proofs.Common.{refl}
+use Rattle.std.proofs.Common.{refl, take, drop}
 use Rattle.sqlite.specs.Held.{state}
 use Rattle.sqlite_tied.specs.Compute.{everything}
 use Rattle.table_access.proofs.CallLemmas.{statement_with}
-use Rattle.content_store.proofs.TableTexts.{makes_contents}
+use Rattle.broker_tables.specs.Making.{table_texts}
 use Rattle.content_store.proofs.making.make_tables.Goals as goal
 
-pub change-requires : goal.change-requires
+pub make_each-requires : goal.make_each-requires
 unfolding everything
-change-requires g c = refl
+make_each-requires g c = (refl, tt)
 
 pub returns : goal.returns
 returns g c =
     let old = state g.S.Store c.args.conn.now in
-    let new = state g.S.Store c.change.new.conn in
-    statement_with old new c.change.result _ _ (λ _ h is. (_, makes_contents old new h.0 is h.1, refl)) c.change.ensures.leaves
+    let new = state g.S.Store c.make_each.new.conn in
+    statement_with old new c.make_each.result _ _ (λ _ made is. made.0 (take 7 table_texts) (take 1 (drop 7 table_texts)) (drop 8 table_texts) refl refl is) c.make_each.ensures

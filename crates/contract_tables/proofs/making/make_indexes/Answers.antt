@@ -1,11 +1,16 @@
-use Rattle.std.proofs.Common.{refl, ap, ◌∙◌}
+use Rattle.std.proofs.Common.{refl, take, drop}
 use Rattle.sqlite.specs.Held.{state}
-use Rattle.sqlite.specs.Change.{indexed}
-use Rattle.table_access.proofs.CallLemmas.{statement_seq}
-use Rattle.broker_tables.specs.Schema.{contracts_by_content}
+use Rattle.sqlite_tied.specs.Compute.{everything}
+use Rattle.table_access.proofs.CallLemmas.{statement_with}
+use Rattle.broker_tables.specs.Making.{index_texts}
 use Rattle.contract_tables.proofs.making.make_indexes.Goals as goal
 
-pub returns-in-Ok : goal.returns-in-Ok
-returns-in-Ok g c =
-    statement_seq (state g.S.Store c.args.conn.now) (state g.S.Store c.index_contracts.new.conn) (state g.S.Store c.index_latest.new.conn) tt c.index_latest.result _ _ _
-    (λ one _ two is. let first = one is in (_, first, (_, two (first.schema ∙ ap (λ s. indexed s contracts_by_content.0 contracts_by_content.1) is), refl))) c.in-Ok.ensures c.index_latest.ensures
+pub make_each-requires : goal.make_each-requires
+unfolding everything
+make_each-requires g c = (refl, (refl, tt))
+
+pub returns : goal.returns
+returns g c =
+    let old = state g.S.Store c.args.conn.now in
+    let new = state g.S.Store c.make_each.new.conn in
+    statement_with old new c.make_each.result _ _ (λ _ made is. made.1 (take 1 index_texts) (take 2 (drop 1 index_texts)) (drop 3 index_texts) refl refl is) c.make_each.ensures

@@ -1,6 +1,6 @@
 use Rattle.std.proofs.Common.{Ok}
 use Rattle.sqlite.specs.Held.{state}
-use Rattle.table_access.proofs.CallLemmas.{statement_with, idle, short_ok}
+use Rattle.table_access.proofs.CallLemmas.{statement_with, idle, memory_ok}
 use Rattle.contract_tables.proofs.ResultState.{is_marked, not_marked}
 use Rattle.contract_tables.proofs.results.mark.Goals as goal
 
@@ -13,4 +13,4 @@ returns-then-checked g c =
 pub returns-else-checked : goal.returns-else-checked
 returns-else-checked g c =
     let conn = state g.S.Store c.args.conn.now in
-    record { call = idle conn (Ok _) _ (λ broker. not_marked c.args.checked c.args.number conn c.if-checked.false); short = short_ok conn conn _ }
+    record { call = idle conn (Ok _) _ (λ broker. not_marked c.args.checked c.args.number conn c.if-checked.false); memory = memory_ok conn conn _ }

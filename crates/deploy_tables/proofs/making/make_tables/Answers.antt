@@ -1,11 +1,16 @@
-use Rattle.std.proofs.Common.{refl, ap, ◌∙◌}
+use Rattle.std.proofs.Common.{refl, take, drop}
 use Rattle.sqlite.specs.Held.{state}
-use Rattle.sqlite.specs.Change.{created}
-use Rattle.table_access.proofs.CallLemmas.{statement_seq}
-use Rattle.broker_tables.specs.Schema.{deployed}
+use Rattle.sqlite_tied.specs.Compute.{everything}
+use Rattle.table_access.proofs.CallLemmas.{statement_with}
+use Rattle.broker_tables.specs.Making.{table_texts}
 use Rattle.deploy_tables.proofs.making.make_tables.Goals as goal
 
-pub returns-in-Ok : goal.returns-in-Ok
-returns-in-Ok g c =
-    statement_seq (state g.S.Store c.args.conn.now) (state g.S.Store c.make_deployed.new.conn) (state g.S.Store c.make_released.new.conn) tt c.make_released.result _ _ _
-    (λ one _ two is. let first = one is in (_, first, (_, two (first.schema ∙ ap (λ s. created s deployed) is), refl))) c.in-Ok.ensures c.make_released.ensures
+pub make_each-requires : goal.make_each-requires
+unfolding everything
+make_each-requires g c = (refl, (refl, tt))
+
+pub returns : goal.returns
+returns g c =
+    let old = state g.S.Store c.args.conn.now in
+    let new = state g.S.Store c.make_each.new.conn in
+    statement_with old new c.make_each.result _ _ (λ _ made is. made.0 (take 11 table_texts) (take 2 (drop 11 table_texts)) (drop 13 table_texts) refl refl is) c.make_each.ensures

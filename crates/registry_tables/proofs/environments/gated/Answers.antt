@@ -12,5 +12,5 @@ returns-in-Ok g c =
     let new = state g.S.Store c.number_of.new.conn in
     statement_result old new c.in-Ok.found c.truth_of.result _ _
     (IfOk-weaker c.truth_of.result _ _ (λ truth is h s held. (is ∙ gated_found c.args.environment.now old new h.0 s c.in-Ok.found held h.1 h.2, held_still _ _ old new h.0 s (gated_means old.now held.broker) h.1 held)) c.truth_of.ensures.ok)
-    (IfErr-weaker c.truth_of.result _ _ (λ fault why. why.0) c.truth_of.ensures.told)
+    (IfErr-weaker c.truth_of.result _ _ (λ fault why. why.0) c.truth_of.ensures.cause)
     (rw c.params-to_sql.ensures at c.in-Ok.ensures.leaves)

@@ -10,4 +10,4 @@ returns-in-Ok g c =
     let new = state g.S.Store c.select.new.conn in
     let has = c.has_meta.ensures.0 c.if-not-has_meta.false in
     statement_result old new c.in-Ok.rows c.one_number.result _ _
-    (IfOk-weaker c.one_number.result _ _ (λ found it shown. format_found old new has.0 has.1 has.2 c.in-Ok.rows.items shown found it) (rw c.deref.ensures.value at c.one_number.ensures.ok)) c.one_number.ensures.told c.in-Ok.ensures.leaves
+    (IfOk-weaker c.one_number.result _ _ (λ found it shown. format_found old new has.0 has.1 has.2 c.in-Ok.rows.items shown found it) (rw c.deref.ensures.value at c.one_number.ensures.ok)) c.one_number.ensures.cause c.in-Ok.ensures.leaves

@@ -1,18 +1,16 @@
-use Rattle.std.proofs.Common.{ap, ◌∙◌, fold, [], ◌∷◌}
+use Rattle.std.proofs.Common.{refl, take, drop}
 use Rattle.sqlite.specs.Held.{state}
-use Rattle.sqlite.specs.Change.{created}
-use Rattle.table_access.proofs.CallLemmas.{statement_seq}
-use Rattle.table_access.proofs.Creation.{made_schema, makes_then}
-use Rattle.broker_tables.specs.Schema.{meta, teams, pacticipants, versions, branches, environments, grants}
+use Rattle.sqlite_tied.specs.Compute.{everything}
+use Rattle.table_access.proofs.CallLemmas.{statement_with}
+use Rattle.broker_tables.specs.Making.{table_texts}
 use Rattle.registry_tables.proofs.making.make_registry.Goals as goal
 
-pub returns-in-Ok : goal.returns-in-Ok
-returns-in-Ok g c =
+pub make_each-requires : goal.make_each-requires
+unfolding everything
+make_each-requires g c = (refl, (refl, (refl, (refl, (refl, (refl, (refl, tt)))))))
+
+pub returns : goal.returns
+returns g c =
     let old = state g.S.Store c.args.conn.now in
-    let mid = state g.S.Store c.make_parties.new.conn in
-    let new = state g.S.Store c.make_numbered.new.conn in
-    let front = meta ∷ teams ∷ pacticipants ∷ [] in
-    statement_seq old mid new tt c.make_numbered.result _ _ _ (λ one _ two is.
-    let first = one is in
-    makes_then front (versions ∷ branches ∷ environments ∷ grants ∷ []) old.now mid.now new.now first (two (made_schema front old.now mid.now first ∙ ap (λ s. fold created s front) is)))
-    c.in-Ok.ensures c.make_numbered.ensures
+    let new = state g.S.Store c.make_each.new.conn in
+    statement_with old new c.make_each.result _ _ (λ _ made is. made.0 (take 0 table_texts) (take 7 (drop 0 table_texts)) (drop 7 table_texts) refl refl is) c.make_each.ensures

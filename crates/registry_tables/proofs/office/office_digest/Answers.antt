@@ -1,14 +1,24 @@
-use Rattle.std.proofs.Common.{◌≡◌, Some, ◌∙◌, string_bytes}
+use Rattle.std.proofs.Common.{◌≡◌, Some, ◌∙◌, refl, string_bytes}
 use Rattle.sqlite.specs.Held.{state}
-use Rattle.table_access.proofs.CallLemmas.{then_ok}
+use Rattle.table_access.proofs.CallLemmas.{then_ok, memory_ok, memory_store}
 use Rattle.broker_tables.proofs.Frames.{held_still}
-use Rattle.registry_tables.proofs.OfficeRows.{office_means, office_found}
+use Rattle.registry_tables.proofs.OfficeRows.{office_means, office_found, no_office}
 use Rattle.registry_tables.proofs.office.office_digest.Goals as goal
 
-pub returns-in-Ok-Some : goal.returns-in-Ok-Some
-returns-in-Ok-Some g c =
+pub returns-in-Ok-Some-clause-reads : goal.returns-in-Ok-Some-clause-reads
+returns-in-Ok-Some-clause-reads g c =
     let old = state g.S.Store c.args.conn.now in
     let new = state g.S.Store c.text_of.new.conn in
     then_ok old new (Some c.in-Ok-Some.digest) c.in-Ok-Some.digest _ _ (λ h s held.
     let is : Some (string_bytes c.in-Ok-Some.digest) ≡ Some s.office = h.2 ∙ office_found old new h.0 s held h.1 in
     (cc, held_still _ _ old new h.0 s (office_means old.now held.broker) h.1 held)) (rw c.in-Ok-Some.field-0-is at c.in-Ok-Some.ensures.leaves)
+
+pub returns-in-Ok-Some-clause-memory : goal.returns-in-Ok-Some-clause-memory
+returns-in-Ok-Some-clause-memory g c broker none = memory_ok (state g.S.Store c.args.conn.now) (state g.S.Store c.text_of.new.conn) _
+
+pub returns-in-Ok-None-clause-memory : goal.returns-in-Ok-None-clause-memory
+returns-in-Ok-None-clause-memory g c broker none = memory_store (state g.S.Store c.args.conn.now) (state g.S.Store c.text_of.new.conn) _ refl
+
+pub returns-in-Err-clause-memory : goal.returns-in-Err-clause-memory
+returns-in-Err-clause-memory g c broker none clean inside is =
+    no_office (state g.S.Store c.args.conn.now) (state g.S.Store c.text_of.new.conn) c.in-Err.fault broker none (c.in-Err.ensures.cause clean) inside cc

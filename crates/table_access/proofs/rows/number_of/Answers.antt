@@ -7,13 +7,13 @@ use Rattle.table_access.proofs.rows.number_of.Goals as goal
 pub returns-in-Ok-clause-leaves : goal.returns-in-Ok-clause-leaves
 returns-in-Ok-clause-leaves g c =
     statement_result (state g.S.Store c.args.conn.now) (state g.S.Store c.select.new.conn) c.in-Ok.rows c.first_number.result _ _
-    (IfOk-weaker c.first_number.result _ _ (λ found is shown. (c.in-Ok.rows.items, shown, is)) (rw c.deref.ensures.value at c.first_number.ensures.ok)) (IfErr-weaker c.first_number.result _ _ (λ fault why. why.2.0) c.first_number.ensures.told) c.in-Ok.ensures.leaves
+    (IfOk-weaker c.first_number.result _ _ (λ found is shown. (c.in-Ok.rows.items, shown, is)) (rw c.deref.ensures.value at c.first_number.ensures.ok)) (IfErr-weaker c.first_number.result _ _ (λ fault why. why.2.0) c.first_number.ensures.cause) c.in-Ok.ensures.leaves
 
-pub returns-in-Ok-clause-told : goal.returns-in-Ok-clause-told
-returns-in-Ok-clause-told g c clean = IfErr-weaker c.first_number.result _ _ (λ fault why. inr (c.in-Ok.rows.items, c.in-Ok.ensures.leaves.call.ok clean, why.0, why.1, why.2)) (rw c.deref.ensures.value at c.first_number.ensures.told)
+pub returns-in-Ok-clause-cause : goal.returns-in-Ok-clause-cause
+returns-in-Ok-clause-cause g c clean = IfErr-weaker c.first_number.result _ _ (λ fault why. inr (c.in-Ok.rows.items, c.in-Ok.ensures.leaves.call.ok clean, why.0, why.1, why.2)) (rw c.deref.ensures.value at c.first_number.ensures.cause)
 
 pub returns-in-Err-clause-leaves : goal.returns-in-Err-clause-leaves
 returns-in-Err-clause-leaves g c = statement_err (state g.S.Store c.args.conn.now) (state g.S.Store c.select.new.conn) c.in-Err.fault _ _ c.in-Err.ensures.leaves
 
-pub returns-in-Err-clause-told : goal.returns-in-Err-clause-told
-returns-in-Err-clause-told g c clean = inl (c.in-Err.ensures.told clean)
+pub returns-in-Err-clause-cause : goal.returns-in-Err-clause-cause
+returns-in-Err-clause-cause g c clean = inl (c.in-Err.ensures.cause clean)

@@ -1,14 +1,14 @@
-use Rattle.std.proofs.Common.{subst, sym, ◌+◌, take}
+use Rattle.std.proofs.Common.{inl, inr, refl, subst, sym, ◌+◌, take}
 use Rattle.sqlite_rules.specs.Lists.{Has}
 use Rattle.table_access.specs.Reading.{AreRead}
 use Rattle.table_access.proofs.ReadLemmas.{has_get, read_turn}
 use Rattle.table_access.proofs.rows.read_all.Goals as goal
 
-pub returns-in-Err-clause-told : goal.returns-in-Err-clause-told
-returns-in-Err-clause-told g c = (c.row-item.result, subst (Has c.args.rows.now) (sym c.row-item.is) (has_get c.args.rows.now c.loop-row.row-index c.row-item.result c.loop-row-test.true), c.in-Err.ensures.told)
+pub returns-in-Err-clause-cause : goal.returns-in-Err-clause-cause
+returns-in-Err-clause-cause g c = (c.row-item.result, subst (Has c.args.rows.now) (sym c.row-item.is) (has_get c.args.rows.now c.loop-row.row-index c.row-item.result c.loop-row-test.true), inl c.in-Err.ensures.cause)
 
-pub returns-in-Err-push-clause-told : goal.returns-in-Err-push-clause-told
-returns-in-Err-push-clause-told g c = (c.row-item.result, subst (Has c.args.rows.now) (sym c.row-item.is) (has_get c.args.rows.now c.loop-row.row-index c.row-item.result c.loop-row-test.true), λ is. absurd cc)
+pub returns-in-Err-push-clause-cause : goal.returns-in-Err-push-clause-cause
+returns-in-Err-push-clause-cause g c = (c.row-item.result, subst (Has c.args.rows.now) (sym c.row-item.is) (has_get c.args.rows.now c.loop-row.row-index c.row-item.result c.loop-row-test.true), inr (refl, (c.in-Ok.item, c.in-Ok.ensures.ok)))
 
 pub loop-row-preserved : goal.loop-row-preserved
 loop-row-preserved g c =

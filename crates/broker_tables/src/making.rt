@@ -1,0 +1,29 @@
+//! Making tables and indexes by their texts.
+ghost use Rattle.std.specs.Prelude.{map};
+ghost use Rattle.std.specs.List.{AllByRecursion};
+ghost use Rattle.sqlite.specs.Held.{state};
+ghost use Rattle.sqlite_resolve.specs.Compile.{first};
+ghost use Rattle.table_access.specs.Calls.{CallsStore};
+ghost use Rattle.table_access.specs.Writes.{IsWriteText};
+ghost use Rattle.broker_tables.specs.Making.{MakesTexts};
+
+use sqlite::{Alter, Connection};
+use table_access::{StoreFault, change};
+
+/// Runs texts of [`crate::create`] that follow on one another there, once those before them are made. The tables that are there keep their rows.
+///
+/// # Errors
+/// `StoreFault::Memory` where the database is out of memory; `StoreFault::Store` where it refused a text.
+pub fn make_each<S: Alter>(conn: &mut Connection<S>, texts: &[&str]) -> Result<(), StoreFault>
+    requires { AllByRecursion (λ text. IsWriteText (first text.now)) texts.now }
+    ensures { CallsStore (state S.Store conn.old) (state S.Store conn.new) result
+        (λ _. MakesTexts (map (λ text. text.now) texts.now) (state S.Store conn.old).now (state S.Store conn.new).now) }
+{
+    for text in texts {
+        match change(conn, text, &[]) {
+            Ok(()) => {}
+            Err(fault) => return Err(fault),
+        }
+    }
+    Ok(())
+}
