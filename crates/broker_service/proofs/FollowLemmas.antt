@@ -20,8 +20,8 @@ use Rattle.broker_core.specs.declared.command.Version.{Version}
 use Rattle.broker_core.specs.declared.policy.Caller.{Caller}
 use Rattle.broker_core.specs.declared.policy.Rule.TheVariants.{A7}
 use Rattle.broker_service.specs.Primitives.{broker_primitives}
-use Rattle.broker_service.specs.Found.{owners_of}
-use Rattle.broker_service.specs.Served.{HasNoContract}
+use Rattle.broker_service.specs.Facts.{owners_of}
+use Rattle.broker_service.specs.Served.{NeedsNothing}
 use Rattle.broker_service.proofs.Unpublished.{all_permitted}
 
 -- what isn't false
@@ -39,28 +39,28 @@ module _ (s : State) (caller : Caller) (e : Text) (v : Version) (instance : Opti
       listed None h = h
       listed (Some owner) h = h
 
-  -- a deployment that nothing refuses is judged, and permitted where there are no contracts
-  deploys : HasNoContract s → is_some (s.environments e) ≡ true → is_some (s.pacticipants v.pacticipant) ≡ true → is_known s v ≡ true → allows A7 caller (owners_of (s.pacticipants v.pacticipant)) (has_grant s caller (Some e)) ≡ true
+  -- a deployment that nothing refuses is judged, and permitted where the version needs nothing
+  deploys : NeedsNothing s v e → is_some (s.environments e) ≡ true → is_some (s.pacticipants v.pacticipant) ≡ true → is_known s v ≡ true → allows A7 caller (owners_of (s.pacticipants v.pacticipant)) (has_grant s caller (Some e)) ≡ true
       → StepOfCaller broker_primitives s caller (Deploy e v instance) (deploy s e v (instance_of instance))
-  deploys unpublished environment pacticipant known may = (
+  deploys nothing environment pacticipant known may = (
     None,
     refl,
     subst (λ (r : Option Answer). MatchOption r (TakesEffect broker_primitives s (Deploy e v instance) (deploy s e v (instance_of instance))) (λ answer. deploy s e v (instance_of instance) ≡ unchanged_with s answer))
-        (sym (not_refused environment pacticipant known may)) (true, [], all_permitted s unpublished v e, refl),
+        (sym (not_refused environment pacticipant known may)) (true, [], all_permitted s v e nothing, refl),
   )
 
-  pub stands_already : HasNoContract s → is_some (s.environments e) ≡ true → is_some (s.pacticipants v.pacticipant) ≡ true → is_known s v ≡ true → allows A7 caller (owners_of (s.pacticipants v.pacticipant)) (has_grant s caller (Some e)) ≡ true
+  pub stands_already : NeedsNothing s v e → is_some (s.environments e) ≡ true → is_some (s.pacticipants v.pacticipant) ≡ true → is_known s v ≡ true → allows A7 caller (owners_of (s.pacticipants v.pacticipant)) (has_grant s caller (Some e)) ≡ true
       → is_text v.name (s.deployed (e, v.pacticipant, instance_of instance)) ≡ true → StepOfCaller broker_primitives s caller (Deploy e v instance) (unchanged_with s (Already Plain))
-  stands_already unpublished environment pacticipant known may stands = subst (StepOfCaller broker_primitives s caller (Deploy e v instance))
+  stands_already nothing environment pacticipant known may stands = subst (StepOfCaller broker_primitives s caller (Deploy e v instance))
       (ap (λ b. if b then already s else done (record s { deployed = put_at same_place s.deployed (e, v.pacticipant, instance_of instance) (Some v.name) })) stands)
-      (deploys unpublished environment pacticipant known may)
+      (deploys nothing environment pacticipant known may)
 
-  pub is_recorded : HasNoContract s → is_some (s.environments e) ≡ true → is_some (s.pacticipants v.pacticipant) ≡ true → is_known s v ≡ true → allows A7 caller (owners_of (s.pacticipants v.pacticipant)) (has_grant s caller (Some e)) ≡ true
+  pub is_recorded : NeedsNothing s v e → is_some (s.environments e) ≡ true → is_some (s.pacticipants v.pacticipant) ≡ true → is_known s v ≡ true → allows A7 caller (owners_of (s.pacticipants v.pacticipant)) (has_grant s caller (Some e)) ≡ true
       → is_text v.name (s.deployed (e, v.pacticipant, instance_of instance)) ≡ false
       → StepOfCaller broker_primitives s caller (Deploy e v instance) (done (record s { deployed = put_at same_place s.deployed (e, v.pacticipant, instance_of instance) (Some v.name) }))
-  is_recorded unpublished environment pacticipant known may stands = subst (StepOfCaller broker_primitives s caller (Deploy e v instance))
+  is_recorded nothing environment pacticipant known may stands = subst (StepOfCaller broker_primitives s caller (Deploy e v instance))
       (ap (λ b. if b then already s else done (record s { deployed = put_at same_place s.deployed (e, v.pacticipant, instance_of instance) (Some v.name) })) stands)
-      (deploys unpublished environment pacticipant known may)
+      (deploys nothing environment pacticipant known may)
 
 -- an environment that is there is shown with its two lists
 pub is_listed : (s : State) (caller : Caller) (e name : Text) (marks : Marks) (items : List DeployedItem) (versions : List Version) → s.environments e ≡ Some marks → name ≡ e

@@ -1,5 +1,5 @@
 -- How a command is put together from calls on the tables.
-use Rattle.std.proofs.Common.{Ok, Result}
+use Rattle.std.proofs.Common.{◌≡◌, Ok, Result, sym, subst}
 use Rattle.sqlite.specs.State.{State}
 use Rattle.table_access.specs.declared.StoreFault.{StoreFault}
 use Rattle.table_access.specs.Calls.{CallsTables}
@@ -8,16 +8,19 @@ use Rattle.broker_core.specs.State.{State as Broker}
 use Rattle.broker_core.specs.Change.{Transition, unchanged_with}
 use Rattle.broker_core.specs.declared.answer.Answer.{Answer}
 use Rattle.broker_tables.specs.Holds.{Holds, Queries, Changes}
-use Rattle.broker_service.specs.Performs.{Performs}
-use Rattle.broker_service.specs.Served.{HasNoContract}
+use Rattle.broker_service.specs.Performs.{Performs, CallersStep}
+use Rattle.broker_service.specs.Primitives.{broker_primitives}
+use Rattle.broker_core.specs.Machine.{StepOfCaller}
+use Rattle.broker_core.specs.declared.command.Command.{Command}
+use Rattle.broker_core.specs.declared.policy.Caller.{Caller}
 
 -- nothing is called
 pub refused : (c : State) (answer : Answer) (Q : Broker → Transition → Type 0) → ((s : Broker) → Q s (unchanged_with s answer)) → Performs c c Q (Ok answer)
 refused c answer Q f = idle c (Ok answer) _ (λ s held. (s, f s, held))
 
 -- a query, and an answer
-pub told_then : {A : Type 0} (old new : State) (x : A) (answer : Answer) (P : A → Broker → Type 0) (Q : Broker → Transition → Type 0) → ((s : Broker) → P x s → Q s (unchanged_with s answer)) → Queries old new (Ok x) P → Performs old new Q (Ok answer)
-told_then old new x answer P Q f it = then_ok old new x answer _ _ (λ h s held. (s, f s (h s held).0, (h s held).1)) it
+pub answered_then : {A : Type 0} (old new : State) (x : A) (answer : Answer) (P : A → Broker → Type 0) (Q : Broker → Transition → Type 0) → ((s : Broker) → P x s → Q s (unchanged_with s answer)) → Queries old new (Ok x) P → Performs old new Q (Ok answer)
+answered_then old new x answer P Q f it = then_ok old new x answer _ _ (λ h s held. (s, f s (h s held).0, (h s held).1)) it
 
 -- another answer of a query
 pub answers : {A B : Type 0} (old new : State) (x : A) (y : B) (P : A → Broker → Type 0) (Q : B → Broker → Type 0) → ((s : Broker) → P x s → Q y s) → Queries old new (Ok x) P → Queries old new (Ok y) Q
@@ -49,6 +52,9 @@ pub shown_then : {A : Type 0} (old mid new : State) (x : A) (r : Result Answer S
     → ((s : Broker) → P x s → (answer : Answer) → Q answer s → R s (unchanged_with s answer)) → Queries old mid (Ok x) P → Queries mid new r Q → Performs old new R r
 shown_then old mid new x r P Q R f one two = seq old mid new x r _ _ _ (λ p b q s held. let first = p s held in let second = q s first.1 in (s, f s first.0 b second.0, second.1)) one two
 
--- so also where nothing is published
-pub where_unpublished : (old new : State) (r : Result Answer StoreFault) (Q : Broker → Transition → Type 0) → Performs old new Q r → Performs old new (λ s out. HasNoContract s → Q s out) r
-where_unpublished old new r Q it = call_with old new r _ _ (λ answer h s held. let next = h s held in (next.0, λ _. next.1, next.2)) it
+-- so it is where nothing is asked of needs
+pub without_needs : (old new : State) (r : Result Answer StoreFault) (caller : Caller) (given command : Command) → given ≡ command
+    → Performs old new (λ s out. StepOfCaller broker_primitives s caller command out) r → Performs old new (CallersStep caller given) r
+without_needs old new r caller given command is it =
+    subst (λ c. Performs old new (CallersStep caller c) r) (sym is)
+    (call_with old new r _ _ (λ answer h s held. let next = h s held in (next.0, λ _. next.1, next.2)) it)

@@ -1,13 +1,16 @@
 -- What a transaction leaves of the connection that it began on.
-use Rattle.std.proofs.Common.{◌≡◌, inl, inr, true, false, IsTrue, Result, Ok, Err, sym, subst, ◌∙◌, arith, ap}
+use Rattle.std.proofs.Common.{◌≡◌, inl, inr, true, false, refl, IsTrue, Result, Ok, Err, sym, subst, ◌∙◌, arith, ap}
 use Rattle.sqlite.specs.Effect.{Database, IsDatabase}
+use Rattle.std.specs.Prelude.{⊤}
+use Rattle.sqlite.specs.Tree.{Trees}
+use Rattle.sqlite.proofs.StateLemmas.{survives_then}
 use Rattle.sqlite.specs.State.{State, HasCleanDisk, Survives}
 use Rattle.table_access.specs.Unit.{Begins, IsLeft}
 use Rattle.table_access.specs.declared.StoreFault.{StoreFault}
 use Rattle.table_access.specs.Calls.{CallsTables, KeepsLastCommit}
 use Rattle.table_access.specs.Durability.{HoldsDurably, HoldsEither}
 use Rattle.table_access.proofs.CallLemmas.{left_commit}
-use Rattle.broker_service.specs.Ends.{IsAsBefore, LeavesNothing}
+use Rattle.broker_service.specs.Ends.{IsAsBefore, AddsNoCrashState}
 
 ended_left : (old new : State) → IsLeft old new → old.in_transaction ≡ false → old.now ≡ old.committed → IsTrue new.is_open → (new.in_transaction ≡ false) × (new.now ≡ new.committed)
 ended_left old new (inl same) outside settled now = (same.0.mode ∙ outside, same.0.now_is ∙ settled ∙ sym same.0.committed_is)
@@ -27,7 +30,7 @@ module _ {A : Type 0} (old mid done : State) (r : Result A StoreFault) (X : A �
   before = let it = work.commits clean begun.1.mode in record { was_open = λ _. begun.1.was_open; committed = λ now. it.committed now ∙ begun.1.committed_is }
 
   -- what a crash leaves before the end, it left before the transaction
-  left_before : LeavesNothing old done
+  left_before : AddsNoCrashState old done
   left_before trees may = elim (work.survives.crash clean trees may) [
     | inl mids ↦ elim (s.crash (omega (arith, work.survives.clean, clean)) trees mids) [ inl olds ↦ olds | inr never ↦ absurd never ]
     | inr outside ↦ absurd (let inside = begun.1.mode in cc)
@@ -37,7 +40,7 @@ module _ {A : Type 0} (old mid done : State) (r : Result A StoreFault) (X : A �
   pub commit_left : (new : State) → KeepsLastCommit done new → KeepsLastCommit old new
   commit_left new it = record { was_open = λ now. before.was_open (it.was_open now); committed = λ now. it.committed now ∙ before.committed (it.was_open now) }
 
-  pub nothing_left : (new : State) → HasCleanDisk new → Survives done new (λ _. ⊥) → LeavesNothing old new
+  pub nothing_left : (new : State) → HasCleanDisk new → Survives done new (λ _. ⊥) → AddsNoCrashState old new
   nothing_left new now_clean t trees may = elim (t.crash now_clean trees may) [ inl dones ↦ left_before trees dones | inr never ↦ absurd never ]
 
   -- it is rolled back
@@ -56,9 +59,20 @@ keeps_on P old new it keeps = record {
 }
 
 -- the rollback is refused
-pub unsure_on : (P Q : Database → Type 0) (old new : State) → KeepsLastCommit old new → LeavesNothing old new → HoldsDurably P old → HoldsEither P Q new
+pub unsure_on : (P Q : Database → Type 0) (old new : State) → KeepsLastCommit old new → AddsNoCrashState old new → HoldsDurably P old → HoldsEither P Q new
 unsure_on P Q old new it left keeps = record {
   committed = λ now. subst P (sym (it.committed now)) (keeps.held (it.was_open now)).has;
   left_open = λ _ trees may. keeps.left trees (left trees may);
   left = λ trees may. inl (keeps.left trees (left trees may));
 }
+
+-- ---- what calls in turn leave of the connection, whatever they commit
+
+pub outlives_itself : (c : State) → Survives c c (λ _. ⊤)
+outlives_itself c = record { clean = omega arith; shield = λ h. h; counts = omega arith; limit = refl; closes = λ _ h. inl h; crash = λ _ db h. inl h }
+
+pub outlives_one : {P : Trees → Type 0} (a b : State) → Survives a b P → Survives a b (λ _. ⊤)
+outlives_one a b one = record { clean = one.clean; shield = one.shield; counts = one.counts; limit = one.limit; closes = one.closes; crash = λ _ db h. inr tt }
+
+pub outlives : {P Q : Trees → Type 0} (a b c : State) → Survives a b P → Survives b c Q → Survives a c (λ _. ⊤)
+outlives a b c one two = survives_then a b c _ _ _ (λ _ db h. tt) (λ _ db h. tt) one two

@@ -8,13 +8,13 @@ use Rattle.broker_core.specs.declared.command.Command.TheVariants.{PutTeam, PutP
 use Rattle.broker_core.specs.declared.command.Version.{Version}
 use Rattle.broker_core.specs.Text.{Text}
 use Rattle.broker_core.specs.State.{State}
-use Rattle.broker_core.specs.Gate.{Judges}
+use Rattle.broker_core.specs.Gate.{Judges, consumer_of}
 use Rattle.broker_core.specs.Request.{is_known}
 use Rattle.broker_core.specs.Change.{Transition, repeated, joined, named, can_name, on_branch, is_text, instance_of}
 use Rattle.broker_core.specs.Machine.{Primitives, TakesEffect, Step}
 use Rattle.broker_core.proofs.Lists.{contains_none}
 use Rattle.broker_core.proofs.Retry.{acts-or-same}
-use Rattle.broker_service.specs.Served.{IsServed, HasNoContract}
+use Rattle.broker_service.specs.Served.{IsServed, HasNoContract, HasNoNeeds, NeedsNothing}
 
 module _ (s : State) (h : HasNoContract s) where
   by_lookup : {X : Type 0} (f : X → Transition) (other : Transition) (o : Option X) → ((x : X) → HasNoContract (f x).state) → HasNoContract other.state → HasNoContract (option_map_or f o other).state
@@ -59,16 +59,38 @@ module _ (s : State) (h : HasNoContract s) where
   acts_unpublished parts (GetMatrix v) out served x = absurd served
   acts_unpublished parts (Malformed fault) out served x = absurd x
 
-  no_contract : (v : Version) (provider : Text) (content : ℕ) → s.contracts (v, provider) ≡ Some content → ⊥
-  no_contract v provider content is = let none = h v provider in cc
+no_contract : {o : Option ℕ} → o ≡ None → (content : ℕ) → o ≡ Some content → ⊥
+no_contract none content some = let wrong : None ≡ Some content = sym none ∙ some in cc
 
-  -- no version needs anything, so each is permitted
-  pub all_permitted : (v : Version) (e : Text) → Judges s v e true []
-  unfolding IsStrictlySortedBy
-  all_permitted v e = record {
-    verdict = (λ _. inl (λ need is. absurd (no_contract _ _ is.content is.contract)), λ _. refl);
-    faults_are = record { sorted = tt; exactly = λ x. (λ in_none. absurd (contains_none x in_none), λ fault. absurd (no_contract _ _ fault.1.content fault.1.contract)) };
-  }
+-- where no pact is published, no version needs anything
+pub no_needs : (s : State) → HasNoContract s → (c : Command) → HasNoNeeds s c
+no_needs s h (PutTeam team token) = tt
+no_needs s h (PutPacticipant p team) = tt
+no_needs s h (PutEnvironment e marks) = tt
+no_needs s h (PutGrant team e) = tt
+no_needs s h (DeleteGrant team e) = tt
+no_needs s h (PutVersion v branch) = tt
+no_needs s h (PutPact path file) = tt
+no_needs s h (GetPact path) = tt
+no_needs s h (GetBranchPact provider consumer branch) = tt
+no_needs s h (PostResult path r success) = tt
+no_needs s h (PostReplies path r replies) = tt
+no_needs s h (Deploy e v instance) = λ need is. no_contract (h (consumer_of need) need.provider) is.content is.contract
+no_needs s h (Undeploy e v instance) = tt
+no_needs s h (Release e v) = tt
+no_needs s h (EndSupport e v) = tt
+no_needs s h (GetEnvironment e) = tt
+no_needs s h (CanIDeploy v e) = tt
+no_needs s h (GetMatrix v) = tt
+no_needs s h (Malformed fault) = tt
+
+-- a version that needs nothing is permitted
+pub all_permitted : (s : State) (v : Version) (e : Text) → NeedsNothing s v e → Judges s v e true []
+unfolding IsStrictlySortedBy
+all_permitted s v e nothing = record {
+  verdict = (λ _. inl (λ need is. absurd (nothing need is)), λ _. refl);
+  faults_are = record { sorted = tt; exactly = λ x. (λ in_none. absurd (contains_none x in_none), λ fault. absurd (nothing fault.0 fault.1)) };
+}
 
 pub unpublished_step : (parts : Primitives) (s : State) (token : Option Text) (c : Command) (out : Transition) → IsServed c → HasNoContract s → Step parts s token c out → HasNoContract out.state
 unpublished_step parts s token c out served h step = elim (acts-or-same parts s token c out step) [

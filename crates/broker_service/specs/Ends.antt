@@ -18,44 +18,56 @@ use Rattle.broker_tables.specs.Holds.{Holds}
 use Rattle.broker_service.specs.Primitives.{broker_primitives}
 use Rattle.broker_service.specs.Served.{HasNoContract}
 
--- what a crash leaves, it left before
-abbrev pub LeavesNothing : State → State → Type 0
-LeavesNothing old new = (trees : Trees) → new.may_leave trees → old.may_leave trees
+-- the connection holds the state durably
+abbrev pub HoldsState : Broker → State → Type 0
+HoldsState s = HoldsDurably (λ db. Holds db s)
 
--- The database is as it was: what was last committed still is, a crash leaves nothing that it didn't leave before, and no transaction is open where none was.
+-- what a crash leaves, it left before
+abbrev pub AddsNoCrashState : State → State → Type 0
+AddsNoCrashState old new = (trees : Trees) → new.may_leave trees → old.may_leave trees
+
+-- The database is as it was: what was last committed still is, a crash leaves nothing that it didn't leave before,
+-- and no transaction is open where none was.
 pub record IsAsBefore (old new : State) : Type 0 where
   pub commit : KeepsLastCommit old new
-  pub left : LeavesNothing old new
-  pub ended : old.in_transaction ≡ false → old.now ≡ old.committed → IsTrue new.is_open → (new.in_transaction ≡ false) × (new.now ≡ new.committed)
+  pub left : AddsNoCrashState old new
+  pub ended : old.in_transaction ≡ false → old.now ≡ old.committed → IsTrue new.is_open
+      → (new.in_transaction ≡ false) × (new.now ≡ new.committed)
 
 module _ (s : Broker) (token : Option Text) (command : Command) where
   -- the database holds a state that the command leads to
   abbrev pub HoldsNext : Database → Type 0
-  HoldsNext db = (answer : Answer) × (t : Broker) × Step broker_primitives s token command (record { answer = answer; state = t }) × HasNoContract t × Holds db t
+  HoldsNext db =
+      (answer : Answer) × (t : Broker)
+      × Step broker_primitives s token command (record { answer = answer; state = t })
+      × (HasNoContract s → HasNoContract t) × Holds db t
 
-  -- the answer is that of a step of the machine, and the connection keeps the next state: it holds it, and a crash leaves it
+  -- the answer is that of a step of the machine, and the connection keeps the next state: it holds it, and a crash
+  -- leaves it
   pub record Steps (new : State) (answer : Answer) : Type 0 where
     pub next : Broker
     pub step : Step broker_primitives s token command (record { answer = answer; state = next })
-    pub tells : is_step answer ≡ true
-    pub unpublished : HasNoContract next
-    pub keeps : HoldsDurably (λ db. Holds db next) new
+    pub is_machines : is_step answer ≡ true
+    pub unpublished : HasNoContract s → HasNoContract next
+    pub keeps : HoldsState next new
 
-  -- A step; or there was no memory, and the state is kept; or the database failed, and a crash may leave the state or the next one.
+  -- A step; or there was no memory, and the state is kept; or the database failed, and a crash may leave the state
+  -- or the next one.
   abbrev pub Applies : State → Answer → Type 0
   Applies new answer =
       Steps new answer
-      ⊎ (((answer ≡ Memory) × HoldsDurably (λ db. Holds db s) new)
+      ⊎ (((answer ≡ Memory) × HoldsState s new)
       ⊎ ((answer ≡ Store) × HoldsEither (λ db. Holds db s) HoldsNext new))
 
-  -- the same of a transaction, before its failure is told
+  -- the same of a transaction, before its failure is an answer
   abbrev pub Ends : State → Result Answer StoreFault → Type 0
   Ends new (Ok answer) = Steps new answer
-  Ends new (Err fault.Memory) = HoldsDurably (λ db. Holds db s) new
+  Ends new (Err fault.Memory) = HoldsState s new
   Ends new (Err fault.Store) = HoldsEither (λ db. Holds db s) HoldsNext new
 
--- Whatever the database is: only Done and a failure of the database leave it otherwise than it was, and after that failure the last commit is the old one while the connection is open.
-abbrev pub Spares : State → State → Result Answer StoreFault → Type 0
-Spares old new (Ok answer) = ¬ (IsDone answer) → IsAsBefore old new
-Spares old new (Err fault.Memory) = IsAsBefore old new
-Spares old new (Err fault.Store) = KeepsLastCommit old new
+-- Whatever the database is: only Done and a failure of the database leave it otherwise than it was, and after that
+-- failure the last commit is the old one while the connection is open.
+abbrev pub IsUnchangedUnless : State → State → Result Answer StoreFault → Type 0
+IsUnchangedUnless old new (Ok answer) = ¬ (IsDone answer) → IsAsBefore old new
+IsUnchangedUnless old new (Err fault.Memory) = IsAsBefore old new
+IsUnchangedUnless old new (Err fault.Store) = KeepsLastCommit old new

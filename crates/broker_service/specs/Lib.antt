@@ -1,8 +1,8 @@
 pub mod Primitives
 pub mod Served
-pub mod Serving
+pub mod BrokerView
 pub mod Performs
-pub mod Found
+pub mod Facts
 pub mod Ends
 pub mod Opening
 pub mod Handed

@@ -18,27 +18,30 @@ open_fault fault.Memory = Memory
 open_fault fault.Store = Store
 
 -- A transaction that leads from a database of the first kind to one of the second, or fails.
-abbrev pub Turns : (Database → Type 0) → (Database → Type 0) → State → Result (Unit {0}) StoreFault → Type 0
-Turns P Q new (Ok u) = HoldsDurably Q new
-Turns P Q new (Err fault.Memory) = HoldsDurably P new
-Turns P Q new (Err fault.Store) = HoldsEither P Q new
+abbrev pub CreatesOrFails : (Database → Type 0) → (Database → Type 0) → State → Result (Unit {0}) StoreFault
+    → Type 0
+CreatesOrFails P Q new (Ok u) = HoldsDurably Q new
+CreatesOrFails P Q new (Err fault.Memory) = HoldsDurably P new
+CreatesOrFails P Q new (Err fault.Store) = HoldsEither P Q new
 
 -- whatever the database is: it is as it was, or after a failure of the database the last commit is the old one
-abbrev pub CallLeaves : State → State → Result (Unit {0}) StoreFault → Type 0
-CallLeaves old new (Ok u) = Unit {0}
-CallLeaves old new (Err fault.Memory) = IsAsBefore old new
-CallLeaves old new (Err fault.Store) = KeepsLastCommit old new
+abbrev pub FailsUnchanged : State → State → Result (Unit {0}) StoreFault → Type 0
+FailsUnchanged old new (Ok u) = Unit {0}
+FailsUnchanged old new (Err fault.Memory) = IsAsBefore old new
+FailsUnchanged old new (Err fault.Store) = KeepsLastCommit old new
 
--- the tables of a new broker weren't made: the connection keeps what it kept, or the database failed, and a crash may leave that or the new broker's
+-- the tables of a new broker weren't made: the connection keeps what it kept, or the database failed, and a crash
+-- may leave that or the new broker's
 abbrev pub Refuses : (Database → Type 0) → (Database → Type 0) → State → OpenFault → Type 0
 Refuses P Q new Memory = HoldsDurably P new
 Refuses P Q new Store = HoldsEither P Q new
 Refuses P Q new _ = ⊥
 
--- whatever the database is: where it is refused, it is as it was, or after a failure of the database the last commit is the old one
-abbrev pub Spared : State → State → OpenFault → Type 0
-Spared old new Store = KeepsLastCommit old new
-Spared old new _ = IsAsBefore old new
+-- whatever the database is: where it is refused, it is as it was, or after a failure of the database the last
+-- commit is the old one
+abbrev pub IsUnchangedUnless : State → State → OpenFault → Type 0
+IsUnchangedUnless old new Store = KeepsLastCommit old new
+IsUnchangedUnless old new _ = IsAsBefore old new
 
 -- ---- what is told of a database
 

@@ -1,26 +1,25 @@
 //! The broker.
-ghost use Rattle.std.specs.Prelude.{◌≡◌, ◌≢◌, ◌↔◌, ◌≤◌, ℕ, List, Some, None, false, IsTrue, IfOk, IfErr, IsErrAnd, option_map};
-ghost use Rattle.sqlite_trees.specs.View.{doubt};
-ghost use Rattle.sqlite.specs.State.{HasCleanDisk};
+ghost use Rattle.std.specs.Prelude.{◌≡◌, ◌≢◌, ◌↔◌, ⊤, ℕ, List, Some, None, false, IsTrue, IfOk, IfErr, IsErrAnd, option_map};
+ghost use Rattle.sqlite.specs.State.{HasCleanDisk, Survives};
 ghost use Rattle.sqlite.specs.Held.{state};
 ghost use Rattle.table_access.specs.Calls.{KeepsLastCommit};
 ghost use Rattle.table_access.specs.Durability.{HoldsDurably};
 ghost use Rattle.broker_core.specs.Laws.{IsDone};
 ghost use Rattle.broker_core.specs.State.{State as BrokerState, opening};
-ghost use Rattle.broker_core.specs.declared.answer.Answer.TheVariants as told;
+ghost use Rattle.broker_core.specs.declared.answer.Answer.TheVariants as outcome;
 ghost use Rattle.broker_tables.specs.Holds.{Holds};
 ghost use Rattle.broker_tables.specs.Schema.{no_schema};
 ghost use Rattle.broker_tables.specs.Making.{IsBlank, IsMarked};
 ghost use Rattle.broker_service.specs.Primitives.{broker_primitives};
-ghost use Rattle.broker_service.specs.Opening.{Refuses, Spared, Judged, IsJudged};
+ghost use Rattle.broker_service.specs.Opening.{Refuses, IsUnchangedUnless, Judged, IsJudged};
 ghost use Rattle.broker_service.specs.Handed.{left_by, verdict};
-ghost use Rattle.broker_service.specs.Served.{IsServed, HasNoContract};
-ghost use Rattle.broker_service.specs.Ends.{Applies, IsAsBefore, LeavesNothing};
+ghost use Rattle.broker_service.specs.Served.{IsServed, HasNoNeeds};
+ghost use Rattle.broker_service.specs.Ends.{Applies, HoldsState, IsAsBefore, AddsNoCrashState};
 
 use crate::opening::{self, OpenFault};
 use crate::work::transact;
 use answer_texts::Answer;
-use broker_core::answer::Answer as Told;
+use broker_core::answer::Answer as Outcome;
 use broker_core::command::Command;
 use broker_core::name::Token;
 use sqlite::{Alter, Connection};
@@ -36,11 +35,11 @@ pub struct Broker<S: Alter> {
 }
 
 impl<S: Alter> Model for Broker<S> {
-    ghost use Rattle.broker_service.specs.Serving.{Serving, serving_code};
+    ghost use Rattle.broker_service.specs.BrokerView.{BrokerView, broker_view_code};
 
-    ghost Value = { Serving S };
+    ghost Value = { BrokerView S };
 
-    ghost coded = { serving_code S.code };
+    ghost coded = { broker_view_code S.code };
 
     ghost view = { λ b. record { connection = b.conn; is_stopped = b.stopped } };
 }
@@ -55,20 +54,32 @@ pub struct Refused<S: Alter> {
 impl<S: Alter> Broker<S> {
     /// Makes the tables of a new broker, whose office has this token, on a database without tables.
     ///
-    /// `NotEmpty`: there is a table, an index or a view; nothing is read or changed. `Memory`: the database is as it was.
-    /// `Store`: the database refused a call, the commit or a rollback; the last commit is the old one, and after a refused commit a crash may leave the new broker's tables.
+    /// `NotEmpty`: there is a table, an index or a view; nothing is read or changed. `Memory`: the
+    /// database is as it was.
+    /// `Store`: the database refused a call, the commit or a rollback; the last commit is the old
+    /// one, and after a refused commit a crash may leave the new broker's tables.
     pub fn create(
         alloc: Global,
         conn: Connection<S>,
         office: &Token,
     ) -> Result<Broker<S>, Refused<S>>
-        ensures made { IfOk result (λ b. HasCleanDisk (state S.Store b.connection) → HoldsDurably IsBlank (state S.Store conn) → HoldsDurably (λ db. Holds db (opening (broker_primitives.digest_of office.now))) (state S.Store b.connection)) }
-        ensures refuses { IfErr result (λ r. HasCleanDisk (state S.Store r.connection) → HoldsDurably IsBlank (state S.Store conn) → (state S.Store conn).now.schema ≡ no_schema → Refuses IsBlank (λ db. Holds db (opening (broker_primitives.digest_of office.now))) (state S.Store r.connection) r.fault) }
-        ensures not_empty { IsErrAnd result (λ r. r.fault ≡ OpenFault.NotEmpty) ↔ (¬ ((state S.Store conn).now.schema ≡ no_schema)) }
+        ensures made { IfOk result (λ b. HasCleanDisk (state S.Store b.connection)
+            → HoldsDurably IsBlank (state S.Store conn)
+            → HoldsState (opening (broker_primitives.digest_of office.now))
+            (state S.Store b.connection)) }
+        ensures refuses { IfErr result (λ r. HasCleanDisk (state S.Store r.connection)
+            → HoldsDurably IsBlank (state S.Store conn)
+            → (state S.Store conn).now.schema ≡ no_schema
+            → Refuses IsBlank (λ db.
+            Holds db (opening (broker_primitives.digest_of office.now)))
+            (state S.Store r.connection) r.fault) }
+        ensures not_empty { IsErrAnd result (λ r. r.fault ≡ OpenFault.NotEmpty)
+            ↔ (¬ ((state S.Store conn).now.schema ≡ no_schema)) }
         ensures same { IfErr result (λ r. r.fault ≡ OpenFault.NotEmpty → r.connection ≡ conn) }
-        ensures spares { IfErr result (λ r. HasCleanDisk (state S.Store r.connection) → Spared (state S.Store conn) (state S.Store r.connection) r.fault) }
+        ensures unchanged { IfErr result (λ r. HasCleanDisk (state S.Store r.connection)
+            → IsUnchangedUnless (state S.Store conn) (state S.Store r.connection) r.fault) }
         ensures runs { IfOk result (λ b. b.is_stopped ≡ false) }
-        ensures clean { doubt (state S.Store conn).is_clean ≤ doubt (state S.Store (left_by result)).is_clean }
+        ensures survives { Survives (state S.Store conn) (state S.Store (left_by result)) (λ _. ⊤) }
     {
         let mut conn = conn;
         match opening::create(alloc, &mut conn, office) {
@@ -85,18 +96,28 @@ impl<S: Alter> Broker<S> {
 
     /// Opens the database that a broker left. Nothing is changed.
     ///
-    /// `NotABroker`: the first table isn't `meta` with its columns and its key, or `meta` has not just one row. `Format`: the format in that row is this other one.
-    /// `Memory` and `Store` as of `create`; `Store` also where the format isn't a number from 0 to 2^32 - 1.
+    /// `NotABroker`: the first table isn't `meta` with its columns and its key, or `meta` has not
+    /// just one row. `Format`: the format in that row is this other one.
+    /// `Memory` and `Store` as of `create`; `Store` also where the format isn't a number from 0 to
+    /// 2^32 - 1.
     pub fn open(conn: Connection<S>) -> Result<Broker<S>, Refused<S>>
-        ensures judges { HasCleanDisk (state S.Store (left_by result)) → IsJudged (state S.Store conn).now (verdict result) }
-        ensures bare { HasCleanDisk (state S.Store (left_by result)) → HoldsDurably IsBlank (state S.Store conn) → Judged None (verdict result) }
-        ensures marked { HasCleanDisk (state S.Store (left_by result)) → (n : ℕ) (office : List ℕ) → HoldsDurably (IsMarked n office) (state S.Store conn) → Judged (Some n) (verdict result) }
-        ensures kept { IfOk result (λ b. HasCleanDisk (state S.Store b.connection) → IsAsBefore (state S.Store conn) (state S.Store b.connection)) }
-        ensures holds { IfOk result (λ b. HasCleanDisk (state S.Store b.connection) → (s : BrokerState) → HoldsDurably (λ db. Holds db s) (state S.Store conn) → HoldsDurably (λ db. Holds db s) (state S.Store b.connection)) }
-        ensures spares { IfErr result (λ r. HasCleanDisk (state S.Store r.connection) → Spared (state S.Store conn) (state S.Store r.connection) r.fault) }
-        ensures left { HasCleanDisk (state S.Store (left_by result)) → LeavesNothing (state S.Store conn) (state S.Store (left_by result)) }
+        ensures judges { HasCleanDisk (state S.Store (left_by result))
+            → IsJudged (state S.Store conn).now (verdict result) }
+        ensures blank { HasCleanDisk (state S.Store (left_by result))
+            → HoldsDurably IsBlank (state S.Store conn) → Judged None (verdict result) }
+        ensures marked { HasCleanDisk (state S.Store (left_by result)) → (n : ℕ) (office : List ℕ)
+            → HoldsDurably (IsMarked n office) (state S.Store conn)
+            → Judged (Some n) (verdict result) }
+        ensures kept { IfOk result (λ b. HasCleanDisk (state S.Store b.connection)
+            → IsAsBefore (state S.Store conn) (state S.Store b.connection)) }
+        ensures holds { IfOk result (λ b. HasCleanDisk (state S.Store b.connection) → (s : BrokerState)
+            → HoldsState s (state S.Store conn) → HoldsState s (state S.Store b.connection)) }
+        ensures unchanged { IfErr result (λ r. HasCleanDisk (state S.Store r.connection)
+            → IsUnchangedUnless (state S.Store conn) (state S.Store r.connection) r.fault) }
+        ensures crash { HasCleanDisk (state S.Store (left_by result))
+            → AddsNoCrashState (state S.Store conn) (state S.Store (left_by result)) }
         ensures runs { IfOk result (λ b. b.is_stopped ≡ false) }
-        ensures clean { doubt (state S.Store conn).is_clean ≤ doubt (state S.Store (left_by result)).is_clean }
+        ensures survives { Survives (state S.Store conn) (state S.Store (left_by result)) (λ _. ⊤) }
     {
         let mut conn = conn;
         match opening::open(&mut conn) {
@@ -121,29 +142,41 @@ impl<S: Alter> Broker<S> {
 
     /// Runs one command of the caller with this token, in one transaction.
     ///
-    /// The answer is the machine's, and the database then holds the machine's next state; or it is `Memory`, `Store` or `Stopped`, and there was no step.
+    /// The answer is the machine's, and the database then holds the machine's next state; or it is
+    /// `Memory`, `Store` or `Stopped`, and there was no step.
     /// `Memory`: a growth was refused, or the database has no memory; nothing has changed.
-    /// `Store`: the database refused the commit or a rollback, or another call for another cause than memory, or a row broke the rules of the tables.
-    /// From then on each answer is `Stopped`, and nothing changes. After a refused commit a crash may leave the next state.
+    /// `Store`: the database refused the commit or a rollback, or another call for another cause
+    /// than memory, or a row broke the rules of the tables.
+    /// From then on each answer is `Stopped`, and nothing changes. After a refused commit a crash
+    /// may leave the next state.
     pub fn apply(&mut self, alloc: Global, token: Option<&str>, command: &Command) -> Answer
         requires { IsServed command.now }
-        ensures stopped { IsTrue self.old.is_stopped → (result ≡ told.Stopped) × (self.new ≡ self.old) }
-        ensures applies { HasCleanDisk (state S.Store self.new.connection) → self.old.is_stopped ≡ false → (s : BrokerState) → HasNoContract s → HoldsDurably (λ db. Holds db s) (state S.Store self.old.connection)
-            → Applies s (option_map (λ text. text.now) token.entry) command.now (state S.Store self.new.connection) result }
-        ensures spares { HasCleanDisk (state S.Store self.new.connection) → self.old.is_stopped ≡ false → result ≢ told.Store → ¬ (IsDone result) → IsAsBefore (state S.Store self.old.connection) (state S.Store self.new.connection) }
-        ensures fails { HasCleanDisk (state S.Store self.new.connection) → result ≡ told.Store → KeepsLastCommit (state S.Store self.old.connection) (state S.Store self.new.connection) }
-        ensures stops { self.old.is_stopped ≡ false → (IsTrue self.new.is_stopped ↔ (result ≡ told.Store)) }
-        ensures clean { doubt (state S.Store self.old.connection).is_clean ≤ doubt (state S.Store self.new.connection).is_clean }
+        ensures stopped { IsTrue self.old.is_stopped → (result ≡ outcome.Stopped) × (self.new ≡ self.old) }
+        ensures applies { HasCleanDisk (state S.Store self.new.connection) → self.old.is_stopped ≡ false
+            → (s : BrokerState) → HasNoNeeds s command.now
+            → HoldsState s (state S.Store self.old.connection)
+            → Applies s (option_map
+            (λ text. text.now) token.entry) command.now
+            (state S.Store self.new.connection) result }
+        ensures unchanged { HasCleanDisk (state S.Store self.new.connection) → self.old.is_stopped ≡ false
+            → result ≢ outcome.Store → ¬ (IsDone result)
+            → IsAsBefore (state S.Store self.old.connection) (state S.Store self.new.connection) }
+        ensures fails { HasCleanDisk (state S.Store self.new.connection) → result ≡ outcome.Store
+            → KeepsLastCommit (state S.Store self.old.connection)
+            (state S.Store self.new.connection) }
+        ensures stops { self.old.is_stopped ≡ false → (IsTrue self.new.is_stopped ↔ (result ≡ outcome.Store)) }
+        ensures survives { Survives (state S.Store self.old.connection) (state S.Store self.new.connection)
+            (λ _. ⊤) }
     {
         if self.stopped {
-            return Answer::failed(Told::Stopped);
+            return Answer::failed(Outcome::Stopped);
         }
         let answer = match transact(alloc, &mut self.conn, token, command) {
             Ok(answer) => answer,
-            Err(StoreFault::Memory) => Answer::failed(Told::Memory),
-            Err(StoreFault::Store) => Answer::failed(Told::Store),
+            Err(StoreFault::Memory) => Answer::failed(Outcome::Memory),
+            Err(StoreFault::Store) => Answer::failed(Outcome::Store),
         };
-        self.stopped = matches!(answer.told(), Told::Store);
+        self.stopped = matches!(answer.outcome(), Outcome::Store);
         answer
     }
 }

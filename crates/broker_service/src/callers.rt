@@ -1,8 +1,9 @@
 //! Who calls.
 
-ghost use Rattle.std.specs.Prelude.{◌≡◌, ℕ, List, Some, false, IsTrue, MatchOption, IfOk, string_bytes, option_map};
+ghost use Rattle.std.specs.Prelude.{◌≡◌, ◌↔◌, IfErr, ℕ, List, Some, false, IsTrue, MatchOption, IfOk, string_bytes, option_map};
 ghost use Rattle.sqlite.specs.Held.{state};
 ghost use Rattle.broker_core.specs.Machine.{IsCallerOfDigest, IsCallerOfToken};
+ghost use Rattle.broker_core.specs.Name.{IsName};
 ghost use Rattle.broker_tables.specs.Holds.{Queries};
 ghost use Rattle.broker_service.specs.Primitives.{broker_primitives};
 
@@ -16,7 +17,8 @@ use table_access::StoreFault;
 
 /// The digest of a token, by which it is known.
 pub(crate) fn digest_of(alloc: Global, token: &str) -> Result<String, StoreFault>
-    ensures { IfOk result (λ digest. string_bytes digest ≡ broker_primitives.digest_of token.now) }
+    ensures ok { IfOk result (λ digest. string_bytes digest ≡ broker_primitives.digest_of token.now) }
+    ensures cause { IfErr result (λ fault. fault ≡ StoreFault.Memory) }
 {
     match digest_text(alloc, &Sha256Digester, token.as_bytes()) {
         Ok(text) => Ok(text),
@@ -34,7 +36,8 @@ fn is_same(a: &str, b: &str) -> bool
 
 /// A name that stands in a table.
 pub(crate) fn stored_name(alloc: Global, text: &str) -> Result<Name, StoreFault>
-    ensures { IfOk result (λ name. name ≡ text.now) }
+    ensures ok { IfOk result (λ name. name ≡ text.now) }
+    ensures cause { IfErr result (λ fault. (fault ≡ StoreFault.Store) ↔ (¬ (IsName text.now))) }
 {
     match Name::new(alloc, text) {
         Ok(name) => Ok(name),
@@ -49,7 +52,9 @@ fn team_with<S: Alter>(
     conn: &mut Connection<S>,
     digest: &str,
 ) -> Result<Option<Name>, StoreFault>
-    ensures { Queries (state S.Store conn.old) (state S.Store conn.new) result (λ team s. MatchOption team ((t : List ℕ) → ¬ (s.teams t ≡ Some digest.now)) (λ name. s.teams name ≡ Some digest.now)) }
+    ensures { Queries (state S.Store conn.old) (state S.Store conn.new) result
+        (λ team s. MatchOption team ((t : List ℕ) → ¬ (s.teams t ≡ Some digest.now))
+        (λ name. s.teams name ≡ Some digest.now)) }
 {
     match team_of_digest(conn, digest) {
         Ok(Some(team)) => match stored_name(alloc, team.as_str()) {
@@ -67,7 +72,8 @@ pub(crate) fn holder_of<S: Alter>(
     conn: &mut Connection<S>,
     digest: &str,
 ) -> Result<Option<Caller>, StoreFault>
-    ensures { Queries (state S.Store conn.old) (state S.Store conn.new) result (λ who s. IsCallerOfDigest s digest.now who) }
+    ensures { Queries (state S.Store conn.old) (state S.Store conn.new) result
+        (λ who s. IsCallerOfDigest s digest.now who) }
 {
     match office_digest(conn) {
         Ok(office) => if is_same(office.as_str(), digest) {
@@ -89,7 +95,9 @@ pub(crate) fn caller_of<S: Alter>(
     conn: &mut Connection<S>,
     token: Option<&str>,
 ) -> Result<Option<Caller>, StoreFault>
-    ensures { Queries (state S.Store conn.old) (state S.Store conn.new) result (λ who s. IsCallerOfToken broker_primitives s (option_map (λ text. text.now) token.entry) who) }
+    ensures { Queries (state S.Store conn.old) (state S.Store conn.new) result
+        (λ who s. IsCallerOfToken broker_primitives s (option_map
+        (λ text. text.now) token.entry) who) }
 {
     match token {
         Some(token) => match digest_of(alloc, token) {

@@ -14,10 +14,10 @@ ghost use Rattle.broker_tables.specs.Holds.{Queries};
 ghost use Rattle.broker_tables.specs.Numbers.{number_of};
 ghost use Rattle.broker_service.specs.Primitives.{broker_primitives};
 ghost use Rattle.broker_service.specs.Performs.{Performs};
-ghost use Rattle.broker_service.specs.Served.{HasNoContract};
-ghost use Rattle.broker_service.specs.Found.{FoundOwner, FoundStanding, FoundDeployment};
+ghost use Rattle.broker_service.specs.Served.{NeedsNothing};
+ghost use Rattle.broker_service.specs.Facts.{OwnerFacts, DeployedFacts, DeploymentFacts};
 
-use crate::rules::{look_grant, look_owner};
+use crate::rules::{read_grant, read_owner};
 use broker_core::answer::{Answer, Detail, Missing};
 use broker_core::command::Version;
 use broker_core::name::Name;
@@ -30,12 +30,12 @@ use table_access::StoreFault;
 
 /// What a deployment asks of the tables.
 #[derive(Clone, Copy)]
-struct Found {
+struct Facts {
     environment: bool,
     pacticipant: bool,
-    may: bool,
+    is_allowed: bool,
     number: Option<u32>,
-    stands: bool,
+    is_deployed: bool,
 }
 
 /// The text of an instance; an absent one is the empty text.
@@ -49,8 +49,12 @@ fn instance_text(instance: &Option<Name>) -> &str
 }
 
 /// Whether the environment is there.
-fn look_environment<S: Alter>(conn: &mut Connection<S>, environment: &Name) -> Result<bool, StoreFault>
-    ensures { Queries (state S.Store conn.old) (state S.Store conn.new) result (λ has s. is_some (s.environments environment.now) ≡ has) }
+fn read_environment<S: Alter>(
+    conn: &mut Connection<S>,
+    environment: &Name,
+) -> Result<bool, StoreFault>
+    ensures { Queries (state S.Store conn.old) (state S.Store conn.new) result
+        (λ has s. is_some (s.environments environment.now) ≡ has) }
 {
     match gated(conn, environment.as_str()) {
         Ok(gated) => Ok(gated.is_some()),
@@ -59,29 +63,32 @@ fn look_environment<S: Alter>(conn: &mut Connection<S>, environment: &Name) -> R
 }
 
 /// Whether the pacticipant is there, and whether its owner with a grant calls.
-fn look_rights<S: Alter>(
+fn read_rights<S: Alter>(
     alloc: Global,
     conn: &mut Connection<S>,
     caller: &Caller,
     environment: &Name,
     pacticipant: &Name,
 ) -> Result<(bool, bool), StoreFault>
-    ensures { Queries (state S.Store conn.old) (state S.Store conn.new) result (λ found s. FoundOwner s caller.now A7 pacticipant.now (has_grant s caller.now (Some environment.now)) found.0 found.1) }
+    ensures { Queries (state S.Store conn.old) (state S.Store conn.new) result
+        (λ found s. OwnerFacts s caller.now A7 pacticipant.now
+        (has_grant s caller.now (Some environment.now)) found.0 found.1) }
 {
-    match look_grant(conn, caller, environment) {
-        Ok(granted) => look_owner(alloc, conn, caller, Rule::A7, pacticipant, granted),
+    match read_grant(conn, caller, environment) {
+        Ok(granted) => read_owner(alloc, conn, caller, Rule::A7, pacticipant, granted),
         Err(fault) => Err(fault),
     }
 }
 
 /// The version's number, and whether it is deployed there.
-fn look_standing<S: Alter>(
+fn read_deployed<S: Alter>(
     conn: &mut Connection<S>,
     environment: &Name,
     version: &Version,
     instance: &str,
 ) -> Result<(Option<u32>, bool), StoreFault>
-    ensures { Queries (state S.Store conn.old) (state S.Store conn.new) result (λ found s. FoundStanding s environment.now version.now instance.now found.0 found.1) }
+    ensures { Queries (state S.Store conn.old) (state S.Store conn.new) result
+        (λ found s. DeployedFacts s environment.now version.now instance.now found.0 found.1) }
 {
     match version_of(conn, version.pacticipant.as_str(), version.name.as_str()) {
         Ok(Some(number)) => match is_deployed(
@@ -91,7 +98,7 @@ fn look_standing<S: Alter>(
             instance,
             number,
         ) {
-            Ok(stands) => Ok((Some(number), stands)),
+            Ok(is_deployed) => Ok((Some(number), is_deployed)),
             Err(fault) => Err(fault),
         },
         Ok(None) => Ok((None, false)),
@@ -100,47 +107,52 @@ fn look_standing<S: Alter>(
 }
 
 /// Whether the environment is there, and what of the pacticipant.
-fn look_sides<S: Alter>(
+fn read_sides<S: Alter>(
     alloc: Global,
     conn: &mut Connection<S>,
     caller: &Caller,
     environment: &Name,
     pacticipant: &Name,
 ) -> Result<(bool, bool, bool), StoreFault>
-    ensures { Queries (state S.Store conn.old) (state S.Store conn.new) result (λ found s. (is_some (s.environments environment.now) ≡ found.0) × FoundOwner s caller.now A7 pacticipant.now (has_grant s caller.now (Some environment.now)) found.1 found.2) }
+    ensures { Queries (state S.Store conn.old) (state S.Store conn.new) result
+        (λ found s. (is_some (s.environments environment.now) ≡ found.0)
+        × OwnerFacts s caller.now A7 pacticipant.now
+        (has_grant s caller.now (Some environment.now)) found.1 found.2) }
 {
-    match look_environment(conn, environment) {
-        Ok(has) => match look_rights(alloc, conn, caller, environment, pacticipant) {
-            Ok((pacticipant, may)) => Ok((has, pacticipant, may)),
+    match read_environment(conn, environment) {
+        Ok(has) => match read_rights(alloc, conn, caller, environment, pacticipant) {
+            Ok((pacticipant, is_allowed)) => Ok((has, pacticipant, is_allowed)),
             Err(fault) => Err(fault),
         },
         Err(fault) => Err(fault),
     }
 }
 
-fn look<S: Alter>(
+fn read_facts<S: Alter>(
     alloc: Global,
     conn: &mut Connection<S>,
     caller: &Caller,
     environment: &Name,
     version: &Version,
     instance: &str,
-) -> Result<Found, StoreFault>
-    ensures { Queries (state S.Store conn.old) (state S.Store conn.new) result (λ found s. FoundDeployment s caller.now environment.now version.now instance.now found.environment found.pacticipant found.may found.number found.stands) }
+) -> Result<Facts, StoreFault>
+    ensures { Queries (state S.Store conn.old) (state S.Store conn.new) result
+        (λ facts s. DeploymentFacts s caller.now environment.now version.now instance.now
+        facts.environment facts.pacticipant facts.is_allowed facts.number facts.is_deployed) }
 {
-    match look_sides(alloc, conn, caller, environment, &version.pacticipant) {
-        Ok((environment_is, pacticipant, may)) => match look_standing(
+    match read_sides(alloc, conn, caller, environment, &version.pacticipant) {
+        Ok((environment_is, pacticipant, is_allowed)) => match read_deployed(
             conn,
             environment,
             version,
             instance,
         ) {
-            Ok((number, stands)) => Ok(Found {
+            Ok((number, is_deployed)) => Ok(Facts {
                 environment: environment_is,
                 pacticipant,
-                may,
+                is_allowed,
                 number,
-                stands,
+                is_deployed,
             }),
             Err(fault) => Err(fault),
         },
@@ -149,26 +161,42 @@ fn look<S: Alter>(
 }
 
 /// The number of the version that is recorded, or the answer where nothing changes.
-fn decide(found: Found) -> Result<u32, Answer>
-    ensures told { IfErr result (λ answer. (s : BrokerState) (caller : Who) (e : List ℕ) (v : VersionModel) (instance : Option (List ℕ)) → HasNoContract s → FoundDeployment s caller e v (instance_of instance) found.environment found.pacticipant found.may found.number found.stands → StepOfCaller broker_primitives s caller (Deploy e v instance) (told s answer)) }
-    ensures free { IfOk result (λ number. (s : BrokerState) (caller : Who) (e : List ℕ) (v : VersionModel) (instance : Option (List ℕ)) → HasNoContract s → FoundDeployment s caller e v (instance_of instance) found.environment found.pacticipant found.may found.number found.stands
-        → StepOfCaller broker_primitives s caller (Deploy e v instance) (done (record s { deployed = put_at same_place s.deployed (e, v.pacticipant, instance_of instance) (Some v.name) }))) }
-    ensures counted { IfOk result (λ number. found.number ≡ Some number) }
-    ensures there { IfOk result (λ _. IsTrue found.environment × IsTrue found.pacticipant) }
+fn decide(facts: Facts) -> Result<u32, Answer>
+    ensures unchanged { IfErr result (λ answer.
+        (s : BrokerState) (caller : Who) (e : List ℕ) (v : VersionModel)
+        (instance : Option (List ℕ)) → NeedsNothing s v e
+        → DeploymentFacts s caller e v
+        (instance_of instance) facts.environment facts.pacticipant facts.is_allowed
+        facts.number facts.is_deployed
+        → StepOfCaller broker_primitives s caller (Deploy e v instance)
+        (unchanged_with s answer)) }
+    ensures changes { IfOk result (λ number.
+        (s : BrokerState) (caller : Who) (e : List ℕ) (v : VersionModel)
+        (instance : Option (List ℕ)) → NeedsNothing s v e
+        → DeploymentFacts s caller e v
+        (instance_of instance) facts.environment facts.pacticipant facts.is_allowed
+        facts.number facts.is_deployed
+        → StepOfCaller broker_primitives s caller (Deploy e v instance) (done
+        (record s {
+          deployed = put_at same_place s.deployed
+              (e, v.pacticipant, instance_of instance) (Some v.name);
+        }))) }
+    ensures numbered { IfOk result (λ number. facts.number ≡ Some number) }
+    ensures exists { IfOk result (λ _. IsTrue facts.environment × IsTrue facts.pacticipant) }
 {
-    if !found.environment {
+    if !facts.environment {
         return Err(Answer::Unknown(Missing::Environment));
     }
-    if !found.pacticipant {
+    if !facts.pacticipant {
         return Err(Answer::Unknown(Missing::Pacticipant));
     }
-    let Some(number) = found.number else {
+    let Some(number) = facts.number else {
         return Err(Answer::Unknown(Missing::Version));
     };
-    if !found.may {
+    if !facts.is_allowed {
         return Err(Answer::Denied(Rule::A7));
     }
-    if found.stands {
+    if facts.is_deployed {
         return Err(Answer::Already(Detail::Plain));
     }
     Ok(number)
@@ -183,10 +211,14 @@ fn deploy_as<S: Alter>(
     version: &Version,
     instance: &str,
 ) -> Result<Answer, StoreFault>
-    ensures { Performs (state S.Store conn.old) (state S.Store conn.new) (λ s out. HasNoContract s → (name : Option (List ℕ)) → instance_of name ≡ instance.now → StepOfCaller broker_primitives s caller.now (Deploy environment.now version.now name) out) result }
+    ensures { Performs (state S.Store conn.old) (state S.Store conn.new)
+        (λ s out. NeedsNothing s version.now environment.now → (name : Option (List ℕ))
+        → instance_of name ≡ instance.now
+        → StepOfCaller broker_primitives s caller.now
+        (Deploy environment.now version.now name) out) result }
 {
-    match look(alloc, conn, caller, environment, version, instance) {
-        Ok(found) => match decide(found) {
+    match read_facts(alloc, conn, caller, environment, version, instance) {
+        Ok(facts) => match decide(facts) {
             Err(answer) => Ok(answer),
             Ok(number) => match record_deployed(
                 conn,
@@ -212,7 +244,10 @@ pub(crate) fn deploy<S: Alter>(
     version: &Version,
     instance: &Option<Name>,
 ) -> Result<Answer, StoreFault>
-    ensures { Performs (state S.Store conn.old) (state S.Store conn.new) (λ s out. HasNoContract s → StepOfCaller broker_primitives s caller.now (Deploy environment.now version.now instance.now) out) result }
+    ensures { Performs (state S.Store conn.old) (state S.Store conn.new)
+        (λ s out. NeedsNothing s version.now environment.now
+        → StepOfCaller broker_primitives s caller.now
+        (Deploy environment.now version.now instance.now) out) result }
 {
     deploy_as(
         alloc,

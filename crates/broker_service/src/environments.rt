@@ -1,7 +1,6 @@
 //! PUT and GET of an environment.
-ghost use Rattle.std.specs.Prelude.{◌≡◌, ℕ, List, Option, Some, None, IfOk, IfSome, IfNone, is_some, option_map};
+ghost use Rattle.std.specs.Prelude.{◌≡◌, ℕ, List, Option, Some, None, IfOk, IfErr, IfSome, IfNone};
 ghost use Rattle.sqlite.specs.Held.{state};
-ghost use Rattle.broker_core.specs.declared.command.Marks.{Marks as MarksModel};
 ghost use Rattle.broker_core.specs.declared.policy.Caller.{Caller as Who};
 ghost use Rattle.broker_core.specs.State.{State as BrokerState};
 ghost use Rattle.broker_core.specs.Text.{put_at, same_text};
@@ -17,7 +16,7 @@ use broker_core::answer::{Answer, Clash, Detail};
 use broker_core::command::{FormFault, Marks};
 use broker_core::name::{Name, Text};
 use broker_core::policy::{Caller, Rule};
-use registry_tables::{add_environment, gated, strict_of};
+use registry_tables::add_environment;
 use sqlite::{Alter, Connection};
 use std::alloc::Global;
 use table_access::StoreFault;
@@ -27,30 +26,19 @@ pub(crate) fn marks_of<S: Alter>(
     conn: &mut Connection<S>,
     environment: &Name,
 ) -> Result<Option<Marks>, StoreFault>
-    ensures { Queries (state S.Store conn.old) (state S.Store conn.new) result (λ marks s. marks ≡ s.environments environment.now) }
+    ensures { Queries (state S.Store conn.old) (state S.Store conn.new) result
+        (λ marks s. marks ≡ s.environments environment.now) }
 {
-    match gated(conn, environment.as_str()) {
-        Ok(gated) => match strict_of(conn, environment.as_str()) {
-            Ok(strict) => Ok(both_marks(gated, strict)),
-            Err(fault) => Err(fault),
-        },
-        Err(fault) => Err(fault),
-    }
+    registry_tables::marks_of(conn, environment.as_str())
 }
 
-/// Both marks of one environment.
-fn both_marks(gated: Option<bool>, strict: Option<bool>) -> Option<Marks>
-    ensures { (marks : Option MarksModel) → gated ≡ option_map (λ m. m.gated) marks → strict ≡ option_map (λ m. m.strict) marks → result ≡ marks }
-{
-    match (gated, strict) {
-        (Some(gated), Some(strict)) => Some(Marks { gated, strict }),
-        _ => None,
-    }
-}
-
-/// What is told of marks that no environment may have.
+/// The answer to marks that no environment may have.
 fn form_of(alloc: Global, marks: Marks) -> Result<Option<Answer>, StoreFault>
-    ensures { IfOk result (λ o. IfSome o (λ answer. (s : BrokerState) (e : List ℕ) (caller : Who) → StepOfCaller broker_primitives s caller (PutEnvironment e marks) (told s answer)) × IfNone o (fault_of_marks marks ≡ None)) }
+    ensures ok { IfOk result (λ o. IfSome o
+        (λ answer. (s : BrokerState) (e : List ℕ) (caller : Who)
+        → StepOfCaller broker_primitives s caller (PutEnvironment e marks)
+        (unchanged_with s answer)) × IfNone o (fault_of_marks marks ≡ None)) }
+    ensures cause { IfErr result (λ fault. fault ≡ StoreFault.Memory) }
 {
     if marks.strict && !marks.gated {
         match String::from_str(alloc, "strict") {
@@ -64,9 +52,14 @@ fn form_of(alloc: Global, marks: Marks) -> Result<Option<Answer>, StoreFault>
 
 /// The answer where nothing changes; none where the environment is added.
 fn decide(alloc: Global, caller: &Caller, old: Option<Marks>, marks: Marks) -> Option<Answer>
-    ensures told { IfSome result (λ answer. (s : BrokerState) (e : List ℕ) → fault_of_marks marks ≡ None → s.environments e ≡ old → StepOfCaller broker_primitives s caller.now (PutEnvironment e marks) (told s answer)) }
-    ensures free { IfNone result ((s : BrokerState) (e : List ℕ) → fault_of_marks marks ≡ None → s.environments e ≡ old
-        → (s.environments e ≡ None) × StepOfCaller broker_primitives s caller.now (PutEnvironment e marks) (done (record s { environments = put_at same_text s.environments e (Some marks) }))) }
+    ensures unchanged { IfSome result (λ answer. (s : BrokerState) (e : List ℕ) → fault_of_marks marks ≡ None
+        → s.environments e ≡ old
+        → StepOfCaller broker_primitives s caller.now (PutEnvironment e marks)
+        (unchanged_with s answer)) }
+    ensures changes { IfNone result ((s : BrokerState) (e : List ℕ) → fault_of_marks marks ≡ None
+        → s.environments e ≡ old → (s.environments e ≡ None)
+        × StepOfCaller broker_primitives s caller.now (PutEnvironment e marks) (done
+        (record s { environments = put_at same_text s.environments e (Some marks) }))) }
 {
     if !is_office(alloc, caller) {
         return Some(Answer::Denied(Rule::A2));
@@ -90,7 +83,9 @@ fn put_marks<S: Alter>(
     marks: Marks,
 ) -> Result<Answer, StoreFault>
     requires { fault_of_marks marks ≡ None }
-    ensures { Performs (state S.Store conn.old) (state S.Store conn.new) (λ s out. StepOfCaller broker_primitives s caller.now (PutEnvironment environment.now marks) out) result }
+    ensures { Performs (state S.Store conn.old) (state S.Store conn.new)
+        (λ s out. StepOfCaller broker_primitives s caller.now
+        (PutEnvironment environment.now marks) out) result }
 {
     match marks_of(conn, environment) {
         Ok(old) => match decide(alloc, caller, old, marks) {
@@ -112,7 +107,9 @@ pub(crate) fn put_environment<S: Alter>(
     environment: &Name,
     marks: Marks,
 ) -> Result<Answer, StoreFault>
-    ensures { Performs (state S.Store conn.old) (state S.Store conn.new) (λ s out. StepOfCaller broker_primitives s caller.now (PutEnvironment environment.now marks) out) result }
+    ensures { Performs (state S.Store conn.old) (state S.Store conn.new)
+        (λ s out. StepOfCaller broker_primitives s caller.now
+        (PutEnvironment environment.now marks) out) result }
 {
     match form_of(alloc, marks) {
         Ok(Some(answer)) => Ok(answer),

@@ -9,7 +9,7 @@ ghost use Rattle.broker_core.specs.declared.command.Command.TheVariants.{PutGran
 ghost use Rattle.broker_tables.specs.Holds.{Queries};
 ghost use Rattle.broker_service.specs.Primitives.{broker_primitives};
 ghost use Rattle.broker_service.specs.Performs.{Performs};
-ghost use Rattle.broker_service.specs.Found.{FoundGrant};
+ghost use Rattle.broker_service.specs.Facts.{GrantFacts};
 
 use crate::rules::is_office;
 use broker_core::answer::{Answer, Detail, Missing};
@@ -22,19 +22,21 @@ use table_access::StoreFault;
 
 /// Whether a team, an environment and the team's grant for it are there.
 #[derive(Clone, Copy)]
-struct Found {
+struct Facts {
     team: bool,
     environment: bool,
     grant: bool,
 }
 
 /// Whether the team and the environment are there.
-fn look_sides<S: Alter>(
+fn read_sides<S: Alter>(
     conn: &mut Connection<S>,
     team: &Name,
     environment: &Name,
 ) -> Result<(bool, bool), StoreFault>
-    ensures { Queries (state S.Store conn.old) (state S.Store conn.new) result (λ found s. (is_some (s.teams team.now) ≡ found.0) × (is_some (s.environments environment.now) ≡ found.1)) }
+    ensures { Queries (state S.Store conn.old) (state S.Store conn.new) result
+        (λ found s. (is_some (s.teams team.now) ≡ found.0)
+        × (is_some (s.environments environment.now) ≡ found.1)) }
 {
     match has_team(conn, team.as_str()) {
         Ok(has_team) => match gated(conn, environment.as_str()) {
@@ -45,12 +47,18 @@ fn look_sides<S: Alter>(
     }
 }
 
-fn look<S: Alter>(conn: &mut Connection<S>, team: &Name, environment: &Name) -> Result<Found, StoreFault>
-    ensures { Queries (state S.Store conn.old) (state S.Store conn.new) result (λ found s. FoundGrant s team.now environment.now found.team found.environment found.grant) }
+fn read_facts<S: Alter>(
+    conn: &mut Connection<S>,
+    team: &Name,
+    environment: &Name,
+) -> Result<Facts, StoreFault>
+    ensures { Queries (state S.Store conn.old) (state S.Store conn.new) result
+        (λ facts s. GrantFacts s team.now environment.now facts.team facts.environment
+        facts.grant) }
 {
-    match look_sides(conn, team, environment) {
+    match read_sides(conn, team, environment) {
         Ok((team_is, environment_is)) => match granted(conn, team.as_str(), environment.as_str()) {
-            Ok(grant) => Ok(Found {
+            Ok(grant) => Ok(Facts {
                 team: team_is,
                 environment: environment_is,
                 grant,
@@ -62,42 +70,56 @@ fn look<S: Alter>(conn: &mut Connection<S>, team: &Name, environment: &Name) -> 
 }
 
 /// The answer where no grant is added; none where it is.
-fn decide_put(alloc: Global, caller: &Caller, found: Found) -> Option<Answer>
-    ensures told { IfSome result (λ answer. (s : BrokerState) (team e : List ℕ) → FoundGrant s team e found.team found.environment found.grant → StepOfCaller broker_primitives s caller.now (PutGrant team e) (told s answer)) }
-    ensures free { IfNone result ((s : BrokerState) (team e : List ℕ) → FoundGrant s team e found.team found.environment found.grant
-        → IsTrue found.team × IsTrue found.environment × (found.grant ≡ false) × StepOfCaller broker_primitives s caller.now (PutGrant team e) (done (record s { grants = put_at (same_pair same_text same_text) s.grants (team, e) true }))) }
+fn decide_put(alloc: Global, caller: &Caller, facts: Facts) -> Option<Answer>
+    ensures unchanged { IfSome result (λ answer. (s : BrokerState) (team e : List ℕ)
+        → GrantFacts s team e facts.team facts.environment facts.grant
+        → StepOfCaller broker_primitives s caller.now (PutGrant team e)
+        (unchanged_with s answer)) }
+    ensures changes { IfNone result ((s : BrokerState) (team e : List ℕ)
+        → GrantFacts s team e facts.team facts.environment facts.grant → IsTrue facts.team
+        × IsTrue facts.environment × (facts.grant ≡ false)
+        × StepOfCaller broker_primitives s caller.now (PutGrant team e) (done
+        (record s { grants = put_at (same_pair same_text same_text) s.grants (team, e) true }))) }
 {
-    if !found.team {
+    if !facts.team {
         return Some(Answer::Unknown(Missing::Team));
     }
-    if !found.environment {
+    if !facts.environment {
         return Some(Answer::Unknown(Missing::Environment));
     }
     if !is_office(alloc, caller) {
         return Some(Answer::Denied(Rule::A2));
     }
-    if found.grant {
+    if facts.grant {
         return Some(Answer::Already(Detail::Plain));
     }
     None
 }
 
 /// The answer where no grant is taken; none where it is.
-fn decide_delete(alloc: Global, caller: &Caller, found: Found) -> Option<Answer>
-    ensures told { IfSome result (λ answer. (s : BrokerState) (team e : List ℕ) → FoundGrant s team e found.team found.environment found.grant → StepOfCaller broker_primitives s caller.now (DeleteGrant team e) (told s answer)) }
-    ensures free { IfNone result ((s : BrokerState) (team e : List ℕ) → FoundGrant s team e found.team found.environment found.grant
-        → (found.grant ≡ true) × StepOfCaller broker_primitives s caller.now (DeleteGrant team e) (done (record s { grants = put_at (same_pair same_text same_text) s.grants (team, e) false }))) }
+fn decide_delete(alloc: Global, caller: &Caller, facts: Facts) -> Option<Answer>
+    ensures unchanged { IfSome result (λ answer. (s : BrokerState) (team e : List ℕ)
+        → GrantFacts s team e facts.team facts.environment facts.grant
+        → StepOfCaller broker_primitives s caller.now (DeleteGrant team e)
+        (unchanged_with s answer)) }
+    ensures changes { IfNone result ((s : BrokerState) (team e : List ℕ)
+        → GrantFacts s team e facts.team facts.environment facts.grant → (facts.grant ≡ true)
+        × StepOfCaller broker_primitives s caller.now (DeleteGrant team e) (done
+        (record s {
+          grants = put_at (same_pair same_text same_text) s.grants
+              (team, e) false;
+        }))) }
 {
-    if !found.team {
+    if !facts.team {
         return Some(Answer::Unknown(Missing::Team));
     }
-    if !found.environment {
+    if !facts.environment {
         return Some(Answer::Unknown(Missing::Environment));
     }
     if !is_office(alloc, caller) {
         return Some(Answer::Denied(Rule::A2));
     }
-    if !found.grant {
+    if !facts.grant {
         return Some(Answer::Unknown(Missing::Grant));
     }
     None
@@ -111,10 +133,12 @@ pub(crate) fn put_grant<S: Alter>(
     team: &Name,
     environment: &Name,
 ) -> Result<Answer, StoreFault>
-    ensures { Performs (state S.Store conn.old) (state S.Store conn.new) (λ s out. StepOfCaller broker_primitives s caller.now (PutGrant team.now environment.now) out) result }
+    ensures { Performs (state S.Store conn.old) (state S.Store conn.new)
+        (λ s out. StepOfCaller broker_primitives s caller.now
+        (PutGrant team.now environment.now) out) result }
 {
-    match look(conn, team, environment) {
-        Ok(found) => match decide_put(alloc, caller, found) {
+    match read_facts(conn, team, environment) {
+        Ok(facts) => match decide_put(alloc, caller, facts) {
             Some(answer) => Ok(answer),
             None => match add_grant(conn, team.as_str(), environment.as_str()) {
                 Ok(()) => Ok(Answer::Done(Detail::Plain)),
@@ -133,10 +157,12 @@ pub(crate) fn delete_grant<S: Alter>(
     team: &Name,
     environment: &Name,
 ) -> Result<Answer, StoreFault>
-    ensures { Performs (state S.Store conn.old) (state S.Store conn.new) (λ s out. StepOfCaller broker_primitives s caller.now (DeleteGrant team.now environment.now) out) result }
+    ensures { Performs (state S.Store conn.old) (state S.Store conn.new)
+        (λ s out. StepOfCaller broker_primitives s caller.now
+        (DeleteGrant team.now environment.now) out) result }
 {
-    match look(conn, team, environment) {
-        Ok(found) => match decide_delete(alloc, caller, found) {
+    match read_facts(conn, team, environment) {
+        Ok(facts) => match decide_delete(alloc, caller, facts) {
             Some(answer) => Ok(answer),
             None => match remove_grant(conn, team.as_str(), environment.as_str()) {
                 Ok(()) => Ok(Answer::Done(Detail::Plain)),

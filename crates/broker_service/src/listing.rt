@@ -1,5 +1,5 @@
 //! The listing of an environment.
-ghost use Rattle.std.specs.Prelude.{◌≡◌, ℕ, List, Some, IsTrue};
+ghost use Rattle.std.specs.Prelude.{◌≡◌, ℕ, List, Some, IfOk, IfErr, IsTrue};
 ghost use Rattle.sqlite.specs.Held.{state};
 ghost use Rattle.broker_core.specs.Change.{unchanged_with};
 ghost use Rattle.broker_core.specs.declared.policy.Caller.{Caller as Who};
@@ -9,6 +9,7 @@ ghost use Rattle.broker_core.specs.declared.command.Command.TheVariants.{GetEnvi
 ghost use Rattle.broker_tables.specs.Holds.{Queries};
 ghost use Rattle.broker_service.specs.Primitives.{broker_primitives};
 ghost use Rattle.broker_service.specs.Performs.{Performs};
+ghost use Rattle.broker_service.specs.Facts.{shows};
 
 use crate::environments::marks_of;
 use broker_core::answer::{Answer, DeployedItem, DeployedItems, Missing, Shown, Versions};
@@ -21,12 +22,16 @@ use std::alloc::Global;
 use table_access::StoreFault;
 
 /// What is deployed and what is released in an environment.
-fn look<S: Alter>(
+fn read_lists<S: Alter>(
     alloc: Global,
     conn: &mut Connection<S>,
     environment: &Name,
 ) -> Result<(Vec<DeployedItem>, Vec<Version>), StoreFault>
-    ensures { Queries (state S.Store conn.old) (state S.Store conn.new) result (λ found s. Lists deployed_cmp (λ x. s.deployed (environment.now, x.pacticipant, x.instance) ≡ Some x.version) found.0.items × Lists version_cmp (λ v. IsTrue (s.released (environment.now, v))) found.1.items) }
+    ensures { Queries (state S.Store conn.old) (state S.Store conn.new) result
+        (λ found s. Lists deployed_cmp
+        (λ x. s.deployed (environment.now, x.pacticipant, x.instance) ≡ Some x.version)
+        found.0.items × Lists version_cmp
+        (λ v. IsTrue (s.released (environment.now, v))) found.1.items) }
 {
     match deployed(alloc, conn, environment.as_str()) {
         Ok(items) => match released(alloc, conn, environment.as_str()) {
@@ -37,6 +42,27 @@ fn look<S: Alter>(
     }
 }
 
+/// The answer that shows an environment.
+fn shown(
+    environment: &Name,
+    marks: Marks,
+    deployed: Vec<DeployedItem>,
+    released: Vec<Version>,
+) -> Result<Answer, StoreFault>
+    ensures ok { IfOk result (λ answer. answer ≡ shows environment.now marks deployed.items released.items) }
+    ensures cause { IfErr result (λ fault. fault ≡ StoreFault.Memory) }
+{
+    match environment.clone() {
+        Ok(environment) => Ok(Answer::Shown(Shown::Environment {
+            environment,
+            marks,
+            deployed: DeployedItems::new(deployed),
+            released: Versions::new(released),
+        })),
+        Err(_) => Err(StoreFault::Memory),
+    }
+}
+
 /// Shows an environment with these marks.
 fn list<S: Alter>(
     alloc: Global,
@@ -44,17 +70,15 @@ fn list<S: Alter>(
     environment: &Name,
     marks: Marks,
 ) -> Result<Answer, StoreFault>
-    ensures { Queries (state S.Store conn.old) (state S.Store conn.new) result (λ answer s. (caller : Who) → s.environments environment.now ≡ Some marks → StepOfCaller broker_primitives s caller (GetEnvironment environment.now) (told s answer)) }
+    ensures { Queries (state S.Store conn.old) (state S.Store conn.new) result
+        (λ answer s. (caller : Who) → s.environments environment.now ≡ Some marks
+        → StepOfCaller broker_primitives s caller (GetEnvironment environment.now)
+        (unchanged_with s answer)) }
 {
-    match look(alloc, conn, environment) {
-        Ok((deployed, released)) => match environment.clone() {
-            Ok(environment) => Ok(Answer::Shown(Shown::Environment {
-                environment,
-                marks,
-                deployed: DeployedItems::new(deployed),
-                released: Versions::new(released),
-            })),
-            Err(_) => Err(StoreFault::Memory),
+    match read_lists(alloc, conn, environment) {
+        Ok((deployed, released)) => match shown(environment, marks, deployed, released) {
+            Ok(answer) => Ok(answer),
+            Err(fault) => Err(fault),
         },
         Err(fault) => Err(fault),
     }
@@ -67,7 +91,9 @@ pub(crate) fn get_environment<S: Alter>(
     caller: &Caller,
     environment: &Name,
 ) -> Result<Answer, StoreFault>
-    ensures { Performs (state S.Store conn.old) (state S.Store conn.new) (λ s out. StepOfCaller broker_primitives s caller.now (GetEnvironment environment.now) out) result }
+    ensures { Performs (state S.Store conn.old) (state S.Store conn.new)
+        (λ s out. StepOfCaller broker_primitives s caller.now
+        (GetEnvironment environment.now) out) result }
 {
     match marks_of(conn, environment) {
         Ok(Some(marks)) => list(alloc, conn, environment, marks),

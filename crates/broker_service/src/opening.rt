@@ -1,7 +1,6 @@
 //! Making a broker's tables, and opening a database that a broker left.
-ghost use Rattle.std.specs.Prelude.{◌≡◌, ◌↔◌, ◌≤◌, ◌++◌, ◌∷◌, [], ℕ, List, Err, IfErr, OnOk, OnErr, IsTrue, Some, None, IfOk};
-ghost use Rattle.sqlite_trees.specs.View.{doubt};
-ghost use Rattle.sqlite.specs.State.{HasCleanDisk};
+ghost use Rattle.std.specs.Prelude.{◌≡◌, ◌↔◌, ⊤, ◌++◌, ◌∷◌, [], ℕ, List, Err, IfErr, OnOk, OnErr, IsTrue, Some, None, IfOk};
+ghost use Rattle.sqlite.specs.State.{HasCleanDisk, Survives};
 ghost use Rattle.sqlite.specs.Held.{state};
 ghost use Rattle.table_access.specs.Calls.{CallsStore};
 ghost use Rattle.table_access.specs.Durability.{HoldsDurably};
@@ -11,16 +10,17 @@ ghost use Rattle.broker_tables.specs.Schema.{no_schema, registry_part, contents,
 ghost use Rattle.broker_tables.specs.Holds.{Holds, format};
 ghost use Rattle.broker_tables.specs.Making.{IsBlank, HasTables, IsMarked};
 ghost use Rattle.broker_service.specs.Primitives.{broker_primitives};
-ghost use Rattle.broker_service.specs.Ends.{IsAsBefore, LeavesNothing};
+ghost use Rattle.broker_service.specs.Ends.{HoldsState, IsAsBefore, AddsNoCrashState};
 ghost use Rattle.broker_service.specs.Opening as spec;
-ghost use Rattle.broker_service.specs.Opening.{Turns, CallLeaves, Refuses, Spared, Judged, IsJudged, judgement};
+ghost use Rattle.broker_service.specs.Opening.{CreatesOrFails, FailsUnchanged, Refuses, IsUnchangedUnless, Judged, IsJudged, judgement};
 
 use crate::callers::digest_of;
+use crate::undo::undo;
 use broker_core::name::Token;
 use registry_tables::{format_of, is_blank, make_strict_environments};
 use sqlite::{Alter, Connection};
 use std::alloc::Global;
-use table_access::{StoreFault, commit, begin, rollback};
+use table_access::{StoreFault, begin, commit, rollback};
 use thiserror::Error;
 
 /// Why a database isn't made or opened as a broker's.
@@ -54,7 +54,10 @@ fn open_fault(fault: StoreFault) -> OpenFault
 
 /// Makes the tables of the registry, of contents and of contracts.
 fn make_first<S: Alter>(conn: &mut Connection<S>, digest: &str) -> Result<(), StoreFault>
-    ensures { CallsStore (state S.Store conn.old) (state S.Store conn.new) result (λ _. IsBlank (state S.Store conn.old).now → HasTables (registry_part ++ contents ∷ contract_part) format digest.now (state S.Store conn.new).now) }
+    ensures { CallsStore (state S.Store conn.old) (state S.Store conn.new) result
+        (λ _. IsBlank (state S.Store conn.old).now
+        → HasTables (registry_part ++ contents ∷ contract_part) format digest.now
+        (state S.Store conn.new).now) }
 {
     match registry_tables::make_tables(conn, 2, digest) {
         Ok(()) => match content_store::make_tables(conn) {
@@ -67,7 +70,11 @@ fn make_first<S: Alter>(conn: &mut Connection<S>, digest: &str) -> Result<(), St
 
 /// Makes the tables of what stands where, of evidence and of strict environments.
 fn make_rest<S: Alter>(conn: &mut Connection<S>) -> Result<(), StoreFault>
-    ensures { CallsStore (state S.Store conn.old) (state S.Store conn.new) result (λ _. (office : List ℕ) → HasTables (registry_part ++ contents ∷ contract_part) format office (state S.Store conn.old).now → HasTables all_tables format office (state S.Store conn.new).now) }
+    ensures { CallsStore (state S.Store conn.old) (state S.Store conn.new) result
+        (λ _. (office : List ℕ)
+        → HasTables (registry_part ++ contents ∷ contract_part) format office
+        (state S.Store conn.old).now
+        → HasTables all_tables format office (state S.Store conn.new).now) }
 {
     match deploy_tables::make_tables(conn) {
         Ok(()) => match contract_tables::make_checked_results(conn) {
@@ -80,7 +87,9 @@ fn make_rest<S: Alter>(conn: &mut Connection<S>) -> Result<(), StoreFault>
 
 /// Makes the indexes, once all tables are made.
 fn make_indexes<S: Alter>(conn: &mut Connection<S>) -> Result<(), StoreFault>
-    ensures { CallsStore (state S.Store conn.old) (state S.Store conn.new) result (λ _. (state S.Store conn.old).now.schema ≡ schema_of all_tables → MakesIndexes all_indexes (state S.Store conn.old).now (state S.Store conn.new).now) }
+    ensures { CallsStore (state S.Store conn.old) (state S.Store conn.new) result
+        (λ _. (state S.Store conn.old).now.schema ≡ schema_of all_tables
+        → MakesIndexes all_indexes (state S.Store conn.old).now (state S.Store conn.new).now) }
 {
     match content_store::make_index(conn) {
         Ok(()) => match contract_tables::make_indexes(conn) {
@@ -93,7 +102,9 @@ fn make_indexes<S: Alter>(conn: &mut Connection<S>) -> Result<(), StoreFault>
 
 /// Makes all tables, and then the indexes.
 fn make_all<S: Alter>(conn: &mut Connection<S>, digest: &str) -> Result<(), StoreFault>
-    ensures { CallsStore (state S.Store conn.old) (state S.Store conn.new) result (λ _. IsBlank (state S.Store conn.old).now → Holds (state S.Store conn.new).now (opening digest.now)) }
+    ensures { CallsStore (state S.Store conn.old) (state S.Store conn.new) result
+        (λ _. IsBlank (state S.Store conn.old).now
+        → Holds (state S.Store conn.new).now (opening digest.now)) }
 {
     match make_first(conn, digest) {
         Ok(()) => match make_rest(conn) {
@@ -106,9 +117,12 @@ fn make_all<S: Alter>(conn: &mut Connection<S>, digest: &str) -> Result<(), Stor
 
 /// Makes all tables in one transaction.
 fn make<S: Alter>(conn: &mut Connection<S>, digest: &str) -> Result<(), StoreFault>
-    ensures turns { HasCleanDisk (state S.Store conn.new) → HoldsDurably IsBlank (state S.Store conn.old) → Turns IsBlank (λ db. Holds db (opening digest.now)) (state S.Store conn.new) result }
-    ensures leaves { HasCleanDisk (state S.Store conn.new) → CallLeaves (state S.Store conn.old) (state S.Store conn.new) result }
-    ensures clean { doubt (state S.Store conn.old).is_clean ≤ doubt (state S.Store conn.new).is_clean }
+    ensures ends { HasCleanDisk (state S.Store conn.new) → HoldsDurably IsBlank (state S.Store conn.old)
+        → CreatesOrFails IsBlank
+        (λ db. Holds db (opening digest.now)) (state S.Store conn.new) result }
+    ensures unchanged { HasCleanDisk (state S.Store conn.new)
+        → FailsUnchanged (state S.Store conn.old) (state S.Store conn.new) result }
+    ensures survives { Survives (state S.Store conn.old) (state S.Store conn.new) (λ _. ⊤) }
 {
     match begin(conn) {
         Ok(()) => match make_all(conn, digest) {
@@ -117,11 +131,7 @@ fn make<S: Alter>(conn: &mut Connection<S>, digest: &str) -> Result<(), StoreFau
             } else {
                 Err(StoreFault::Store)
             },
-            Err(fault) => if rollback(conn) {
-                Err(fault)
-            } else {
-                Err(StoreFault::Store)
-            },
+            Err(fault) => Err(undo(conn, fault)),
         },
         Err(fault) => Err(fault),
     }
@@ -133,12 +143,20 @@ pub(crate) fn create<S: Alter>(
     conn: &mut Connection<S>,
     office: &Token,
 ) -> Result<(), OpenFault>
-    ensures made { HasCleanDisk (state S.Store conn.new) → HoldsDurably IsBlank (state S.Store conn.old) → OnOk result (HoldsDurably (λ db. Holds db (opening (broker_primitives.digest_of office.now))) (state S.Store conn.new)) }
-    ensures refuses { HasCleanDisk (state S.Store conn.new) → HoldsDurably IsBlank (state S.Store conn.old) → (state S.Store conn.old).now.schema ≡ no_schema → IfErr result (Refuses IsBlank (λ db. Holds db (opening (broker_primitives.digest_of office.now))) (state S.Store conn.new)) }
-    ensures not_empty { (result ≡ Err OpenFault.NotEmpty) ↔ (¬ ((state S.Store conn.old).now.schema ≡ no_schema)) }
+    ensures made { HasCleanDisk (state S.Store conn.new) → HoldsDurably IsBlank (state S.Store conn.old)
+        → OnOk result (HoldsState (opening (broker_primitives.digest_of office.now))
+        (state S.Store conn.new)) }
+    ensures refuses { HasCleanDisk (state S.Store conn.new) → HoldsDurably IsBlank (state S.Store conn.old)
+        → (state S.Store conn.old).now.schema ≡ no_schema
+        → IfErr result (Refuses IsBlank
+        (λ db. Holds db (opening (broker_primitives.digest_of office.now)))
+        (state S.Store conn.new)) }
+    ensures not_empty { (result ≡ Err OpenFault.NotEmpty)
+        ↔ (¬ ((state S.Store conn.old).now.schema ≡ no_schema)) }
     ensures same { result ≡ Err OpenFault.NotEmpty → conn.new ≡ conn.old }
-    ensures spares { HasCleanDisk (state S.Store conn.new) → IfErr result (Spared (state S.Store conn.old) (state S.Store conn.new)) }
-    ensures clean { doubt (state S.Store conn.old).is_clean ≤ doubt (state S.Store conn.new).is_clean }
+    ensures unchanged { HasCleanDisk (state S.Store conn.new)
+        → IfErr result (IsUnchangedUnless (state S.Store conn.old) (state S.Store conn.new)) }
+    ensures survives { Survives (state S.Store conn.old) (state S.Store conn.new) (λ _. ⊤) }
 {
     if !is_blank(conn) {
         return Err(OpenFault::NotEmpty);
@@ -152,7 +170,7 @@ pub(crate) fn create<S: Alter>(
     }
 }
 
-/// What is told by the format that was found.
+/// The judgement of a database by the format that was found.
 fn judge(found: Option<u32>) -> Result<(), OpenFault>
     ensures { result ≡ judgement found }
 {
@@ -163,15 +181,21 @@ fn judge(found: Option<u32>) -> Result<(), OpenFault>
     }
 }
 
-/// Looks for a broker's tables of this format, and changes nothing. A broker makes `meta` before each other table.
+/// Looks for a broker's tables of this format, and changes nothing. A broker makes `meta` before
+/// each other table.
 pub(crate) fn open<S: Alter>(conn: &mut Connection<S>) -> Result<(), OpenFault>
     ensures judges { HasCleanDisk (state S.Store conn.new) → IsJudged (state S.Store conn.old).now result }
-    ensures bare { HasCleanDisk (state S.Store conn.new) → HoldsDurably IsBlank (state S.Store conn.old) → Judged None result }
-    ensures marked { HasCleanDisk (state S.Store conn.new) → (n : ℕ) (office : List ℕ) → HoldsDurably (IsMarked n office) (state S.Store conn.old) → Judged (Some n) result }
-    ensures kept { HasCleanDisk (state S.Store conn.new) → OnOk result (IsAsBefore (state S.Store conn.old) (state S.Store conn.new)) }
-    ensures spares { HasCleanDisk (state S.Store conn.new) → IfErr result (Spared (state S.Store conn.old) (state S.Store conn.new)) }
-    ensures left { HasCleanDisk (state S.Store conn.new) → LeavesNothing (state S.Store conn.old) (state S.Store conn.new) }
-    ensures clean { doubt (state S.Store conn.old).is_clean ≤ doubt (state S.Store conn.new).is_clean }
+    ensures blank { HasCleanDisk (state S.Store conn.new) → HoldsDurably IsBlank (state S.Store conn.old)
+        → Judged None result }
+    ensures marked { HasCleanDisk (state S.Store conn.new) → (n : ℕ) (office : List ℕ)
+        → HoldsDurably (IsMarked n office) (state S.Store conn.old) → Judged (Some n) result }
+    ensures kept { HasCleanDisk (state S.Store conn.new)
+        → OnOk result (IsAsBefore (state S.Store conn.old) (state S.Store conn.new)) }
+    ensures unchanged { HasCleanDisk (state S.Store conn.new)
+        → IfErr result (IsUnchangedUnless (state S.Store conn.old) (state S.Store conn.new)) }
+    ensures crash { HasCleanDisk (state S.Store conn.new)
+        → AddsNoCrashState (state S.Store conn.old) (state S.Store conn.new) }
+    ensures survives { Survives (state S.Store conn.old) (state S.Store conn.new) (λ _. ⊤) }
 {
     match begin(conn) {
         Ok(()) => match format_of(conn) {
@@ -180,11 +204,7 @@ pub(crate) fn open<S: Alter>(conn: &mut Connection<S>) -> Result<(), OpenFault>
             } else {
                 Err(OpenFault::Store)
             },
-            Err(fault) => if rollback(conn) {
-                Err(open_fault(fault))
-            } else {
-                Err(OpenFault::Store)
-            },
+            Err(fault) => Err(open_fault(undo(conn, fault))),
         },
         Err(fault) => Err(open_fault(fault)),
     }

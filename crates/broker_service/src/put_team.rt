@@ -9,7 +9,7 @@ ghost use Rattle.broker_core.specs.Machine.{IsCallerOfDigest, StepOfCaller};
 ghost use Rattle.broker_tables.specs.Holds.{Queries};
 ghost use Rattle.broker_service.specs.Primitives.{broker_primitives};
 ghost use Rattle.broker_service.specs.Performs.{Performs};
-ghost use Rattle.broker_service.specs.Found.{FoundTeam, PutsTeam};
+ghost use Rattle.broker_service.specs.Facts.{TeamFacts, PutsTeam};
 ghost use Rattle.broker_core.specs.declared.command.Command.TheVariants.{PutTeam};
 
 use crate::callers::{digest_of, holder_of};
@@ -23,13 +23,14 @@ use std::alloc::Global;
 use table_access::StoreFault;
 
 /// The digest of the team's token, and who has the new one.
-fn look<S: Alter>(
+fn read_facts<S: Alter>(
     alloc: Global,
     conn: &mut Connection<S>,
     team: &Name,
     digest: &str,
 ) -> Result<(Option<String>, Option<Caller>), StoreFault>
-    ensures { Queries (state S.Store conn.old) (state S.Store conn.new) result (λ found s. FoundTeam s team.now digest.now (option_map string_bytes found.0) found.1) }
+    ensures { Queries (state S.Store conn.old) (state S.Store conn.new) result
+        (λ found s. TeamFacts s team.now digest.now (option_map string_bytes found.0) found.1) }
 {
     match registry_tables::digest_of(conn, team.as_str()) {
         Ok(old) => match holder_of(alloc, conn, digest) {
@@ -48,10 +49,16 @@ fn decide(
     digest: &str,
     holder: &Option<Caller>,
 ) -> Option<Answer>
-    ensures told { IfSome result (λ answer. (s : BrokerState) (team : List ℕ) → FoundTeam s team digest.now (option_map string_bytes old.now) holder.now → PutsTeam s caller.now team digest.now (told s answer)) }
-    ensures free { IfNone result ((s : BrokerState) (team : List ℕ) → FoundTeam s team digest.now (option_map string_bytes old.now) holder.now
-        → (s.teams team ≡ None) × PutsTeam s caller.now team digest.now (done (record s { teams = put_at same_text s.teams team (Some digest.now) }))) }
-    ensures unused { IfNone result ((s : BrokerState) → IsCallerOfDigest s digest.now holder.now → (team : List ℕ) → ¬ (s.teams team ≡ Some digest.now)) }
+    ensures unchanged { IfSome result (λ answer. (s : BrokerState) (team : List ℕ)
+        → TeamFacts s team digest.now (option_map string_bytes old.now) holder.now
+        → PutsTeam s caller.now team digest.now (unchanged_with s answer)) }
+    ensures changes { IfNone result ((s : BrokerState) (team : List ℕ)
+        → TeamFacts s team digest.now (option_map string_bytes old.now) holder.now
+        → (s.teams team ≡ None)
+        × PutsTeam s caller.now team digest.now (done
+        (record s { teams = put_at same_text s.teams team (Some digest.now) }))) }
+    ensures unused { IfNone result ((s : BrokerState) → IsCallerOfDigest s digest.now holder.now
+        → (team : List ℕ) → ¬ (s.teams team ≡ Some digest.now)) }
 {
     if !is_office(alloc, caller) {
         return Some(Answer::Denied(Rule::A2));
@@ -77,9 +84,10 @@ fn put_digest<S: Alter>(
     team: &Name,
     digest: &str,
 ) -> Result<Answer, StoreFault>
-    ensures { Performs (state S.Store conn.old) (state S.Store conn.new) (λ s out. PutsTeam s caller.now team.now digest.now out) result }
+    ensures { Performs (state S.Store conn.old) (state S.Store conn.new)
+        (λ s out. PutsTeam s caller.now team.now digest.now out) result }
 {
-    match look(alloc, conn, team, digest) {
+    match read_facts(alloc, conn, team, digest) {
         Ok((old, holder)) => match decide(alloc, caller, &old, digest, &holder) {
             Some(answer) => Ok(answer),
             None => match add_team(conn, team.as_str(), digest) {
@@ -99,7 +107,9 @@ pub(crate) fn put_team<S: Alter>(
     team: &Name,
     token: &Token,
 ) -> Result<Answer, StoreFault>
-    ensures { Performs (state S.Store conn.old) (state S.Store conn.new) (λ s out. StepOfCaller broker_primitives s caller.now (PutTeam team.now token.now) out) result }
+    ensures { Performs (state S.Store conn.old) (state S.Store conn.new)
+        (λ s out. StepOfCaller broker_primitives s caller.now (PutTeam team.now token.now) out)
+        result }
 {
     match digest_of(alloc, token.as_str()) {
         Ok(digest) => put_digest(alloc, conn, caller, team, digest.as_str()),

@@ -1,10 +1,11 @@
 //! The policy's rules, as commands ask for them.
-ghost use Rattle.std.specs.Prelude.{◌≡◌, [], IfOk, option_map, string_bytes, is_some, Some};
+ghost use Rattle.std.specs.Prelude.{◌≡◌, ◌↔◌, IfErr, IsSomeAnd, [], IfOk, option_map, string_bytes, is_some, Some};
 ghost use Rattle.sqlite.specs.Held.{state};
 ghost use Rattle.broker_core.specs.Policy.{allows, is_office};
 ghost use Rattle.broker_core.specs.Request.{has_grant};
+ghost use Rattle.broker_core.specs.Name.{IsName};
 ghost use Rattle.broker_tables.specs.Holds.{Queries};
-ghost use Rattle.broker_service.specs.Found.{owners_of, FoundOwner};
+ghost use Rattle.broker_service.specs.Facts.{owners_of, OwnerFacts};
 
 use crate::callers::stored_name;
 use broker_core::name::Name;
@@ -28,27 +29,34 @@ pub(crate) fn is_office(alloc: Global, caller: &Caller) -> bool
 
 /// The team that owns a pacticipant, as the policy asks for it.
 fn owners(alloc: Global, owner: &Option<String>) -> Result<Vec<Name>, StoreFault>
-    ensures { IfOk result (λ owners. owners.items ≡ owners_of (option_map string_bytes owner.now)) }
+    ensures ok { IfOk result (λ owners. owners.items ≡ owners_of (option_map string_bytes owner.now)) }
+    ensures cause { IfErr result (λ fault. (fault ≡ StoreFault.Store)
+        ↔ IsSomeAnd owner.now (λ text. ¬ (IsName (string_bytes text)))) }
 {
     let mut owners = Vec::new(alloc);
     if let Some(owner) = owner {
-        let owner = stored_name(alloc, owner.as_str())?;
-        if owners.push(owner).is_err() {
-            return Err(StoreFault::Memory);
+        match stored_name(alloc, owner.as_str()) {
+            Ok(name) => if owners.push(name).is_err() {
+                return Err(StoreFault::Memory);
+            },
+            Err(fault) => return Err(fault),
         }
     }
     Ok(owners)
 }
 
-/// Whether the rule lets the caller, for the pacticipant that this team owns, with a grant or without.
-fn may(
+/// Whether the rule lets the caller, for the pacticipant that this team owns, with a grant or
+/// without.
+fn is_allowed(
     alloc: Global,
     caller: &Caller,
     rule: Rule,
     owner: &Option<String>,
     granted: bool,
 ) -> Result<bool, StoreFault>
-    ensures { IfOk result (λ may. may ≡ allows rule caller.now (owners_of (option_map string_bytes owner.now)) granted) }
+    ensures { IfOk result (λ is_allowed.
+        is_allowed ≡ allows rule caller.now
+        (owners_of (option_map string_bytes owner.now)) granted) }
 {
     let owners = owners(alloc, owner)?;
     let ask = Ask {
@@ -60,7 +68,7 @@ fn may(
 }
 
 /// Whether the pacticipant is there, and whether the rule lets the caller.
-pub(crate) fn look_owner<S: Alter>(
+pub(crate) fn read_owner<S: Alter>(
     alloc: Global,
     conn: &mut Connection<S>,
     caller: &Caller,
@@ -68,11 +76,12 @@ pub(crate) fn look_owner<S: Alter>(
     pacticipant: &Name,
     granted: bool,
 ) -> Result<(bool, bool), StoreFault>
-    ensures { Queries (state S.Store conn.old) (state S.Store conn.new) result (λ found s. FoundOwner s caller.now rule pacticipant.now granted found.0 found.1) }
+    ensures { Queries (state S.Store conn.old) (state S.Store conn.new) result
+        (λ found s. OwnerFacts s caller.now rule pacticipant.now granted found.0 found.1) }
 {
     match owner_of(conn, pacticipant.as_str()) {
-        Ok(owner) => match may(alloc, caller, rule, &owner, granted) {
-            Ok(may) => Ok((owner.is_some(), may)),
+        Ok(owner) => match is_allowed(alloc, caller, rule, &owner, granted) {
+            Ok(is_allowed) => Ok((owner.is_some(), is_allowed)),
             Err(fault) => Err(fault),
         },
         Err(fault) => Err(fault),
@@ -80,12 +89,13 @@ pub(crate) fn look_owner<S: Alter>(
 }
 
 /// Whether the caller is a team with a grant for the environment.
-pub(crate) fn look_grant<S: Alter>(
+pub(crate) fn read_grant<S: Alter>(
     conn: &mut Connection<S>,
     caller: &Caller,
     environment: &Name,
 ) -> Result<bool, StoreFault>
-    ensures { Queries (state S.Store conn.old) (state S.Store conn.new) result (λ has s. has ≡ has_grant s caller.now (Some environment.now)) }
+    ensures { Queries (state S.Store conn.old) (state S.Store conn.new) result
+        (λ has s. has ≡ has_grant s caller.now (Some environment.now)) }
 {
     match caller {
         Caller::Team(team) => granted(conn, team.as_str(), environment.as_str()),

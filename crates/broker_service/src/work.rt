@@ -1,34 +1,41 @@
 //! A command inside its transaction, and the transaction round it.
-ghost use Rattle.std.specs.Prelude.{◌≡◌, ◌≤◌, ◌↔◌, IsTrue, option_map};
-ghost use Rattle.sqlite_trees.specs.View.{doubt};
-ghost use Rattle.sqlite.specs.State.{HasCleanDisk};
+ghost use Rattle.std.specs.Prelude.{◌≡◌, ◌↔◌, ⊤, IsTrue, IfOk, IfErr, option_map};
+ghost use Rattle.sqlite.specs.State.{HasCleanDisk, Survives};
 ghost use Rattle.sqlite.specs.Held.{state};
-ghost use Rattle.table_access.specs.Durability.{HoldsDurably};
 ghost use Rattle.broker_core.specs.State.{State as BrokerState};
 ghost use Rattle.broker_core.specs.Laws.{IsDone};
-ghost use Rattle.broker_core.specs.Machine.{StepOfCaller, Step};
-ghost use Rattle.broker_tables.specs.Holds.{Holds};
-ghost use Rattle.broker_service.specs.Primitives.{broker_primitives};
-ghost use Rattle.broker_service.specs.Performs.{Performs};
-ghost use Rattle.broker_service.specs.Served.{IsServed, HasNoContract};
-ghost use Rattle.broker_service.specs.Ends.{Ends, Spares};
+ghost use Rattle.broker_core.specs.declared.answer.Answer.TheVariants.{BadForm};
+ghost use Rattle.broker_service.specs.Performs.{Performs, CallersStep, TokensStep};
+ghost use Rattle.broker_service.specs.Served.{IsServed, HasNoNeeds};
+ghost use Rattle.broker_service.specs.Ends.{Ends, HoldsState, IsUnchangedUnless};
 
 use crate::callers::caller_of;
 use crate::deploy::deploy;
 use crate::environments::put_environment;
-use crate::forms::same_fault;
 use crate::grants::{delete_grant, put_grant};
 use crate::listing::get_environment;
 use crate::put_pacticipant::put_pacticipant;
 use crate::put_team::put_team;
+use crate::undo::undo;
 use crate::versions::put_version;
 use answer_texts::Answer;
-use broker_core::answer::Answer as Told;
-use broker_core::command::Command;
+use broker_core::answer::Answer as Outcome;
+use broker_core::command::{Command, FormFault};
 use broker_core::policy::{Caller, Rule};
 use sqlite::{Alter, Connection};
 use std::alloc::Global;
-use table_access::{StoreFault, commit, begin, rollback};
+use table_access::{StoreFault, begin, commit, rollback};
+
+/// The answer to a command whose form is at fault.
+fn bad_form(fault: &FormFault) -> Result<Outcome, StoreFault>
+    ensures ok { IfOk result (λ outcome. outcome ≡ BadForm fault.now) }
+    ensures cause { IfErr result (λ e. e ≡ StoreFault.Memory) }
+{
+    match fault.clone() {
+        Ok(fault) => Ok(Outcome::BadForm(fault)),
+        Err(_) => Err(StoreFault::Memory),
+    }
+}
 
 /// What a known caller's command does.
 fn follow<S: Alter>(
@@ -36,9 +43,10 @@ fn follow<S: Alter>(
     conn: &mut Connection<S>,
     caller: &Caller,
     command: &Command,
-) -> Result<Told, StoreFault>
+) -> Result<Outcome, StoreFault>
     requires { IsServed command.now }
-    ensures { Performs (state S.Store conn.old) (state S.Store conn.new) (λ s out. HasNoContract s → StepOfCaller broker_primitives s caller.now command.now out) result }
+    ensures { Performs (state S.Store conn.old) (state S.Store conn.new)
+        (CallersStep caller.now command.now) result }
 {
     match command {
         Command::PutTeam { team, token } => put_team(alloc, conn, caller, team, token),
@@ -84,28 +92,40 @@ fn follow<S: Alter>(
             caller,
             environment,
         ),
-        Command::Malformed(fault) => match same_fault(alloc, fault) {
-            Ok(fault) => Ok(Told::BadForm(fault)),
-            Err(_) => Err(StoreFault::Memory),
+        Command::Malformed(fault) => match bad_form(fault) {
+            Ok(outcome) => Ok(outcome),
+            Err(fault) => Err(fault),
         },
         _ => Err(StoreFault::Store),
     }
 }
 
-/// What a command tells, by the caller of its token.
-fn told<S: Alter>(
+/// The step of a command, by the caller of its token.
+fn step_of<S: Alter>(
     alloc: Global,
     conn: &mut Connection<S>,
     token: Option<&str>,
     command: &Command,
-) -> Result<Told, StoreFault>
+) -> Result<Outcome, StoreFault>
     requires { IsServed command.now }
-    ensures { Performs (state S.Store conn.old) (state S.Store conn.new) (λ s out. HasNoContract s → Step broker_primitives s (option_map (λ text. text.now) token.entry) command.now out) result }
+    ensures { Performs (state S.Store conn.old) (state S.Store conn.new) (TokensStep (option_map
+        (λ text. text.now) token.entry) command.now) result }
 {
     match caller_of(alloc, conn, token) {
         Ok(Some(caller)) => follow(alloc, conn, &caller, command),
-        Ok(None) => Ok(Told::Denied(Rule::A1)),
+        Ok(None) => Ok(Outcome::Denied(Rule::A1)),
         Err(fault) => Err(fault),
+    }
+}
+
+/// The answer with its body.
+fn answer_of(alloc: Global, outcome: Outcome) -> Result<Answer, StoreFault>
+    ensures ok { IfOk result (λ answer. answer ≡ outcome) }
+    ensures cause { IfErr result (λ e. e ≡ StoreFault.Memory) }
+{
+    match Answer::new(alloc, outcome) {
+        Ok(answer) => Ok(answer),
+        Err(_) => Err(StoreFault::Memory),
     }
 }
 
@@ -117,12 +137,13 @@ fn work<S: Alter>(
     command: &Command,
 ) -> Result<Answer, StoreFault>
     requires { IsServed command.now }
-    ensures { Performs (state S.Store conn.old) (state S.Store conn.new) (λ s out. HasNoContract s → Step broker_primitives s (option_map (λ text. text.now) token.entry) command.now out) result }
+    ensures { Performs (state S.Store conn.old) (state S.Store conn.new) (TokensStep (option_map
+        (λ text. text.now) token.entry) command.now) result }
 {
-    match told(alloc, conn, token, command) {
-        Ok(told) => match Answer::new(alloc, told) {
+    match step_of(alloc, conn, token, command) {
+        Ok(outcome) => match answer_of(alloc, outcome) {
             Ok(answer) => Ok(answer),
-            Err(_) => Err(StoreFault::Memory),
+            Err(fault) => Err(fault),
         },
         Err(fault) => Err(fault),
     }
@@ -132,10 +153,11 @@ fn work<S: Alter>(
 fn is_done(answer: &Answer) -> bool
     ensures { IsTrue result ↔ IsDone answer.now }
 {
-    matches!(answer.told(), Told::Done(_))
+    matches!(answer.outcome(), Outcome::Done(_))
 }
 
-/// One command in one transaction. It is committed where something was done, else it is rolled back.
+/// One command in one transaction. It is committed where something was done, else it is rolled
+/// back.
 pub(crate) fn transact<S: Alter>(
     alloc: Global,
     conn: &mut Connection<S>,
@@ -143,10 +165,13 @@ pub(crate) fn transact<S: Alter>(
     command: &Command,
 ) -> Result<Answer, StoreFault>
     requires { IsServed command.now }
-    ensures ends { HasCleanDisk (state S.Store conn.new) → (s : BrokerState) → HasNoContract s → HoldsDurably (λ db. Holds db s) (state S.Store conn.old)
-        → Ends s (option_map (λ text. text.now) token.entry) command.now (state S.Store conn.new) result }
-    ensures spares { HasCleanDisk (state S.Store conn.new) → Spares (state S.Store conn.old) (state S.Store conn.new) result }
-    ensures clean { doubt (state S.Store conn.old).is_clean ≤ doubt (state S.Store conn.new).is_clean }
+    ensures ends { HasCleanDisk (state S.Store conn.new) → (s : BrokerState) → HasNoNeeds s command.now
+        → HoldsState s (state S.Store conn.old)
+        → Ends s (option_map (λ text.
+        text.now) token.entry) command.now (state S.Store conn.new) result }
+    ensures unchanged { HasCleanDisk (state S.Store conn.new)
+        → IsUnchangedUnless (state S.Store conn.old) (state S.Store conn.new) result }
+    ensures survives { Survives (state S.Store conn.old) (state S.Store conn.new) (λ _. ⊤) }
 {
     match begin(conn) {
         Ok(()) => match work(alloc, conn, token, command) {
@@ -163,11 +188,7 @@ pub(crate) fn transact<S: Alter>(
                     Err(StoreFault::Store)
                 }
             },
-            Err(fault) => if rollback(conn) {
-                Err(fault)
-            } else {
-                Err(StoreFault::Store)
-            },
+            Err(fault) => Err(undo(conn, fault)),
         },
         Err(fault) => Err(fault),
     }

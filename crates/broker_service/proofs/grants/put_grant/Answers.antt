@@ -12,9 +12,9 @@ use Rattle.broker_service.proofs.grants.put_grant.Goals as goal
 
 pub returns-in-Ok-add_grant : goal.returns-in-Ok-add_grant
 returns-in-Ok-add_grant g c =
-    changed_then (state g.S.Store c.args.conn.now) (state g.S.Store c.look.new.conn) (state g.S.Store c.add_grant.new.conn) c.in-Ok.found c.in-Ok-add_grant.field-0 (Done Plain) _ _
+    changed_then (state g.S.Store c.args.conn.now) (state g.S.Store c.read_facts.new.conn) (state g.S.Store c.add_grant.new.conn) c.in-Ok.facts c.in-Ok-add_grant.field-0 (Done Plain) _ _
     (λ s out. StepOfCaller broker_primitives s c.args.caller.now (PutGrant c.args.team.now c.args.environment.now) out)
-    (λ s h. let it = c.in-None.ensures.free s c.args.team.now c.args.environment.now h in
+    (λ s h. let it = c.in-None.ensures.changes s c.args.team.now c.args.environment.now h in
     let team_is : is_some (s.teams c.as_str.result.now) ≡ true = ap (λ t. is_some (s.teams t)) c.as_str.ensures ∙ h.team_is ∙ it.0 in
     let environment_is : is_some (s.environments c.as_str-in-None.result.now) ≡ true = ap (λ e. is_some (s.environments e)) c.as_str-in-None.ensures ∙ h.environment_is ∙ it.1 in
     let grant_is : s.grants (c.as_str.result.now, c.as_str-in-None.result.now) ≡ false = ap (λ (k : Text × Text). s.grants k) (λ i. (c.as_str.ensures i, c.as_str-in-None.ensures i)) ∙ h.grant_is ∙ it.2 in (

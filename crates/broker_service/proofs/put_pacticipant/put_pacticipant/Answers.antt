@@ -7,19 +7,19 @@ use Rattle.broker_core.specs.declared.command.Command.TheVariants.{PutPacticipan
 use Rattle.broker_core.specs.declared.answer.Answer.TheVariants.{Done}
 use Rattle.broker_core.specs.declared.answer.Detail.TheVariants.{Plain}
 use Rattle.broker_service.specs.Primitives.{broker_primitives}
-use Rattle.broker_service.proofs.PerformLemmas.{told_then, changed_then}
+use Rattle.broker_service.proofs.PerformLemmas.{answered_then, changed_then}
 use Rattle.broker_service.proofs.put_pacticipant.put_pacticipant.Goals as goal
 
 pub returns-in-Some : goal.returns-in-Some
 returns-in-Some g c =
-    told_then (state g.S.Store c.args.conn.now) (state g.S.Store c.look.new.conn) _ c.in-Some.answer _ (λ s out. StepOfCaller broker_primitives s c.args.caller.now (PutPacticipant c.args.pacticipant.now c.args.team.now) out)
-    (λ s h. c.in-Some.ensures.told s c.args.pacticipant.now h) c.in-Ok.ensures
+    answered_then (state g.S.Store c.args.conn.now) (state g.S.Store c.read_facts.new.conn) _ c.in-Some.answer _ (λ s out. StepOfCaller broker_primitives s c.args.caller.now (PutPacticipant c.args.pacticipant.now c.args.team.now) out)
+    (λ s h. c.in-Some.ensures.unchanged s c.args.pacticipant.now h) c.in-Ok.ensures
 
 pub returns-in-Ok-add_pacticipant : goal.returns-in-Ok-add_pacticipant
 returns-in-Ok-add_pacticipant g c =
-    changed_then (state g.S.Store c.args.conn.now) (state g.S.Store c.look.new.conn) (state g.S.Store c.add_pacticipant.new.conn) _ c.in-Ok-add_pacticipant.field-0 (Done Plain) _ _
+    changed_then (state g.S.Store c.args.conn.now) (state g.S.Store c.read_facts.new.conn) (state g.S.Store c.add_pacticipant.new.conn) _ c.in-Ok-add_pacticipant.field-0 (Done Plain) _ _
     (λ s out. StepOfCaller broker_primitives s c.args.caller.now (PutPacticipant c.args.pacticipant.now c.args.team.now) out)
-    (λ s h. let it = c.in-None.ensures.free s c.args.pacticipant.now h in (
+    (λ s h. let it = c.in-None.ensures.changes s c.args.pacticipant.now h in (
       record s { pacticipants = put_at same_text s.pacticipants c.args.pacticipant.now (Some c.args.team.now) },
       (ap s.pacticipants c.as_str.ensures ∙ it.0, ap (λ t. is_some (s.teams t)) c.as_str-in-None.ensures ∙ it.1, λ i. record s { pacticipants = put_at same_text s.pacticipants (sym c.as_str.ensures i) (Some (sym c.as_str-in-None.ensures i)) }),
       it.2,

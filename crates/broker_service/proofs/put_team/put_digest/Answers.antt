@@ -4,21 +4,21 @@ use Rattle.broker_core.specs.Text.{put_at, same_text, Text}
 use Rattle.broker_core.specs.declared.answer.Answer.TheVariants.{Done}
 use Rattle.broker_core.specs.declared.answer.Detail.TheVariants.{Plain}
 use Rattle.table_access.proofs.CallLemmas.{failed_then}
-use Rattle.broker_service.specs.Found.{PutsTeam}
-use Rattle.broker_service.proofs.PerformLemmas.{told_then, changed_then}
+use Rattle.broker_service.specs.Facts.{PutsTeam}
+use Rattle.broker_service.proofs.PerformLemmas.{answered_then, changed_then}
 use Rattle.broker_service.proofs.put_team.put_digest.Goals as goal
 
 pub returns-in-Some : goal.returns-in-Some
-returns-in-Some g c = told_then (state g.S.Store c.args.conn.now) (state g.S.Store c.look.new.conn) _ c.in-Some.answer _ (λ s out. PutsTeam s c.args.caller.now c.args.team.now c.args.digest.now out) (λ s h. c.in-Some.ensures.told s c.args.team.now h) c.in-Ok.ensures
+returns-in-Some g c = answered_then (state g.S.Store c.args.conn.now) (state g.S.Store c.read_facts.new.conn) _ c.in-Some.answer _ (λ s out. PutsTeam s c.args.caller.now c.args.team.now c.args.digest.now out) (λ s h. c.in-Some.ensures.unchanged s c.args.team.now h) c.in-Ok.ensures
 
 pub returns-in-Ok-add_team : goal.returns-in-Ok-add_team
 returns-in-Ok-add_team g c =
-    changed_then (state g.S.Store c.args.conn.now) (state g.S.Store c.look.new.conn) (state g.S.Store c.add_team.new.conn) _ c.in-Ok-add_team.field-0 (Done Plain) _ _ (λ s out. PutsTeam s c.args.caller.now c.args.team.now c.args.digest.now out)
-    (λ s h. let it = c.in-None.ensures.free s c.args.team.now h in (
+    changed_then (state g.S.Store c.args.conn.now) (state g.S.Store c.read_facts.new.conn) (state g.S.Store c.add_team.new.conn) _ c.in-Ok-add_team.field-0 (Done Plain) _ _ (λ s out. PutsTeam s c.args.caller.now c.args.team.now c.args.digest.now out)
+    (λ s h. let it = c.in-None.ensures.changes s c.args.team.now h in (
       record s { teams = put_at same_text s.teams c.args.team.now (Some c.args.digest.now) },
       (ap s.teams c.as_str.ensures ∙ it.0, c.in-None.ensures.unused s h.1, ap (λ (team : Text). record s { teams = put_at same_text s.teams team (Some c.args.digest.now) }) (sym c.as_str.ensures)),
       it.1,
     )) c.in-Ok.ensures c.in-Ok-add_team.ensures
 
 pub returns-in-Ok : goal.returns-in-Ok
-returns-in-Ok g c = failed_then (state g.S.Store c.args.conn.now) (state g.S.Store c.look.new.conn) (state g.S.Store c.add_team.new.conn) (c.in-Ok.old, c.in-Ok.holder) c.in-Err-add_team.fault _ _ _ c.in-Ok.ensures c.in-Err-add_team.ensures.call
+returns-in-Ok g c = failed_then (state g.S.Store c.args.conn.now) (state g.S.Store c.read_facts.new.conn) (state g.S.Store c.add_team.new.conn) (c.in-Ok.old, c.in-Ok.holder) c.in-Err-add_team.fault _ _ _ c.in-Ok.ensures c.in-Err-add_team.ensures.call

@@ -7,4 +7,4 @@ use Rattle.broker_service.proofs.put_team.put_team.Goals as goal
 pub returns-in-Ok : goal.returns-in-Ok
 returns-in-Ok g c =
     call_with (state g.S.Store c.args.conn.now) (state g.S.Store c.put_digest.new.conn) c.put_digest.result _ _
-    (λ answer h s held. let it = h s held in (it.0, it.1 c.args.token.now (c.as_str-in-Ok.ensures.value ∙ c.in-Ok.ensures ∙ ap broker_primitives.digest_of c.as_str.ensures), it.2)) c.put_digest.ensures
+    (λ answer h s held. let it = h s held in (it.0, it.1 c.args.token.now (c.as_str-in-Ok.ensures.value ∙ c.in-Ok.ensures.ok ∙ ap broker_primitives.digest_of c.as_str.ensures), it.2)) c.put_digest.ensures

@@ -11,13 +11,13 @@ use Rattle.broker_core.proofs.StepLemmas.{step_answers}
 use Rattle.broker_core.proofs.Quiet.{only_done_changes}
 use Rattle.broker_tables.specs.Holds.{Holds}
 use Rattle.broker_service.specs.Primitives.{broker_primitives}
-use Rattle.broker_service.specs.Ends.{Ends, HoldsNext, IsAsBefore}
-use Rattle.broker_service.proofs.Transaction.{not_begun, commit_left, nothing_left, rolled_back, keeps_on, unsure_on}
+use Rattle.broker_service.specs.Ends.{Ends, HoldsNext, HoldsState, IsAsBefore}
+use Rattle.broker_service.proofs.Transaction.{outlives, outlives_one, not_begun, commit_left, nothing_left, rolled_back, keeps_on, unsure_on}
 use Rattle.broker_service.proofs.Unpublished.{unpublished_step}
 use Rattle.broker_service.proofs.work.transact.Goals as goal
 
 pub returns-then-commit-clause-ends : goal.returns-then-commit-clause-ends
-returns-then-commit-clause-ends g c clean s unpublished keeps =
+returns-then-commit-clause-ends g c clean s nothing keeps =
     let old = state g.S.Store c.args.conn.now in
     let mid = state g.S.Store c.begin.new.conn in
     let done = state g.S.Store c.work.new.conn in
@@ -28,14 +28,14 @@ returns-then-commit-clause-ends g c clean s unpublished keeps =
     let next = c.in-Ok-work.ensures.ok done_clean s (begins (λ db. Holds db s) old mid begun keeps) in
     record {
       next = next.0;
-      step = (next.1 unpublished);
-      tells = step_answers broker_primitives s _ _ _ (next.1 unpublished);
-      unpublished = unpublished_step broker_primitives s (option_map (λ (text : Bor (List ℕ)). text.now) c.args.token) c.args.command.now (record { answer = c.in-Ok-work.answer; state = next.0 }) c.requires unpublished (next.1 unpublished);
+      step = (next.1 nothing);
+      is_machines = step_answers broker_primitives s _ _ _ (next.1 nothing);
+      unpublished = λ none. unpublished_step broker_primitives s (option_map (λ (text : Bor (List ℕ)). text.now) c.args.token) c.args.command.now (record { answer = c.in-Ok-work.answer; state = next.0 }) c.requires none (next.1 nothing);
       keeps = commits (λ db. Holds db next.0) done new (c.if-commit.ensures.done clean refl) c.commit.ensures.live (λ db now may. g.met.S.Store.settled _ db now may) next.2;
     }
 
 pub returns-else-commit-clause-ends : goal.returns-else-commit-clause-ends
-returns-else-commit-clause-ends g c clean s unpublished keeps =
+returns-else-commit-clause-ends g c clean s nothing keeps =
     let old = state g.S.Store c.args.conn.now in
     let mid = state g.S.Store c.begin.new.conn in
     let done = state g.S.Store c.work.new.conn in
@@ -46,10 +46,10 @@ returns-else-commit-clause-ends g c clean s unpublished keeps =
     let next = c.in-Ok-work.ensures.ok done_clean s (begins (λ db. Holds db s) old mid begun keeps) in
     refused (λ db. Holds db s) old mid done (Ok c.in-Ok-work.answer) _ keeps begun c.begin.ensures.survives c.in-Ok-work.ensures done_clean new (HoldsNext s (option_map (λ (text : Bor (List ℕ)). text.now) c.args.token) c.args.command.now)
     ((c.in-Ok-work.ensures.goes_on done_clean begun.1.mode).1 begun.1.is_open) c.commit.ensures.live (λ db now may. g.met.S.Store.settled _ db now may) (c.if-commit.ensures.refused clean refl) clean c.commit.ensures.survives
-    (c.in-Ok-work.answer, next.0, (next.1 unpublished), unpublished_step broker_primitives s (option_map (λ (text : Bor (List ℕ)). text.now) c.args.token) c.args.command.now (record { answer = c.in-Ok-work.answer; state = next.0 }) c.requires unpublished (next.1 unpublished), next.2)
+    (c.in-Ok-work.answer, next.0, (next.1 nothing), (λ none. unpublished_step broker_primitives s (option_map (λ (text : Bor (List ℕ)). text.now) c.args.token) c.args.command.now (record { answer = c.in-Ok-work.answer; state = next.0 }) c.requires none (next.1 nothing)), next.2)
 
 pub returns-then-rollback-clause-ends : goal.returns-then-rollback-clause-ends
-returns-then-rollback-clause-ends g c clean s unpublished keeps =
+returns-then-rollback-clause-ends g c clean s nothing keeps =
     let old = state g.S.Store c.args.conn.now in
     let mid = state g.S.Store c.begin.new.conn in
     let done = state g.S.Store c.work.new.conn in
@@ -58,18 +58,18 @@ returns-then-rollback-clause-ends g c clean s unpublished keeps =
     let mid_clean : HasCleanDisk mid = omega (arith, c.work.ensures.survives.clean, done_clean) in
     let begun = c.in-Ok.ensures.begun mid_clean in
     let next = c.in-Ok-work.ensures.ok done_clean s (begins (λ db. Holds db s) old mid begun keeps) in
-    let before = rolled_back old mid done (Ok c.in-Ok-work.answer) _ begun c.begin.ensures.survives c.in-Ok-work.ensures done_clean new (c.if-leave.ensures.left clean refl) (c.rollback.ensures.commit clean) clean c.rollback.ensures.survives in
-    let same : next.0 ≡ s = elim (only_done_changes broker_primitives s (option_map (λ (text : Bor (List ℕ)). text.now) c.args.token) c.args.command.now (record { answer = c.in-Ok-work.answer; state = next.0 }) (next.1 unpublished)) [ inl still ↦ still | inr is_done ↦ absurd (let yes = c.is_done.ensures.1 is_done in cc) ] in
+    let before = rolled_back old mid done (Ok c.in-Ok-work.answer) _ begun c.begin.ensures.survives c.in-Ok-work.ensures done_clean new (c.rollback.ensures.over clean) (c.rollback.ensures.commit clean) clean c.rollback.ensures.survives in
+    let same : next.0 ≡ s = elim (only_done_changes broker_primitives s (option_map (λ (text : Bor (List ℕ)). text.now) c.args.token) c.args.command.now (record { answer = c.in-Ok-work.answer; state = next.0 }) (next.1 nothing)) [ inl still ↦ still | inr is_done ↦ absurd (let yes = c.is_done.ensures.1 is_done in cc) ] in
     record {
       next = s;
-      step = subst (λ (t : Broker). Step broker_primitives s (option_map (λ (text : Bor (List ℕ)). text.now) c.args.token) c.args.command.now (record { answer = c.in-Ok-work.answer; state = t })) same (next.1 unpublished);
-      tells = step_answers broker_primitives s _ _ _ (next.1 unpublished);
-      unpublished = unpublished;
+      step = subst (λ (t : Broker). Step broker_primitives s (option_map (λ (text : Bor (List ℕ)). text.now) c.args.token) c.args.command.now (record { answer = c.in-Ok-work.answer; state = t })) same (next.1 nothing);
+      is_machines = step_answers broker_primitives s _ _ _ (next.1 nothing);
+      unpublished = λ none. none;
       keeps = keeps_on (λ db. Holds db s) old new before keeps;
     }
 
 pub returns-else-rollback-clause-ends : goal.returns-else-rollback-clause-ends
-returns-else-rollback-clause-ends g c clean s unpublished keeps =
+returns-else-rollback-clause-ends g c clean s nothing keeps =
     let old = state g.S.Store c.args.conn.now in
     let mid = state g.S.Store c.begin.new.conn in
     let done = state g.S.Store c.work.new.conn in
@@ -81,28 +81,66 @@ returns-else-rollback-clause-ends g c clean s unpublished keeps =
     (commit_left old mid done (Ok c.in-Ok-work.answer) _ begun c.begin.ensures.survives c.in-Ok-work.ensures done_clean new (c.rollback.ensures.commit clean))
     (nothing_left old mid done (Ok c.in-Ok-work.answer) _ begun c.begin.ensures.survives c.in-Ok-work.ensures done_clean new clean c.rollback.ensures.survives) keeps
 
-pub returns-then-rollback-2-clause-ends : goal.returns-then-rollback-2-clause-ends
-returns-then-rollback-2-clause-ends g c clean s unpublished keeps =
+pub returns-in-Err-work-clause-ends : goal.returns-in-Err-work-clause-ends
+returns-in-Err-work-clause-ends g c clean s nothing keeps =
     let old = state g.S.Store c.args.conn.now in
     let mid = state g.S.Store c.begin.new.conn in
     let done = state g.S.Store c.work.new.conn in
-    let new = state g.S.Store c.rollback-in-Err-work.new.conn in
-    let done_clean : HasCleanDisk done = omega (arith, c.rollback-in-Err-work.ensures.survives.clean, clean) in
+    let new = state g.S.Store c.undo.new.conn in
+    let done_clean : HasCleanDisk done = omega (arith, c.undo.ensures.survives.clean, clean) in
     let mid_clean : HasCleanDisk mid = omega (arith, c.work.ensures.survives.clean, done_clean) in
     let begun = c.in-Ok.ensures.begun mid_clean in
-    let before = rolled_back old mid done (Err c.in-Err-work.fault) _ begun c.begin.ensures.survives c.in-Err-work.ensures done_clean new (c.if-rollback-2.ensures.left clean refl) (c.rollback-in-Err-work.ensures.commit clean) clean c.rollback-in-Err-work.ensures.survives in
-    go c.in-Err-work.fault (keeps_on (λ db. Holds db s) old new before keeps)
+    let before = rolled_back old mid done (Err c.in-Err-work.fault) _ begun c.begin.ensures.survives c.in-Err-work.ensures done_clean new (c.undo.ensures.over clean) (c.undo.ensures.commit clean) clean c.undo.ensures.survives in
+    go c.undo.result (keeps_on (λ db. Holds db s) old new before keeps)
   where
-    go : (fault : StoreFault) → HoldsDurably (λ db. Holds db s) (state g.S.Store c.rollback-in-Err-work.new.conn) → Ends s (option_map (λ (text : Bor (List ℕ)). text.now) c.args.token) c.args.command.now (state g.S.Store c.rollback-in-Err-work.new.conn) (Err fault)
+    go : (fault : StoreFault) → HoldsState s (state g.S.Store c.undo.new.conn) → Ends s (option_map (λ (text : Bor (List ℕ)). text.now) c.args.token) c.args.command.now (state g.S.Store c.undo.new.conn) (Err fault)
     go Memory it = it
     go Store it = keeps_unsure (λ db. Holds db s) _ _ it
 
 pub returns-in-Err-clause-ends : goal.returns-in-Err-clause-ends
-returns-in-Err-clause-ends g c clean s unpublished keeps =
+returns-in-Err-clause-ends g c clean s nothing keeps =
     let old = state g.S.Store c.args.conn.now in
     let new = state g.S.Store c.begin.new.conn in
     go c.in-Err.fault (keeps_on (λ db. Holds db s) old new (not_begun old new (c.in-Err.ensures.refused clean) c.begin.ensures.survives clean) keeps)
   where
-    go : (fault : StoreFault) → HoldsDurably (λ db. Holds db s) (state g.S.Store c.begin.new.conn) → Ends s (option_map (λ (text : Bor (List ℕ)). text.now) c.args.token) c.args.command.now (state g.S.Store c.begin.new.conn) (Err fault)
+    go : (fault : StoreFault) → HoldsState s (state g.S.Store c.begin.new.conn) → Ends s (option_map (λ (text : Bor (List ℕ)). text.now) c.args.token) c.args.command.now (state g.S.Store c.begin.new.conn) (Err fault)
     go Memory it = it
     go Store it = keeps_unsure (λ db. Holds db s) _ _ it
+
+pub returns-then-commit-clause-survives : goal.returns-then-commit-clause-survives
+returns-then-commit-clause-survives g c =
+    let old = state g.S.Store c.args.conn.now in
+    let mid = state g.S.Store c.begin.new.conn in
+    let done = state g.S.Store c.work.new.conn in
+    outlives old done (state g.S.Store c.commit.new.conn) (outlives old mid done c.begin.ensures.survives c.work.ensures.survives) c.commit.ensures.survives
+
+pub returns-else-commit-clause-survives : goal.returns-else-commit-clause-survives
+returns-else-commit-clause-survives g c =
+    let old = state g.S.Store c.args.conn.now in
+    let mid = state g.S.Store c.begin.new.conn in
+    let done = state g.S.Store c.work.new.conn in
+    outlives old done (state g.S.Store c.commit.new.conn) (outlives old mid done c.begin.ensures.survives c.work.ensures.survives) c.commit.ensures.survives
+
+pub returns-then-rollback-clause-survives : goal.returns-then-rollback-clause-survives
+returns-then-rollback-clause-survives g c =
+    let old = state g.S.Store c.args.conn.now in
+    let mid = state g.S.Store c.begin.new.conn in
+    let done = state g.S.Store c.work.new.conn in
+    outlives old done (state g.S.Store c.rollback.new.conn) (outlives old mid done c.begin.ensures.survives c.work.ensures.survives) c.rollback.ensures.survives
+
+pub returns-else-rollback-clause-survives : goal.returns-else-rollback-clause-survives
+returns-else-rollback-clause-survives g c =
+    let old = state g.S.Store c.args.conn.now in
+    let mid = state g.S.Store c.begin.new.conn in
+    let done = state g.S.Store c.work.new.conn in
+    outlives old done (state g.S.Store c.rollback.new.conn) (outlives old mid done c.begin.ensures.survives c.work.ensures.survives) c.rollback.ensures.survives
+
+pub returns-in-Err-work-clause-survives : goal.returns-in-Err-work-clause-survives
+returns-in-Err-work-clause-survives g c =
+    let old = state g.S.Store c.args.conn.now in
+    let mid = state g.S.Store c.begin.new.conn in
+    let done = state g.S.Store c.work.new.conn in
+    outlives old done (state g.S.Store c.undo.new.conn) (outlives old mid done c.begin.ensures.survives c.work.ensures.survives) c.undo.ensures.survives
+
+pub returns-in-Err-clause-survives : goal.returns-in-Err-clause-survives
+returns-in-Err-clause-survives g c = outlives_one (state g.S.Store c.args.conn.now) (state g.S.Store c.begin.new.conn) c.begin.ensures.survives

@@ -4,7 +4,7 @@ use Rattle.table_access.proofs.CallLemmas.{statement_with}
 use Rattle.broker_core.specs.Text.{Text}
 use Rattle.broker_core.specs.Change.{joined}
 use Rattle.broker_tables.specs.Holds.{Holds}
-use Rattle.broker_service.proofs.versions.join.Goals as goal
+use Rattle.broker_service.proofs.versions.put_on_branch.Goals as goal
 
 pub returns-in-Some : goal.returns-in-Some
 returns-in-Some g c =
