@@ -1,3 +1,4 @@
 mod LinesLemmas
 pub mod MessagesLemmas
 mod OptionsLemmas
+mod ReadingLemmas

@@ -1,10 +1,10 @@
 -- How the lines of a stream go on.
-use Rattle.std.proofs.Common.{◌≡◌, ◌≢◌, ℕ, zero, suc, ◌+◌, ◌<◌, ◌≤◌, Bool, true, false, ◌==◌, if◌then◌else◌, List, [], ◌∷◌, ◌++◌, Option, Some, None, length, get_or, take, drop, refl, sym, ap, ◌∙◌, subst, append_assoc, append-nil, arith, cond, add-one, eq-eqb, ne_eqb}
+use Rattle.std.proofs.Common.{◌≡◌, ◌≢◌, ℕ, zero, suc, ◌+◌, ◌<◌, Bool, true, false, List, [], ◌∷◌, ◌++◌, Option, Some, None, length, get_or, take, drop, refl, sym, ap, ◌∙◌, append_assoc, append-nil, arith, cond, eq-eqb, ne_eqb}
 use Rattle.std.proofs.Math.Seq.{take-add}
 use Rattle.std.proofs.lemmas.List.{drop-drop}
 use Rattle.std.specs.Option.{option_map}
 use Rattle.std.specs.List.{concat}
-use Rattle.http_messages.specs.Lines.{line_feed, onto_first, lines_of, is_empty_line, through_empty, head_lines, head_text}
+use Rattle.http_messages.specs.Lines.{line_feed, lines_of, is_empty_line, through_empty, head_lines, head_text}
 
 -- the first line ends at the first line feed
 pub first_line : (bytes : List ℕ) (i : ℕ) → i < length bytes → get_or bytes i 0 ≡ line_feed

@@ -1,5 +1,5 @@
 -- A message at the front stays there, and there is no other.
-use Rattle.std.proofs.Common.{◌≡◌, ◌≢◌, ℕ, zero, suc, ◌+◌, ◌-◌, ◌<◌, ◌≤◌, Bool, true, false, ◌==◌, if◌then◌else◌, List, [], ◌∷◌, ◌++◌, Option, Some, None, Result, MatchOption, length, take, drop, refl, sym, ap, ◌∙◌, subst, append_assoc, append-nil, length-append, length-take, length-take-le, take-take, length-drop, take-append-drop, arith, cond, inl, inr, ◌⊎◌}
+use Rattle.std.proofs.Common.{◌≡◌, ℕ, zero, suc, ◌+◌, ◌<◌, ◌≤◌, Bool, true, false, ◌==◌, List, [], ◌∷◌, ◌++◌, Option, Some, None, MatchOption, length, take, drop, refl, sym, ap, ◌∙◌, subst, append_assoc, length-append, length-take, length-take-le, take-take, length-drop, take-append-drop, arith, cond, inl, inr}
 use Rattle.std.proofs.lemmas.List.{take-append-le, drop-drop}
 use Rattle.std.specs.Option.{option_map}
 use Rattle.std.specs.List.{concat}
@@ -7,7 +7,6 @@ use Rattle.http_messages.specs.Lines.{line_feed, onto_first, lines_of, is_empty_
 use Rattle.std.specs.Result.{result_unwrap_or}
 use Rattle.httparse.proofs.GrammarLemmas.{request_unique}
 use Rattle.http_messages.specs.Heads.{Judgement, IsJudged, IsBodyLength, judge_head}
-use Rattle.http_messages.specs.declared.head.Refusal.{Refusal}
 use Rattle.http_messages.specs.Message.{Message}
 use Rattle.http_messages.specs.Messages.{IsHeadOf, Begins, HasNoMessage, message_of}
 use Rattle.http_messages.specs.declared.messages.TheConstants.{HEAD_LIMIT}

@@ -32,8 +32,10 @@ body_length (value ∷ []) =
     else Err BadRequest
 body_length (value ∷ other ∷ values) = Err BadRequest
 
--- The length of the body, or the first check that fails: the target, the host, the method, the transfer coding, the length.
-unfoldable pub judge : (method target : List ℕ) (minor : ℕ) (hosts codings lengths : List (List ℕ)) → Result ℕ Refusal
+-- The length of the body, or the first check that fails: the target, the host, the method, the transfer
+-- coding, the length.
+unfoldable pub judge : (method target : List ℕ) (minor : ℕ) (hosts codings lengths : List (List ℕ))
+    → Result ℕ Refusal
 judge method target minor hosts codings lengths =
     if not (slice_index target 0 == 47) then Err BadRequest
     else (if (minor == 1) && not (length hosts == 1) then Err BadRequest
@@ -57,7 +59,8 @@ body_of_head h =
 abbrev pub is_head_method : List ℕ → Bool
 is_head_method method = bytes_eq method (codes "HEAD")
 
--- what the checks on a head come to: whether an answer goes without its body, and the length of the message's own body or why it is refused
+-- what the checks on a head come to: whether an answer goes without its body, and the length of the message's
+-- own body or why it is refused
 pub record Judgement : Type 0 where
   pub is_bodiless : Bool
   pub body : Result ℕ Refusal
@@ -69,7 +72,8 @@ unread refusal = record { is_bodiless = false; body = Err refusal }
 abbrev pub judge_head : RequestHead → Judgement
 judge_head h = record { is_bodiless = is_head_method h.method; body = body_of_head h }
 
--- the connection closes behind the answer: after HTTP/1.0, or where the head has the option close (RFC 9112, section 9.6; that HTTP/1.0 always closes is this project's own choice)
+-- the connection closes behind the answer: after HTTP/1.0, or where the head has the option close (RFC 9112,
+-- section 9.6; that HTTP/1.0 always closes is this project's own choice)
 abbrev pub is_last : ℕ → List (List ℕ) → Bool
 is_last minor connections = if minor == 0 then true else list_any has_close connections
 
@@ -83,7 +87,9 @@ pub record IsHeadText (text : List ℕ) (h : RequestHead) : Type 0 where
 
 -- no head text, or too many lines between its first that isn't empty and its last
 abbrev pub is_too_large : List ℕ → Bool
-is_too_large text = if is_some (head_text text) then nat_lt (FIELD_LIMIT + 2) (length (from_first (lines_of text))) else true
+is_too_large text =
+    if is_some (head_text text) then nat_lt (FIELD_LIMIT + 2) (length (from_first (lines_of text)))
+    else true
 
 -- What the checks on a head text come to: it is too large, it is no head, or the head is judged.
 abbrev pub IsJudged : List ℕ → Judgement → Type 0

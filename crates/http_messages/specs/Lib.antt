@@ -5,3 +5,4 @@ pub mod Options
 pub mod Heads
 pub mod Messages
 pub mod Views
+pub mod Reading

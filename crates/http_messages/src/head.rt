@@ -3,8 +3,8 @@ ghost use Rattle.std.specs.Prelude.{All, codes, ◌≡◌, ℕ, ◌≤◌, ◌==
 ghost use Rattle.httparse.specs.Grammar.{RequestHead};
 ghost use Rattle.httparse.specs.Spans.{IsHeaderWithin, header_bytes, IsRequestAt, IsRequestWithin};
 ghost use Rattle.http_messages.specs.Fields.{IsField, values_named};
-ghost use Rattle.http_messages.specs.Heads.{known_method, body_length, judge, IsHeadText, IsJudged, is_too_large, body_of_head, is_last, is_last_head, unread};
-ghost use Rattle.http_messages.specs.Views.{judgement_of};
+ghost use Rattle.http_messages.specs.Heads.{known_method, body_length, judge, IsHeadText, is_too_large, is_last, unread};
+ghost use Rattle.http_messages.specs.Views.{judgement_of, IsHeadRead, announced};
 
 use crate::fields::{Field, field_of, short_number};
 use crate::lines::{head_len, line_count};
@@ -105,7 +105,8 @@ fn judge(
 /// Parses a head that is the whole text.
 fn parse_head(text: &[u8], spans: &mut [HeaderSpan; FIELD_LIMIT]) -> Option<RequestSpans>
     ensures within { IfSome result (IsRequestWithin text.now spans.new) }
-    ensures found { IfSome result (λ parsed. (h : RequestHead) × IsHeadText text.now h × IsRequestAt text.now spans.new parsed h) }
+    ensures found { IfSome result (λ parsed. (h : RequestHead) × IsHeadText text.now h
+        × IsRequestAt text.now spans.new parsed h) }
     ensures none { IfNone result ((h : RequestHead) → ¬ (IsHeadText text.now h)) }
 {
     match parse_request(text, spans) {
@@ -154,7 +155,8 @@ fn is_too_large(text: &[u8]) -> bool
 /// Whether the connection closes behind the answer to a head of this minor version with these fields.
 fn is_last(text: &[u8], minor: u8, fields: &[HeaderSpan]) -> bool
     requires { All (IsHeaderWithin (length text.now)) fields.now }
-    ensures { result ≡ is_last minor (values_named (codes "connection") (map (header_bytes text.now) fields.now)) }
+    ensures { result ≡ is_last minor
+        (values_named (codes "connection") (map (header_bytes text.now) fields.now)) }
 {
     minor == 0 || closes(text, fields)
 }
@@ -164,11 +166,8 @@ fn is_last(text: &[u8], minor: u8, fields: &[HeaderSpan]) -> bool
 /// `text` is a head text, or as many bytes as a head may have in which none ends.
 /// The first check that fails is told.
 pub fn read_head(text: &[u8]) -> Result<Head, Refused>
-    ensures small { IfOk result (λ head. head.body_len ≤ BODY_LIMIT) }
-    ensures ok { IfOk result (λ head. (is_too_large text.now ≡ false) × (h : RequestHead) × IsHeadText text.now h
-        × (body_of_head h ≡ Ok head.body_len) × (head.closes ≡ is_last_head h)
-        × IsRequestAt text.now head.spans head.parsed h × IsRequestWithin text.now head.spans head.parsed) }
-    ensures err { IfErr result (λ refused. IsJudged text.now (judgement_of refused)) }
+    ensures small { announced result ≤ BODY_LIMIT }
+    ensures read { IsHeadRead text.now result }
 {
     if is_too_large(text) {
         return Err(Refused::unread(Refusal::HeadTooLarge));

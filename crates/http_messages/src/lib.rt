@@ -1,4 +1,5 @@
-//! The messages of a stream by HTTP/1.1: head texts, the checks on a head, and the length of a body.
+//! The messages of a stream by HTTP/1.1: head texts, the checks on a head, the length of a body, and reading
+//! one message from a device.
 #![tactic(auto)]
 
 pub mod fields;
@@ -6,5 +7,4 @@ pub mod head;
 mod lines;
 pub mod messages;
 mod options;
-#[cfg(test)]
-mod tests;
+pub mod reading;

@@ -53,7 +53,8 @@ fn has_close(value: &[u8]) -> bool
 /// Whether one of the fields named connection has the option close.
 pub(crate) fn closes(text: &[u8], fields: &[HeaderSpan]) -> bool
     requires { All (IsHeaderWithin (length text.now)) fields.now }
-    ensures { result ≡ list_any has_close (values_named (codes "connection") (map (header_bytes text.now) fields.now)) }
+    ensures { result ≡ list_any has_close
+        (values_named (codes "connection") (map (header_bytes text.now) fields.now)) }
 {
     let mut found = false;
     for field in fields {

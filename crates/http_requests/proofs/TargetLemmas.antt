@@ -4,8 +4,8 @@ use Rattle.std.proofs.lemmas.Bool.Decides.{nat_tests}
 use Rattle.std.specs.List.{position_or_len}
 use Rattle.std.proofs.lemmas.List.Sums.{passes_at_first}
 use Rattle.std.proofs.lemmas.Str.{IsUtf8-take, IsCharBoundary-before_ascii}
-use Rattle.http_routes.specs.Routes.{place_of}
-use Rattle.http_routes.specs.declared.Place.{Place}
+use Rattle.http_routes.specs.Routes.{resource_of}
+use Rattle.http_routes.specs.declared.Resource.{Resource}
 use Rattle.http_requests.specs.Requests.{is_question_mark, path_of}
 
 pub path-text : (target : List ℕ) → IsUtf8 target → IsUtf8 (path_of target)
@@ -21,8 +21,8 @@ path-text target text = by (ltb (position_or_len is_question_mark target) (lengt
         let over : length target ≤ position_or_len is_question_mark target = grind (arith, nat_tests) in
         subst IsUtf8 (sym (take_all (position_or_len is_question_mark target) target over)) text
 
--- the place that is told of a path is that of the target's path
-pub place-told : (target read path : List ℕ) (told : Option Place) → IsUtf8 target → path ≡ path_of read → read ≡ target → (IsUtf8 path → told ≡ place_of path) → told ≡ place_of (path_of target)
-place-told target read path told text is-path is-target is-told =
+-- the resource that is told of a path is that of the target's path
+pub resource-read : (target read path : List ℕ) (told : Option Resource) → IsUtf8 target → path ≡ path_of read → read ≡ target → (IsUtf8 path → told ≡ resource_of path) → told ≡ resource_of (path_of target)
+resource-read target read path told text is-path is-target is-told =
     let same : path ≡ path_of target = is-path ∙ ap path_of is-target in
-    is-told (subst IsUtf8 (sym same) (path-text target text)) ∙ ap place_of same
+    is-told (subst IsUtf8 (sym same) (path-text target text)) ∙ ap resource_of same

@@ -1,4 +1,4 @@
--- What the router finds in the table of all routes is the place that the path names.
+-- What the router finds in the table of all routes is the resource that the path names.
 use Rattle.std.proofs.Common.{◌≡◌, ℕ, List, [], ◌∷◌, ◌++◌, Option, Some, None, is_some, Bool, true, false, cond, refl, sym, ap, subst, ◌∙◌, ◌&&◌, ◌||◌, not, ◌⊎◌, inl, inr, Result, Ok, Err}
 use Rattle.std.specs.Option.{option_map}
 use Rattle.std.specs.Str.{bytes_eq}
@@ -10,9 +10,9 @@ use Rattle.matchit.specs.Rows.{comes_before}
 use Rattle.matchit.specs.Seek.{first}
 use Rattle.matchit.specs.declared.error.InsertError.{InsertError}
 use Rattle.matchit.proofs.OnLiterals.{matchit_on_literals}
-use Rattle.http_routes.specs.Routes.{segments, is_parameter, fits, all_fit, is_on, place_in, place_of, routes}
+use Rattle.http_routes.specs.Routes.{segments, is_parameter, fits, all_fit, is_on, resource_in, resource_of, routes}
 use Rattle.http_routes.specs.Table.{Rows, with_route, with_routes, table}
-use Rattle.http_routes.specs.declared.Place.{Place}
+use Rattle.http_routes.specs.declared.Resource.{Resource}
 use Rattle.http_routes.proofs.WalkLemmas.{and-left, and-right, is_plain, takes, HasRow, ArePlain, seek-sound, seek-complete}
 use Rattle.http_routes.proofs.SplitLemmas.{not-true, tokens, are_pieces, segments-parts, takes-tokens}
 
@@ -61,52 +61,52 @@ clash-fit (p ∷ ps) (q ∷ qs) (s ∷ segs) c e = by (differ p q) refl c (λ mo
 
 -- routes
 
-abbrev pub HasRoute : List (List ℕ × Place) → List ℕ → Place → Type 0
-HasRoute [] text place = ⊥
-HasRoute (route ∷ more) text place = ((route.0 ≡ text) × (route.1 ≡ place)) ⊎ HasRoute more text place
+abbrev pub HasRoute : List (List ℕ × Resource) → List ℕ → Resource → Type 0
+HasRoute [] text resource = ⊥
+HasRoute (route ∷ more) text resource = ((route.0 ≡ text) × (route.1 ≡ resource)) ⊎ HasRoute more text resource
 
 -- no path is on this route and on one of the others
-abbrev pub clashes : List ℕ → List (List ℕ × Place) → Bool
+abbrev pub clashes : List ℕ → List (List ℕ × Resource) → Bool
 clashes text [] = true
 clashes text (route ∷ more) = clash (segments route.0) (segments text) && clashes text more
 
-abbrev pub are_apart : List (List ℕ × Place) → Bool
+abbrev pub are_apart : List (List ℕ × Resource) → Bool
 are_apart [] = true
 are_apart (route ∷ more) = clashes route.0 more && are_apart more
 
 routes-apart : are_apart routes ≡ true
 routes-apart = refl
 
-off-route : (text : List ℕ) (rs : List (List ℕ × Place)) (other : List ℕ) (place : Place) (path : List ℕ) → clashes text rs ≡ true → HasRoute rs other place → is_on other path ≡ true → is_on text path ≡ false
+off-route : (text : List ℕ) (rs : List (List ℕ × Resource)) (other : List ℕ) (resource : Resource) (path : List ℕ) → clashes text rs ≡ true → HasRoute rs other resource → is_on other path ≡ true → is_on text path ≡ false
 unfolding is_on
-off-route text [] other place path c h e = elim h [ ]
-off-route text (route ∷ more) other place path c h e = elim h [
+off-route text [] other resource path c h e = elim h [ ]
+off-route text (route ∷ more) other resource path c h e = elim h [
   | inl p ↦ clash-fit (segments route.0) (segments text) (segments path) (and-left _ (clashes text more) c) (ap (λ t. all_fit (segments t) (segments path)) p.0 ∙ e)
-  | inr q ↦ off-route text more other place path (and-right _ (clashes text more) c) q e
+  | inr q ↦ off-route text more other resource path (and-right _ (clashes text more) c) q e
 ]
 
--- the place of a path that is on a route
-place_in-route : (rs : List (List ℕ × Place)) (text : List ℕ) (place : Place) (path : List ℕ) → are_apart rs ≡ true → HasRoute rs text place → is_on text path ≡ true → place_in rs path ≡ Some place
-place_in-route [] text place path c h e = elim h [ ]
-place_in-route (route ∷ more) text place path c h e = elim h [
-  | inl p ↦ ap (λ v. cond v (Some route.1) (place_in more path)) (ap (λ t. is_on t path) p.0 ∙ e) ∙ ap Some p.1
+-- the resource of a path that is on a route
+resource_in-route : (rs : List (List ℕ × Resource)) (text : List ℕ) (resource : Resource) (path : List ℕ) → are_apart rs ≡ true → HasRoute rs text resource → is_on text path ≡ true → resource_in rs path ≡ Some resource
+resource_in-route [] text resource path c h e = elim h [ ]
+resource_in-route (route ∷ more) text resource path c h e = elim h [
+  | inl p ↦ ap (λ v. cond v (Some route.1) (resource_in more path)) (ap (λ t. is_on t path) p.0 ∙ e) ∙ ap Some p.1
   | inr q ↦
-      ap (λ v. cond v (Some route.1) (place_in more path)) (off-route route.0 more text place path (and-left _ (are_apart more) c) q e)
-      ∙ place_in-route more text place path (and-right _ (are_apart more) c) q e
+      ap (λ v. cond v (Some route.1) (resource_in more path)) (off-route route.0 more text resource path (and-left _ (are_apart more) c) q e)
+      ∙ resource_in-route more text resource path (and-right _ (are_apart more) c) q e
 ]
 
--- a path that has a place is on its route
-route-of : (rs : List (List ℕ × Place)) (path : List ℕ) (place : Place) → place_in rs path ≡ Some place → (text : List ℕ) × HasRoute rs text place × (is_on text path ≡ true)
-route-of [] path place e = cc
-route-of (route ∷ more) path place e = by (is_on route.0 path) refl e (route-of more path place)
+-- a path that has a resource is on its route
+route-of : (rs : List (List ℕ × Resource)) (path : List ℕ) (resource : Resource) → resource_in rs path ≡ Some resource → (text : List ℕ) × HasRoute rs text resource × (is_on text path ≡ true)
+route-of [] path resource e = cc
+route-of (route ∷ more) path resource e = by (is_on route.0 path) refl e (route-of more path resource)
   where
-    some-same : (a b : Place) → Some a ≡ Some b → a ≡ b
+    some-same : (a b : Resource) → Some a ≡ Some b → a ≡ b
     some-same a b e = cc
 
-    by : (v : Bool) → is_on route.0 path ≡ v → cond v (Some route.1) (place_in more path) ≡ Some place
-        → (place_in more path ≡ Some place → (text : List ℕ) × HasRoute more text place × (is_on text path ≡ true))
-        → (text : List ℕ) × HasRoute (route ∷ more) text place × (is_on text path ≡ true)
-    by true d e ih = (route.0, inl (refl, some-same route.1 place e), d)
+    by : (v : Bool) → is_on route.0 path ≡ v → cond v (Some route.1) (resource_in more path) ≡ Some resource
+        → (resource_in more path ≡ Some resource → (text : List ℕ) × HasRoute more text resource × (is_on text path ≡ true))
+        → (text : List ℕ) × HasRoute (route ∷ more) text resource × (is_on text path ≡ true)
+    by true d e ih = (route.0, inl (refl, some-same route.1 resource e), d)
     by false d e ih = (let r = ih e in (r.0, inr r.1, r.2))
 
 -- what the router reads of a route's text
@@ -118,7 +118,7 @@ IsRead (Err e) text = ⊥
 abbrev pub IsGood : List ℕ → Type 0
 IsGood text = IsRead (parse_route text) text × (are_pieces (segments text) ≡ true) × (is_plain (tokens (segments text)) ≡ true)
 
-abbrev pub AreGood : List (List ℕ × Place) → Type 0
+abbrev pub AreGood : List (List ℕ × Resource) → Type 0
 AreGood [] = Unit {0}
 AreGood (route ∷ more) = IsGood route.0 × AreGood more
 
@@ -175,12 +175,12 @@ takes-route text path good =
 
 -- the rows of the table
 
--- each row's tokens take paths of its place alone
+-- each row's tokens take paths of its resource alone
 abbrev pub Right : Rows → Type 0
 Right [] = Unit {0}
-Right ((t, r) ∷ rest) = (is_plain t ≡ true) × ((path : List ℕ) → takes t path ≡ true → place_of path ≡ Some r.value) × Right rest
+Right ((t, r) ∷ rest) = (is_plain t ≡ true) × ((path : List ℕ) → takes t path ≡ true → resource_of path ≡ Some r.value) × Right rest
 
-Right-placed : (t : List ℕ) (r : RouteOf Place) (rows : Rows) → is_plain t ≡ true → ((path : List ℕ) → takes t path ≡ true → place_of path ≡ Some r.value) → Right rows → Right (placed (t, r) rows)
+Right-placed : (t : List ℕ) (r : RouteOf Resource) (rows : Rows) → is_plain t ≡ true → ((path : List ℕ) → takes t path ≡ true → resource_of path ≡ Some r.value) → Right rows → Right (placed (t, r) rows)
 Right-placed t r [] plain told h = (plain, told, tt)
 Right-placed t r ((u, k) ∷ rest) plain told h = by (comes_before t u) (Right-placed t r rest plain told h.2)
   where
@@ -188,7 +188,7 @@ Right-placed t r ((u, k) ∷ rest) plain told h = by (comes_before t u) (Right-p
     by true ih = (plain, told, h)
     by false ih = (h.0, h.1, ih)
 
-placed-new : (t : List ℕ) (r : RouteOf Place) (rows : Rows) → HasRow (placed (t, r) rows) t r
+placed-new : (t : List ℕ) (r : RouteOf Resource) (rows : Rows) → HasRow (placed (t, r) rows) t r
 placed-new t r [] = inl (refl, refl)
 placed-new t r ((u, k) ∷ rest) = by (comes_before t u) (placed-new t r rest)
   where
@@ -196,7 +196,7 @@ placed-new t r ((u, k) ∷ rest) = by (comes_before t u) (placed-new t r rest)
     by true ih = inl (refl, refl)
     by false ih = inr ih
 
-placed-old : (t : List ℕ) (r : RouteOf Place) (rows : Rows) (w : List ℕ) (j : RouteOf Place) → HasRow rows w j → HasRow (placed (t, r) rows) w j
+placed-old : (t : List ℕ) (r : RouteOf Resource) (rows : Rows) (w : List ℕ) (j : RouteOf Resource) → HasRow rows w j → HasRow (placed (t, r) rows) w j
 placed-old t r [] w j h = elim h [ ]
 placed-old t r ((u, k) ∷ rest) w j h = by (comes_before t u) h (placed-old t r rest w j)
   where
@@ -211,18 +211,18 @@ Right-plain : (rows : Rows) → Right rows → ArePlain rows
 Right-plain [] h = tt
 Right-plain ((t, r) ∷ rest) h = (h.0, Right-plain rest h.2)
 
-Right-row : (rows : Rows) (t : List ℕ) (r : RouteOf Place) (path : List ℕ) → Right rows → HasRow rows t r → takes t path ≡ true → place_of path ≡ Some r.value
+Right-row : (rows : Rows) (t : List ℕ) (r : RouteOf Resource) (path : List ℕ) → Right rows → HasRow rows t r → takes t path ≡ true → resource_of path ≡ Some r.value
 Right-row [] t r path h row e = elim row [ ]
 Right-row ((u, k) ∷ rest) t r path h row e = elim row [
   | inl p ↦ h.1 path (ap (λ w. takes w path) p.0 ∙ e) ∙ ap (λ x. Some x.value) p.1
   | inr q ↦ Right-row rest t r path h.2 q e
 ]
 
-with-right : (rs : List (List ℕ × Place)) (rows : Rows) → AreGood rs
-    → ((text : List ℕ) (place : Place) (path : List ℕ) → HasRoute rs text place → is_on text path ≡ true → place_of path ≡ Some place) → Right rows → Right (with_routes rs rows)
+with-right : (rs : List (List ℕ × Resource)) (rows : Rows) → AreGood rs
+    → ((text : List ℕ) (resource : Resource) (path : List ℕ) → HasRoute rs text resource → is_on text path ≡ true → resource_of path ≡ Some resource) → Right rows → Right (with_routes rs rows)
 with-right [] rows good told h = h
 with-right (route ∷ more) rows good told h =
-    with-right more (with_route (parse_route route.0) route.1 rows) good.1 (λ text place path has e. told text place path (inr has) e) (step (parse_route route.0) good.0.0)
+    with-right more (with_route (parse_route route.0) route.1 rows) good.1 (λ text resource path has e. told text resource path (inr has) e) (step (parse_route route.0) good.0.0)
   where
     step : (x : Result Scan InsertError) → IsRead x route.0 → Right (with_route x route.1 rows)
     step (Ok scan) read =
@@ -230,7 +230,7 @@ with-right (route ∷ more) rows good told h =
         (λ path e. told route.0 route.1 path (inl (refl, refl)) (sym (takes-route route.0 path good.0.1) ∙ ap (λ w. takes w path) (sym read) ∙ e)) h
     step (Err e) read = elim read [ ]
 
-with-kept : (rs : List (List ℕ × Place)) (rows : Rows) (t : List ℕ) (r : RouteOf Place) → HasRow rows t r → HasRow (with_routes rs rows) t r
+with-kept : (rs : List (List ℕ × Resource)) (rows : Rows) (t : List ℕ) (r : RouteOf Resource) → HasRow rows t r → HasRow (with_routes rs rows) t r
 with-kept [] rows t r h = h
 with-kept (route ∷ more) rows t r h = with-kept more (with_route (parse_route route.0) route.1 rows) t r (step (parse_route route.0))
   where
@@ -238,51 +238,51 @@ with-kept (route ∷ more) rows t r h = with-kept more (with_route (parse_route 
     step (Ok scan) = placed-old scan.pattern (route_from scan route.1) rows t r h
     step (Err e) = h
 
-with-has : (rs : List (List ℕ × Place)) (rows : Rows) (text : List ℕ) (place : Place) → AreGood rs → HasRoute rs text place → (r : RouteOf Place) × HasRow (with_routes rs rows) (tokens (segments text)) r
-with-has [] rows text place good h = elim h [ ]
-with-has (route ∷ more) rows text place good h = elim h [
+with-has : (rs : List (List ℕ × Resource)) (rows : Rows) (text : List ℕ) (resource : Resource) → AreGood rs → HasRoute rs text resource → (r : RouteOf Resource) × HasRow (with_routes rs rows) (tokens (segments text)) r
+with-has [] rows text resource good h = elim h [ ]
+with-has (route ∷ more) rows text resource good h = elim h [
   | inl p ↦ (let r = step (parse_route route.0) good.0.0 in (r.0, with-kept more (with_route (parse_route route.0) route.1 rows) (tokens (segments text)) r.0 (subst (λ w. HasRow (with_route (parse_route route.0) route.1 rows) (tokens (segments w)) r.0) p.0 r.1)))
-  | inr q ↦ with-has more (with_route (parse_route route.0) route.1 rows) text place good.1 q
+  | inr q ↦ with-has more (with_route (parse_route route.0) route.1 rows) text resource good.1 q
 ]
   where
-    step : (x : Result Scan InsertError) → IsRead x route.0 → (r : RouteOf Place) × HasRow (with_route x route.1 rows) (tokens (segments route.0)) r
+    step : (x : Result Scan InsertError) → IsRead x route.0 → (r : RouteOf Resource) × HasRow (with_route x route.1 rows) (tokens (segments route.0)) r
     step (Ok scan) read = (route_from scan route.1, subst (λ w. HasRow (placed (scan.pattern, route_from scan route.1) rows) w (route_from scan route.1)) read (placed-new scan.pattern (route_from scan route.1) rows))
     step (Err e) read = elim read [ ]
 
 table-right : Right table
-unfolding table place_of
-table-right = with-right routes [] routes-good (λ text place path has e. place_in-route routes text place path routes-apart has e) tt
+unfolding table resource_of
+table-right = with-right routes [] routes-good (λ text resource path has e. resource_in-route routes text resource path routes-apart has e) tt
 
-good-pieces : (rs : List (List ℕ × Place)) (text : List ℕ) (place : Place) → AreGood rs → HasRoute rs text place → are_pieces (segments text) ≡ true
-good-pieces [] text place good h = elim h [ ]
-good-pieces (route ∷ more) text place good h = elim h [
+good-pieces : (rs : List (List ℕ × Resource)) (text : List ℕ) (resource : Resource) → AreGood rs → HasRoute rs text resource → are_pieces (segments text) ≡ true
+good-pieces [] text resource good h = elim h [ ]
+good-pieces (route ∷ more) text resource good h = elim h [
   | inl p ↦ ap (λ t. are_pieces (segments t)) (sym p.0) ∙ good.0.1
-  | inr q ↦ good-pieces more text place good.1 q
+  | inr q ↦ good-pieces more text resource good.1 q
 ]
 
--- a path that has a place is found
-finds-some : (path : List ℕ) (place : Place) → place_of path ≡ Some place → is_some (first table path) ≡ true
-unfolding table place_of
-finds-some path place e =
-    let on = route-of routes path place e in
-    let row = with-has routes [] on.0 place routes-good on.1 in
-    let takes-it = takes-route on.0 path (good-pieces routes on.0 place routes-good on.1) ∙ on.2 in
+-- a path that has a resource is found
+finds-some : (path : List ℕ) (resource : Resource) → resource_of path ≡ Some resource → is_some (first table path) ≡ true
+unfolding table resource_of
+finds-some path resource e =
+    let on = route-of routes path resource e in
+    let row = with-has routes [] on.0 resource routes-good on.1 in
+    let takes-it = takes-route on.0 path (good-pieces routes on.0 resource routes-good on.1) ∙ on.2 in
     seek-complete 0 (with_routes routes []) path (tokens (segments on.0)) row.0 (Right-plain (with_routes routes []) table-right) row.1 takes-it
 
--- What the router finds is the place that the path names.
-pub finds : (path : List ℕ) → option_map (λ r. r.value) (first table path) ≡ place_of path
+-- What the router finds is the resource that the path names.
+pub finds : (path : List ℕ) → option_map (λ r. r.value) (first table path) ≡ resource_of path
 finds path = by (first table path) refl
   where
-    none : (o : Option Place) → place_of path ≡ o → first table path ≡ None → None ≡ o
+    none : (o : Option Resource) → resource_of path ≡ o → first table path ≡ None → None ≡ o
     none None p e = refl
-    none (Some place) p e = (let bad : false ≡ true = sym (ap is_some e) ∙ finds-some path place p in cc)
+    none (Some resource) p e = (let bad : false ≡ true = sym (ap is_some e) ∙ finds-some path resource p in cc)
 
-    by : (found : Option (RouteOf Place)) → first table path ≡ found → option_map (λ r. r.value) found ≡ place_of path
+    by : (found : Option (RouteOf Resource)) → first table path ≡ found → option_map (λ r. r.value) found ≡ resource_of path
     by (Some r) e =
         let row = seek-sound 0 table path r (Right-plain table table-right) e in
         sym (Right-row table row.0 r path table-right row.1 row.2)
-    by None e = none (place_of path) refl e
+    by None e = none (resource_of path) refl e
 
-pub with_routes-append : (some more : List (List ℕ × Place)) (rows : Rows) → with_routes (some ++ more) rows ≡ with_routes more (with_routes some rows)
+pub with_routes-append : (some more : List (List ℕ × Resource)) (rows : Rows) → with_routes (some ++ more) rows ≡ with_routes more (with_routes some rows)
 with_routes-append [] more rows = refl
 with_routes-append (route ∷ some) more rows = with_routes-append some more (with_route (parse_route route.0) route.1 rows)

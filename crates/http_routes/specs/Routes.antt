@@ -1,8 +1,9 @@
--- Which route a path has (the paths are this project's own choice but for the publication of a pact, which is the Pact Broker's).
+-- Which route a path has (the paths are this project's own choice but for the publication of a pact, which is
+-- the Pact Broker's).
 use Rattle.std.specs.Prelude.{ℕ, ◌==◌, ◌&&◌, Bool, true, false, List, [], ◌∷◌, ◌++◌, length, codes, bytes_eq, nat_eq, nat_lt, if◌then◌else◌, Option, Some, None, slice_get, unwrap_or}
 use Rattle.std.specs.List.{slice_split, starts_with}
-use Rattle.http_routes.specs.declared.Place.{Place}
-use Rattle.http_routes.specs.declared.Place.TheVariants.{Team, Pacticipant, Environment, Grant, Version, Pact, BranchPact, Results, Replies, Deployments, Undeployments, Releases, SupportEnded, CanIDeploy, Matrix}
+use Rattle.http_routes.specs.declared.Resource.{Resource}
+use Rattle.http_routes.specs.declared.Resource.TheVariants.{Team, Pacticipant, Environment, Grant, Version, Pact, BranchPact, Results, Replies, Deployments, Undeployments, Releases, SupportEnded, CanIDeploy, Matrix}
 
 abbrev pub is_slash : ℕ → Bool
 is_slash b = b == 47
@@ -30,8 +31,8 @@ all_fit (piece ∷ pieces) (segment ∷ more) = fits piece segment && all_fit pi
 unfoldable pub is_on : List ℕ → List ℕ → Bool
 is_on route path = all_fit (segments route) (segments path)
 
--- who there is
-abbrev pub registry_routes : List (List ℕ × Place)
+-- teams and what they own
+abbrev pub registry_routes : List (List ℕ × Resource)
 registry_routes =
     (codes "/teams/{team}", Team)
     ∷ (codes "/pacticipants/{pacticipant}", Pacticipant)
@@ -41,7 +42,7 @@ registry_routes =
     ∷ []
 
 -- pacts and what is said of them
-abbrev pub pact_routes : List (List ℕ × Place)
+abbrev pub pact_routes : List (List ℕ × Resource)
 pact_routes =
     (codes "/pacts/provider/{provider}/consumer/{consumer}/version/{version}", Pact)
     ∷ (codes "/pacts/provider/{provider}/consumer/{consumer}/branch/{branch}", BranchPact)
@@ -49,9 +50,9 @@ pact_routes =
     ∷ (codes "/pacts/provider/{provider}/consumer/{consumer}/version/{version}/replies", Replies)
     ∷ []
 
--- what stands where
-abbrev pub standing_routes : List (List ℕ × Place)
-standing_routes =
+-- what is deployed, and what is released
+abbrev pub deployment_routes : List (List ℕ × Resource)
+deployment_routes =
     (codes "/environments/{environment}/deployments", Deployments)
     ∷ (codes "/environments/{environment}/undeployments", Undeployments)
     ∷ (codes "/environments/{environment}/releases", Releases)
@@ -59,23 +60,23 @@ standing_routes =
     ∷ []
 
 -- what may be asked
-abbrev pub question_routes : List (List ℕ × Place)
+abbrev pub question_routes : List (List ℕ × Resource)
 question_routes =
     (codes "/can-i-deploy", CanIDeploy)
     ∷ (codes "/matrix", Matrix)
     ∷ []
 
 -- the routes there are; no path is on two of them
-abbrev pub routes : List (List ℕ × Place)
-routes = registry_routes ++ (pact_routes ++ (standing_routes ++ question_routes))
+abbrev pub routes : List (List ℕ × Resource)
+routes = registry_routes ++ (pact_routes ++ (deployment_routes ++ question_routes))
 
--- the place of the route that a path is on
-abbrev pub place_in : List (List ℕ × Place) → List ℕ → Option Place
-place_in [] path = None
-place_in (route ∷ more) path = if is_on route.0 path then Some route.1 else place_in more path
+-- the resource of the route that a path is on
+abbrev pub resource_in : List (List ℕ × Resource) → List ℕ → Option Resource
+resource_in [] path = None
+resource_in (route ∷ more) path = if is_on route.0 path then Some route.1 else resource_in more path
 
-unfoldable pub place_of : List ℕ → Option Place
-place_of path = place_in routes path
+unfoldable pub resource_of : List ℕ → Option Resource
+resource_of path = resource_in routes path
 
 -- one segment of a path, counted from 0, empty where there is none
 unfoldable pub segment : ℕ → List ℕ → List ℕ

@@ -1,8 +1,8 @@
-//! The routes: which place a path is, and what a method asks there.
+//! The routes: which resource a path names, and which operation a method asks of it.
 #![tactic(auto)]
 
 ghost use Rattle.std.specs.Prelude.{◌≡◌, ◌≤◌, length};
-ghost use Rattle.http_routes.specs.Methods.{allow, task_at};
+ghost use Rattle.http_routes.specs.Methods.{allow, operation_at};
 ghost use Rattle.http_routes.specs.Routes.{segment};
 
 mod table;
@@ -10,9 +10,9 @@ mod table;
 use http_messages::head::Method;
 pub use table::RouteTable;
 
-/// The places that paths name.
+/// What a path names.
 #[derive(Clone, Copy, Debug, PartialEq, Eq)]
-pub enum Place {
+pub enum Resource {
     Team,
     Pacticipant,
     Environment,
@@ -30,9 +30,9 @@ pub enum Place {
     Matrix,
 }
 
-/// What a method asks at a place: one for each command.
+/// What a method asks of a resource: one for each command.
 #[derive(Clone, Copy, Debug, PartialEq, Eq)]
-pub enum Task {
+pub enum Operation {
     PutTeam,
     PutPacticipant,
     PutEnvironment,
@@ -53,56 +53,56 @@ pub enum Task {
     GetMatrix,
 }
 
+/// How many bytes the list of a resource's methods has at most.
+pub const ALLOW_LIMIT: usize = 16;
+
 /// One segment of a path, counted from 0, empty where there is none.
 #[tactic(auto, unfolding(crate::specs::Routes::segment))]
-pub fn segment(path: &[u8], place: usize) -> &[u8]
-    ensures { result.now ≡ segment place path.now }
+pub fn segment(path: &[u8], index: usize) -> &[u8]
+    ensures { result.now ≡ segment index path.now }
 {
-    path.split(|byte| *byte == b'/').nth(place).unwrap_or(&[])
+    path.split(|byte| *byte == b'/').nth(index).unwrap_or(&[])
 }
 
-/// What a method asks at a place, if the place has the method.
-pub fn task_at(place: Place, method: Method) -> Option<Task>
-    ensures { result ≡ task_at place method }
+/// What a method asks of a resource, if the resource has the method.
+pub fn operation_at(resource: Resource, method: Method) -> Option<Operation>
+    ensures { result ≡ operation_at resource method }
 {
-    match (place, method) {
-        (Place::Team, Method::Put) => Some(Task::PutTeam),
-        (Place::Pacticipant, Method::Put) => Some(Task::PutPacticipant),
-        (Place::Environment, Method::Put) => Some(Task::PutEnvironment),
-        (Place::Environment, Method::Get) => Some(Task::GetEnvironment),
-        (Place::Grant, Method::Put) => Some(Task::PutGrant),
-        (Place::Grant, Method::Delete) => Some(Task::DeleteGrant),
-        (Place::Version, Method::Put) => Some(Task::PutVersion),
-        (Place::Pact, Method::Put) => Some(Task::PutPact),
-        (Place::Pact, Method::Get) => Some(Task::GetPact),
-        (Place::BranchPact, Method::Get) => Some(Task::GetBranchPact),
-        (Place::Results, Method::Post) => Some(Task::PostResult),
-        (Place::Replies, Method::Post) => Some(Task::PostReplies),
-        (Place::Deployments, Method::Post) => Some(Task::Deploy),
-        (Place::Undeployments, Method::Post) => Some(Task::Undeploy),
-        (Place::Releases, Method::Post) => Some(Task::Release),
-        (Place::SupportEnded, Method::Post) => Some(Task::EndSupport),
-        (Place::CanIDeploy, Method::Get) => Some(Task::CanIDeploy),
-        (Place::Matrix, Method::Get) => Some(Task::GetMatrix),
+    match (resource, method) {
+        (Resource::Team, Method::Put) => Some(Operation::PutTeam),
+        (Resource::Pacticipant, Method::Put) => Some(Operation::PutPacticipant),
+        (Resource::Environment, Method::Put) => Some(Operation::PutEnvironment),
+        (Resource::Environment, Method::Get) => Some(Operation::GetEnvironment),
+        (Resource::Grant, Method::Put) => Some(Operation::PutGrant),
+        (Resource::Grant, Method::Delete) => Some(Operation::DeleteGrant),
+        (Resource::Version, Method::Put) => Some(Operation::PutVersion),
+        (Resource::Pact, Method::Put) => Some(Operation::PutPact),
+        (Resource::Pact, Method::Get) => Some(Operation::GetPact),
+        (Resource::BranchPact, Method::Get) => Some(Operation::GetBranchPact),
+        (Resource::Results, Method::Post) => Some(Operation::PostResult),
+        (Resource::Replies, Method::Post) => Some(Operation::PostReplies),
+        (Resource::Deployments, Method::Post) => Some(Operation::Deploy),
+        (Resource::Undeployments, Method::Post) => Some(Operation::Undeploy),
+        (Resource::Releases, Method::Post) => Some(Operation::Release),
+        (Resource::SupportEnded, Method::Post) => Some(Operation::EndSupport),
+        (Resource::CanIDeploy, Method::Get) => Some(Operation::CanIDeploy),
+        (Resource::Matrix, Method::Get) => Some(Operation::GetMatrix),
         _ => None,
     }
 }
 
-/// The methods that a place has, in the order of their bytes, with a comma and a space between each two.
-pub fn allow(place: Place) -> &'static str
-    ensures text { result.now ≡ allow place }
-    ensures short { length result.now ≤ 16 }
+/// The methods that a resource has, in the order of their bytes, with a comma and a space between each two.
+pub fn allow(resource: Resource) -> &'static str
+    ensures text { result.now ≡ allow resource }
+    ensures short { length result.now ≤ ALLOW_LIMIT }
 {
-    match place {
-        Place::Team | Place::Pacticipant | Place::Version => "PUT",
-        Place::Environment | Place::Pact => "GET, PUT",
-        Place::Grant => "DELETE, PUT",
-        Place::BranchPact | Place::CanIDeploy | Place::Matrix => "GET",
-        Place::Results | Place::Replies => "POST",
-        Place::Deployments | Place::Undeployments => "POST",
-        Place::Releases | Place::SupportEnded => "POST",
+    match resource {
+        Resource::Team | Resource::Pacticipant | Resource::Version => "PUT",
+        Resource::Environment | Resource::Pact => "GET, PUT",
+        Resource::Grant => "DELETE, PUT",
+        Resource::BranchPact | Resource::CanIDeploy | Resource::Matrix => "GET",
+        Resource::Results | Resource::Replies => "POST",
+        Resource::Deployments | Resource::Undeployments => "POST",
+        Resource::Releases | Resource::SupportEnded => "POST",
     }
 }
-
-#[cfg(test)]
-mod tests;

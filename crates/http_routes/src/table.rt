@@ -1,100 +1,100 @@
 //! The routes in a router.
 ghost use Rattle.std.specs.Prelude.{◌≡◌, OnOk};
 ghost use Rattle.matchit.specs.Route.{parse_route};
-ghost use Rattle.http_routes.specs.Routes.{registry_routes, pact_routes, standing_routes, question_routes, place_of};
+ghost use Rattle.http_routes.specs.Routes.{registry_routes, pact_routes, deployment_routes, question_routes, resource_of};
 ghost use Rattle.http_routes.specs.Table.{table, with_route, with_routes};
 
-use crate::Place;
+use crate::Resource;
 use matchit::Router;
 use std::alloc::{AllocError, Global};
 
 /// All routes, and no other.
 #[derive(Drop)]
 pub struct RouteTable {
-    router: Router<Place>,
+    router: Router<Resource>,
     ghost whole: { router ≡ table },
 }
 
 /// Adds a route. An `Err` is want of memory, since no two of the routes conflict.
-fn add(router: &mut Router<Place>, route: &str, place: Place) -> Result<(), AllocError>
-    ensures { OnOk result (router.new ≡ with_route (parse_route route.now) place router.old) }
+fn add(router: &mut Router<Resource>, route: &str, resource: Resource) -> Result<(), AllocError>
+    ensures { OnOk result (router.new ≡ with_route (parse_route route.now) resource router.old) }
 {
-    router.insert(route, place).map_err(|_| AllocError)
+    router.insert(route, resource).map_err(|_| AllocError)
 }
 
-fn add_registry_routes(router: &mut Router<Place>) -> Result<(), AllocError>
+fn add_registry_routes(router: &mut Router<Resource>) -> Result<(), AllocError>
     ensures { OnOk result (router.new ≡ with_routes registry_routes router.old) }
 {
-    add(router, "/teams/{team}", Place::Team)?;
-    add(router, "/pacticipants/{pacticipant}", Place::Pacticipant)?;
-    add(router, "/environments/{environment}", Place::Environment)?;
+    add(router, "/teams/{team}", Resource::Team)?;
+    add(router, "/pacticipants/{pacticipant}", Resource::Pacticipant)?;
+    add(router, "/environments/{environment}", Resource::Environment)?;
     add(
         router,
         "/grants/team/{team}/environment/{environment}",
-        Place::Grant,
+        Resource::Grant,
     )?;
     add(
         router,
         "/pacticipants/{pacticipant}/versions/{version}",
-        Place::Version,
+        Resource::Version,
     )
 }
 
-fn add_pact_routes(router: &mut Router<Place>) -> Result<(), AllocError>
+fn add_pact_routes(router: &mut Router<Resource>) -> Result<(), AllocError>
     ensures { OnOk result (router.new ≡ with_routes pact_routes router.old) }
 {
     add(
         router,
         "/pacts/provider/{provider}/consumer/{consumer}/version/{version}",
-        Place::Pact,
+        Resource::Pact,
     )?;
     add(
         router,
         "/pacts/provider/{provider}/consumer/{consumer}/branch/{branch}",
-        Place::BranchPact,
+        Resource::BranchPact,
     )?;
     add(
         router,
         "/pacts/provider/{provider}/consumer/{consumer}/version/{version}/results",
-        Place::Results,
+        Resource::Results,
     )?;
     add(
         router,
         "/pacts/provider/{provider}/consumer/{consumer}/version/{version}/replies",
-        Place::Replies,
+        Resource::Replies,
     )
 }
 
-fn add_standing_routes(router: &mut Router<Place>) -> Result<(), AllocError>
-    ensures { OnOk result (router.new ≡ with_routes standing_routes router.old) }
+fn add_deployment_routes(router: &mut Router<Resource>) -> Result<(), AllocError>
+    ensures { OnOk result (router.new ≡ with_routes deployment_routes router.old) }
 {
     add(
         router,
         "/environments/{environment}/deployments",
-        Place::Deployments,
+        Resource::Deployments,
     )?;
     add(
         router,
         "/environments/{environment}/undeployments",
-        Place::Undeployments,
+        Resource::Undeployments,
     )?;
     add(
         router,
         "/environments/{environment}/releases",
-        Place::Releases,
+        Resource::Releases,
     )?;
     add(
         router,
         "/environments/{environment}/support-ended",
-        Place::SupportEnded,
+        Resource::SupportEnded,
     )
 }
 
-fn add_question_routes(router: &mut Router<Place>) -> Result<(), AllocError>
+fn add_question_routes(router: &mut Router<Resource>) -> Result<(), AllocError>
     ensures { OnOk result (router.new ≡ with_routes question_routes router.old) }
 {
-    add(router, "/can-i-deploy", Place::CanIDeploy)?;
-    add(router, "/matrix", Place::Matrix)
+    add(router, "/can-i-deploy", Resource::CanIDeploy)?;
+    add(router, "/matrix", Resource::Matrix)
 }
 
 impl RouteTable {
@@ -103,14 +103,14 @@ impl RouteTable {
         let mut router = Router::new(alloc);
         add_registry_routes(&mut router)?;
         add_pact_routes(&mut router)?;
-        add_standing_routes(&mut router)?;
+        add_deployment_routes(&mut router)?;
         add_question_routes(&mut router)?;
         Ok(RouteTable { router })
     }
 
-    /// The place that a path names, if it is on a route. `path` is a target up to its first question mark.
-    pub fn place_of(&self, path: &str) -> Option<Place>
-        ensures { result ≡ place_of path.now }
+    /// The resource that a path names, if it is on a route. `path` is a target up to its first question mark.
+    pub fn resource_of(&self, path: &str) -> Option<Resource>
+        ensures { result ≡ resource_of path.now }
     {
         match self.router.at(path) {
             Ok(found) => Some(*found.value),

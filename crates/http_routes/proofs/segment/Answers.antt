@@ -13,5 +13,5 @@ lent (Some x) other = refl
 pub returns : goal.returns
 unfolding segment
 returns c =
-    let found = nth_from_yields_List _ _ c.args.place c.nth.ensures.ran (YieldsList-from_slice_split _ is_slash c.args.path.now c.split.ensures.rest c.split.ensures.done c.split.ensures.closure (λ x r q k. search (rules, tests))) in
+    let found = nth_from_yields_List _ _ c.args.index c.nth.ensures.ran (YieldsList-from_slice_split _ is_slash c.args.path.now c.split.ensures.rest c.split.ensures.done c.split.ensures.closure (λ x r q k. search (rules, tests))) in
     ap (λ r. r.now) c.unwrap_or.ensures ∙ lent c.nth.result _ ∙ ap (λ o. unwrap_or o []) found

@@ -1,4 +1,4 @@
-use Rattle.std.proofs.Common.{◌≡◌, ℕ, ◌-◌, ◌≤◌, length, take, drop}
+use Rattle.std.proofs.Common.{◌≡◌, ◌-◌, ◌≤◌, length, take, drop}
 use Rattle.http_messages.specs.Lines.{head_text}
 use Rattle.http_messages.proofs.LinesLemmas.{behind, rest_text}
 use Rattle.http_messages.proofs.lines.head_len.Given as goal

@@ -1,4 +1,4 @@
-use Rattle.std.proofs.Common.{◌≡◌, ℕ, ◌+◌, ◌-◌, ◌≤◌, ◌<◌, length, take, drop}
+use Rattle.std.proofs.Common.{◌≡◌, ◌+◌, ◌-◌, ◌≤◌, ◌<◌, length, drop}
 use Rattle.http_messages.specs.Lines.{lines_of, from_first}
 use Rattle.http_messages.proofs.lines.line_count.Given as goal
 

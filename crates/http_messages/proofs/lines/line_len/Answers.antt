@@ -1,5 +1,4 @@
-use Rattle.std.proofs.Common.{◌≡◌, ◌≢◌, ◌<◌, ℕ, get_or, length, add-one, arith}
-use Rattle.http_messages.specs.Lines.{line_feed}
+use Rattle.std.proofs.Common.{add-one, arith}
 use Rattle.http_messages.proofs.LinesLemmas.{first_line, no_line}
 use Rattle.http_messages.proofs.lines.line_len.Goals as goal
 

@@ -1,6 +1,5 @@
-use Rattle.std.proofs.Common.{◌≡◌, ℕ, ◌≤◌, List, Some, None, min, length, take, ap, ◌∙◌, subst}
+use Rattle.std.proofs.Common.{◌≡◌, ℕ, List, min, length, take, ap, ◌∙◌}
 use Rattle.std.proofs.lemmas.List.{take_min}
-use Rattle.http_messages.specs.Lines.{head_text}
 use Rattle.http_messages.specs.declared.messages.TheConstants.{HEAD_LIMIT}
 use Rattle.http_messages.proofs.MessagesLemmas.{IsHeadOf-some, IsHeadOf-none, IsHeadOf-short}
 use Rattle.http_messages.proofs.messages.whole_head.Goals as goal

@@ -1,7 +1,7 @@
-use Rattle.std.proofs.Common.{◌≡◌, ℕ, ◌+◌, length, take, drop, sym, ap, ◌∙◌, arith, rules}
+use Rattle.std.proofs.Common.{◌+◌, length, sym, ap, ◌∙◌, arith, rules}
 use Rattle.std.proofs.lemmas.List.{take_rest}
 use Rattle.std.proofs.lemmas.List.Sums.{position_or_len_is}
-use Rattle.http_messages.specs.Options.{is_close, has_close}
+use Rattle.http_messages.specs.Options.{has_close}
 use Rattle.http_messages.proofs.OptionsLemmas.{is_comma, has_close-first, has_close-behind, has_close-last}
 use Rattle.http_messages.proofs.options.has_close.Goals as goal
 

@@ -1,0 +1,97 @@
+-- One read behind another.
+use Rattle.std.proofs.Common.{◌≡◌, ℕ, ◌+◌, ◌<◌, ◌≤◌, List, [], ◌∷◌, ◌++◌, Option, Result, Ok, Err, OnErr, length, take, refl, sym, ap, ◌∙◌, subst, append_assoc, append-nil, length-append, arith, inr}
+use Rattle.std.proofs.KnownBytes.{Consumes-nil, Consumes-trans}
+use Rattle.std.proofs.lemmas.List.{take-append-le}
+use Rattle.std.specs.Io.KnownBytes.{Consumes}
+use Rattle.std.specs.Result.{result_unwrap_or}
+use Rattle.http_messages.specs.Heads.{IsBodyLength, judge_head}
+use Rattle.http_messages.specs.Messages.{IsHeadOf, HasNoHead, HasNoMessage}
+use Rattle.http_messages.specs.Reading.{Gains, LeavesAtFault, IsOutcome}
+use Rattle.http_messages.specs.Views.{judgement_of, IsHeadRead, announced}
+use Rattle.http_messages.specs.declared.head.Head.{Head}
+use Rattle.http_messages.specs.declared.head.Refused.{Refused}
+use Rattle.http_messages.specs.declared.reading.ReadFault.{ReadFault}
+use Rattle.http_messages.specs.declared.reading.ReadFault.TheVariants.{Reader, Memory}
+use Rattle.http_messages.specs.declared.reading.ReadOutcome.TheVariants.{Message}
+use Rattle.http_messages.proofs.MessagesLemmas.{IsHeadOf-more, Begins-of, none_short}
+
+-- nothing was read
+pub Gains-nil : (known : Option (List ℕ)) (bytes : List ℕ) → Gains known known bytes bytes
+Gains-nil known bytes = ([], Consumes-nil known, sym (append-nil bytes))
+
+-- one read, and then others
+pub Gains-trans : (a b c : Option (List ℕ)) (old mid new : List ℕ) → Gains a b old mid → Gains b c mid new → Gains a c old new
+Gains-trans a b c old mid new p q = (
+  p.0 ++ q.0,
+  Consumes-trans a b c p.0 q.0 p.1 q.1,
+  q.2 ∙ ap (λ l. l ++ q.0) p.2 ∙ append_assoc old p.0 q.0,
+)
+
+-- some reads, and then one that fails
+pub LeavesAtFault-after : (a b c : Option (List ℕ)) (old mid new : List ℕ) (fault : ReadFault)
+    → Gains a b old mid → LeavesAtFault b c mid new fault → LeavesAtFault a c old new fault
+LeavesAtFault-after a b c old mid new Reader p q = Gains-trans a b c old mid new p q
+LeavesAtFault-after a b c old mid new Memory p q = (
+  p.0 ++ q.0,
+  q.1,
+  subst (Consumes a c) (sym (append_assoc p.0 q.0 q.1)) (Consumes-trans a b c p.0 (q.0 ++ q.1) p.1 q.2),
+  q.3,
+  q.4 ∙ ap (λ l. l ++ q.0) p.2 ∙ append_assoc old p.0 q.0,
+)
+
+nil_of_length : (l : List ℕ) → length l ≡ 0 → l ≡ []
+nil_of_length [] e = refl
+nil_of_length (x ∷ l) e = absurd (omega (arith, e))
+
+-- a read that got nothing leaves the buffer
+pub Gains-none : (a b : Option (List ℕ)) (old new : List ℕ) → Gains a b old new → length new ≡ length old → new ≡ old
+Gains-none a b old new p same =
+    p.2 ∙ ap (λ l. old ++ l) (nil_of_length p.0 (omega (arith, same, ap length p.2, length-append old p.0))) ∙ append-nil old
+
+-- what is read of a head says how long its body is
+pub announced-length : (text : List ℕ) (read : Result Head Refused) → IsHeadRead text read → IsBodyLength text (announced read)
+unfolding IsBodyLength
+announced-length text (Ok head) p =
+    (judge_head p.1, inr (inr (p.0, p.1, p.2, refl)), sym (ap (λ body. result_unwrap_or body 0) p.3))
+announced-length text (Err refused) p = (judgement_of refused, p, refl)
+
+-- what a fault leaves in the buffer is at its front
+pub grown_at_fault : (a b : Option (List ℕ)) (old new : List ℕ) (fault : ReadFault) → LeavesAtFault a b old new fault
+    → (more : List ℕ) × (new ≡ old ++ more)
+grown_at_fault a b old new Reader p = (p.0, p.2)
+grown_at_fault a b old new Memory p = (p.0, p.4)
+
+module _ (old more new : List ℕ) (head_len : ℕ) (read : Result Head Refused) (grown : new ≡ old ++ more)
+    (within : head_len ≤ length old) (is_head : IsHeadOf old (take head_len old)) (is_read : IsHeadRead (take head_len old) read) where
+  -- the head stays while the body is read
+  same_head : take head_len new ≡ take head_len old
+  same_head = ap (take head_len) grown ∙ take-append-le head_len old more within
+
+  head_now : IsHeadOf new (take head_len new)
+  head_now = subst (λ head. IsHeadOf new head) (sym same_head)
+      (subst (λ l. IsHeadOf l (take head_len old)) (sym grown) (IsHeadOf-more old more (take head_len old) is_head))
+
+  read_now : IsHeadRead (take head_len new) read
+  read_now = subst (λ text. IsHeadRead text read) (sym same_head) is_read
+
+  longer : length old ≤ length new
+  longer = omega (arith, ap length grown, length-append old more)
+
+  -- with so many bytes the message is whole
+  pub is_whole : head_len + announced read ≤ length new → IsOutcome new (Message head_len (announced read) read)
+  is_whole enough =
+      (enough, read_now, Begins-of new head_len (announced read) enough head_now (announced-length (take head_len new) read read_now))
+
+  -- with fewer it isn't
+  pub is_short : length new < head_len + announced read → HasNoMessage new
+  is_short fewer =
+      none_short new head_len (announced read) (omega (arith, within, longer)) fewer head_now (announced-length (take head_len new) read read_now)
+
+-- with no head there is no message
+pub no_message : (bytes : List ℕ) → HasNoHead bytes → HasNoMessage bytes
+no_message bytes none m after begins = none m.head begins.head
+
+-- a fact at an error
+pub on_err : {A E : Type 0} (r : Result A E) {P : Type 0} → P → OnErr r P
+on_err (Ok x) p = tt
+on_err (Err e) p = p

@@ -1,0 +1,36 @@
+-- What reading a message leaves of the bytes, and what it finds.
+use Rattle.std.specs.Prelude.{◌≡◌, ℕ, ◌+◌, ◌<◌, ◌≤◌, max, List, ◌++◌, length, take, drop, Option}
+use Rattle.std.specs.Io.KnownBytes.{Consumes}
+use Rattle.http_messages.specs.Messages.{Begins, HasNoMessage, message_of}
+use Rattle.http_messages.specs.Views.{IsHeadRead}
+use Rattle.http_messages.specs.declared.head.TheConstants.{BODY_LIMIT}
+use Rattle.http_messages.specs.declared.messages.TheConstants.{HEAD_LIMIT}
+use Rattle.http_messages.specs.declared.reading.ReadFault.{ReadFault}
+use Rattle.http_messages.specs.declared.reading.ReadFault.TheVariants.{Reader, Memory}
+use Rattle.http_messages.specs.declared.reading.ReadOutcome.{ReadOutcome}
+use Rattle.http_messages.specs.declared.reading.ReadOutcome.TheVariants as outcomes
+
+-- the buffer grew by what the reader gave
+abbrev pub Gains : (before after : Option (List ℕ)) (old new : List ℕ) → Type 0
+Gains before after old new = (more : List ℕ) × Consumes before after more × (new ≡ old ++ more)
+
+-- What a fault leaves: where the reader failed, the buffer grew by all that it gave; where memory ran out,
+-- the last bytes that it gave are lost.
+abbrev pub LeavesAtFault : (before after : Option (List ℕ)) (old new : List ℕ) → ReadFault → Type 0
+LeavesAtFault before after old new Reader = Gains before after old new
+LeavesAtFault before after old new Memory =
+    (more : List ℕ) × (lost : List ℕ)
+    × Consumes before after (more ++ lost) × (0 < length lost) × (new ≡ old ++ more)
+
+-- the buffer begins with that message, whose head says this, or with none
+abbrev pub IsOutcome : List ℕ → ReadOutcome → Type 0
+IsOutcome bytes (outcomes.Message head_len body_len head) =
+    (head_len + body_len ≤ length bytes)
+    × IsHeadRead (take head_len bytes) head
+    × Begins bytes (message_of bytes head_len body_len) (drop (head_len + body_len) bytes)
+IsOutcome bytes outcomes.End = HasNoMessage bytes
+
+-- how many bytes are wanted at most: a head's limit until there is one, and then the message
+abbrev pub size_limit : ReadOutcome → ℕ
+size_limit (outcomes.Message head_len body_len head) = max HEAD_LIMIT (head_len + body_len)
+size_limit outcomes.End = HEAD_LIMIT + BODY_LIMIT

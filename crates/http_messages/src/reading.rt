@@ -1,0 +1,171 @@
+//! Reading one message after another from a device.
+ghost use Rattle.std.specs.Prelude.{◌≡◌, ℕ, ◌+◌, ◌<◌, ◌≤◌, Bool, true, false, max, length, drop, take, vec_len, IfOk, IfErr, OnOk, OnErr, MatchOption};
+ghost use Rattle.std.specs.Io.KnownBytes.{IsAtEnd};
+ghost use Rattle.http_messages.specs.Messages.{IsHeadOf, HasNoHead, HasNoMessage};
+ghost use Rattle.http_messages.specs.Reading.{Gains, LeavesAtFault, IsOutcome, size_limit};
+ghost use Rattle.http_messages.specs.Views.{announced};
+
+use crate::head::{BODY_LIMIT, Head, Refused, read_head};
+use crate::messages::{HEAD_LIMIT, whole_head};
+use std::io::Read;
+use thiserror::Error;
+
+/// How many bytes one read takes at most.
+const PIECE: usize = 4096;
+
+/// Why no message could be read.
+#[derive(Clone, Copy, Debug, PartialEq, Eq, Error)]
+pub enum ReadFault {
+    /// The reader failed. All that it gave is in the buffer.
+    #[error("the reader failed")]
+    Reader,
+    /// There was no memory for the last bytes that the reader gave, and they are lost.
+    #[error("out of memory")]
+    Memory,
+}
+
+/// What came next.
+#[derive(Clone, Copy, Drop)]
+pub enum ReadOutcome {
+    /// The buffer begins with a message of so many bytes of head and of body, and the head says this.
+    Message {
+        head_len: usize,
+        body_len: usize,
+        head: Result<Head, Refused>,
+    },
+    /// The reader is at its end, and no message is whole.
+    End,
+}
+
+/// How many bytes of body a head announces: none where it is refused.
+fn announced(head: &Result<Head, Refused>) -> usize
+    ensures { result ≡ announced head.now }
+{
+    match head {
+        Ok(head) => head.body_len,
+        Err(_) => 0,
+    }
+}
+
+/// Reads once, at most so many bytes, to the end of the buffer. It gets none only at the reader's end.
+fn read_more<R: Read>(reader: &mut R, buffer: &mut Vec<u8>, most: usize) -> Result<usize, ReadFault>
+    requires { 0 < most }
+    ensures ok { OnOk result
+        (Gains (R.remaining reader.old) (R.remaining reader.new)
+        buffer.old.items buffer.new.items) }
+    ensures count { IfOk result (λ n. (length buffer.new.items ≡ length buffer.old.items + n) × (n ≤ most)) }
+    ensures end { IfOk result (λ n. n ≡ 0 → IsAtEnd (R.remaining reader.new)) }
+    ensures err { IfErr result
+        (LeavesAtFault (R.remaining reader.old) (R.remaining reader.new)
+        buffer.old.items buffer.new.items) }
+    ensures kept { OnErr result (buffer.new.items ≡ buffer.old.items) }
+{
+    let mut piece = [0u8; PIECE];
+    let most = most.min(PIECE);
+    let count = match reader.read(&mut piece[..most]) {
+        Ok(count) => count,
+        Err(_) => return Err(ReadFault::Reader),
+    };
+    if count == 0 {
+        return Ok(0);
+    }
+    match buffer.extend_from_slice(&piece[..count]) {
+        Ok(()) => Ok(count),
+        Err(_) => Err(ReadFault::Memory),
+    }
+}
+
+/// Reads until the buffer begins with a whole head, and gives its length: none where the reader ends before.
+fn read_head_bytes<R: Read>(
+    reader: &mut R,
+    buffer: &mut Vec<u8>,
+) -> Result<Option<usize>, ReadFault>
+    ensures ok { OnOk result
+        (Gains (R.remaining reader.old) (R.remaining reader.new)
+        buffer.old.items buffer.new.items) }
+    ensures found { IfOk result (λ found. MatchOption found (HasNoHead buffer.new.items)
+        (λ n. (n ≤ length buffer.new.items) × (n ≤ HEAD_LIMIT)
+        × IsHeadOf buffer.new.items (take n buffer.new.items))) }
+    ensures end { IfOk result (λ found. MatchOption found (IsAtEnd (R.remaining reader.new)) (λ _. Unit {0})) }
+    ensures err { IfErr result
+        (LeavesAtFault (R.remaining reader.old) (R.remaining reader.new)
+        buffer.old.items buffer.new.items) }
+    ensures none { OnErr result (HasNoHead buffer.new.items) }
+    ensures bound { length buffer.new.items ≤ max (length buffer.old.items) HEAD_LIMIT }
+{
+    loop {
+        if let Some(head_len) = whole_head(buffer) {
+            return Ok(Some(head_len));
+        }
+        if read_more(reader, buffer, HEAD_LIMIT - buffer.len())? == 0 {
+            return Ok(None);
+        }
+    }
+}
+
+/// Reads until the buffer has so many bytes, and tells whether it has them: not where the reader ends before.
+fn read_up_to<R: Read>(reader: &mut R, buffer: &mut Vec<u8>, len: usize) -> Result<bool, ReadFault>
+    ensures ok { OnOk result
+        (Gains (R.remaining reader.old) (R.remaining reader.new)
+        buffer.old.items buffer.new.items) }
+    ensures whole { IfOk result (λ is_whole. is_whole ≡ true → len ≤ length buffer.new.items) }
+    ensures short { IfOk result (λ is_whole. is_whole ≡ false →
+        (length buffer.new.items < len) × IsAtEnd (R.remaining reader.new)) }
+    ensures err { IfErr result
+        (LeavesAtFault (R.remaining reader.old) (R.remaining reader.new)
+        buffer.old.items buffer.new.items) }
+    ensures lacks { OnErr result (length buffer.new.items < len) }
+    ensures bound { length buffer.new.items ≤ max (length buffer.old.items) len }
+{
+    while buffer.len() < len {
+        if read_more(reader, buffer, len - buffer.len())? == 0 {
+            return Ok(false);
+        }
+    }
+    Ok(true)
+}
+
+/// Reads until the buffer begins with a message, or the reader is at its end.
+///
+/// Each read asks for no more than what the head may still want, or the body still wants, so that the
+/// buffer never gets more than one head and one body. The head is parsed once.
+pub fn read_message<R: Read>(reader: &mut R, buffer: &mut Vec<u8>) -> Result<ReadOutcome, ReadFault>
+    // What the reader gave is behind what was in the buffer.
+    ensures ok { OnOk result
+        (Gains (R.remaining reader.old) (R.remaining reader.new)
+        buffer.old.items buffer.new.items) }
+    ensures outcome { IfOk result (IsOutcome buffer.new.items) }
+    ensures end { result ≡ Ok ReadOutcome.End → IsAtEnd (R.remaining reader.new) }
+    // Bytes are lost only where memory ran out, and some are lost then.
+    ensures err { IfErr result
+        (LeavesAtFault (R.remaining reader.old) (R.remaining reader.new)
+        buffer.old.items buffer.new.items) }
+    // It fails only while no message is whole.
+    ensures none { OnErr result (HasNoMessage buffer.new.items) }
+    ensures bound { length buffer.new.items ≤ max (length buffer.old.items) (HEAD_LIMIT + BODY_LIMIT) }
+    ensures wanted { IfOk result (λ outcome.
+        length buffer.new.items ≤ max (length buffer.old.items) (size_limit outcome)) }
+{
+    let Some(head_len) = read_head_bytes(reader, buffer)? else {
+        return Ok(ReadOutcome::End);
+    };
+    let head = read_head(&buffer[..head_len]);
+    let body_len = announced(&head);
+    if read_up_to(reader, buffer, head_len + body_len)? {
+        Ok(ReadOutcome::Message {
+            head_len,
+            body_len,
+            head,
+        })
+    } else {
+        Ok(ReadOutcome::End)
+    }
+}
+
+/// Takes the first bytes away, of which there are as many.
+pub fn drop_front(buffer: &mut Vec<u8>, count: usize)
+    requires { count ≤ vec_len buffer.old }
+    ensures { buffer.new.items ≡ drop count buffer.old.items }
+{
+    buffer.drain(..count);
+}

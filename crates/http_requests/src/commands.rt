@@ -1,0 +1,315 @@
+//! The command that a message asks.
+ghost use Rattle.std.specs.Prelude.{◌≡◌, IfOk, codes, Option};
+ghost use Rattle.serde_json.specs.Data.{Data};
+ghost use Rattle.http_requests.specs.Views.{object_in};
+ghost use Rattle.http_requests.specs.Commands.{IsPactPath, IsVersionFields, IsVersionQuery, IsParsed, IsCommand, or_malformed};
+ghost use Rattle.http_requests.specs.Commands.{IsPutTeam, IsPutPacticipant, IsPutEnvironment, IsGrant, IsPutVersion};
+ghost use Rattle.http_requests.specs.Commands.{IsPutPact, IsGetPact, IsGetBranchPact, IsPostResult, IsPostReplies};
+ghost use Rattle.http_requests.specs.Commands.{IsMove, IsSupport, IsGetEnvironment, IsCanIDeploy, IsGetMatrix};
+
+use crate::bodies::{Fields, or_empty};
+use crate::names::{Parsed, path_name};
+use crate::queries::query_name;
+use broker_core::command::{Command, FormFault, Marks, PactPath, Report, Version};
+use broker_core::name::Body;
+use http_routes::Operation;
+use std::alloc::{AllocError, Global};
+
+/// Gives the part that is read. A fault in it is the fault of the whole, and nothing more is read.
+macro_rules! part {
+    ($read:expr) => {
+        match $read? {
+            Ok(part) => part,
+            Err(fault) => return Ok(Err(fault)),
+        }
+    };
+}
+
+fn pact_path(alloc: Global, path: &[u8]) -> Parsed<PactPath>
+    ensures { IfOk result (IsPactPath path.now) }
+{
+    let provider = part!(path_name(alloc, path, 3));
+    let consumer = part!(path_name(alloc, path, 5));
+    let version = part!(path_name(alloc, path, 7));
+    Ok(Ok(PactPath {
+        provider,
+        consumer,
+        version,
+    }))
+}
+
+fn version_fields(alloc: Global, fields: &Fields) -> Parsed<Version>
+    ensures { IfOk result (IsVersionFields (object_in fields.now)) }
+{
+    let pacticipant = part!(fields.name(alloc, "pacticipant"));
+    let name = part!(fields.name(alloc, "version"));
+    Ok(Ok(Version { pacticipant, name }))
+}
+
+fn version_query(alloc: Global, query: &[u8]) -> Parsed<Version>
+    ensures { IfOk result (IsVersionQuery query.now) }
+{
+    let pacticipant = part!(query_name(alloc, query, "pacticipant"));
+    let name = part!(query_name(alloc, query, "version"));
+    Ok(Ok(Version { pacticipant, name }))
+}
+
+fn put_team(alloc: Global, path: &[u8], body: &[u8]) -> Parsed<Command>
+    ensures { IfOk result (IsPutTeam path.now body.now) }
+{
+    let team = part!(path_name(alloc, path, 2));
+    let fields = Fields::read(alloc, body)?;
+    let token = part!(fields.token(alloc));
+    Ok(Ok(Command::PutTeam { team, token }))
+}
+
+fn put_pacticipant(alloc: Global, path: &[u8], body: &[u8]) -> Parsed<Command>
+    ensures { IfOk result (IsPutPacticipant path.now body.now) }
+{
+    let pacticipant = part!(path_name(alloc, path, 2));
+    let fields = Fields::read(alloc, body)?;
+    let team = part!(fields.name(alloc, "team"));
+    Ok(Ok(Command::PutPacticipant { pacticipant, team }))
+}
+
+fn put_environment(alloc: Global, path: &[u8], body: &[u8]) -> Parsed<Command>
+    ensures { IfOk result (IsPutEnvironment path.now body.now) }
+{
+    let environment = part!(path_name(alloc, path, 2));
+    let fields = Fields::read(alloc, body)?;
+    let gated = part!(fields.truth(alloc, "gated"));
+    let strict = part!(fields.optional_truth(alloc, "strict"));
+    Ok(Ok(Command::PutEnvironment {
+        environment,
+        marks: Marks { gated, strict },
+    }))
+}
+
+fn put_grant(alloc: Global, path: &[u8]) -> Parsed<Command>
+    ensures { IfOk result (IsGrant Command.PutGrant path.now) }
+{
+    let team = part!(path_name(alloc, path, 3));
+    let environment = part!(path_name(alloc, path, 5));
+    Ok(Ok(Command::PutGrant { team, environment }))
+}
+
+fn delete_grant(alloc: Global, path: &[u8]) -> Parsed<Command>
+    ensures { IfOk result (IsGrant Command.DeleteGrant path.now) }
+{
+    let team = part!(path_name(alloc, path, 3));
+    let environment = part!(path_name(alloc, path, 5));
+    Ok(Ok(Command::DeleteGrant { team, environment }))
+}
+
+fn put_version(alloc: Global, path: &[u8], body: &[u8]) -> Parsed<Command>
+    ensures { IfOk result (IsPutVersion path.now body.now) }
+{
+    let pacticipant = part!(path_name(alloc, path, 2));
+    let name = part!(path_name(alloc, path, 4));
+    let fields = Fields::read(alloc, or_empty(body))?;
+    let branch = part!(fields.optional_name(alloc, "branch"));
+    Ok(Ok(Command::PutVersion {
+        version: Version { pacticipant, name },
+        branch,
+    }))
+}
+
+fn put_pact(alloc: Global, path: &[u8], body: &[u8]) -> Parsed<Command>
+    ensures { IfOk result (IsPutPact path.now body.now) }
+{
+    let path = part!(pact_path(alloc, path));
+    let file = Body::new(Vec::from_slice(alloc, body)?);
+    Ok(Ok(Command::PutPact { path, file }))
+}
+
+fn get_pact(alloc: Global, path: &[u8]) -> Parsed<Command>
+    ensures { IfOk result (IsGetPact path.now) }
+{
+    let path = part!(pact_path(alloc, path));
+    Ok(Ok(Command::GetPact { path }))
+}
+
+fn get_branch_pact(alloc: Global, path: &[u8]) -> Parsed<Command>
+    ensures { IfOk result (IsGetBranchPact path.now) }
+{
+    let provider = part!(path_name(alloc, path, 3));
+    let consumer = part!(path_name(alloc, path, 5));
+    let branch = part!(path_name(alloc, path, 7));
+    Ok(Ok(Command::GetBranchPact {
+        provider,
+        consumer,
+        branch,
+    }))
+}
+
+fn post_result(alloc: Global, path: &[u8], body: &[u8]) -> Parsed<Command>
+    ensures { IfOk result (IsPostResult path.now body.now) }
+{
+    let path = part!(pact_path(alloc, path));
+    let fields = Fields::read(alloc, body)?;
+    let provider_version = part!(fields.name(alloc, "providerApplicationVersion"));
+    let success = part!(fields.truth(alloc, "success"));
+    let run = part!(fields.optional_name(alloc, "run"));
+    Ok(Ok(Command::PostResult {
+        path,
+        report: Report {
+            provider_version,
+            run,
+        },
+        success,
+    }))
+}
+
+fn post_replies(alloc: Global, path: &[u8], body: &[u8]) -> Parsed<Command>
+    ensures { IfOk result (IsPostReplies path.now body.now) }
+{
+    let path = part!(pact_path(alloc, path));
+    let fields = Fields::read(alloc, body)?;
+    let provider_version = part!(fields.name(alloc, "providerApplicationVersion"));
+    let run = part!(fields.optional_name(alloc, "run"));
+    let replies = Body::new(Vec::from_slice(alloc, body)?);
+    Ok(Ok(Command::PostReplies {
+        path,
+        report: Report {
+            provider_version,
+            run,
+        },
+        replies,
+    }))
+}
+
+fn deploy(alloc: Global, path: &[u8], body: &[u8]) -> Parsed<Command>
+    ensures { IfOk result (IsMove Command.Deploy path.now body.now) }
+{
+    let environment = part!(path_name(alloc, path, 2));
+    let fields = Fields::read(alloc, body)?;
+    let version = part!(version_fields(alloc, &fields));
+    let instance = part!(fields.optional_name(alloc, "instance"));
+    Ok(Ok(Command::Deploy {
+        environment,
+        version,
+        instance,
+    }))
+}
+
+fn undeploy(alloc: Global, path: &[u8], body: &[u8]) -> Parsed<Command>
+    ensures { IfOk result (IsMove Command.Undeploy path.now body.now) }
+{
+    let environment = part!(path_name(alloc, path, 2));
+    let fields = Fields::read(alloc, body)?;
+    let version = part!(version_fields(alloc, &fields));
+    let instance = part!(fields.optional_name(alloc, "instance"));
+    Ok(Ok(Command::Undeploy {
+        environment,
+        version,
+        instance,
+    }))
+}
+
+fn release(alloc: Global, path: &[u8], body: &[u8]) -> Parsed<Command>
+    ensures { IfOk result (IsSupport Command.Release path.now body.now) }
+{
+    let environment = part!(path_name(alloc, path, 2));
+    let fields = Fields::read(alloc, body)?;
+    let version = part!(version_fields(alloc, &fields));
+    Ok(Ok(Command::Release {
+        environment,
+        version,
+    }))
+}
+
+fn end_support(alloc: Global, path: &[u8], body: &[u8]) -> Parsed<Command>
+    ensures { IfOk result (IsSupport Command.EndSupport path.now body.now) }
+{
+    let environment = part!(path_name(alloc, path, 2));
+    let fields = Fields::read(alloc, body)?;
+    let version = part!(version_fields(alloc, &fields));
+    Ok(Ok(Command::EndSupport {
+        environment,
+        version,
+    }))
+}
+
+fn get_environment(alloc: Global, path: &[u8]) -> Parsed<Command>
+    ensures { IfOk result (IsGetEnvironment path.now) }
+{
+    let environment = part!(path_name(alloc, path, 2));
+    Ok(Ok(Command::GetEnvironment { environment }))
+}
+
+fn can_i_deploy(alloc: Global, query: &[u8]) -> Parsed<Command>
+    ensures { IfOk result (IsCanIDeploy query.now) }
+{
+    let version = part!(version_query(alloc, query));
+    let environment = part!(query_name(alloc, query, "environment"));
+    Ok(Ok(Command::CanIDeploy {
+        version,
+        environment,
+    }))
+}
+
+fn get_matrix(alloc: Global, query: &[u8]) -> Parsed<Command>
+    ensures { IfOk result (IsGetMatrix query.now) }
+{
+    let version = part!(version_query(alloc, query));
+    Ok(Ok(Command::GetMatrix { version }))
+}
+
+/// The command of an operation, or its first fault.
+fn parse(
+    alloc: Global,
+    operation: Operation,
+    path: &[u8],
+    query: &[u8],
+    body: &[u8],
+) -> Parsed<Command>
+    ensures { IfOk result (IsParsed operation path.now query.now body.now) }
+{
+    match operation {
+        Operation::PutTeam => put_team(alloc, path, body),
+        Operation::PutPacticipant => put_pacticipant(alloc, path, body),
+        Operation::PutEnvironment => put_environment(alloc, path, body),
+        Operation::PutGrant => put_grant(alloc, path),
+        Operation::DeleteGrant => delete_grant(alloc, path),
+        Operation::PutVersion => put_version(alloc, path, body),
+        Operation::PutPact => put_pact(alloc, path, body),
+        Operation::GetPact => get_pact(alloc, path),
+        Operation::GetBranchPact => get_branch_pact(alloc, path),
+        Operation::PostResult => post_result(alloc, path, body),
+        Operation::PostReplies => post_replies(alloc, path, body),
+        Operation::Deploy => deploy(alloc, path, body),
+        Operation::Undeploy => undeploy(alloc, path, body),
+        Operation::Release => release(alloc, path, body),
+        Operation::EndSupport => end_support(alloc, path, body),
+        Operation::GetEnvironment => get_environment(alloc, path),
+        Operation::CanIDeploy => can_i_deploy(alloc, query),
+        Operation::GetMatrix => get_matrix(alloc, query),
+    }
+}
+
+fn or_malformed(parsed: Result<Command, FormFault>) -> Command
+    ensures { result ≡ or_malformed parsed }
+{
+    match parsed {
+        Ok(command) => command,
+        Err(fault) => Command::Malformed(fault),
+    }
+}
+
+/// The command that an operation asks of a path, a query and a body.
+///
+/// A command whose form is at fault is `Malformed` with its first fault: those of the names in the path
+/// come first, in the path's order, and then those of the body's fields or the query's keys in the
+/// order in which the command asks for them. An `Err` is want of memory.
+pub fn command_of(
+    alloc: Global,
+    operation: Operation,
+    path: &[u8],
+    query: &[u8],
+    body: &[u8],
+) -> Result<Command, AllocError>
+    ensures { IfOk result (IsCommand operation path.now query.now body.now) }
+{
+    let parsed = parse(alloc, operation, path, query, body)?;
+    Ok(or_malformed(parsed))
+}

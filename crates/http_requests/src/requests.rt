@@ -1,0 +1,155 @@
+//! What a message asks by its head and its body.
+ghost use Rattle.std.specs.Prelude.{◌≡◌, codes, List, IfOk, Option, IsUtf8};
+ghost use Rattle.httparse.specs.Grammar.{RequestHead};
+ghost use Rattle.httparse.specs.Spans.{IsRequestAt, IsRequestWithin};
+ghost use Rattle.http_messages.specs.Heads.{is_last_head};
+ghost use Rattle.http_messages.specs.Views.{IsHeadRead};
+ghost use Rattle.http_routes.specs.Routes.{resource_of};
+ghost use Rattle.http_requests.specs.Requests.{operation_asked, is_served, path_of, ByResource, ByOperation, IsRequest};
+
+use crate::commands::command_of;
+use crate::target::split_target;
+use crate::tokens::caller_token;
+use broker_core::command::Command;
+use broker_core::name::Token;
+use http_messages::fields::field_of;
+use http_messages::head::{Head, Method, Refusal, Refused, method_of};
+use http_routes::{Operation, Resource, RouteTable, operation_at};
+use std::alloc::{AllocError, Global};
+
+/// What a message asks.
+#[derive(Drop)]
+pub enum Request {
+    /// The head is refused, and the connection closes. The answer goes without its body where `is_bodiless`
+    /// is true.
+    Refused {
+        refusal: Refusal,
+        is_bodiless: bool,
+    },
+    /// The path has no route.
+    NoRoute {
+        closes: bool,
+    },
+    /// The resource doesn't have the method.
+    NoMethod {
+        resource: Resource,
+        closes: bool,
+    },
+    /// A command. The connection closes behind its answer where `closes` is true.
+    Asks {
+        token: Option<Token>,
+        command: Command,
+        closes: bool,
+    },
+}
+
+/// Whether this broker serves the operation so far.
+fn is_served(operation: Operation) -> bool
+    ensures { result ≡ is_served operation }
+{
+    match operation {
+        Operation::PutTeam
+        | Operation::PutPacticipant
+        | Operation::PutEnvironment
+        | Operation::PutGrant => true,
+        Operation::DeleteGrant
+        | Operation::PutVersion
+        | Operation::Deploy
+        | Operation::GetEnvironment => true,
+        _ => false,
+    }
+}
+
+/// The operation that the method asks of the resource.
+fn operation_asked(resource: Resource, method: Option<Method>) -> Option<Operation>
+    ensures { result ≡ operation_asked resource method }
+{
+    match method {
+        Some(method) => operation_at(resource, method),
+        None => None,
+    }
+}
+
+/// The command that a operation asks, with the token of its caller.
+fn command_request(
+    alloc: Global,
+    text: &[u8],
+    head: Head,
+    body: &[u8],
+    operation: Operation,
+) -> Result<Request, AllocError>
+    requires { IsRequestWithin text.now head.spans head.parsed }
+    ensures { (h : RequestHead) → IsRequestAt text.now head.spans head.parsed h → head.closes ≡ is_last_head h
+        → IfOk result (ByOperation h body.now operation (is_served operation)) }
+{
+    let closes = head.closes;
+    if !is_served(operation) {
+        return Ok(Request::NoRoute { closes });
+    }
+    let (path, query) = split_target(head.parsed.path.of(text));
+    let command = command_of(alloc, operation, path, query, body)?;
+    let fields = &head.spans[..head.parsed.headers];
+    let token = caller_token(alloc, field_of(text, fields, b"authorization"))?;
+    Ok(Request::Asks {
+        token,
+        command,
+        closes,
+    })
+}
+
+/// The resource that a path names, if it is a text on a route.
+fn resource_of(routes: &RouteTable, path: &[u8]) -> Option<Resource>
+    ensures { IsUtf8 path.now → result ≡ resource_of path.now }
+{
+    match str::from_utf8(path) {
+        Ok(path) => routes.resource_of(path),
+        Err(_) => None,
+    }
+}
+
+/// What a message with this head asks.
+fn request_of(
+    alloc: Global,
+    routes: &RouteTable,
+    text: &[u8],
+    head: Head,
+    body: &[u8],
+) -> Result<Request, AllocError>
+    requires { IsRequestWithin text.now head.spans head.parsed }
+    ensures { (h : RequestHead) → IsRequestAt text.now head.spans head.parsed h → head.closes ≡ is_last_head h
+        → IfOk result (ByResource h body.now (resource_of (path_of h.target))) }
+{
+    let closes = head.closes;
+    let (path, _) = split_target(head.parsed.path.of(text));
+    let Some(resource) = resource_of(routes, path) else {
+        return Ok(Request::NoRoute { closes });
+    };
+    let method = method_of(head.parsed.method.of(text));
+    match operation_asked(resource, method) {
+        Some(operation) => command_request(alloc, text, head, body, operation),
+        None => Ok(Request::NoMethod { resource, closes }),
+    }
+}
+
+/// What a message asks, by its head, what was read of it, and its body. An `Err` is want of memory.
+///
+/// The checks are made in this order: those on the head, the route, the method, and then what the command
+/// reads.
+pub fn read_request(
+    alloc: Global,
+    routes: &RouteTable,
+    text: &[u8],
+    head: Result<Head, Refused>,
+    body: &[u8],
+) -> Result<Request, AllocError>
+    requires { IsHeadRead text.now head }
+    ensures { IfOk result (IsRequest (record { head = text.now; body = body.now })) }
+{
+    match head {
+        Ok(head) => request_of(alloc, routes, text, head, body),
+        Err(refused) => Ok(Request::Refused {
+            refusal: refused.refusal,
+            is_bodiless: refused.is_bodiless,
+        }),
+    }
+}

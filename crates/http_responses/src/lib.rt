@@ -1,0 +1,10 @@
+//! What goes out for a message by HTTP/1.1: heads, bodies, and writing them whole.
+#![tactic(auto)]
+
+mod head;
+mod responses;
+mod writing;
+
+pub use head::HEAD_CAPACITY;
+pub use responses::{write_answer, write_no_method, write_no_route, write_refusal};
+pub use writing::{WriteFault, write_whole};

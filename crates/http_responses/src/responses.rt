@@ -1,0 +1,175 @@
+//! The responses to messages: the answers of the broker, and the refusals by HTTP.
+ghost use Rattle.std.specs.Prelude.{◌≡◌, ◌<◌, ◌≤◌, ℕ, [], ◌++◌, length, take, vec_capacity, IfErr, OnErr, OnOk};
+ghost use Rattle.std.specs.Io.KnownBytes.{Appends};
+ghost use Rattle.http_responses.specs.Responses.{refusal_status, refusal_text, refusal_response, sent_part, no_route_response, no_method_response, answer_response, response_of, Writes};
+
+use crate::head::{HEAD_CAPACITY, write_head};
+use crate::writing::{WriteFault, write_whole};
+use answer_texts::Answer;
+use http_messages::head::Refusal;
+use http_routes::{ALLOW_LIMIT, Resource, allow};
+use std::io::Write;
+
+/// How a response goes out.
+#[derive(Clone, Copy, Debug)]
+struct Form {
+    status: u16,
+    /// The methods that are told with the status 405.
+    methods: &'static str,
+    /// Whether the connection closes behind it.
+    closes: bool,
+    /// Whether it goes without its body.
+    is_bodiless: bool,
+}
+
+/// The part of a body that is sent.
+#[tactic(auto, unfolding(crate::specs::Responses::sent_part))]
+fn sent_part(is_bodiless: bool, body: &str) -> &str
+    ensures { result.now ≡ sent_part is_bodiless body.now }
+{
+    if is_bodiless { "" } else { body }
+}
+
+/// Writes the two parts of a response.
+fn write_parts<W: Write>(writer: &mut W, head: &[u8], body: &str) -> Result<(), WriteFault>
+    ensures ok { OnOk result (Appends (W.contents writer.old) (W.contents writer.new) (head.now ++ body.now)) }
+    ensures err { OnErr result ((n : ℕ) × (n < length (head.now ++ body.now))
+        × Appends (W.contents writer.old) (W.contents writer.new) (take n (head.now ++ body.now))) }
+{
+    write_whole(writer, head)?;
+    write_whole(writer, body.as_bytes())
+}
+
+/// Writes a response and tells whether the connection closes behind it. Its head goes through the empty
+/// buffer, which has the capacity for it.
+fn write_response<W: Write>(
+    writer: &mut W,
+    head_buffer: Vec<u8>,
+    form: Form,
+    body: &str,
+) -> Result<bool, WriteFault>
+    requires empty { head_buffer.items ≡ [] }
+    requires capacity { HEAD_CAPACITY ≤ vec_capacity head_buffer }
+    requires allow { length form.methods.now ≤ ALLOW_LIMIT }
+    ensures { Writes (W.contents writer.old) (W.contents writer.new)
+        (response_of form.status form.methods.now form.closes form.is_bodiless body.now) result }
+{
+    let mut head = head_buffer;
+    write_head(
+        &mut head,
+        form.status,
+        form.methods,
+        form.closes,
+        body.len(),
+    );
+    match write_parts(writer, head.as_slice(), sent_part(form.is_bodiless, body)) {
+        Ok(()) => Ok(form.closes),
+        Err(fault) => Err(fault),
+    }
+}
+
+fn refusal_status(refusal: Refusal) -> u16
+    ensures { result ≡ refusal_status refusal }
+{
+    match refusal {
+        Refusal::BadRequest => 400,
+        Refusal::BodyTooLarge => 413,
+        Refusal::HeadTooLarge => 431,
+        Refusal::NotImplemented => 501,
+    }
+}
+
+fn refusal_text(refusal: Refusal) -> &'static str
+    ensures { result.now ≡ refusal_text refusal }
+{
+    match refusal {
+        Refusal::BadRequest => "{\"answer\":\"refused\",\"status\":400}",
+        Refusal::BodyTooLarge => "{\"answer\":\"refused\",\"status\":413}",
+        Refusal::HeadTooLarge => "{\"answer\":\"refused\",\"status\":431}",
+        Refusal::NotImplemented => "{\"answer\":\"refused\",\"status\":501}",
+    }
+}
+
+/// Tells that a head is refused. The connection closes, which is the result `true`.
+///
+/// `head_buffer` is an empty buffer with the capacity of the head of a response, here and below.
+pub fn write_refusal<W: Write>(
+    writer: &mut W,
+    head_buffer: Vec<u8>,
+    refusal: Refusal,
+    is_bodiless: bool,
+) -> Result<bool, WriteFault>
+    requires empty { head_buffer.items ≡ [] }
+    requires capacity { HEAD_CAPACITY ≤ vec_capacity head_buffer }
+    ensures { Writes (W.contents writer.old) (W.contents writer.new)
+        (refusal_response refusal is_bodiless) result }
+{
+    let form = Form {
+        status: refusal_status(refusal),
+        methods: "",
+        closes: true,
+        is_bodiless,
+    };
+    write_response(writer, head_buffer, form, refusal_text(refusal))
+}
+
+/// Tells that a path has no route.
+pub fn write_no_route<W: Write>(
+    writer: &mut W,
+    head_buffer: Vec<u8>,
+    closes: bool,
+) -> Result<bool, WriteFault>
+    requires empty { head_buffer.items ≡ [] }
+    requires capacity { HEAD_CAPACITY ≤ vec_capacity head_buffer }
+    ensures { Writes (W.contents writer.old) (W.contents writer.new) (no_route_response closes) result }
+{
+    let form = Form {
+        status: 404,
+        methods: "",
+        closes,
+        is_bodiless: false,
+    };
+    write_response(writer, head_buffer, form, "{\"answer\":\"no route\"}")
+}
+
+/// Tells that a resource doesn't have the method, and which it has.
+pub fn write_no_method<W: Write>(
+    writer: &mut W,
+    head_buffer: Vec<u8>,
+    resource: Resource,
+    closes: bool,
+) -> Result<bool, WriteFault>
+    requires empty { head_buffer.items ≡ [] }
+    requires capacity { HEAD_CAPACITY ≤ vec_capacity head_buffer }
+    ensures { Writes (W.contents writer.old) (W.contents writer.new)
+        (no_method_response resource closes) result }
+{
+    let form = Form {
+        status: 405,
+        methods: allow(resource),
+        closes,
+        is_bodiless: false,
+    };
+    write_response(writer, head_buffer, form, "{\"answer\":\"no method\"}")
+}
+
+/// Writes the answer to a command.
+pub fn write_answer<W: Write>(
+    writer: &mut W,
+    head_buffer: Vec<u8>,
+    answer: &Answer,
+    closes: bool,
+) -> Result<bool, WriteFault>
+    requires empty { head_buffer.items ≡ [] }
+    requires capacity { HEAD_CAPACITY ≤ vec_capacity head_buffer }
+    ensures { Writes (W.contents writer.old) (W.contents writer.new)
+        (answer_response answer.now closes) result }
+{
+    let form = Form {
+        status: answer.status(),
+        methods: "",
+        closes,
+        is_bodiless: false,
+    };
+    write_response(writer, head_buffer, form, answer.body())
+}

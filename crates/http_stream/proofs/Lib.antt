@@ -1,2 +1,0 @@
-pub mod RepliesLemmas
-mod ReadingLemmas
