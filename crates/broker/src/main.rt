@@ -6,8 +6,8 @@ use std::alloc::{AllocError, Global};
 use std::process::ExitCode;
 use std::{env, io};
 
-/// The words, lent.
-fn lent(alloc: Global, texts: &[String]) -> Result<Vec<&str>, AllocError> {
+/// The words, borrowed from their texts.
+fn words_of(alloc: Global, texts: &[String]) -> Result<Vec<&str>, AllocError> {
     let mut words = Vec::new(alloc);
     for text in texts {
         words.push(text.as_str())?;
@@ -21,7 +21,7 @@ fn run_line(rt: &HostRuntime) -> io::Result<u8> {
     for text in env::args(rt)? {
         texts.push(text)?;
     }
-    let words = lent(rt.alloc(), texts.as_slice())?;
+    let words = words_of(rt.alloc(), texts.as_slice())?;
     let mut input = rt.stdin();
     let mut output = rt.stdout();
     let mut errors = rt.stderr();

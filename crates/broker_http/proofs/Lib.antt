@@ -1,2 +1,4 @@
 mod AskedLemmas
 mod ModeLemmas
+mod OneReading
+mod ResponsesLemmas

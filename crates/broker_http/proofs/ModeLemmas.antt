@@ -1,90 +1,102 @@
 -- From brokers to the machine.
-use Rattle.std.proofs.Common.{◌≡◌, ◌≢◌, ◌⊎◌, ◌↔◌, inl, inr, ℕ, ◌≤◌, Bool, true, false, IsTrue, List, [], ◌∷◌, Option, refl, sym, ap, ◌∙◌, subst, arith}
-use Rattle.sqlite_trees.specs.View.{doubt}
+use Rattle.std.proofs.Common.{◌≡◌, ◌≢◌, ◌↔◌, inl, inr, ℕ, ◌≤◌, Bool, true, false, IsTrue, List, [], ◌∷◌, Option, refl, sym, ap, ◌∙◌, subst, arith}
+use Rattle.std.specs.Bool.{⊤}
 use Rattle.sqlite.specs.Held.{Held}
-use Rattle.sqlite.specs.State.{State, HasCleanDisk}
-use Rattle.table_access.specs.Durability.{HoldsDurably, HoldsEither}
+use Rattle.sqlite.specs.State.{State, HasCleanDisk, Survives}
 use Rattle.broker_core.specs.Machine.{is_step}
 use Rattle.broker_core.specs.State.{State as Broker}
 use Rattle.broker_core.specs.Text.{Text}
 use Rattle.broker_core.specs.declared.answer.Answer.{Answer}
-use Rattle.broker_core.specs.declared.answer.Answer.TheVariants as told
+use Rattle.broker_core.specs.declared.answer.Answer.TheVariants as answers
 use Rattle.broker_core.specs.declared.command.Command.{Command}
 use Rattle.broker_service.specs.Served.{HasNoContract}
-use Rattle.broker_service.specs.Serving.{Serving}
-use Rattle.broker_service.specs.Ends.{Applies, Steps}
-use Rattle.http_messages.specs.Message.{Message, Reply}
-use Rattle.http_messages.specs.Messages.{Begins}
-use Rattle.http_stream.specs.Replies.{Replies}
-use Rattle.http_requests.specs.declared.Request.{Request}
-use Rattle.http_requests.specs.declared.Request.TheVariants.{Refused, NoRoute, NoMethod, Asks}
-use Rattle.http_replies.specs.Exchange as exchange
-use Rattle.broker_http.specs.Serving.{Mode, Turns, Holding, Applied}
-use Rattle.broker_http.specs.Serving.Mode.{Runs, IsStopped}
+use Rattle.broker_service.specs.BrokerView.{BrokerView}
+use Rattle.broker_service.specs.Ends.{Applies}
+use Rattle.broker_service.proofs.Transaction.{outlives_itself, outlives}
+use Rattle.broker_service.proofs.Unpublished.{no_needs}
+use Rattle.http_responses.specs.Responses.{Response}
+use Rattle.broker_http.specs.Stream.{Responses}
+use Rattle.http_requests.specs.declared.requests.Request.{Request}
+use Rattle.http_requests.specs.declared.requests.Request.TheVariants.{Refused, NoRoute, NoMethod, Asks}
+use Rattle.broker_http.specs.Exchange as exchange
+use Rattle.broker_http.specs.Serving.{Mode, ModeStep, IsInMode, Applied}
+use Rattle.broker_http.specs.Serving.Mode.{Running, IsStopped}
 
 not_true : (b : Bool) → ¬ (b ≡ true) → b ≡ false
 not_true true differs = absurd (differs refl)
 not_true false differs = refl
 
-no_step : (answer : Answer) → is_step answer ≡ true → answer ≢ told.Store
+no_step : (answer : Answer) → is_step answer ≡ true → answer ≢ answers.Store
 no_step answer e same = let wrong = ap is_step same in cc
 
 still_clean : (m n : ℕ) → m ≤ n → n ≡ 0 → m ≡ 0
 still_clean m n le e = omega (arith, le, e)
 
 module _ {X : Type 0} (shown : Held X → State) where
+  untouched : (old new : BrokerView X) → new ≡ old → Survives (shown old.connection) (shown new.connection) (λ _. ⊤)
+  untouched old new same =
+      subst (λ (b : BrokerView X). Survives (shown old.connection) (shown b.connection) (λ _. ⊤)) (sym same) (outlives_itself (shown old.connection))
+
   -- an answer of a broker that runs
-  applied : (s : Broker) (token : Option Text) (command : Command) (answer : Answer) (new : Serving X)
-      → HasNoContract s → (IsTrue new.is_stopped ↔ (answer ≡ told.Store)) → Applies s token command (shown new.connection) answer
-      → (next : Mode) × Turns (Runs s) token command answer next × Holding shown next new
+  applied : (s : Broker) (token : Option Text) (command : Command) (answer : Answer) (new : BrokerView X)
+      → HasNoContract s → (IsTrue new.is_stopped ↔ (answer ≡ answers.Store)) → Applies s token command (shown new.connection) answer
+      → (next : Mode) × ModeStep (Running s) token command answer next × IsInMode shown next new
   applied s token command answer new none stops (inl p) =
-      (Runs p.next, inl (p.tells, p.step), (not_true new.is_stopped (λ yes. no_step answer p.tells (stops.0 yes)), p.unpublished, p.keeps))
+      (Running p.next, inl (p.is_machines, p.step), (not_true new.is_stopped (λ yes. no_step answer p.is_machines (stops.0 yes)), p.unpublished none, p.keeps))
   applied s token command answer new none stops (inr (inl p)) =
-      (Runs s, inr (p.0, refl), (not_true new.is_stopped (λ yes. let wrong = sym p.0 ∙ stops.0 yes in cc), none, p.1))
+      (Running s, inr (p.0, refl), (not_true new.is_stopped (λ yes. let wrong = sym p.0 ∙ stops.0 yes in cc), none, p.1))
   applied s token command answer new none stops (inr (inr p)) =
       (IsStopped s token command, (p.0, refl, refl, refl), (stops.1 p.0, p.1))
 
-  turned : (mode : Mode) (old new : Serving X) (token : Option Text) (command : Command) (answer : Answer)
-      → HasCleanDisk (shown new.connection) → Holding shown mode old → Applied shown old token command answer new
-      → (next : Mode) × Turns mode token command answer next × Holding shown next new
-  turned (Runs s) old new token command answer clean held a = applied s token command answer new held.1 (a.stops held.0) (a.applies clean held.0 s held.1 held.2)
-  turned (IsStopped s of failed) old new token command answer clean held a =
+  mode_step : (mode : Mode) (old new : BrokerView X) (token : Option Text) (command : Command) (answer : Answer)
+      → HasCleanDisk (shown new.connection) → IsInMode shown mode old → Applied shown old token command answer new
+      → (next : Mode) × ModeStep mode token command answer next × IsInMode shown next new
+  mode_step (Running s) old new token command answer clean held a = applied s token command answer new held.1 (a.stops held.0) (a.applies clean held.0 s (no_needs s held.1 command) held.2)
+  mode_step (IsStopped s of failed) old new token command answer clean held a =
       let still = a.stopped held.0 in
-      (IsStopped s of failed, (still.0, refl), subst (Holding shown (IsStopped s of failed)) (sym still.1) held)
+      (IsStopped s of failed, (still.0, refl), subst (IsInMode shown (IsStopped s of failed)) (sym still.1) held)
 
-  -- a message and its reply
-  exchanged : (mode : Mode) (old new : Serving X) (asked : Request) (reply : Reply)
-      → HasCleanDisk (shown new.connection) → Holding shown mode old → exchange.Replies (Applied shown) old asked reply new
-      → (next : Mode) × exchange.Replies Turns mode asked reply next × Holding shown next new
-  exchanged mode old new (Refused refusal is_bodiless) reply clean held p = (mode, (p.0, refl), subst (Holding shown mode) (sym p.1) held)
-  exchanged mode old new (NoRoute closes) reply clean held p = (mode, (p.0, refl), subst (Holding shown mode) (sym p.1) held)
-  exchanged mode old new (NoMethod place closes) reply clean held p = (mode, (p.0, refl), subst (Holding shown mode) (sym p.1) held)
-  exchanged mode old new (Asks token command closes) reply clean held p =
-      let next = turned mode old new token command p.0 clean held p.1 in
+  -- a message and its response
+  exchanged : (mode : Mode) (old new : BrokerView X) (asked : Request) (response : Response)
+      → HasCleanDisk (shown new.connection) → IsInMode shown mode old → exchange.Responds (Applied shown) old asked response new
+      → (next : Mode) × exchange.Responds ModeStep mode asked response next × IsInMode shown next new
+  exchanged mode old new (Refused refusal is_bodiless) response clean held p = (mode, (p.0, refl), subst (IsInMode shown mode) (sym p.1) held)
+  exchanged mode old new (NoRoute closes) response clean held p = (mode, (p.0, refl), subst (IsInMode shown mode) (sym p.1) held)
+  exchanged mode old new (NoMethod resource closes) response clean held p = (mode, (p.0, refl), subst (IsInMode shown mode) (sym p.1) held)
+  exchanged mode old new (Asks token command closes) response clean held p =
+      let next = mode_step mode old new token command p.0 clean held p.1 in
       (next.0, (p.0, next.1, p.2), next.2)
 
-  -- a disk that is clean behind a message was clean before
-  clean_before : (old new : Serving X) (asked : Request) (reply : Reply) → exchange.Replies (Applied shown) old asked reply new
-      → HasCleanDisk (shown new.connection) → HasCleanDisk (shown old.connection)
-  clean_before old new (Refused refusal is_bodiless) reply p clean = subst (λ b. HasCleanDisk (shown b.connection)) p.1 clean
-  clean_before old new (NoRoute closes) reply p clean = subst (λ b. HasCleanDisk (shown b.connection)) p.1 clean
-  clean_before old new (NoMethod place closes) reply p clean = subst (λ b. HasCleanDisk (shown b.connection)) p.1 clean
-  clean_before old new (Asks token command closes) reply p clean = still_clean _ _ p.1.clean clean
+  -- what the store promises of the connection, over one message
+  survives : (old new : BrokerView X) (asked : Request) (response : Response) → exchange.Responds (Applied shown) old asked response new
+      → Survives (shown old.connection) (shown new.connection) (λ _. ⊤)
+  survives old new (Refused refusal is_bodiless) response p = untouched old new p.1
+  survives old new (NoRoute closes) response p = untouched old new p.1
+  survives old new (NoMethod resource closes) response p = untouched old new p.1
+  survives old new (Asks token command closes) response p = p.1.survives
 
-  all_clean : (old : Serving X) (stream : List ℕ) (replies : List Reply) (new : Serving X) (rest : List ℕ)
-      → Replies (exchange.Exchange (Applied shown)) old stream replies new rest
+  -- and over a stream
+  pub all_survive : (old : BrokerView X) (stream : List ℕ) (responses : List Response) (new : BrokerView X) (rest : List ℕ)
+      → Responses (exchange.Exchange (Applied shown)) old stream responses new rest
+      → Survives (shown old.connection) (shown new.connection) (λ _. ⊤)
+  all_survive old stream [] new rest p = untouched old new p.0
+  all_survive old stream (response ∷ responses) new rest p =
+      outlives (shown old.connection) (shown p.1.connection) (shown new.connection)
+      (survives old p.1 p.4.0 response p.4.2) (all_survive p.1 p.2 responses new rest p.5)
+
+  -- a disk that is clean behind a stream was clean before
+  all_clean : (old : BrokerView X) (stream : List ℕ) (responses : List Response) (new : BrokerView X) (rest : List ℕ)
+      → Responses (exchange.Exchange (Applied shown)) old stream responses new rest
       → HasCleanDisk (shown new.connection) → HasCleanDisk (shown old.connection)
-  all_clean old stream [] new rest p clean = subst (λ b. HasCleanDisk (shown b.connection)) p.0 clean
-  all_clean old stream (reply ∷ replies) new rest p clean =
-      clean_before old p.1 p.4.0 reply p.4.2 (all_clean p.1 p.2 replies new rest p.5 clean)
+  all_clean old stream responses new rest p clean = still_clean _ _ (all_survive old stream responses new rest p).clean clean
 
   -- what a broker answers is what the machine answers
-  pub machine : (mode : Mode) (old : Serving X) (stream : List ℕ) (replies : List Reply) (new : Serving X) (rest : List ℕ)
-      → Replies (exchange.Exchange (Applied shown)) old stream replies new rest
-      → HasCleanDisk (shown new.connection) → Holding shown mode old
-      → (last : Mode) × Replies (exchange.Exchange Turns) mode stream replies last rest × Holding shown last new
-  machine mode old stream [] new rest p clean held = (mode, (refl, p.1), subst (Holding shown mode) (sym p.0) held)
-  machine mode old stream (reply ∷ replies) new rest p clean held =
-      let here = exchanged mode old p.1 p.4.0 reply (all_clean p.1 p.2 replies new rest p.5 clean) held p.4.2 in
-      let later = machine here.0 p.1 p.2 replies new rest p.5 clean here.2 in
+  pub machine : (mode : Mode) (old : BrokerView X) (stream : List ℕ) (responses : List Response) (new : BrokerView X) (rest : List ℕ)
+      → Responses (exchange.Exchange (Applied shown)) old stream responses new rest
+      → HasCleanDisk (shown new.connection) → IsInMode shown mode old
+      → (last : Mode) × Responses (exchange.Exchange ModeStep) mode stream responses last rest × IsInMode shown last new
+  machine mode old stream [] new rest p clean held = (mode, (refl, p.1), subst (IsInMode shown mode) (sym p.0) held)
+  machine mode old stream (response ∷ responses) new rest p clean held =
+      let here = exchanged mode old p.1 p.4.0 response (all_clean p.1 p.2 responses new rest p.5 clean) held p.4.2 in
+      let later = machine here.0 p.1 p.2 responses new rest p.5 clean here.2 in
       (later.0, (p.0, here.0, p.2, p.3, (p.4.0, p.4.1, here.1), later.1), later.2)

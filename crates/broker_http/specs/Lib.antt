@@ -1,2 +1,5 @@
+pub mod Faults
+pub mod Stream
+pub mod Exchange
 pub mod Serving
 pub mod Asked

@@ -1,47 +1,85 @@
 -- A broker that serves, as the machine or stopped.
-use Rattle.std.specs.Prelude.{◌≡◌, ◌⊎◌, ◌↔◌, ◌≤◌, ℕ, Bool, true, false, List, length, IsTrue, Option}
+use Rattle.std.specs.Prelude.{◌≡◌, ◌≢◌, ◌⊎◌, ◌↔◌, ⊤, ℕ, true, false, List, length, IsTrue, Option}
 use Rattle.std.specs.Io.KnownBytes.{Appends, Consumes}
-use Rattle.sqlite_trees.specs.View.{doubt}
 use Rattle.sqlite.specs.Held.{Held}
-use Rattle.sqlite.specs.State.{State, HasCleanDisk}
-use Rattle.table_access.specs.Durability.{HoldsDurably, HoldsEither}
+use Rattle.sqlite.specs.State.{State, HasCleanDisk, Survives}
+use Rattle.table_access.specs.Calls.{KeepsLastCommit}
+use Rattle.table_access.specs.Durability.{HoldsEither}
+use Rattle.broker_core.specs.Laws.{IsDone}
 use Rattle.broker_core.specs.Machine.{Step, is_step}
 use Rattle.broker_core.specs.State.{State as Broker}
 use Rattle.broker_core.specs.Text.{Text}
 use Rattle.broker_core.specs.declared.answer.Answer.{Answer}
-use Rattle.broker_core.specs.declared.answer.Answer.TheVariants as told
+use Rattle.broker_core.specs.declared.answer.Answer.TheVariants as answers
 use Rattle.broker_core.specs.declared.command.Command.{Command}
 use Rattle.broker_tables.specs.Holds.{Holds}
+use Rattle.broker_service.specs.BrokerView.{BrokerView}
+use Rattle.broker_service.specs.Ends.{Applies, HoldsNext, HoldsState, IsAsBefore}
 use Rattle.broker_service.specs.Primitives.{broker_primitives}
-use Rattle.broker_service.specs.Served.{HasNoContract}
-use Rattle.broker_service.specs.Serving.{Serving}
-use Rattle.broker_service.specs.Ends.{Applies, HoldsNext}
+use Rattle.broker_service.specs.Served.{HasNoContract, HasNoNeeds}
+use Rattle.http_messages.specs.Message.{Message}
+use Rattle.http_responses.specs.Responses.{Response}
+use Rattle.broker_http.specs.Stream.{texts, Responses, StreamEnds, StreamCut}
+use Rattle.broker_http.specs.declared.served.ServeFault.{ServeFault}
+use Rattle.broker_http.specs.declared.served.Served.{Served}
 
 -- the broker is the machine in a state; or a command of a token, in a state, failed, and the broker is stopped
 pub data Mode : Type 0 where
-  Runs : Broker → Mode
+  Running : Broker → Mode
   IsStopped : (s : Broker) (token : Option Text) (command : Command) → Mode
 
--- An answer and the next mode: a step of the machine; or no memory, and no step; or a failure of the database, after which each answer is Stopped.
-abbrev pub Turns : Mode → Option Text → Command → Answer → Mode → Type 0
-Turns (Runs s) token command answer (Runs t) =
+-- An answer and the next mode: a step of the machine; or no memory, and no step; or a failure of the
+-- database, after which each answer is Stopped.
+abbrev pub ModeStep : Mode → Option Text → Command → Answer → Mode → Type 0
+ModeStep (Running s) token command answer (Running t) =
     ((is_step answer ≡ true) × Step broker_primitives s token command (record { answer = answer; state = t }))
-    ⊎ ((answer ≡ told.Memory) × (t ≡ s))
-Turns (Runs s) token command answer (IsStopped u of failed) = (answer ≡ told.Store) × (u ≡ s) × (of ≡ token) × (failed ≡ command)
-Turns (IsStopped s of failed) token command answer next = (answer ≡ told.Stopped) × (next ≡ IsStopped s of failed)
+    ⊎ ((answer ≡ answers.Memory) × (t ≡ s))
+ModeStep (Running s) token command answer (IsStopped u of failed) =
+    (answer ≡ answers.Store) × (u ≡ s) × (of ≡ token) × (failed ≡ command)
+ModeStep (IsStopped s of failed) token command answer next =
+    (answer ≡ answers.Stopped) × (next ≡ IsStopped s of failed)
 
 -- shown is what a connection holds of its store
 module _ {X : Type 0} (shown : Held X → State) where
-  -- The broker's database holds the machine's state, and a crash leaves it. In a stopped broker's database stands the state before the command that failed;
+  -- The broker's database holds the machine's state, and a crash leaves it. In a stopped broker's database
+  -- stands the state before the command that failed;
   -- where a fault of the disk has shut the connection, a crash may leave the state behind that command too.
-  abbrev pub Holding : Mode → Serving X → Type 0
-  Holding (Runs s) b = (b.is_stopped ≡ false) × HasNoContract s × HoldsDurably (λ db. Holds db s) (shown b.connection)
-  Holding (IsStopped s token command) b = (b.is_stopped ≡ true) × HoldsEither (λ db. Holds db s) (HoldsNext s token command) (shown b.connection)
+  abbrev pub IsInMode : Mode → BrokerView X → Type 0
+  IsInMode (Running s) b = (b.is_stopped ≡ false) × HasNoContract s × HoldsState s (shown b.connection)
+  IsInMode (IsStopped s token command) b =
+      (b.is_stopped ≡ true) × HoldsEither (λ db. Holds db s) (HoldsNext s token command) (shown b.connection)
 
-  -- how a broker runs a command, on any disk
-  pub record Applied (old : Serving X) (token : Option Text) (command : Command) (answer : Answer) (new : Serving X) : Type 0 where
-    pub stopped : IsTrue old.is_stopped → (answer ≡ told.Stopped) × (new ≡ old)
-    pub applies : HasCleanDisk (shown new.connection) → old.is_stopped ≡ false → (s : Broker) → HasNoContract s → HoldsDurably (λ db. Holds db s) (shown old.connection)
+  -- how a broker runs a command, on any disk and any database
+  pub record Applied (old : BrokerView X) (token : Option Text) (command : Command) (answer : Answer)
+      (new : BrokerView X) : Type 0 where
+    pub stopped : IsTrue old.is_stopped → (answer ≡ answers.Stopped) × (new ≡ old)
+    pub applies : HasCleanDisk (shown new.connection) → old.is_stopped ≡ false
+        → (s : Broker) → HasNoNeeds s command → HoldsState s (shown old.connection)
         → Applies s token command (shown new.connection) answer
-    pub stops : old.is_stopped ≡ false → (IsTrue new.is_stopped ↔ (answer ≡ told.Store))
-    pub clean : doubt (shown old.connection).is_clean ≤ doubt (shown new.connection).is_clean
+    pub unchanged : HasCleanDisk (shown new.connection) → old.is_stopped ≡ false
+        → answer ≢ answers.Store → ¬ (IsDone answer) → IsAsBefore (shown old.connection) (shown new.connection)
+    pub fails : HasCleanDisk (shown new.connection) → answer ≡ answers.Store
+        → KeepsLastCommit (shown old.connection) (shown new.connection)
+    pub stops : old.is_stopped ≡ false → (IsTrue new.is_stopped ↔ (answer ≡ answers.Store))
+    pub survives : Survives (shown old.connection) (shown new.connection) (λ _. ⊤)
+
+module _ {S : Type 0} (Exchange : S → Message → Response → S → Type 0) (s t : S)
+    (before after old new : Option (List ℕ)) where
+  -- what was read is answered message by message, and nothing else is written
+  abbrev pub Serves : Served → Type 0
+  Serves served =
+      (stream : List ℕ) × (responses : List Response) × (rest : List ℕ)
+      × Consumes before after stream
+      × Responses Exchange s stream responses t rest
+      × StreamEnds served.ended responses rest
+      × (served.answered ≡ length responses)
+      × Appends old new (texts responses)
+
+  -- a fault leaves some messages answered
+  abbrev pub ServesUntil : ServeFault → Type 0
+  ServesUntil fault =
+      (stream : List ℕ) × (responses : List Response) × (rest : List ℕ) × (out : List ℕ)
+      × Consumes before after stream
+      × Responses Exchange s stream responses t rest
+      × StreamCut fault responses out
+      × Appends old new out

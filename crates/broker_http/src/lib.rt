@@ -2,10 +2,8 @@
 #![tactic(auto)]
 
 mod exchange;
+mod served;
 mod serving;
 
-pub use http_stream::stream::{Ended, ServeFault, Served};
+pub use served::{Ended, ServeFault, Served};
 pub use serving::serve;
-
-#[cfg(test)]
-mod tests;

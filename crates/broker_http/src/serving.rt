@@ -1,76 +1,67 @@
 //! Serving a stream.
-ghost use Rattle.std.specs.Prelude.{◌≡◌, ◌≢◌, ℕ, ◌+◌, ◌≤◌, List, length, IfOk, IfErr};
-ghost use Rattle.std.specs.Io.KnownBytes.{Appends, Consumes, IsAtEnd};
+ghost use Rattle.std.specs.Prelude.{◌≡◌, ◌≢◌, ◌+◌, ◌≤◌, ⊤, length, take, drop, IfOk, IfErr};
+ghost use Rattle.std.specs.Io.KnownBytes.{IsAtEnd};
 ghost use Rattle.sqlite.specs.Held.{state};
-ghost use Rattle.sqlite.specs.State.{HasCleanDisk};
-ghost use Rattle.http_messages.specs.Message.{Reply};
-ghost use Rattle.http_messages.specs.Messages.{message_of};
-ghost use Rattle.http_stream.specs.Replies.{texts, Replies, Ends, Cut, Breaks};
-ghost use Rattle.http_replies.specs.Exchange.{Exchange};
-ghost use Rattle.broker_http.specs.Serving.{Applied, Mode, Turns, Holding};
+ghost use Rattle.sqlite.specs.State.{HasCleanDisk, Survives};
+ghost use Rattle.broker_http.specs.Exchange.{Exchange};
+ghost use Rattle.broker_http.specs.Serving.{Applied, Mode, ModeStep, IsInMode, Serves, ServesUntil};
 
 use crate::exchange::answer;
+use crate::served::{Ended, ServeFault, Served};
 use broker_service::Broker;
+use http_messages::reading::{ReadOutcome, drop_front, read_message};
 use http_routes::RouteTable;
-use http_stream::stream::{Arrival, Ended, ServeFault, Served, arrive, drop_front};
 use sqlite::Alter;
 use std::alloc::Global;
 use std::io::{Read, Write};
 
-/// Answers the message at the front of the bytes.
-fn answer_front<S: Alter, W: Write>(
-    alloc: Global,
-    routes: &RouteTable,
-    broker: &mut Broker<S>,
-    bytes: &[u8],
-    head: usize,
-    body: usize,
-    writer: &mut W,
-) -> Result<bool, ServeFault>
-    requires within { head + body ≤ length bytes.now }
-    ensures ok { IfOk result (λ closes. (reply : Reply)
-        × (Exchange (Applied (state S.Store))) broker.old (message_of bytes.now head body) reply broker.new
-        × (reply.closes ≡ closes) × Appends (W.contents writer.old) (W.contents writer.new) reply.text) }
-    ensures fault { IfErr result (Breaks (Exchange (Applied (state S.Store))) broker.old (message_of bytes.now head body) broker.new
-        (W.contents writer.old) (W.contents writer.new)) }
+/// The table of routes.
+fn route_table(alloc: Global) -> Result<RouteTable, ServeFault>
+    ensures { IfErr result (λ fault. fault ≡ ServeFault.Memory) }
 {
-    let (head, behind) = bytes.split_at(head);
-    answer(alloc, routes, broker, head, &behind[..body], writer)
+    match RouteTable::new(alloc) {
+        Ok(routes) => Ok(routes),
+        Err(_) => Err(ServeFault::Memory),
+    }
+}
+
+/// The head and the body of the message at the front.
+fn message_parts(bytes: &[u8], head_len: usize, body_len: usize) -> (&[u8], &[u8])
+    requires { head_len + body_len ≤ length bytes.now }
+    ensures head { result.0.now ≡ take head_len bytes.now }
+    ensures body { result.1.now ≡ take body_len (drop head_len bytes.now) }
+{
+    let (head, behind) = bytes.split_at(head_len);
+    (head, &behind[..body_len])
 }
 
 /// Answers the messages of a stream in turn, by what the broker promises of each command on any disk.
+///
+/// It stands apart from `serve`, whose clauses on the machine follow from these at once.
 fn serve_all<R: Read, W: Write, S: Alter>(
     alloc: Global,
+    routes: &RouteTable,
     broker: &mut Broker<S>,
     reader: &mut R,
     writer: &mut W,
 ) -> Result<Served, ServeFault>
-    // What was read is answered message by message, and nothing else is written.
-    ensures ok { IfOk result (λ served.
-        (stream : List ℕ) × (replies : List Reply) × (rest : List ℕ)
-        × Consumes (R.remaining reader.old) (R.remaining reader.new) stream
-        × Replies (Exchange (Applied (state S.Store))) broker.old stream replies broker.new rest
-        × Ends served.ended replies rest
-        × (served.answered ≡ length replies)
-        × Appends (W.contents writer.old) (W.contents writer.new) (texts replies)) }
-    // It ends by itself only at the reader's end.
+    ensures ok { IfOk result (Serves (Exchange (Applied (state S.Store))) broker.old broker.new
+        (R.remaining reader.old) (R.remaining reader.new)
+        (W.contents writer.old) (W.contents writer.new)) }
     ensures end { IfOk result (λ served. served.ended ≢ Ended.Closed → IsAtEnd (R.remaining reader.new)) }
-    // A fault leaves some messages answered.
-    ensures fault { IfErr result (λ fault.
-        (stream : List ℕ) × (replies : List Reply) × (rest : List ℕ) × (out : List ℕ)
-        × Consumes (R.remaining reader.old) (R.remaining reader.new) stream
-        × Replies (Exchange (Applied (state S.Store))) broker.old stream replies broker.new rest
-        × Cut fault replies out
-        × Appends (W.contents writer.old) (W.contents writer.new) out) }
+    ensures fault { IfErr result (ServesUntil (Exchange (Applied (state S.Store))) broker.old broker.new
+        (R.remaining reader.old) (R.remaining reader.new)
+        (W.contents writer.old) (W.contents writer.new)) }
 {
-    let Ok(routes) = RouteTable::new(alloc) else {
-        return Err(ServeFault::Memory);
-    };
     let mut buffer = Vec::new(alloc);
     for answered in 0..u64::MAX {
-        let (head, body) = match arrive(reader, &mut buffer)? {
-            Arrival::Message { head, body } => (head, body),
-            Arrival::End => {
+        let (head_len, body_len, head) = match read_message(reader, &mut buffer)? {
+            ReadOutcome::Message {
+                head_len,
+                body_len,
+                head,
+            } => (head_len, body_len, head),
+            ReadOutcome::End => {
                 let ended = if buffer.is_empty() {
                     Ended::AtEnd
                 } else {
@@ -79,62 +70,68 @@ fn serve_all<R: Read, W: Write, S: Alter>(
                 return Ok(Served { answered, ended });
             }
         };
-        if answer_front(
-            alloc,
-            &routes,
-            broker,
-            buffer.as_slice(),
-            head,
-            body,
-            writer,
-        )? {
+        let (text, body) = message_parts(buffer.as_slice(), head_len, body_len);
+        if answer(alloc, routes, broker, text, head, body, writer)? {
             return Ok(Served {
                 answered: answered + 1,
                 ended: Ended::Closed,
             });
         }
-        drop_front(&mut buffer, head + body);
+        drop_front(&mut buffer, head_len + body_len);
     }
     Err(ServeFault::Read)
 }
 
-/// Answers the requests of a stream by HTTP/1.1 (RFC 9112) in turn, each command in one transaction of the broker,
-/// until an answer closes the stream or the reader is at its end.
+/// Answers the requests of a stream by HTTP/1.1 (RFC 9112) in turn, each command in one transaction of
+/// the broker, until an answer closes the stream or the reader is at its end.
 ///
-/// The stream is read piece by piece: no more than one head, of 16,384 bytes at most, and one body, of 1,048,576 bytes
-/// at most, are kept. However it is cut, the answers are those to its messages. A rest that is no whole message gets no answer.
+/// The stream is read piece by piece: no more than one head, of 16,384 bytes at most, and one body, of
+/// 1,048,576 bytes at most, are kept. However it is cut, the answers are those to its messages. A rest
+/// that is no whole message gets no answer.
 ///
-/// `ServeFault::Read`: the reader failed, or 2^64-1 reads or answers were made; all answers are out.
-/// `ServeFault::Write`: the writer failed, or took none of the bytes that were left; the last answer is out in part.
-/// `ServeFault::Memory`: there was no memory for the table of routes, before anything was read, or for a message or its
-/// answer; nothing was done for it, and all answers before are out.
+/// `ServeFault::Read`: the reader failed, or 2^64-1 messages were answered; all answers are out.
+/// `ServeFault::Write`: the writer failed, or took none of the bytes that were left; the last answer is
+/// out in part.
+/// `ServeFault::Memory`: there was no memory for the table of routes, before anything was read, or for
+/// a message or its answer; nothing was done for it, and all answers before are out.
+/// The writer is not flushed.
 pub fn serve<R: Read, W: Write, S: Alter>(
     alloc: Global,
     broker: &mut Broker<S>,
     reader: &mut R,
     writer: &mut W,
 ) -> Result<Served, ServeFault>
-    // On a clean disk, what was read is answered message by message as the machine answers, and nothing else is written; and the database holds the machine's last state.
-    ensures ok { IfOk result (λ served. HasCleanDisk (state S.Store broker.new.connection)
-        → (mode : Mode) → Holding (state S.Store) mode broker.old
-        → (stream : List ℕ) × (replies : List Reply) × (last : Mode) × (rest : List ℕ)
-        × Consumes (R.remaining reader.old) (R.remaining reader.new) stream
-        × Replies (Exchange Turns) mode stream replies last rest
-        × Holding (state S.Store) last broker.new
-        × Ends served.ended replies rest
-        × (served.answered ≡ length replies)
-        × Appends (W.contents writer.old) (W.contents writer.new) (texts replies)) }
+    // On any disk and any database, what was read is answered message by message by what the broker does with
+    // each command.
+    ensures ok { IfOk result (Serves (Exchange (Applied (state S.Store))) broker.old broker.new
+        (R.remaining reader.old) (R.remaining reader.new)
+        (W.contents writer.old) (W.contents writer.new)) }
     // It ends by itself only at the reader's end.
     ensures end { IfOk result (λ served. served.ended ≢ Ended.Closed → IsAtEnd (R.remaining reader.new)) }
     // A fault leaves some messages answered.
-    ensures fault { IfErr result (λ fault. HasCleanDisk (state S.Store broker.new.connection)
-        → (mode : Mode) → Holding (state S.Store) mode broker.old
-        → (stream : List ℕ) × (replies : List Reply) × (last : Mode) × (rest : List ℕ) × (out : List ℕ)
-        × Consumes (R.remaining reader.old) (R.remaining reader.new) stream
-        × Replies (Exchange Turns) mode stream replies last rest
-        × Holding (state S.Store) last broker.new
-        × Cut fault replies out
-        × Appends (W.contents writer.old) (W.contents writer.new) out) }
+    ensures fault { IfErr result (ServesUntil (Exchange (Applied (state S.Store))) broker.old broker.new
+        (R.remaining reader.old) (R.remaining reader.new)
+        (W.contents writer.old) (W.contents writer.new)) }
+    // What the store promises of the connection: it is shut by a fault of the disk alone, and its step limit
+    // stays.
+    ensures survives { Survives (state S.Store broker.old.connection) (state S.Store broker.new.connection)
+        (λ _. ⊤) }
+    // On a clean disk, from a database that holds a state of the machine, the answers are the machine's, and
+    // the database holds its last state.
+    ensures machine { IfOk result (λ served. HasCleanDisk (state S.Store broker.new.connection)
+        → (mode : Mode) → IsInMode (state S.Store) mode broker.old
+        → (last : Mode) × IsInMode (state S.Store) last broker.new
+        × Serves (Exchange ModeStep) mode last
+        (R.remaining reader.old) (R.remaining reader.new)
+        (W.contents writer.old) (W.contents writer.new) served) }
+    // The same of the messages that are answered before a fault.
+    ensures machine_until { IfErr result (λ fault. HasCleanDisk (state S.Store broker.new.connection)
+        → (mode : Mode) → IsInMode (state S.Store) mode broker.old
+        → (last : Mode) × IsInMode (state S.Store) last broker.new
+        × ServesUntil (Exchange ModeStep) mode last
+        (R.remaining reader.old) (R.remaining reader.new)
+        (W.contents writer.old) (W.contents writer.new) fault) }
 {
-    serve_all(alloc, broker, reader, writer)
+    let routes = route_table(alloc)?;
+    serve_all(alloc, &routes, broker, reader, writer)
 }

@@ -1,4 +1,5 @@
--- the program's command lines: a word that names a command, and the command's options, each with a value and each required (this project's own choice)
+-- the program's command lines: a word that names a command, and the command's options, each with a value and
+-- each required (this project's own choice)
 use Rattle.std.specs.Prelude.{◌≡◌, List, [], ◌∷◌, Bool, false, ◌&&◌, Some, codes, bytes_eq, true}
 use Rattle.clap.specs.Words.{App, Rule, Text, first_of, matches_of, new_app, new_rule, takes, with_rule}
 use Rattle.broker_program.specs.declared.line.Line.{Line}
@@ -21,7 +22,9 @@ HasOptions words (Replay token) = first_of (codes "office-token") (matches_of re
 
 -- the words are the program's name, the command's and its options with these values
 abbrev pub Says : List Text → Line → Type 0
-Says words line = (program : Text) × (rest : List Text) × (words ≡ program ∷ name_of line ∷ rest) × HasOptions (name_of line ∷ rest) line
+Says words line =
+    (program : Text) × (rest : List Text)
+    × (words ≡ program ∷ name_of line ∷ rest) × HasOptions (name_of line ∷ rest) line
 
 -- the words are a command line of the program
 abbrev pub is_line : List Text → Bool

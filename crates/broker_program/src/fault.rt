@@ -18,39 +18,23 @@ pub(crate) enum RunFault {
     Memory,
 }
 
-/// The number of a fault of the opening.
-fn open_number(fault: OpenFault) -> u8 {
-    match fault {
-        OpenFault::NotEmpty => 1,
-        OpenFault::NotABroker => 2,
-        OpenFault::Format(_) => 3,
-        OpenFault::Memory => 4,
-        OpenFault::Store => 5,
-    }
-}
-
-/// The number of a fault of serving.
-fn serve_number(fault: ServeFault) -> u8 {
-    match fault {
-        ServeFault::Read => 1,
-        ServeFault::Write => 2,
-        ServeFault::Memory => 3,
-    }
-}
-
 impl fmt::Display for RunFault {
+    ghost use Rattle.std.specs.Prelude.{Some};
+    ghost use Rattle.broker_program.specs.Faults.{fault_text};
+
+    ghost output = { λ fault. Some (fault_text fault) };
+
     fn fmt<W: fmt::Write>(&self, f: &mut fmt::Formatter<W>) -> fmt::Result {
         match *self {
             RunFault::Token => f.write_str("token"),
+            RunFault::Open(OpenFault::NotEmpty) => f.write_str("open 1"),
+            RunFault::Open(OpenFault::NotABroker) => f.write_str("open 2"),
             RunFault::Open(OpenFault::Format(format)) => write!(f, "open 3.{format}"),
-            RunFault::Open(fault) => {
-                let number = open_number(fault);
-                write!(f, "open {number}")
-            }
-            RunFault::Serve(fault) => {
-                let number = serve_number(fault);
-                write!(f, "serve {number}")
-            }
+            RunFault::Open(OpenFault::Memory) => f.write_str("open 4"),
+            RunFault::Open(OpenFault::Store) => f.write_str("open 5"),
+            RunFault::Serve(ServeFault::Read) => f.write_str("serve 1"),
+            RunFault::Serve(ServeFault::Write) => f.write_str("serve 2"),
+            RunFault::Serve(ServeFault::Memory) => f.write_str("serve 3"),
             RunFault::File => f.write_str("file"),
             RunFault::Memory => f.write_str("memory"),
         }

@@ -8,6 +8,3 @@ mod running;
 
 pub use line::{Line, read_line};
 pub use running::run;
-
-#[cfg(test)]
-mod tests;

@@ -18,11 +18,13 @@ pub enum Line<'a> {
     },
 }
 
-/// The command that the words name: the program's own name, a command and its options. An error is one of `clap`, with its text
-/// and its exit status; where the words are a command line of the program, it comes only for want of memory.
+/// The command that the words name: the program's own name, a command and its options. An error is one
+/// of `clap`, with its text and its exit status; where the words are a command line of the program, it
+/// comes only for want of memory.
 pub fn read_line<'a>(alloc: Global, words: &'a [&'a str]) -> Result<Line<'a>, Error>
     ensures ok { IfOk result (Says (map (λ word. word.now) words.entry.now)) }
-    ensures err { IfErr result (λ e. is_line (map (λ word. word.now) words.entry.now) ≡ true → kind_of e ≡ ErrorKind.OutOfMemory) }
+    ensures err { IfErr result (λ e. is_line (map (λ word. word.now) words.entry.now) ≡ true
+        → kind_of e ≡ ErrorKind.OutOfMemory) }
 {
     match words.split_first() {
         Some((_, rest)) if begins_with(rest, "replay") => read_replay(alloc, rest),
@@ -32,15 +34,18 @@ pub fn read_line<'a>(alloc: Global, words: &'a [&'a str]) -> Result<Line<'a>, Er
 
 /// Whether the words begin with the name.
 fn begins_with(words: &[&str], name: &str) -> bool
-    ensures { result ≡ option_map_or (λ word. bytes_eq word name.now) (slice_get (map (λ word. word.now) words.now) 0) false }
+    ensures { result ≡ option_map_or
+        (λ word. bytes_eq word name.now) (slice_get (map (λ word. word.now) words.now) 0) false }
 {
     words.first().is_some_and(|word| *word == name)
 }
 
 /// `replay` and its options.
 fn read_replay<'a>(alloc: Global, words: &'a [&'a str]) -> Result<Line<'a>, Error>
-    ensures ok { IfOk result (λ line. (name_of line ≡ codes "replay") × HasOptions (map (λ word. word.now) words.entry.now) line) }
-    ensures err { IfErr result (λ e. takes replay_of (map (λ word. word.now) words.entry.now) ≡ true → kind_of e ≡ ErrorKind.OutOfMemory) }
+    ensures ok { IfOk result (λ line. (name_of line ≡ codes "replay")
+        × HasOptions (map (λ word. word.now) words.entry.now) line) }
+    ensures err { IfErr result (λ e. takes replay_of (map (λ word. word.now) words.entry.now) ≡ true
+        → kind_of e ≡ ErrorKind.OutOfMemory) }
 {
     match replay_command(alloc)?.try_get_matches_from(words) {
         Ok(matches) => match matches.get_str("office-token") {

@@ -1,13 +1,10 @@
 //! Serving standard input over tables in memory.
-ghost use Rattle.std.specs.Prelude.{◌≡◌, ◌≢◌, ◌↔◌, IfOk, OnOk, IsErrOf, Err};
+ghost use Rattle.std.specs.Prelude.{◌≡◌, ◌≢◌, ◌⊎◌, ◌↔◌, IfOk, OnOk, OnErr, IsErrOf, Err};
 ghost use Rattle.sqlite.specs.Held.{state};
 ghost use Rattle.sqlite.specs.Steps.{over_memory};
 ghost use Rattle.broker_core.specs.Name.{IsToken};
-ghost use Rattle.broker_core.specs.State.{opening};
-ghost use Rattle.broker_service.specs.Primitives.{broker_primitives};
-ghost use Rattle.broker_http.specs.Serving.{Holding};
-ghost use Rattle.broker_http.specs.Serving.Mode.{Runs};
-ghost use Rattle.broker_program.specs.Replays.{Replays};
+ghost use Rattle.broker_http.specs.Serving.{IsInMode};
+ghost use Rattle.broker_program.specs.Replays.{Replays, ReplaysUntil, new_broker};
 
 use crate::fault::RunFault;
 use broker_core::name::{Token, TokenFault};
@@ -31,7 +28,7 @@ fn token_of(alloc: Global, text: &str) -> Result<Token, RunFault>
 
 /// A new broker over tables in memory.
 fn new_broker(alloc: Global, office: &Token) -> Result<Broker<MemStore>, RunFault>
-    ensures holds { IfOk result (Holding (state over_memory) (Runs (opening (broker_primitives.digest_of office.now)))) }
+    ensures holds { IfOk result (IsInMode (state over_memory) (new_broker office.now)) }
     ensures fails { result ≢ Err RunFault.Token }
 {
     match Connection::open_in_memory(alloc) {
@@ -52,7 +49,14 @@ pub(crate) fn replay<R: Read, W: Write>(
 ) -> Result<(), RunFault>
     ensures token { result ≡ Err RunFault.Token ↔ (¬ (IsToken office_token.now)) }
     ensures known { OnOk result (IsToken office_token.now) }
-    ensures ok { OnOk result (Replays office_token.now (R.remaining input.old) (R.remaining input.new) (W.contents output.old) (W.contents output.new)) }
+    ensures ok { OnOk result (Replays office_token.now
+        (R.remaining input.old) (R.remaining input.new)
+        (W.contents output.old) (W.contents output.new)) }
+    // Nothing was read or written, or some requests were answered.
+    ensures fails { OnErr result (((input.new ≡ input.old) × (output.new ≡ output.old))
+        ⊎ ReplaysUntil office_token.now
+        (R.remaining input.old) (R.remaining input.new)
+        (W.contents output.old) (W.contents output.new)) }
 {
     let office = token_of(alloc, office_token)?;
     let mut broker = new_broker(alloc, &office)?;

@@ -1,10 +1,11 @@
-use Rattle.std.proofs.Common.{◌≡◌}
-use Rattle.broker_http.proofs.exchange.run.Goals as goal
+use Rattle.broker_http.proofs.exchange.apply.Goals as goal
 
 pub returns-in-Some : goal.returns-in-Some
 returns-in-Some g c = rw c.in-Some.is record {
   stopped = c.apply.ensures.stopped;
   applies = rw c.as_str.ensures at c.apply.ensures.applies;
+  unchanged = c.apply.ensures.unchanged;
+  fails = c.apply.ensures.fails;
   stops = c.apply.ensures.stops;
-  clean = c.apply.ensures.clean;
+  survives = c.apply.ensures.survives;
 }

@@ -1,0 +1,60 @@
+-- The responses to a stream.
+use Rattle.std.specs.Prelude.{◌≡◌, ℕ, ◌<◌, true, false, List, [], ◌∷◌, ◌++◌, length, take, Option}
+use Rattle.std.specs.List.{flat_map}
+use Rattle.std.specs.Io.KnownBytes.{Appends}
+use Rattle.http_messages.specs.Message.{Message}
+use Rattle.http_messages.specs.Messages.{Begins, HasNoMessage}
+use Rattle.http_responses.specs.Responses.{Response}
+use Rattle.broker_http.specs.declared.served.ServeFault.{ServeFault}
+use Rattle.broker_http.specs.declared.served.ServeFault.TheVariants as faults
+use Rattle.broker_http.specs.declared.served.Ended.{Ended}
+use Rattle.broker_http.specs.declared.served.Ended.TheVariants.{AtEnd, Rest, Closed}
+
+-- all that goes out
+abbrev pub texts : List Response → List ℕ
+texts responses = flat_map (λ r. r.text) responses
+
+-- none of the responses closes
+abbrev pub AllOpen : List Response → Type 0
+AllOpen [] = Unit {0}
+AllOpen (response ∷ responses) = (response.closes ≡ false) × AllOpen responses
+
+-- the last response closes, and no other
+abbrev pub LastCloses : List Response → Type 0
+LastCloses responses =
+    (front : List Response) × (last : Response)
+    × (responses ≡ front ++ last ∷ []) × AllOpen front × (last.closes ≡ true)
+
+-- The stream's messages and their responses are over: behind a closing response, or where no message is whole.
+abbrev pub StreamEnds : Ended → List Response → List ℕ → Type 0
+StreamEnds AtEnd responses rest = AllOpen responses × (rest ≡ [])
+StreamEnds Rest responses rest = AllOpen responses × (0 < length rest) × HasNoMessage rest
+StreamEnds Closed responses rest = LastCloses responses
+
+-- What is out at a fault: with Write all responses but the last, and of that one a beginning that isn't the
+-- whole; else all of them.
+abbrev pub StreamCut : ServeFault → List Response → List ℕ → Type 0
+StreamCut faults.Read responses out = AllOpen responses × (out ≡ texts responses)
+StreamCut faults.Memory responses out = AllOpen responses × (out ≡ texts responses)
+StreamCut faults.Write responses out =
+    (front : List Response) × (last : Response) × (n : ℕ)
+    × (responses ≡ front ++ last ∷ []) × AllOpen front
+    × (n < length last.text) × (out ≡ texts front ++ take n last.text)
+
+module _ {S : Type 0} (Exchange : S → Message → Response → S → Type 0) where
+  -- These responses, to the messages at the front of the stream in turn, lead from one state to another; rest
+  -- is behind those messages.
+  abbrev pub Responses : S → List ℕ → List Response → S → List ℕ → Type 0
+  Responses s stream [] t rest = (t ≡ s) × (rest ≡ stream)
+  Responses s stream (response ∷ responses) t rest =
+      (m : Message) × (u : S) × (after : List ℕ)
+      × Begins stream m after × Exchange s m response u × Responses u after responses t rest
+
+  -- What a fault leaves of one message: with Memory nothing was done, with Write it is answered and a
+  -- beginning of its response is out, but not the whole.
+  abbrev pub ExchangeCut : S → Message → S → Option (List ℕ) → Option (List ℕ) → ServeFault → Type 0
+  ExchangeCut s m t old new faults.Read = ⊥
+  ExchangeCut s m t old new faults.Memory = (t ≡ s) × Appends old new []
+  ExchangeCut s m t old new faults.Write =
+      (response : Response) × Exchange s m response t
+      × ((n : ℕ) × (n < length response.text) × Appends old new (take n response.text))

@@ -1,0 +1,63 @@
+//! How serving ends, and why it stops.
+ghost use Rattle.std.specs.Prelude.{◌≡◌};
+ghost use Rattle.broker_http.specs.Faults.{fault_of_read};
+
+use http_messages::reading::ReadFault;
+use http_responses::WriteFault;
+use thiserror::Error;
+
+/// How serving ended.
+#[derive(Clone, Copy, Debug, PartialEq, Eq)]
+pub enum Ended {
+    /// The stream ended behind a whole message.
+    AtEnd,
+    /// The stream ended in an unfinished message, which gets no answer.
+    Rest,
+    /// An answer closed the stream.
+    Closed,
+}
+
+/// A stream that was served to its end.
+#[derive(Clone, Copy, Debug, PartialEq, Eq)]
+pub struct Served {
+    /// How many messages were answered.
+    pub answered: u64,
+    pub ended: Ended,
+}
+
+/// Why serving stopped.
+#[derive(Clone, Copy, Debug, PartialEq, Eq, Error)]
+pub enum ServeFault {
+    /// The reader failed, or 2^64-1 messages were answered. All answers are out.
+    #[error("the reader failed")]
+    Read,
+    /// The writer failed, or took none of the bytes that were left. The last answer is out in part or not at
+    /// all.
+    #[error("the writer failed")]
+    Write,
+    /// There was no memory for a message or its answer, and nothing was done for it. All answers before are
+    /// out.
+    #[error("out of memory")]
+    Memory,
+}
+
+impl From<ReadFault> for ServeFault {
+    ghost from_gives = { λ fault served. served ≡ fault_of_read fault };
+
+    fn from(fault: ReadFault) -> ServeFault {
+        match fault {
+            ReadFault::Reader => ServeFault::Read,
+            ReadFault::Memory => ServeFault::Memory,
+        }
+    }
+}
+
+impl From<WriteFault> for ServeFault {
+    ghost use Rattle.broker_http.specs.declared.served.ServeFault.{ServeFault};
+
+    ghost from_gives = { λ _ served. served ≡ ServeFault.Write };
+
+    fn from(_fault: WriteFault) -> ServeFault {
+        ServeFault::Write
+    }
+}
