@@ -55,7 +55,8 @@ fn answers<S: Alter>(alloc: Global, broker: &mut Broker<S>, stream: &[u8]) -> Ve
     out
 }
 
-/// What the broker over the files answers a stream, and the files that this leaves. Nothing is answered where none could be opened.
+/// What the broker over the files answers a stream, and the files that this leaves. Nothing is answered where none
+/// could be opened.
 pub(crate) fn session<D: Disk + Drop>(
     alloc: Global,
     files: Files<D>,

@@ -1,7 +1,7 @@
 //! Seven requests, from a team to the listing of an environment, and their answers.
-use crate::fixture::{new_broker, replay};
+use crate::fixture::replay;
 use broker_service::Broker;
-use sqlite::{Alter, MemStore};
+use sqlite::Alter;
 use std::alloc::{AllocError, Global};
 use std::test::Fail;
 
@@ -54,14 +54,4 @@ pub(crate) fn goes_on<S: Alter>(
     let wanted = joined(alloc, ANSWERS.as_slice(), first)?;
     let (_, out) = replay(alloc, broker, stream.as_slice())?;
     Ok(out.as_slice() == wanted.as_slice())
-}
-
-/// A broker behind the first run.
-pub(crate) fn ran(alloc: Global) -> Result<Broker<MemStore>, Fail> {
-    let mut broker = new_broker(alloc)?;
-    if goes_on(alloc, &mut broker, 0)? {
-        Ok(broker)
-    } else {
-        Err(Fail::from("the first run has other answers"))
-    }
 }

@@ -25,7 +25,8 @@ fn count(alloc: Global, files: Files<Memory>, stream: &[u8]) -> (Vec<u8>, u64) {
     (out, left.log.writes.saturating_add(left.db.writes))
 }
 
-/// How often these rows write to the files of a broker behind the first five requests of the first run, if they get their answers.
+/// How often these rows write to the files of a broker behind the first five requests of the first run, if they get
+/// their answers.
 fn writes(alloc: Global, rows: &[Row<'_>]) -> Result<Option<u64>, Fail> {
     let office = Token::new(alloc, OFFICE)?;
     let first = joined(alloc, &REQUESTS[..5], 0)?;
@@ -109,8 +110,19 @@ const STORE: &[u8] =
 const STOPPED: &[u8] =
     b"HTTP/1.1 503 Service Unavailable\r\ncontent-type: application/json\r\ncontent-length: 20\r\n\r\n{\"answer\":\"stopped\"}";
 
-/// What a stream is answered over files that stop after so many calls of the log, and what the listing is answered when the
-/// machine is back with what was synced.
+const STOPPED_CLOSING: &[u8] =
+    b"HTTP/1.1 503 Service Unavailable\r\ncontent-type: application/json\r\ncontent-length: 20\r\nconnection: close\r\n\r\n{\"answer\":\"stopped\"}";
+
+/// A command that changes nothing, in a request that closes.
+const CLOSING: &[u8] =
+    b"PUT /environments/dev HTTP/1.0\r\nauthorization: Bearer office-token-0001\r\ncontent-length: 15\r\n\r\n{\"gated\":false}";
+
+/// The answer to it.
+const ALREADY_CLOSING: &[u8] =
+    b"HTTP/1.1 200 OK\r\ncontent-type: application/json\r\ncontent-length: 20\r\nconnection: close\r\n\r\n{\"answer\":\"already\"}";
+
+/// What a stream is answered over files that stop after so many calls of the log, and what the listing is answered when
+/// the machine is back with what was synced.
 fn stop(alloc: Global, files: Files<Memory>, calls: u64, stream: &[u8]) -> (Vec<u8>, Vec<u8>) {
     let stopping = Files {
         log: Fuse::new(files.log, calls),
@@ -123,14 +135,15 @@ fn stop(alloc: Global, files: Files<Memory>, calls: u64, stream: &[u8]) -> (Vec<
     (out, kept)
 }
 
-/// After how many calls of the log the files stop; what the deployment and the listing are answered; and the listing afterwards.
+/// After how many calls of the log the files stop; what the deployment, the listing and the request that closes are
+/// answered; and the listing afterwards.
 const STOPS: [(u64, &[&[u8]], &[u8]); 3] = [
     // no broker is opened
     (20, &[], BEFORE),
     // the deployment isn't committed
-    (30, &[STORE, STOPPED], BEFORE),
+    (30, &[STORE, STOPPED, STOPPED_CLOSING], BEFORE),
     // it is committed, and the log isn't copied into the database
-    (36, &[DONE_ANSWER, LISTING], LISTING),
+    (36, &[DONE_ANSWER, LISTING, ALREADY_CLOSING], LISTING),
 ];
 
 #[test]
@@ -138,7 +151,8 @@ fn a_stop_takes_nothing_that_was_done(rt: HostRuntime) -> Result<(), Fail> {
     let alloc = rt.alloc();
     let office = Token::new(alloc, OFFICE)?;
     let first = joined(alloc, &REQUESTS[..5], 0)?;
-    let last = joined(alloc, REQUESTS.as_slice(), 5)?;
+    let mut last = joined(alloc, REQUESTS.as_slice(), 5)?;
+    last.extend_from_slice(CLOSING)?;
     let base = files_behind(alloc, &office, first.as_slice());
     for (calls, answers, listing) in STOPS {
         let (out, kept) = stop(alloc, copies(alloc, &base), calls, last.as_slice());

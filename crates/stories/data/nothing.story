@@ -1,0 +1,3 @@
+# Nothing is sent, so nothing is answered.
+@ O office-token-0001
+= end

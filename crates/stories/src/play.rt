@@ -1,0 +1,260 @@
+//! Playing a story over new brokers.
+use crate::fault::Fault;
+use crate::story::{Story, Stream};
+use broker_core::name::Token;
+use broker_http::{Served, serve};
+use broker_service::Broker;
+use sqlite::{Connection, MemStore};
+use std::alloc::{AllocError, Global};
+use std::fmt;
+use std::io::Read;
+
+/// About how many answers are asked for at most, where a story is played again and again with its streams cut in two.
+const MOST_ANSWERS: usize = 4000;
+
+/// How a stream is read.
+#[derive(Clone, Copy)]
+pub(crate) enum Reading {
+    Whole,
+    ByteByByte,
+    /// In two parts, the first of so many bytes where there are as many.
+    Cut(usize),
+}
+
+impl fmt::Display for Reading {
+    fn fmt<W: fmt::Write>(&self, f: &mut fmt::Formatter<W>) -> fmt::Result {
+        match self {
+            Reading::Whole => f.write_str("whole"),
+            Reading::ByteByByte => f.write_str("byte by byte"),
+            Reading::Cut(place) => write!(f, "in two, cut behind {place} bytes"),
+        }
+    }
+}
+
+/// What is otherwise in a stream than written.
+#[derive(Drop)]
+pub(crate) enum Difference {
+    /// The answer of this number, from 1, and how what was got begins there.
+    Answer { number: u64, got: String },
+    /// The answers are as written, but serving ended otherwise.
+    End(Served),
+}
+
+impl fmt::Display for Difference {
+    fn fmt<W: fmt::Write>(&self, f: &mut fmt::Formatter<W>) -> fmt::Result {
+        match self {
+            Difference::Answer { number, got } => write!(f, "answer {number} differs: got {got}"),
+            Difference::End(served) => write!(f, "the end differs: got {served:?}"),
+        }
+    }
+}
+
+/// What came of a story.
+#[derive(Drop)]
+pub(crate) enum Outcome {
+    /// So many answers are as written, however the streams are read, and where they are cut in two at places so many
+    /// bytes apart.
+    AsWritten {
+        answers: usize,
+        step: usize,
+    },
+    /// The stream of this number, from 1, differs where the streams are read so.
+    Differs {
+        reading: Reading,
+        stream: u64,
+        difference: Difference,
+    },
+}
+
+impl fmt::Display for Outcome {
+    fn fmt<W: fmt::Write>(&self, f: &mut fmt::Formatter<W>) -> fmt::Result {
+        match self {
+            Outcome::AsWritten { answers, step: 1 } => {
+                write!(f, "{answers} answers as written, cut at every place")
+            }
+            Outcome::AsWritten { answers, step } => {
+                write!(f, "{answers} answers as written, cut every {step} bytes")
+            }
+            Outcome::Differs {
+                reading,
+                stream,
+                difference,
+            } => write!(f, "read {reading}, in stream {stream} {difference}"),
+        }
+    }
+}
+
+/// A reader that gives its bytes one at a time.
+#[derive(Drop)]
+struct OneByOne<'a>(&'a [u8]);
+
+impl Read for OneByOne<'_> {
+    ghost use Rattle.std.specs.Prelude.{Some};
+
+    ghost remaining = { λ s. Some s.0.now };
+
+    fn read(&mut self, buf: &mut [u8]) -> std::io::Result<usize> {
+        let most = buf.len().min(1);
+        self.0.read(&mut buf[..most])
+    }
+}
+
+/// A new broker in memory, whose office has this token.
+fn new_broker(alloc: Global, office: Option<&str>) -> Result<Broker<MemStore>, Fault> {
+    let Some(office) = office else {
+        return Err(Fault::Office);
+    };
+    let Ok(office) = Token::new(alloc, office) else {
+        return Err(Fault::Office);
+    };
+    let Ok(connection) = Connection::open_in_memory(alloc) else {
+        return Err(Fault::Broker);
+    };
+    match Broker::create(alloc, connection, &office) {
+        Ok(broker) => Ok(broker),
+        Err(_) => Err(Fault::Broker),
+    }
+}
+
+/// The first of the answers that differs, from 1, and what was got from there on.
+fn first_other<'a>(answers: &[Vec<u8>], got: &'a [u8]) -> Option<(u64, &'a [u8])> {
+    let mut rest = got;
+    let mut number = 1u64;
+    for answer in answers {
+        match rest.strip_prefix(answer.as_slice()) {
+            Some(behind) => rest = behind,
+            None => return Some((number, rest)),
+        }
+        number = number.saturating_add(1);
+    }
+    if rest.is_empty() {
+        None
+    } else {
+        Some((number, rest))
+    }
+}
+
+/// The first bytes, on one line.
+fn shown(alloc: Global, bytes: &[u8]) -> Result<String, AllocError> {
+    let first = String::from_utf8_lossy(alloc, bytes.get(..500).unwrap_or(bytes))?;
+    let mut text = String::new(alloc);
+    for line in first.as_str().lines() {
+        text.push_str(line)?;
+        text.push_str(" / ")?;
+    }
+    Ok(text)
+}
+
+/// Serves the reader, which gives the bytes of the stream, and compares.
+fn compare<R: Read>(
+    alloc: Global,
+    broker: &mut Broker<MemStore>,
+    stream: &Stream,
+    reader: &mut R,
+) -> Result<Option<Difference>, Fault> {
+    let mut got = Vec::new(alloc);
+    let served = serve(alloc, broker, reader, &mut got)?;
+    let wanted = Served {
+        answered: stream.answers.len() as u64,
+        ended: stream.ended,
+    };
+    match first_other(stream.answers.as_slice(), got.as_slice()) {
+        Some((number, rest)) => Ok(Some(Difference::Answer {
+            number,
+            got: shown(alloc, rest)?,
+        })),
+        None if served == wanted => Ok(None),
+        None => Ok(Some(Difference::End(served))),
+    }
+}
+
+/// Plays a stream that is read so.
+fn play_stream(
+    alloc: Global,
+    broker: &mut Broker<MemStore>,
+    stream: &Stream,
+    reading: Reading,
+) -> Result<Option<Difference>, Fault> {
+    let mut bytes = stream.sent.as_slice();
+    match reading {
+        Reading::Whole => compare(alloc, broker, stream, &mut bytes),
+        Reading::ByteByByte => compare(alloc, broker, stream, &mut OneByOne(bytes)),
+        Reading::Cut(place) => {
+            let (front, back) = bytes.split_at(place.min(bytes.len()));
+            compare(alloc, broker, stream, &mut front.chain(back))
+        }
+    }
+}
+
+/// Plays all streams over a new broker, the story's own read so. The result is what differs first, with the number of
+/// its stream, from 1.
+fn play_all(
+    alloc: Global,
+    story: &Story,
+    reading: Reading,
+) -> Result<Option<(u64, Difference)>, Fault> {
+    let mut broker = new_broker(alloc, story.office())?;
+    let mut number = 1u64;
+    for stream in &story.streams {
+        let reading = if stream.is_own {
+            reading
+        } else {
+            Reading::Whole
+        };
+        if let Some(difference) = play_stream(alloc, &mut broker, stream, reading)? {
+            return Ok(Some((number, difference)));
+        }
+        number = number.saturating_add(1);
+    }
+    Ok(None)
+}
+
+/// The length of the longest stream of the story's own.
+fn longest(streams: &[Stream]) -> usize {
+    let mut longest = 0;
+    for stream in streams {
+        if stream.is_own {
+            longest = stream.sent.len().max(longest);
+        }
+    }
+    longest
+}
+
+/// How many answers are wanted in all.
+fn answer_count(streams: &[Stream]) -> usize {
+    let mut count = 0usize;
+    for stream in streams {
+        count = count.saturating_add(stream.answers.len());
+    }
+    count
+}
+
+/// The outcome of a story that is read so, where something differs.
+fn differs(alloc: Global, story: &Story, reading: Reading) -> Result<Option<Outcome>, Fault> {
+    match play_all(alloc, story, reading)? {
+        Some((stream, difference)) => Ok(Some(Outcome::Differs {
+            reading,
+            stream,
+            difference,
+        })),
+        None => Ok(None),
+    }
+}
+
+/// Plays a story with its streams whole, byte by byte, and cut in two.
+pub(crate) fn play(alloc: Global, story: &Story) -> Result<Outcome, Fault> {
+    for reading in [Reading::Whole, Reading::ByteByByte] {
+        if let Some(outcome) = differs(alloc, story, reading)? {
+            return Ok(outcome);
+        }
+    }
+    let length = longest(story.streams.as_slice());
+    let answers = answer_count(story.streams.as_slice());
+    let step = length.saturating_mul(answers) / MOST_ANSWERS + 1;
+    for place in (0..length).step_by(step) {
+        if let Some(outcome) = differs(alloc, story, Reading::Cut(place))? {
+            return Ok(outcome);
+        }
+    }
+    Ok(Outcome::AsWritten { answers, step })
+}

@@ -1,0 +1,204 @@
+//! A story: what is sent, and the answers that are wanted.
+use crate::escapes::unescaped;
+use crate::fault::Fault;
+use crate::lines::split_word;
+use crate::messages::{answer, request};
+use broker_http::Ended;
+use std::alloc::{AllocError, Global};
+use std::mem;
+
+/// A caller of a story.
+#[derive(Drop)]
+struct Caller {
+    name: String,
+    token: String,
+}
+
+/// What is sent in one stream, and what must come back.
+#[derive(Drop)]
+pub(crate) struct Stream {
+    pub(crate) sent: Vec<u8>,
+    /// The bytes of each answer.
+    pub(crate) answers: Vec<Vec<u8>>,
+    /// How serving it must end.
+    pub(crate) ended: Ended,
+    /// Whether it is the story's own; otherwise it is told by the story that this one begins with.
+    pub(crate) is_own: bool,
+}
+
+impl Stream {
+    fn new(alloc: Global, is_own: bool) -> Stream {
+        Stream {
+            sent: Vec::new(alloc),
+            answers: Vec::new(alloc),
+            ended: Ended::AtEnd,
+            is_own,
+        }
+    }
+}
+
+/// The lines of a story so far.
+#[derive(Drop)]
+pub(crate) struct Story {
+    callers: Vec<Caller>,
+    /// The streams that are told to their ends.
+    pub(crate) streams: Vec<Stream>,
+    /// The stream that is told now.
+    current: Stream,
+}
+
+/// The fault of a line.
+fn line_fault(alloc: Global, line: &str) -> Fault {
+    match String::from_str(alloc, line) {
+        Ok(line) => Fault::Line(line),
+        Err(_) => Fault::Memory,
+    }
+}
+
+/// How a stream ends, by its word.
+fn ended_by(word: &str) -> Option<Ended> {
+    match word {
+        "end" => Some(Ended::AtEnd),
+        "rest" => Some(Ended::Rest),
+        "closed" => Some(Ended::Closed),
+        _ => None,
+    }
+}
+
+/// A text so many times: a number, a space, and the text with its escapes. `None` where it has another form.
+fn repeated(alloc: Global, text: &str) -> Result<Option<Vec<u8>>, AllocError> {
+    let (count, text) = split_word(text);
+    let Ok(count) = count.parse::<u32>() else {
+        return Ok(None);
+    };
+    let Some(piece) = unescaped(alloc, text)? else {
+        return Ok(None);
+    };
+    let mut bytes = Vec::new(alloc);
+    for _ in 0..count {
+        bytes.extend_from_slice(piece.as_slice())?;
+    }
+    Ok(Some(bytes))
+}
+
+impl Story {
+    /// A story without a line.
+    pub(crate) fn new(alloc: Global) -> Story {
+        Story {
+            callers: Vec::new(alloc),
+            streams: Vec::new(alloc),
+            current: Stream::new(alloc, true),
+        }
+    }
+
+    /// The token of the office, whose line is the first of all callers.
+    pub(crate) fn office(&self) -> Option<&str> {
+        self.callers.first().map(|caller| caller.token.as_str())
+    }
+
+    /// The token of the caller of this name.
+    fn token(&self, name: &str) -> Option<&str> {
+        for caller in &self.callers {
+            if caller.name.as_str() == name {
+                return Some(caller.token.as_str());
+            }
+        }
+        None
+    }
+
+    /// The bytes of a request: a caller, or `-` for none, and the request. `None` where there is no such caller.
+    fn request(&self, alloc: Global, text: &str) -> Result<Option<Vec<u8>>, AllocError> {
+        let (name, text) = split_word(text);
+        if name == "-" {
+            return Ok(Some(request(alloc, None, text)?));
+        }
+        match self.token(name) {
+            Some(token) => Ok(Some(request(alloc, Some(token), text)?)),
+            None => Ok(None),
+        }
+    }
+
+    fn add_caller(&mut self, alloc: Global, text: &str) -> Result<(), Fault> {
+        let (name, token) = split_word(text);
+        self.callers.push(Caller {
+            name: String::from_str(alloc, name)?,
+            token: String::from_str(alloc, token)?,
+        })?;
+        Ok(())
+    }
+
+    /// Sends the bytes, if there are some.
+    fn send(&mut self, bytes: Option<Vec<u8>>) -> Result<bool, Fault> {
+        let Some(bytes) = bytes else {
+            return Ok(false);
+        };
+        self.current.sent.extend_from_slice(bytes.as_slice())?;
+        Ok(true)
+    }
+
+    /// Wants the bytes as the next answer, if there are some.
+    fn want(&mut self, bytes: Option<Vec<u8>>) -> Result<bool, Fault> {
+        let Some(bytes) = bytes else {
+            return Ok(false);
+        };
+        self.current.answers.push(bytes)?;
+        Ok(true)
+    }
+
+    /// Ends the current stream so, and begins another.
+    fn end_stream(&mut self, alloc: Global, ended: Option<Ended>) -> Result<bool, Fault> {
+        let Some(ended) = ended else {
+            return Ok(false);
+        };
+        let next = Stream::new(alloc, self.current.is_own);
+        let mut stream = mem::replace(&mut self.current, next);
+        stream.ended = ended;
+        self.streams.push(stream)?;
+        Ok(true)
+    }
+
+    /// Takes a line by its mark, and tells whether it has the form of that mark.
+    fn take_marked(&mut self, alloc: Global, mark: &str, text: &str) -> Result<bool, Fault> {
+        match mark {
+            "@" => {
+                self.add_caller(alloc, text)?;
+                Ok(true)
+            }
+            ">" => {
+                let bytes = self.request(alloc, text)?;
+                self.send(bytes)
+            }
+            ">>" => self.send(unescaped(alloc, text)?),
+            ">+" => self.send(repeated(alloc, text)?),
+            "<" => self.want(answer(alloc, text)?),
+            "<<" => self.want(unescaped(alloc, text)?),
+            "=" => self.end_stream(alloc, ended_by(text)),
+            _ => Ok(mark.is_empty() || mark.starts_with('#')),
+        }
+    }
+
+    /// Says whose the lines from here on are: the story's own, or those of a story that it begins with. A stream that
+    /// isn't told to its end goes on as the story's own.
+    pub(crate) fn set_own(&mut self, is_own: bool) {
+        self.current.is_own = is_own;
+    }
+
+    /// Takes a line of the story.
+    pub(crate) fn take_line(&mut self, alloc: Global, line: &str) -> Result<(), Fault> {
+        let (mark, text) = split_word(line);
+        if self.take_marked(alloc, mark, text)? {
+            Ok(())
+        } else {
+            Err(line_fault(alloc, line))
+        }
+    }
+
+    /// Ends the last stream, where no line did.
+    pub(crate) fn finish(&mut self, alloc: Global) -> Result<(), Fault> {
+        let is_blank = self.current.sent.is_empty() && self.current.answers.is_empty();
+        if !is_blank || self.streams.is_empty() {
+            self.end_stream(alloc, Some(Ended::AtEnd))?;
+        }
+        Ok(())
+    }
+}
