@@ -15,6 +15,7 @@ pub mod SessionLemmas
 pub mod GateLemmas
 pub mod Once
 pub mod Callers
+pub mod SoundContents
 pub mod Quiet
 pub mod Headline
 pub mod Sorting

@@ -20,8 +20,8 @@ use Rattle.broker_core.specs.Faults.{fault_of}
 use Rattle.broker_core.specs.Gate.{Stands, consumer_of, NeedsStanding, NeedsAbsent, NeedsAsProvider, IsNeed, IsGood, IsPermitted, IsFault, Judges}
 use Rattle.broker_core.specs.Request.{refusal}
 use Rattle.broker_core.specs.Change.{Transition, unchanged_with, already, done, deploy, instance_of, is_text}
-use Rattle.broker_core.specs.Machine.{Primitives, StepOfCaller, HasDigest, IsCallerOfDigest, IsCallerOfToken, TakesEffect}
-use Rattle.broker_core.specs.Laws.{TeamsDiffer, Concerns, Agree, GateLocality}
+use Rattle.broker_core.specs.Machine.{Primitives, StepOfCaller, HasDigest, IsCallerOfDigest, IsCallerOfToken, Step, TakesEffect}
+use Rattle.broker_core.specs.Laws.{TeamsDiffer, Concerns, Agree, GateLocality, GateAnswersOnce}
 use Rattle.broker_core.proofs.Listing.{Lists-same}
 use Rattle.broker_core.proofs.Order.{fault_cmp_total}
 
@@ -163,10 +163,59 @@ After parts s command who out = MatchOption who (out ≡ unchanged_with s (Denie
 Judged : Primitives → State → Command → Option Answer → Transition → Type 0
 Judged parts s command refused out = MatchOption refused (TakesEffect parts s command out) (λ answer. out ≡ unchanged_with s answer)
 
--- the law: the answer to a deployment is the same in two states that agree
+-- the callers of a token are the same in both states
+caller_there : (parts : Primitives) (s t : State) (token : Option Text) → ((digest : Text) (caller : Caller) → (HasDigest s digest caller → HasDigest t digest caller) × (HasDigest t digest caller → HasDigest s digest caller))
+    → (who : Option Caller) → IsCallerOfToken parts s token who → IsCallerOfToken parts t token who
+caller_there parts s t None callers who called = called
+caller_there parts s t (Some secret) callers None called = λ caller h. called caller ((callers (parts.digest_of secret) caller).1 h)
+caller_there parts s t (Some secret) callers (Some Office) called = (callers (parts.digest_of secret) Office).0 called
+caller_there parts s t (Some secret) callers (Some (Team team)) called =
+    (λ h. called.0 ((callers (parts.digest_of secret) Office).1 h), (callers (parts.digest_of secret) (Team team)).0 called.1)
+
+judges_there : {s t : State} {v : Version} {e : Text} → AgreeHere s t v e → (permitted : Bool) (faults : List PairFault) → Judges s v e permitted faults → Judges t v e permitted faults
+judges_there a permitted faults j = record {
+  verdict = (λ h. permitted_there a (j.verdict.0 h), λ h. j.verdict.1 (permitted_there (turned a) h));
+  faults_are = record {
+    sorted = j.faults_are.sorted;
+    exactly = λ f. (λ c. fault_there a f ((j.faults_are.exactly f).0 c), λ h. (j.faults_are.exactly f).1 (fault_there (turned a) f h));
+  };
+}
+
+granted : {parts : Primitives} {s t : State} {v : Version} {e : Text} (caller : Caller) (token : Option Text) → IsCallerOfToken parts s token (Some caller) → Agree parts token s t v e
+    → (team : Text) → caller ≡ Team team → s.grants (team, e) ≡ t.grants (team, e)
+granted caller None calls agree team is = absurd (cc)
+granted {parts} {s} caller (Some secret) calls agree team is = agree.grant team secret refl (subst (λ c. IsCallerOfDigest s (parts.digest_of secret) (Some c)) is calls).1
+
+-- the law: what a deployment may be answered in one state, it may be answered in the other
 pub gate_locality : (parts : Primitives) → GateLocality parts
+unfolding Judged gated
+gate_locality parts token e v instance s t a agree x = by_who x.0 x.1 x.2
+  where
+    by_refusal : (caller : Caller) → IsCallerOfToken parts t token (Some caller) → (r : Option Answer) → r ≡ refusal t caller (Deploy e v instance) → Judged parts s (Deploy e v instance) r a
+        → (b : Transition) × Step parts t token (Deploy e v instance) b × (a.answer ≡ b.answer)
+    by_refusal caller called (Some answer) same is =
+        (unchanged_with t answer, (Some caller, called, (None, refl, subst (λ r. Judged parts t (Deploy e v instance) r (unchanged_with t answer)) same refl)), ap (λ o. o.answer) is)
+    by_refusal caller called None same x =
+        let b = gated t e v (instance_of instance) x.0 x.1 in
+        let acts : TakesEffect parts t (Deploy e v instance) b = (x.0, x.1, judges_there (here agree) x.0 x.1 x.2, refl) in
+        (b, (Some caller, called, (None, refl, subst (λ r. Judged parts t (Deploy e v instance) r b) same acts)), ap (λ o. o.answer) x.3 ∙ answer-gated s t v e (instance_of instance) (here agree) x.0 x.1)
+
+    by_found : (caller : Caller) → IsCallerOfToken parts s token (Some caller) → (f : Option FormFault) → f ≡ None
+        → MatchOption f (Judged parts s (Deploy e v instance) (refusal s caller (Deploy e v instance)) a) (λ fault. a ≡ unchanged_with s (BadForm fault))
+        → (b : Transition) × Step parts t token (Deploy e v instance) b × (a.answer ≡ b.answer)
+    by_found caller called None _ m =
+        by_refusal caller (caller_there parts s t token agree.callers (Some caller) called) (refusal s caller (Deploy e v instance)) (refusal_same agree caller instance (granted caller token called agree)) m
+    by_found caller called (Some f) is m = absurd (cc)
+
+    by_who : (who : Option Caller) → IsCallerOfToken parts s token who → MatchOption who (a ≡ unchanged_with s (Denied A1)) (λ caller. StepOfCaller parts s caller (Deploy e v instance) a)
+        → (b : Transition) × Step parts t token (Deploy e v instance) b × (a.answer ≡ b.answer)
+    by_who None called is = (unchanged_with t (Denied A1), (None, caller_there parts s t token agree.callers None called, refl), ap (λ o. o.answer) is)
+    by_who (Some caller) called m = by_found caller called m.0 m.1 m.2
+
+-- and where a token has one caller, it is the one answer
+pub gate_answers_once : (parts : Primitives) → GateAnswersOnce parts
 unfolding After Judged
-gate_locality parts token e v instance s t a b one agree x y = by_who x.0 y.0 (calls_same parts s t token one agree.callers x.0 y.0 x.1 y.1) x.1 x.2 y.2
+gate_answers_once parts token e v instance s t a b one agree x y = by_who x.0 y.0 (calls_same parts s t token one agree.callers x.0 y.0 x.1 y.1) x.1 x.2 y.2
   where
     by_refusal : (r q : Option Answer) → r ≡ q → Judged parts s (Deploy e v instance) r a → Judged parts t (Deploy e v instance) q b → a.answer ≡ b.answer
     by_refusal None None same m n = acts_same parts s t v e instance a b (here agree) m n
@@ -176,10 +225,6 @@ gate_locality parts token e v instance s t a b one agree x y = by_who x.0 y.0 (c
       where
         some_same : (k l : Answer) → Some k ≡ Some l → k ≡ l
         some_same k l is = cc
-
-    granted : (caller : Caller) (token : Option Text) → IsCallerOfToken parts s token (Some caller) → Agree parts token s t v e → (team : Text) → caller ≡ Team team → s.grants (team, e) ≡ t.grants (team, e)
-    granted caller None calls agree team is = absurd (cc)
-    granted caller (Some secret) calls agree team is = agree.grant team secret refl (subst (λ c. IsCallerOfDigest s (parts.digest_of secret) (Some c)) is calls).1
 
     by_found : (caller : Caller) → IsCallerOfToken parts s token (Some caller) → (f g : Option FormFault) → f ≡ None → g ≡ None
         → MatchOption f (Judged parts s (Deploy e v instance) (refusal s caller (Deploy e v instance)) a) (λ fault. a ≡ unchanged_with s (BadForm fault))

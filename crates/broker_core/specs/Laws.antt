@@ -6,20 +6,17 @@ use Rattle.broker_core.specs.declared.command.Command.{Command}
 use Rattle.broker_core.specs.declared.command.Command.TheVariants.{PutTeam, PutPacticipant, PutEnvironment, PutGrant, DeleteGrant, PutVersion, PutPact, GetPact, GetBranchPact, PostResult, PostReplies, Deploy, Undeploy, Release, EndSupport, GetEnvironment, CanIDeploy, GetMatrix, Malformed}
 use Rattle.broker_core.specs.declared.command.Version.{Version}
 use Rattle.broker_core.specs.declared.answer.Answer.{Answer}
-use Rattle.broker_core.specs.declared.answer.Answer.TheVariants.{Done, Already, NotPermitted, BadForm}
+use Rattle.broker_core.specs.declared.answer.Answer.TheVariants.{Done, BadForm}
 use Rattle.broker_core.specs.declared.command.FormFault.{FormFault}
-use Rattle.broker_core.specs.declared.answer.Detail.TheVariants.{Plain}
-use Rattle.broker_core.specs.declared.need.PairFault.{PairFault}
 use Rattle.broker_core.specs.Text.{Text}
-use Rattle.broker_core.specs.State.{State, latest}
-use Rattle.broker_core.specs.Gate.{Stands, IsPermitted, IsFault}
-use Rattle.broker_core.specs.Faults.{fault_cmp}
-use Rattle.broker_core.specs.Listing.{Lists}
-use Rattle.broker_core.specs.Request.{is_known, refusal}
-use Rattle.broker_core.specs.Change.{Transition, unchanged_with, instance_of}
-use Rattle.broker_core.specs.Machine.{Primitives, Reading, HasDigest, IsCallerOfToken, Step, Request, Run}
+use Rattle.broker_core.specs.State.{State, latest, opening}
+use Rattle.broker_core.specs.Gate.{Stands}
+use Rattle.broker_core.specs.Request.{is_known, consumer_version}
+use Rattle.broker_core.specs.Change.{Transition}
+use Rattle.broker_core.specs.Machine.{Primitives, Reading, HasDigest, pact_text, Step, Request, Run}
 use Rattle.broker_core.specs.Machine.Reading.{IsPact, IsRefused}
-use Rattle.broker_core.specs.Listed.{IsNormalText, IsListed}
+use Rattle.broker_core.specs.Contents.{HasSoundContents, ReadsAgain}
+use Rattle.broker_core.specs.Listed.{IsListed}
 
 -- no two teams have tokens with one digest: else a digest would have two callers. No step gives two teams one digest
 abbrev pub TeamsDiffer : State → Type 0
@@ -35,32 +32,15 @@ OnlyDoneChanges parts =
     (s : State) (token : Option Text) (command : Command) (out : Transition) → Step parts s token command out
     → (out.state ≡ s) ⊎ IsDone out.answer
 
--- what the gate makes of a command that would record v in e: where v is permitted the record stands afterwards and
--- the answer is Done or Already;
--- else the answer is all faults, and nothing changes
-abbrev pub IsJudged : State → Text → Version → (State → Type 0) → Transition → Type 0
-IsJudged s e v IsRecorded out =
-    (IsPermitted s v e × IsRecorded out.state × ((out.answer ≡ Done Plain) ⊎ (out.answer ≡ Already Plain)))
-    ⊎ ((¬ (IsPermitted s v e))
-    × ((faults : List PairFault) × Lists fault_cmp (IsFault s v e) faults
-    × (out ≡ unchanged_with s (NotPermitted faults))))
+-- a new broker has sound contents
+abbrev pub OpeningIsSound : Primitives → Type 0
+OpeningIsSound parts = (office : Text) → HasSoundContents parts (opening office)
 
--- a deployment whose caller is known and which nothing refuses before the gate is recorded exactly where the gate
--- permits it
-abbrev pub DeploysAsJudged : Primitives → Type 0
-DeploysAsJudged parts =
-    (s : State) (token : Option Text) (caller : Caller) (e : Text) (v : Version) (instance : Option Text)
-    (out : Transition)
-    → TeamsDiffer s → IsCallerOfToken parts s token (Some caller) → refusal s caller (Deploy e v instance) ≡ None
-    → Step parts s token (Deploy e v instance) out
-    → IsJudged s e v (λ t. t.deployed (e, v.pacticipant, instance_of instance) ≡ Some v.name) out
-
--- and so is a release
-abbrev pub ReleasesAsJudged : Primitives → Type 0
-ReleasesAsJudged parts =
-    (s : State) (token : Option Text) (caller : Caller) (e : Text) (v : Version) (out : Transition)
-    → TeamsDiffer s → IsCallerOfToken parts s token (Some caller) → refusal s caller (Release e v) ≡ None
-    → Step parts s token (Release e v) out → IsJudged s e v (λ t. IsTrue (t.released (e, v))) out
+-- sound contents stay sound, whatever is asked
+abbrev pub ContentsStay : Primitives → Type 0
+ContentsStay parts =
+    (s : State) (token : Option Text) (command : Command) (out : Transition) → ReadsAgain parts
+    → HasSoundContents parts s → Step parts s token command out → HasSoundContents parts out.state
 
 -- the version v, or one that stands in e
 abbrev pub Concerns : State → Version → Text → Version → Type 0
@@ -81,9 +61,16 @@ pub record Agree (parts : Primitives) (token : Option Text) (s t : State) (v : V
   pub results : (w : Version) (p : Text) (content : ℕ) → Concerns s v e w → s.contracts (w, p) ≡ Some content
       → (u : Version) → latest s content u ≡ latest t content u
 
--- the answer to a deployment is the same in two states that agree on these
+-- what a deployment may be answered in a state, it may be answered in each that agrees on these
 abbrev pub GateLocality : Primitives → Type 0
 GateLocality parts =
+    (token : Option Text) (e : Text) (v : Version) (instance : Option Text) (s t : State) (a : Transition)
+    → Agree parts token s t v e → Step parts s token (Deploy e v instance) a
+    → (b : Transition) × Step parts t token (Deploy e v instance) b × (a.answer ≡ b.answer)
+
+-- and where a token has one caller, that is the one answer
+abbrev pub GateAnswersOnce : Primitives → Type 0
+GateAnswersOnce parts =
     (token : Option Text) (e : Text) (v : Version) (instance : Option Text) (s t : State) (a b : Transition)
     → TeamsDiffer s → Agree parts token s t v e
     → Step parts s token (Deploy e v instance) a → Step parts t token (Deploy e v instance) b → a.answer ≡ b.answer
@@ -214,36 +201,36 @@ RunsOnce parts =
     (s last : State) (xs : List Session) → ComeAgain xs → Sessions parts s xs last
     → (answers : List Answer) × Run parts s (all_answered xs) answers last
 
--- the command's file is read in some way, and its replies can be compared with the normal text of a pact; nothing
--- is asked of a command without a file
-abbrev pub CanBeRead : Primitives → Command → Type 0
-CanBeRead parts (PutTeam team token) = Unit {0}
-CanBeRead parts (PutPacticipant p team) = Unit {0}
-CanBeRead parts (PutEnvironment e marks) = Unit {0}
-CanBeRead parts (PutGrant team e) = Unit {0}
-CanBeRead parts (DeleteGrant team e) = Unit {0}
-CanBeRead parts (PutVersion v branch) = Unit {0}
-CanBeRead parts (PutPact path file) = (reading : Reading) × parts.Reads file reading
-CanBeRead parts (GetPact path) = Unit {0}
-CanBeRead parts (GetBranchPact provider consumer branch) = Unit {0}
-CanBeRead parts (PostResult path report success) = Unit {0}
-CanBeRead parts (PostReplies path report replies) = ((found : Option FormFault) × parts.ReadsReplies replies found)
-    × ((text : Text) → IsNormalText parts text → parts.ReadsReplies replies None
+-- the command's file is read in some way, and its replies can be compared with the text of the contract; nothing is
+-- asked of a command without a file
+abbrev pub CanBeRead : Primitives → State → Command → Type 0
+CanBeRead parts s (PutTeam team token) = Unit {0}
+CanBeRead parts s (PutPacticipant p team) = Unit {0}
+CanBeRead parts s (PutEnvironment e marks) = Unit {0}
+CanBeRead parts s (PutGrant team e) = Unit {0}
+CanBeRead parts s (DeleteGrant team e) = Unit {0}
+CanBeRead parts s (PutVersion v branch) = Unit {0}
+CanBeRead parts s (PutPact path file) = (reading : Reading) × parts.Reads file reading
+CanBeRead parts s (GetPact path) = Unit {0}
+CanBeRead parts s (GetBranchPact provider consumer branch) = Unit {0}
+CanBeRead parts s (PostResult path report success) = Unit {0}
+CanBeRead parts s (PostReplies path report replies) = ((found : Option FormFault) × parts.ReadsReplies replies found)
+    × ((text : Text) → pact_text s (consumer_version path) path.provider ≡ Some text → parts.ReadsReplies replies None
     → (failing : Option (List ℕ)) × parts.Fails text replies failing)
-CanBeRead parts (Deploy e v instance) = Unit {0}
-CanBeRead parts (Undeploy e v instance) = Unit {0}
-CanBeRead parts (Release e v) = Unit {0}
-CanBeRead parts (EndSupport e v) = Unit {0}
-CanBeRead parts (GetEnvironment e) = Unit {0}
-CanBeRead parts (CanIDeploy v e) = Unit {0}
-CanBeRead parts (GetMatrix v) = Unit {0}
-CanBeRead parts (Malformed fault) = Unit {0}
+CanBeRead parts s (Deploy e v instance) = Unit {0}
+CanBeRead parts s (Undeploy e v instance) = Unit {0}
+CanBeRead parts s (Release e v) = Unit {0}
+CanBeRead parts s (EndSupport e v) = Unit {0}
+CanBeRead parts s (GetEnvironment e) = Unit {0}
+CanBeRead parts s (CanIDeploy v e) = Unit {0}
+CanBeRead parts s (GetMatrix v) = Unit {0}
+CanBeRead parts s (Malformed fault) = Unit {0}
 
--- every command has a step, in each state whose tables are listed and whose contracts have normal texts
+-- every command has a step, in each state whose tables are listed and whose contents are sound
 abbrev pub StepExists : Primitives → Type 0
 StepExists parts =
-    (s : State) (token : Option Text) (command : Command) → IsListed parts s → CanBeRead parts command
-    → (out : Transition) × Step parts s token command out
+    (s : State) (token : Option Text) (command : Command) → IsListed s → HasSoundContents parts s
+    → CanBeRead parts s command → (out : Transition) × Step parts s token command out
 
 -- the reading is that a pattern was refused: this alone may be told of a file that has another reading too
 abbrev pub TellsRefusal : (FormFault → Bool) → Reading → Type 0

@@ -11,5 +11,7 @@ pub mod Words
 pub mod Request
 pub mod Change
 pub mod Machine
+pub mod Contents
 pub mod Listed
 pub mod Laws
+pub mod Headline

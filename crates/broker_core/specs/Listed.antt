@@ -1,11 +1,8 @@
--- states whose tables are finite and whose contracts have their texts, as each state that a broker reaches
-use Rattle.std.specs.Prelude.{◌≡◌, ℕ, List, Option, Some, IsTrue, Contains}
+-- states whose tables are finite, as each state that a broker reaches
+use Rattle.std.specs.Prelude.{◌≡◌, List, Option, Some, IsTrue, Contains}
 use Rattle.broker_core.specs.declared.command.Version.{Version}
 use Rattle.broker_core.specs.Text.{Text}
 use Rattle.broker_core.specs.State.{State}
-use Rattle.broker_core.specs.Change.{text_of}
-use Rattle.broker_core.specs.Machine.{Primitives}
-use Rattle.broker_core.specs.Machine.Reading.{IsPact}
 
 -- each key at which the table has something stands in the list
 abbrev pub Covers : {A B : Type 0} → (A → Option B) → List A → Type 0
@@ -20,15 +17,8 @@ pub record Keys (s : State) : Type 0 where
   pub all_deployed : Covers s.deployed deployed
   pub all_released : (k : Text × Version) → IsTrue (s.released k) → Contains released k
 
--- some file is read as a pact with this normal text
-abbrev pub IsNormalText : Primitives → Text → Type 0
-IsNormalText parts text =
-    (file : Text) × (consumer : Text) × (provider : Text) × parts.Reads file (IsPact consumer provider text)
-
--- the tables are finite, and the content of each contract is the normal text of a pact
-pub record IsListed (parts : Primitives) (s : State) : Type 0 where
+-- the tables are finite
+pub record IsListed (s : State) : Type 0 where
   pub keys : Keys s
   pub teams : List Text
   pub all_teams : Covers s.teams teams
-  pub texts : (key : Version × Text) (content : ℕ) → s.contracts key ≡ Some content
-      → (text : Text) × (text_of s content ≡ Some text) × IsNormalText parts text

@@ -22,7 +22,7 @@ fn faults_of(alloc: Global, needs: &[Need], strict: bool) -> Result<Vec<PairFaul
 /// The fault of each need that isn't good, once, in the order of faults. A strict environment takes
 /// checked results alone.
 ///
-/// The error is wut of memory.
+/// The error is want of memory.
 pub fn decide(alloc: Global, needs: &[Need], strict: bool) -> Result<Vec<PairFault>, AllocError>
     ensures { IfOk result (λ faults. Lists fault_cmp (IsFaultAmong strict needs.now) faults.items) }
 {

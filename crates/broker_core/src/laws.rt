@@ -1,22 +1,21 @@
 //! Laws of the definitions. The program calls none of these.
 ghost use Rattle.broker_core.specs.Machine.{Primitives};
-ghost use Rattle.broker_core.specs.Laws.{DeploysAsJudged, ReleasesAsJudged, OnlyDoneChanges, GateLocality, Retry, SessionsCompose, RunsOnce, StepExists, StepOnce};
+ghost use Rattle.broker_core.specs.Headline.{DeploysExactly, ReleasesExactly, PermitsVerified};
+ghost use Rattle.broker_core.specs.Laws.{OnlyDoneChanges, OpeningIsSound, ContentsStay, GateLocality, GateAnswersOnce, Retry, SessionsCompose, RunsOnce, StepExists, StepOnce};
 
 /// What the written machine takes from other crates.
 pub trait Machine {
     ghost primitives: { Primitives };
 }
 
-/// A deployment whose caller is known and that nothing refuses before the gate is recorded exactly
-/// where the gate permits it;
-/// else all faults are the answer, and nothing changes.
-pub fn deploys_as_judged<M: Machine>()
-    ensures { DeploysAsJudged M.primitives }
-{}
-
-/// And so is a release.
-pub fn releases_as_judged<M: Machine>()
-    ensures { ReleasesAsJudged M.primitives }
+/// A deployment into a gated environment is recorded exactly when every contract between the
+/// version and the partners standing there has a successful latest verification, no required
+/// provider is absent and the caller's team is granted; otherwise the answer names every failing or
+/// missing pair, or the denying rule, and nothing changes. A release is judged in the same way.
+pub fn headline<M: Machine>()
+    ensures deployments { DeploysExactly M.primitives }
+    ensures releases { ReleasesExactly M.primitives }
+    ensures gate { PermitsVerified }
 {}
 
 /// Only a step that is answered `Done` changes anything.
@@ -24,11 +23,20 @@ pub fn only_done_changes<M: Machine>()
     ensures { OnlyDoneChanges M.primitives }
 {}
 
+/// Each stored text is one pact's normal text, stands once, and belongs to its contracts and
+/// results: of a new broker, and after every step from such a state, where the normal text of a
+/// pact reads as this pact.
+pub fn contents_stay<M: Machine>()
+    ensures opening { OpeningIsSound M.primitives }
+    ensures steps { ContentsStay M.primitives }
+{}
+
 /// The answer to a deployment depends on its caller, on what the version and its environment have,
 /// and on the contracts and
 /// latest results of the version and of what stands there, and on nothing else.
 pub fn gate_locality<M: Machine>()
-    ensures { GateLocality M.primitives }
+    ensures every_state { GateLocality M.primitives }
+    ensures one_answer { GateAnswersOnce M.primitives }
 {}
 
 /// A command that comes twice leaves what it leaves once; a result without a run, which is counted
@@ -49,8 +57,8 @@ pub fn runs_once<M: Machine>()
     ensures { RunsOnce M.primitives }
 {}
 
-/// Every command has a step, in each state whose tables are finite and whose contracts have the
-/// normal texts of pacts.
+/// Every command has a step, in each state whose tables are finite and whose contents are sound,
+/// where its file is read and its replies are compared.
 pub fn step_exists<M: Machine>()
     ensures { StepExists M.primitives }
 {}

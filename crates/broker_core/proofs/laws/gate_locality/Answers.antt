@@ -1,5 +1,8 @@
-use Rattle.broker_core.proofs.Locality.{gate_locality as lemma}
+use Rattle.broker_core.proofs.Locality as lemma
 use Rattle.broker_core.proofs.laws.gate_locality.Goals as goal
 
-pub returns : goal.returns
-returns g c = lemma g.M.Machine.primitives
+pub returns-clause-every_state : goal.returns-clause-every_state
+returns-clause-every_state g c = lemma.gate_locality g.M.Machine.primitives
+
+pub returns-clause-one_answer : goal.returns-clause-one_answer
+returns-clause-one_answer g c = lemma.gate_answers_once g.M.Machine.primitives

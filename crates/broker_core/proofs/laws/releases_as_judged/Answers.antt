@@ -1,5 +1,0 @@
-use Rattle.broker_core.proofs.Headline.{releases_as_judged as lemma}
-use Rattle.broker_core.proofs.laws.releases_as_judged.Goals as goal
-
-pub returns : goal.returns
-returns g c = lemma g.M.Machine.primitives
