@@ -11,3 +11,6 @@ pub mod Opening
 pub mod Newest
 pub mod Written
 pub mod NextRow
+pub mod Listed
+pub mod VersionRows
+pub mod ByNumber

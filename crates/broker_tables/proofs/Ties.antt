@@ -1,6 +1,10 @@
 -- That two keys are the same, by the machine's tests and by the orders.
-use Rattle.std.proofs.Common.{◌≡◌, Bool, ◌&&◌, refl, ◌∙◌, Ordering, Less, Equal, Greater}
-use Rattle.std.specs.Ordering.{eq_by_cmp, is_eq, ordering_then}
+use Rattle.std.proofs.Common.{◌≡◌, ◌==◌, inl, inr, ℕ, pos, Bool, true, false, ◌&&◌, refl, sym, ap, ◌∙◌, Ordering, Less, Equal, Greater}
+use Rattle.std.specs.Ordering.{eq_by_cmp, is_eq, ordering_then, int_cmp}
+use Rattle.std.specs.Cmp.{eq_by_cmp_equiv, Equal-is, nat_eq_equiv, int_cmp_total}
+use Rattle.std.specs.FinMap.{int_cmp-IsAntisymmetric}
+use Rattle.std.proofs.lemmas.Map.Views.{exact_unsigned_eq}
+use Rattle.std.proofs.lemmas.Bool.{cases_Bool}
 use Rattle.std.specs.Cmp.Lexicographic.{texts_ties}
 use Rattle.table_access.specs.Columns.{text_cmp, by_both}
 use Rattle.broker_core.specs.Text.{Text, same_text, same_pair}
@@ -20,3 +24,14 @@ pair_ties same_a same_b R S x y a b = two_tests _ _ _ _ a b ∙ both_eq (R x.0 y
 
 pub grant_ties : (x y : Text × Text) → same_pair same_text same_text x y ≡ eq_by_cmp (by_both text_cmp text_cmp) x y
 grant_ties x y = pair_ties same_text same_text text_cmp text_cmp x y (texts_ties x.0 y.0) (texts_ties x.1 y.1)
+
+-- numbers are the same by the machine's test and by the order of the columns
+pub nat_ties : (k n : ℕ) → (k == n) ≡ eq_by_cmp int_cmp (pos k) (pos n)
+nat_ties k n = elim (cases_Bool (k == n)) [
+  | inl same ↦ same ∙ sym (ap (λ m. eq_by_cmp int_cmp (pos k) (pos m)) (sym (exact_unsigned_eq k n same)) ∙ (eq_by_cmp_equiv int_cmp_total).refl (pos k))
+  | inr other ↦ other ∙ sym (none other (eq_by_cmp int_cmp (pos k) (pos n)) refl)
+]
+  where
+    none : (k == n) ≡ false → (b : Bool) → eq_by_cmp int_cmp (pos k) (pos n) ≡ b → eq_by_cmp int_cmp (pos k) (pos n) ≡ false
+    none other true hit = absurd (let ints : pos k ≡ pos n = int_cmp-IsAntisymmetric (pos k) (pos n) ((Equal-is (int_cmp (pos k) (pos n))).0 hit) in let nats : k ≡ n = cc in let e : (k == n) ≡ true = ap (λ m. k == m) (sym nats) ∙ nat_eq_equiv.refl k in cc)
+    none other false miss = miss

@@ -1,5 +1,6 @@
 pub mod Schema
 pub mod Rows
+pub mod Names
 pub mod Numbers
 pub mod Holds
 pub mod Making

@@ -5,7 +5,11 @@
 
 pub mod create;
 mod making;
+mod names;
 mod numbers;
+mod truths;
 
 pub use making::make_each;
+pub use names::{name_in, text_in};
 pub use numbers::next_number;
+pub use truths::{truth_at, truth_of};

@@ -1,12 +1,11 @@
 -- The statements on contents.
-use Rattle.std.proofs.Common.{◌≡◌, ◌+◌, ◌-◌, ◌<◌, ℕ, ℤ, pos, zero, suc, cond, codes, List, [], ◌∷◌, ◌++◌, map, filter, length, true, false, Bool, ◌&&◌, ◌||◌, not, Ordering, refl, sym, ap, subst, ◌∙◌, slice_get, unwrap_or, Some, None, Option, Ok, arith, Less}
+use Rattle.std.proofs.Common.{◌≡◌, ◌+◌, ◌-◌, ℕ, ℤ, pos, cond, codes, List, [], ◌∷◌, ◌++◌, map, filter, length, true, false, Bool, ◌&&◌, ◌||◌, not, Ordering, refl, sym, ap, subst, ◌∙◌, slice_get, unwrap_or, Some, None, Option, Ok, arith, Less}
 use Rattle.std.specs.Prelude.{option_map}
 use Rattle.std.specs.List.{AllByRecursion, enumerate_from, position_or_len, find as first}
 use Rattle.std.specs.Cmp.Lexicographic.{nat_list_cmp_total}
 use Rattle.std.proofs.lemmas.List.{length-map}
-use Rattle.std.proofs.lemmas.Bool.{ne_eqb}
 use Rattle.std.specs.Ordering.{eq_by_cmp, int_cmp, is_eq, is_gt}
-use Rattle.std.specs.Cmp.{int_cmp_total, eq_by_cmp_equiv, Equal-is}
+use Rattle.std.specs.Cmp.{int_cmp_total, eq_by_cmp_equiv}
 use Rattle.std.specs.FinMap.Entries.{find}
 use Rattle.std.specs.FinMap.{int_cmp-IsAntisymmetric}
 use Rattle.sqlite.specs.Tree.{IsAscending, rowid}
@@ -58,6 +57,7 @@ use Rattle.broker_core.specs.Text.{same_text}
 use Rattle.content_store.specs.Contents.{ContentsBy, AreContentsBy, with_digest_by, text_in, is_among, found_in, IsPut}
 use Rattle.content_store.proofs.TextNumbers.{same_is, none_before, with_new}
 use Rattle.broker_tables.proofs.NextRow.{next_row}
+use Rattle.broker_tables.proofs.ByNumber.{by_number}
 
 module _ (db : Database) (broker : IsBroker db) where
   pub numbered_rows : IsNumbered (db.trees 14)
@@ -112,32 +112,8 @@ contents_counted digest old new rows texts found held h read =
 
 -- ---- the text with a number, in the rows
 
-differ : (a b : ℕ) → (a ≡ b → ⊥) → eq_by_cmp int_cmp (pos a) (pos b) ≡ false
-differ a b apart = go (eq_by_cmp int_cmp (pos a) (pos b)) refl
-  where
-    go : (t : Bool) → eq_by_cmp int_cmp (pos a) (pos b) ≡ t → eq_by_cmp int_cmp (pos a) (pos b) ≡ false
-    go true e = absurd (let same : pos a ≡ pos b = int_cmp-IsAntisymmetric (pos a) (pos b) ((Equal-is (int_cmp (pos a) (pos b))).0 e) in let nats : a ≡ b = cc in apart nats)
-    go false e = e
-
 abbrev numbers_from : ℕ → List (List ℕ) → List (ℤ × List ℕ)
 numbers_from m texts = map (λ e. (pos e.0, e.1)) (enumerate_from m texts)
-
--- no number is below the first
-none_below : (m : ℕ) (texts : List (List ℕ)) (n : ℕ) → n < m → find int_cmp (pos n) (numbers_from m texts) ≡ None
-none_below m [] n low = refl
-none_below m (t ∷ texts) n low = ap (λ b. cond b (Some t) (find int_cmp (pos n) (numbers_from (m + 1) texts))) (differ n m (λ same. omega (arith, low, same))) ∙ none_below (m + 1) texts n (omega (arith, low))
-
-at_place : (m : ℕ) (texts : List (List ℕ)) (i : ℕ) → find int_cmp (pos (m + i)) (numbers_from m texts) ≡ slice_get texts i
-at_place m [] i = refl
-at_place m (t ∷ texts) zero = ap (λ b. cond b (Some t) (find int_cmp (pos (m + 0)) (numbers_from (m + 1) texts))) (ap (λ k. eq_by_cmp int_cmp (pos k) (pos m)) (let e : m + 0 ≡ m = omega arith in e) ∙ (eq_by_cmp_equiv int_cmp_total).refl (pos m))
-at_place m (t ∷ texts) (suc i) =
-    ap (λ b. cond b (Some t) (find int_cmp (pos (m + suc i)) (numbers_from (m + 1) texts))) (differ (m + suc i) m (λ same. omega (arith, same)))
-    ∙ ap (λ k. find int_cmp (pos k) (numbers_from (m + 1) texts)) (let e : m + suc i ≡ m + 1 + i = omega arith in e) ∙ at_place (m + 1) texts i
-
-by_number : (texts : List (List ℕ)) (n : ℕ) → find int_cmp (pos n) (numbers_from 1 texts) ≡ text_in texts n
-by_number texts zero = none_below 1 texts 0 (omega arith)
-by_number texts (suc i) = ap (λ k. find int_cmp (pos k) (numbers_from 1 texts)) (let e : suc i ≡ 1 + i = omega arith in e) ∙ at_place 1 texts i
-    ∙ ap (λ k. slice_get texts k) (let e : i ≡ suc i - 1 = omega arith in e) ∙ sym (ap (λ b. cond b None (slice_get texts (suc i - 1))) (ne_eqb (suc i) 0 (λ e. omega (arith, e))))
 
 -- the row of a number has its text
 bodies : (digest : List ℕ → List ℕ) (rows : List Row) (texts : List (List ℕ)) → AreContentsBy digest texts rows → map {B = ℤ × List ℕ} (λ r. (whole_at 0 r, text 3 r)) rows ≡ numbers_from 1 texts

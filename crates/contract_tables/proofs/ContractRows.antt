@@ -49,11 +49,14 @@ abbrev pub content_at : List Row → ℕ → List ℕ → Option ℤ
 content_at rows n p = value_at (by_both int_cmp text_cmp) key (whole_at 3) rows (pos n, p)
 
 module _ (db : Database) (broker : IsBroker db) where
-  numbers : Part int_cmp Int (db.trees 15) 1 (whole_at 1)
+  pub numbers : Part int_cmp Int (db.trees 15) 1 (whole_at 1)
   numbers = whole_part (db.trees 15) 1 (λ r has. whole_in db broker.kept.sound contracts (has_place _ 8 contracts (contracts_there db broker)) r has 0 _ refl refl refl refl refl)
 
-  providers : Part text_cmp Text (db.trees 15) 2 (text 2)
+  pub providers : Part text_cmp Text (db.trees 15) 2 (text 2)
   providers = text_part (db.trees 15) 2 (λ r has. text_at db broker.kept.sound contracts (has_place _ 8 contracts (contracts_there db broker)) r has 1 _ refl refl refl refl refl)
+
+  pub contents : (r : Row) → Has (db.trees 15) r → column r 3 ≡ Int (whole_at 3 r)
+  contents r has = whole_in db broker.kept.sound contracts (has_place _ 8 contracts (contracts_there db broker)) r has 2 _ refl refl refl refl refl
 
   pub keys : IsAscending (λ a b. eq_by_cmp (by_both int_cmp text_cmp) (key a) (key b) ≡ false) (db.trees 15)
   keys = once (by_both int_cmp text_cmp) (db.trees 15) (1 ∷ 2 ∷ []) key
@@ -88,7 +91,7 @@ named (Some k) None e = absurd cc
 named (Some k) (Some n) e = let ints : pos k ≡ pos n = cc in let nats : k ≡ n = cc in ap Some nats
 
 -- what the state has is what the row has
-held_content : (db : Database) (s : Broker) (v : Version) (n : ℕ) (p : List ℕ) → Holds db s → number_of s.versions v ≡ Some n → content_at (db.trees 15) n p ≡ option_map pos (s.contracts (v, p))
+pub held_content : (db : Database) (s : Broker) (v : Version) (n : ℕ) (p : List ℕ) → Holds db s → number_of s.versions v ≡ Some n → content_at (db.trees 15) n p ≡ option_map pos (s.contracts (v, p))
 held_content db s v n p held is = sym (ap (option_and_then (λ k. content_at (db.trees 15) k p)) is) ∙ held.contracts v p
 
 pub content_found : (n : ℕ) (p : List ℕ) (old new : State) (rows : List Row) (found : Option ℕ) (s : Broker) (v : Version) → Holds old.now s → number_of s.versions v ≡ Some n → Shown content_sql (Int (pos n) ∷ Text p ∷ []) old new rows

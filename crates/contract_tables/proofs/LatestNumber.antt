@@ -48,7 +48,7 @@ by_key db broker c v r has =
     where_and int_cmp_total (db.trees 19) 1 (whole_at 1) (whole_part (db.trees 19) 1 (contents db broker)) int_cmp (whole_at 2) (pos v) (is_param 2 1 ∷ []) (Int (pos c) ∷ Int (pos v) ∷ []) 0 (pos c) refl r has
     (where_last int_cmp_total (db.trees 19) 2 (whole_at 2) (whole_part (db.trees 19) 2 (versions db broker)) (Int (pos c) ∷ Int (pos v) ∷ []) 1 (pos v) refl r has)
 
-twice : (o : Option (ℕ × Verification)) → option_map (λ e. pos e.0) o ≡ option_map pos (option_map (λ e. e.0) o)
+pub twice : (o : Option (ℕ × Verification)) → option_map (λ e. pos e.0) o ≡ option_map pos (option_map (λ e. e.0) o)
 twice None = refl
 twice (Some e) = refl
 

@@ -3,3 +3,8 @@ pub mod ContractRows
 pub mod ResultRows
 pub mod ResultState
 pub mod LatestNumber
+pub mod ContractList
+pub mod VerifiedList
+pub mod LastRow
+pub mod ResultLookups
+pub mod RunLookup

@@ -1,12 +1,9 @@
 -- The latest result for a content and a version, after one more result.
-use Rattle.std.proofs.Common.{◌≡◌, ◌==◌, inl, inr, ℕ, pos, ◌+◌, List, [], ◌∷◌, ◌++◌, length, filter, Bool, true, false, cond, ◌&&◌, refl, sym, ap, ◌∙◌, Some, None, Option, arith}
+use Rattle.std.proofs.Common.{◌≡◌, ◌==◌, ℕ, pos, ◌+◌, List, [], ◌∷◌, ◌++◌, length, filter, Bool, true, false, cond, ◌&&◌, refl, sym, ap, ◌∙◌, Some, None, Option, arith}
 use Rattle.std.specs.Prelude.{option_map, option_and_then}
 use Rattle.std.specs.List.{last_or, enumerate_from}
 use Rattle.std.specs.Ordering.{eq_by_cmp, int_cmp}
-use Rattle.std.specs.Cmp.{eq_by_cmp_equiv, Equal-is, nat_eq_equiv, int_cmp_total}
-use Rattle.std.specs.FinMap.{int_cmp-IsAntisymmetric}
-use Rattle.std.proofs.lemmas.Map.Views.{exact_unsigned_eq}
-use Rattle.std.proofs.lemmas.Bool.{cases_Bool}
+use Rattle.std.specs.Cmp.{eq_by_cmp_equiv}
 use Rattle.sqlite.specs.Order.{Row}
 use Rattle.table_access.specs.Columns.{by_both}
 use Rattle.broker_core.specs.declared.command.Version.{Version}
@@ -16,7 +13,7 @@ use Rattle.broker_tables.specs.Numbers.{number_of}
 use Rattle.broker_tables.specs.Holds.{AreLatest}
 use Rattle.broker_tables.proofs.NumberLemmas.{version_ties, number_ties, version_unknown}
 use Rattle.broker_tables.proofs.Orders.{pairs_total, numbers_total}
-use Rattle.broker_tables.proofs.Ties.{both_eq, two_tests}
+use Rattle.broker_tables.proofs.Ties.{both_eq, two_tests, nat_ties}
 use Rattle.contract_tables.specs.Verified.{latest_at}
 
 module _ {X : Type 0} (test : X → Bool) where
@@ -49,17 +46,6 @@ pub latest_pushed : (s : Broker) (r : Verification) (content : ℕ) (v : Version
 latest_pushed s r content v = last_pushed (λ q. q.content == content && same_version q.version v) s.results r
 
 -- ---- and its row
-
--- numbers are the same by the machine's test and by the order of the columns
-pub nat_ties : (k n : ℕ) → (k == n) ≡ eq_by_cmp int_cmp (pos k) (pos n)
-nat_ties k n = elim (cases_Bool (k == n)) [
-  | inl same ↦ same ∙ sym (ap (λ m. eq_by_cmp int_cmp (pos k) (pos m)) (sym (exact_unsigned_eq k n same)) ∙ (eq_by_cmp_equiv int_cmp_total).refl (pos k))
-  | inr other ↦ other ∙ sym (none other (eq_by_cmp int_cmp (pos k) (pos n)) refl)
-]
-  where
-    none : (k == n) ≡ false → (b : Bool) → eq_by_cmp int_cmp (pos k) (pos n) ≡ b → eq_by_cmp int_cmp (pos k) (pos n) ≡ false
-    none other true hit = absurd (let ints : pos k ≡ pos n = int_cmp-IsAntisymmetric (pos k) (pos n) ((Equal-is (int_cmp (pos k) (pos n))).0 hit) in let nats : k ≡ n = cc in let e : (k == n) ≡ true = ap (λ m. k == m) (sym nats) ∙ nat_eq_equiv.refl k in cc)
-    none other false miss = miss
 
 same_turned : (v w : Version) → same_version v w ≡ same_version w v
 same_turned v w = version_ties v w ∙ (eq_by_cmp_equiv pairs_total).symm (v.pacticipant, v.name) (w.pacticipant, w.name) ∙ sym (version_ties w v)

@@ -1,17 +1,18 @@
 -- What a contract and a result change of the state, and what the three statements that record a result make of
 -- the rows.
-use Rattle.std.specs.Prelude.{◌≡◌, ◌+◌, ◌≤◌, ℕ, ℤ, pos, Bool, ◌&&◌, ◌||◌, IsTrue, List, [], ◌∷◌, ◌++◌, length, Option, Some, None, is_some, cond, if◌then◌else◌}
+use Rattle.std.specs.Prelude.{◌≡◌, ◌==◌, ◌+◌, ◌-◌, ◌≤◌, ℕ, ℤ, pos, Bool, ◌&&◌, ◌||◌, IsTrue, List, [], ◌∷◌, ◌++◌, length, Option, Some, None, is_some, cond, if◌then◌else◌, slice_get}
 use Rattle.std.specs.Ordering.{eq_by_cmp, int_cmp}
 use Rattle.sqlite.specs.declared.types.Value.{Value}
 use Rattle.sqlite.specs.declared.types.Value.TheVariants as value
-use Rattle.sqlite.specs.Order.{Row}
+use Rattle.sqlite.specs.Order.{Row, column}
 use Rattle.sqlite.specs.State.{State}
 use Rattle.table_access.specs.Columns.{whole_at, by_both}
 use Rattle.table_access.specs.Statements.{ChangesOnly, IsAdded}
 use Rattle.broker_core.specs.declared.command.Version.{Version}
 use Rattle.broker_core.specs.Text.{Text, put_at, same_pair, same_text, same_version}
 use Rattle.broker_core.specs.State.{State as Broker, Verification}
-use Rattle.broker_tables.specs.Rows.{value_at, stands_at}
+use Rattle.table_access.specs.Reading.{IsNumberAt}
+use Rattle.broker_tables.specs.Rows.{value_at, stands_at, truth, IsTruthAt}
 use Rattle.broker_tables.specs.Numbers.{number_of}
 
 -- the version of this number has no contract with the provider, which is there, as the content is; now the
@@ -33,6 +34,45 @@ RecordsResult number content provider version_number pass checked run s t =
     (v : Version) × (number_of s.versions v ≡ Some version_number) × (v.pacticipant ≡ provider)
     × (number ≡ length s.results + 1)
     × (t ≡ record s { results = s.results ++ result_for content v pass checked run ∷ [] })
+
+-- the result with this number: they are numbered from 1
+abbrev pub result_with : Broker → ℕ → Option Verification
+result_with s number = if number == 0 then None else slice_get s.results (number - 1)
+
+-- the columns that tell of a result: its number, its content, the number of its version, and whether it is a pass
+abbrev pub Cells : Type 0
+Cells = Value × Value × Value × Bool
+
+abbrev pub cells : Row → Cells
+cells row = (column row 0, column row 1, column row 2, truth 3 row)
+
+abbrev pub cells_of : ℕ → ℕ → ℕ → Bool → Cells
+cells_of number content version pass =
+    (value.Int (pos number), value.Int (pos content), value.Int (pos version), pass)
+
+-- a row that has them
+abbrev pub ReadsAsResult : Row → Type 0
+ReadsAsResult row = IsNumberAt 0 row × IsNumberAt 1 row × IsNumberAt 2 row × IsTruthAt 3 row
+
+-- a result by numbers: its own, its content's and its version's, and whether it is a pass
+abbrev pub ByNumbers : Type 0
+ByNumbers = ℕ × ℕ × Option ℕ × Bool
+
+abbrev pub by_numbers : List Version → ℕ × Verification → ByNumbers
+by_numbers versions e = (e.0, e.1.content, number_of versions e.1.version, e.1.pass)
+
+abbrev pub numbers_are : ℕ → ℕ → ℕ → Bool → ByNumbers
+numbers_are number content version pass = (number, content, Some version, pass)
+
+-- with the mark whether the broker checked it
+abbrev pub Told : Type 0
+Told = ℕ × ℕ × Option ℕ × Bool × Bool
+
+abbrev pub told_of : List Version → ℕ × Verification → Told
+told_of versions e = (e.0, e.1.content, number_of versions e.1.version, e.1.pass, e.1.checked)
+
+abbrev pub told : ℕ → ℕ → ℕ → Bool → Bool → Told
+told number content version pass checked = (number, content, Some version, pass, checked)
 
 -- ---- the statements that record a result. Between them the database holds no state, so each is told by the rows
 

@@ -5,9 +5,16 @@
 #![tactic(auto)]
 
 mod contracts;
+mod listings;
+mod lookups;
 mod making;
 mod results;
 
 pub use contracts::{add_contract, contract_of};
+pub use listings::{
+    Contract, VerifiedContent, VerifiedVersion, consumers_of, contracts_of, verified_contents,
+    verified_versions,
+};
+pub use lookups::{ResultRow, latest_number, latest_of, result_count, result_of_run, result_said};
 pub use making::{make_checked_results, make_indexes, make_tables};
-pub use results::{latest_number, record_result};
+pub use results::record_result;

@@ -1,17 +1,14 @@
-//! The results of verifications, those that the broker checked itself, and the latest one for each content and each version of a provider.
-ghost use Rattle.std.specs.Prelude.{◌≡◌, option_map, Some, None};
+//! A result comes in: its row, the mark that the broker checked it, and that it is the latest one for its content and its version.
+ghost use Rattle.std.specs.Prelude.{option_map, Some, None};
 ghost use Rattle.sqlite.specs.Held.{state};
 ghost use Rattle.table_access.specs.Calls.{CallsStore};
-ghost use Rattle.broker_tables.specs.Holds.{IsBroker, QueriesInPlace, Changes};
-ghost use Rattle.broker_core.specs.declared.command.Version.{Version as VersionModel};
-ghost use Rattle.broker_core.specs.State.{latest_result};
-ghost use Rattle.broker_tables.specs.Numbers.{number_of as number_in};
+ghost use Rattle.broker_tables.specs.Holds.{IsBroker, Changes};
 ghost use Rattle.contract_tables.specs.Verified.{RecordsResult, PutsRow, result_row, Marks, Points};
 ghost use Rattle.std.specs.Prelude.{pos, ◌∷◌, []};
 ghost use Rattle.sqlite.specs.declared.types.Value.TheVariants.{Int, Null};
 
 use sqlite::{Alter, Connection, params};
-use table_access::{StoreFault, change, number_of};
+use table_access::{StoreFault, change};
 
 /// Puts in the row of a result of a run.
 fn put_run<S: Alter>(
@@ -147,24 +144,4 @@ pub fn record_result<S: Alter>(
         },
         Err(fault) => Err(fault),
     }
-}
-
-/// The number of the latest result for a content and the version of this number, or `None` where there is none.
-///
-/// # Errors
-/// `StoreFault::Memory` where the database is out of memory; `StoreFault::Store` where it refused the query or holds no number there.
-pub fn latest_number<S: Alter>(
-    conn: &mut Connection<S>,
-    content: u32,
-    version_number: u32,
-) -> Result<Option<u32>, StoreFault>
-    ensures { QueriesInPlace (state S.Store conn.old) (state S.Store conn.new) result
-        (λ found s. (v : VersionModel) → number_in s.versions v ≡ Some version_number →
-        found ≡ option_map (λ e. e.0) (latest_result s content v)) }
-{
-    number_of(
-        conn,
-        "SELECT result FROM latest WHERE content = ?1 AND provider_version = ?2",
-        params![content, version_number],
-    )
 }

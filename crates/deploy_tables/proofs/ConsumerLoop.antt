@@ -1,5 +1,5 @@
 -- One look-up after another, over a list.
-use Rattle.std.proofs.Common.{◌≡◌, ◌<◌, ◌+◌, ℕ, List, [], ◌++◌, length, take, get_or, sym, ◌∙◌, ap, subst, Ok, Err, Option}
+use Rattle.std.proofs.Common.{◌≡◌, ◌<◌, ◌+◌, ℕ, List, [], ◌∷◌, ◌++◌, length, map, take, get_or, refl, sym, ◌∙◌, ap, subst, Ok, Err, Option, Some}
 use Rattle.std.specs.Prelude.{Contains, filter_map, ⊤}
 use Rattle.std.specs.List.{cons_option}
 use Rattle.sqlite.specs.State.{State}
@@ -41,3 +41,8 @@ module _ {A X Y : Type 0} (see : A → List Y) (value : Broker → X → Option 
   pub no_room : {B : Type 0} (old mid new : State) (at : ℕ) (x : X) (a : A) (o : Option Y) (e : StoreFault) (R : B → Type 0) → CallsTables old mid (Ok a) (IsRead old mid (SoFar at)) → CallsTables mid new (Ok o) (IsRead mid new (Found x)) → CallsTables old new (Err e) R
   no_room old mid new at x a o e R one two =
       then_stop old new o e (λ _. ⊤) R (seq old mid new a (Ok o) (IsRead old mid (SoFar at)) (IsRead mid new (Found x)) (λ _. ⊤) (λ first q second. tt) one two)
+
+-- where each look-up finds something
+pub filter_map_some : {X Y : Type 0} (f : X → Y) (xs : List X) → filter_map (λ x. Some (f x)) xs ≡ map f xs
+filter_map_some f [] = refl
+filter_map_some f (x ∷ xs) = ap (λ ys. f x ∷ ys) (filter_map_some f xs)

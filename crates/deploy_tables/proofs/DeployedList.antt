@@ -1,5 +1,5 @@
 -- The list of what is deployed.
-use Rattle.std.proofs.Common.{◌≡◌, ℕ, ℤ, pos, codes, List, [], ◌∷◌, map, false, refl, sym, ap, subst, ◌∙◌, Some, None, Option, Ordering, Less, Equal, Greater}
+use Rattle.std.proofs.Common.{◌≡◌, ℕ, ℤ, pos, codes, List, [], ◌∷◌, map, false, refl, sym, ap, subst, ◌∙◌, Some, None, Option, Ordering, Equal}
 use Rattle.std.specs.Prelude.{option_map}
 use Rattle.std.specs.Ordering.{eq_by_cmp, is_eq, int_cmp, ordering_then}
 use Rattle.std.specs.Cmp.{eq_by_cmp_equiv}
@@ -46,16 +46,15 @@ use Rattle.broker_tables.specs.Rows.{value_at}
 use Rattle.broker_tables.specs.Numbers.{number_of}
 use Rattle.broker_tables.specs.Holds.{Holds, IsBroker}
 use Rattle.broker_tables.proofs.Frames.{meant}
+use Rattle.broker_tables.proofs.Listed.{read_has, has_read}
 use Rattle.broker_tables.proofs.Orders.{pairs_total, triples_total, exact_triple}
-use Rattle.std.proofs.Common.{inl, inr}
 use Rattle.std.specs.Prelude.{Contains, ◌↔◌}
 use Rattle.sqlite.specs.Edit.{id_in}
-use Rattle.broker_core.proofs.Lists.{contains_none, contains_cases, contains_here, contains_later}
 use Rattle.deploy_tables.specs.Listings.{IsDeployedRow}
 use Rattle.deploy_tables.specs.Needs.{IsDeployedThere, IsStandingRow}
-use Rattle.deploy_tables.specs.declared.needs.StandingVersion.{StandingVersion}
+use Rattle.deploy_tables.specs.declared.standing_versions.StandingVersion.{StandingVersion}
 use Rattle.deploy_tables.proofs.DeployedRows.{place_of, environments, pacticipants, instances, numbers, keys}
-use Rattle.deploy_tables.proofs.VersionRows.{joined_by, joined_is, is_joined, versions_numbered, same_version_row, find_version}
+use Rattle.deploy_tables.proofs.VersionRows.{joined_by, joined_is, is_joined, versions_numbered, same_version_row, find_version, same_some, same_pos, still_less}
 
 abbrev pub list_sql : List ℕ
 list_sql = codes "SELECT d.pacticipant, d.instance, v.version FROM deployed d JOIN versions v ON v.number = d.version_number WHERE d.environment = ?1 ORDER BY d.pacticipant, d.instance"
@@ -94,29 +93,6 @@ standing_text = record { is = refl; plain = (refl, refl); unlisted = refl }
 pub standing_means : (db : Database) → IsBroker db → Means db.schema standing_sql standing_command
 standing_means db broker = meant db broker standing_sql standing_text
 
--- ---- what is read of a list, by members
-
-read_has : {A B : Type 0} (reads : A → B → Type 0) (rows : List A) (items : List B) (x : B) → AreRead reads rows items → Contains items x → (row : A) × Has rows row × reads row x
-read_has reads [] [] x read c = absurd (contains_none x c)
-read_has reads [] (y ∷ items) x read c = absurd read
-read_has reads (r ∷ rows) [] x read c = absurd read
-read_has {A} {B} reads (r ∷ rows) (y ∷ items) x read c = elim (contains_cases y items x c) [
-  | inl same ↦ (r, inl refl, subst (reads r) same read.0)
-  | inr there ↦ let rest = read_has reads rows items x read.1 there in (rest.0, inr rest.1, rest.2)
-]
-
-has_read : {A B : Type 0} (reads : A → B → Type 0) (rows : List A) (items : List B) (row : A) → AreRead reads rows items → Has rows row → (x : B) × Contains items x × reads row x
-has_read reads [] items row read has = absurd has
-has_read reads (r ∷ rows) [] row read has = absurd read
-has_read reads (r ∷ rows) (y ∷ items) row read (inl same) = (y, contains_here y items, subst (λ z. reads z y) (sym same) read.0)
-has_read reads (r ∷ rows) (y ∷ items) row read (inr there) = let rest = has_read reads rows items row read.1 there in (rest.0, contains_later y items rest.0 rest.1, rest.2)
-
-same_some : (m n : ℕ) → Some m ≡ Some n → m ≡ n
-same_some m n h = cc
-
-same_pos : (m n : ℕ) → pos m ≡ pos n → m ≡ n
-same_pos m n h = cc
-
 -- ---- sorted pairs of a row and its version
 
 abbrev Pair : Type 0
@@ -130,13 +106,6 @@ by_key a b = by_both text_cmp text_cmp (text 2 a.0, text 3 a.0) (text 2 b.0, tex
 
 by_key_total : IsTotalOrder by_key
 by_key_total = on_total (λ (q : Pair). (text 2 q.0, text 3 q.0)) pairs_total
-
-still_less : (x y z : Ordering) → ordering_then x y ≡ Less → ordering_then x (ordering_then y z) ≡ Less
-still_less Less y z h = refl
-still_less Equal Less z h = refl
-still_less Equal Equal z h = absurd cc
-still_less Equal Greater z h = absurd cc
-still_less Greater y z h = absurd cc
 
 -- a column that names a version
 named : (vs : List Version) (p : Words) (z : ℤ) (o : Option Words) → Some (Some z) ≡ option_map (λ name. option_map pos (number_of vs (version p name))) o → (name : Words) × (o ≡ Some name) × ((k : ℕ) × (number_of vs (version p name) ≡ Some k) × (z ≡ pos k))

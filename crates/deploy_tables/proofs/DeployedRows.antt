@@ -15,7 +15,7 @@ use Rattle.sqlite_sql.specs.declared.ops.BinaryOp.TheVariants.{Compare}
 use Rattle.sqlite_sql.specs.declared.ops.CompareOp.TheVariants.{Eq}
 use Rattle.sqlite.specs.Source.TheVariants.{Values}
 use Rattle.sqlite.specs.Command.{Command}
-use Rattle.sqlite.specs.Command.TheVariants.{Select, InsertOr}
+use Rattle.sqlite.specs.Command.TheVariants.{Select, InsertOr, Delete}
 use Rattle.sqlite_schema.specs.declared.command.Conflict.TheVariants.{Abort}
 use Rattle.sqlite.specs.Schema.{Schema}
 use Rattle.sqlite.specs.Effect.{Database}
@@ -27,7 +27,7 @@ use Rattle.sqlite_value.specs.Keys.{plain}
 use Rattle.sqlite_tied.specs.Compute.{everything}
 use Rattle.table_access.specs.Columns.{text, text_cmp, whole_at, by_both}
 use Rattle.table_access.specs.Statements.{from_table, keeps, shows, ChangesOnly}
-use Rattle.table_access.proofs.Steps.{Means, selects}
+use Rattle.table_access.proofs.Steps.{Means, selects, deletes}
 use Rattle.table_access.proofs.Maps.{looks_up_at}
 use Rattle.table_access.proofs.Keys.{apart_by}
 use Rattle.table_access.proofs.Parts.{Part, text_part, where_last, where_and, all_where, is_param, agree_last, agree_and, once}
@@ -45,6 +45,7 @@ use Rattle.sqlite.specs.Rows.{shown}
 use Rattle.sqlite.specs.Kind.TheVariants as column_kind
 use Rattle.sqlite_rules.specs.Keys.{conflicts}
 use Rattle.broker_tables.proofs.Orders.{triples_total, exact_triple}
+use Rattle.broker_tables.proofs.Standing.{takes_at}
 use Rattle.broker_tables.proofs.Placed.{deployed, deployed_there, calm}
 
 -- an environment, a pacticipant and an instance
@@ -188,4 +189,30 @@ recorded e p i n old new count broker h =
       done.0,
       upserts_at triples_total exact_triple place_of (whole_at 4) (Some (1 ∷ 2 ∷ 3 ∷ [])) db.schema.indexes deployed rows (new.now.trees 21) made (cast_row deployed made) (changed_row rows e p i n) (e, (p, i)) (pos n) (keys db broker) numbered.0
           (conflicts_at db broker e p i n) (refl, ap id_in (cast_int (pos n))) (λ r has hit. (place_is db broker e p i n r has hit, ap id_in (cast_int (pos n)))) leaves,
+    )
+
+-- ---- the end of a deployment
+
+abbrev pub empty_sql : List ℕ
+empty_sql = codes "DELETE FROM deployed WHERE environment = ?1 AND pacticipant = ?2 AND instance = ?3"
+
+abbrev empty_command : Command
+empty_command = Delete 11 (record { lets = []; body = from_table 21 by_place (col 1 0 ∷ []) [] })
+
+empty_text : Means broker_schema empty_sql empty_command
+unfolding understood everything
+empty_text = record { is = refl; plain = (refl, refl); unlisted = refl }
+
+pub emptied : (e p i : List ℕ) (old new : State) (count : ℕ) → IsBroker old.now → Executes empty_sql (Text e ∷ Text p ∷ Text i ∷ []) old new (Ok count)
+    → ChangesOnly 21 old new × ((q : Place) → value_at (by_both text_cmp (by_both text_cmp text_cmp)) place_of (whole_at 4) (new.now.trees 21) q ≡ cond (eq_by_cmp (by_both text_cmp (by_both text_cmp text_cmp)) q (e, (p, i))) None (value_at (by_both text_cmp (by_both text_cmp text_cmp)) place_of (whole_at 4) (old.now.trees 21) q))
+emptied e p i old new count broker h =
+    let db = old.now in
+    let rows = db.trees 21 in
+    let params = Text e ∷ Text p ∷ Text i ∷ [] in
+    let numbered = at_has _ db.schema.tables deployed broker.kept.numbered (has_place _ 11 deployed (deployed_there db broker)) in
+    let it = deletes (codes "deployed") 21 deployed.columns None (1 ∷ 2 ∷ 3 ∷ []) deployed.uniques deployed.orders [] deployed.references empty_sql params old new 11 (deployed_there db broker)
+    by_place (meant db broker empty_sql empty_text) (calm db broker) numbered count h in (
+      it.0,
+      takes_at triples_total exact_triple place_of (whole_at 4) (e, (p, i)) (keeps by_place params) rows (new.now.trees 21)
+          (all_where (by_both text_cmp (by_both text_cmp text_cmp)) rows place_of (e, (p, i)) by_place params (where_place rows (one db broker) (two db broker) (three db broker) e p i)) it.1,
     )

@@ -1,14 +1,10 @@
 -- What the rows of the deployed versions say of the state.
-use Rattle.std.proofs.Common.{◌≡◌, ◌==◌, inl, inr, ℕ, ℤ, pos, codes, List, [], ◌∷◌, Bool, true, false, ◌&&◌, refl, sym, ap, ◌∙◌, cond, Some, None, Option, Ok, Ordering}
+use Rattle.std.proofs.Common.{◌≡◌, ◌==◌, ℕ, ℤ, pos, codes, List, [], ◌∷◌, Bool, true, false, ◌&&◌, refl, sym, ap, ◌∙◌, cond, Some, None, Option, Ok, Ordering}
 use Rattle.std.specs.Prelude.{option_map}
 use Rattle.std.specs.Option.{option_map_or}
-use Rattle.std.specs.Ordering.{eq_by_cmp, int_cmp}
-use Rattle.std.specs.Cmp.{eq_by_cmp_equiv, Equal-is, nat_eq_equiv}
+use Rattle.std.specs.Ordering.{eq_by_cmp}
+use Rattle.std.specs.Cmp.{eq_by_cmp_equiv, Equal-is}
 use Rattle.std.specs.Cmp.Lexicographic.{texts_ties, nat_list_cmp_total}
-use Rattle.std.specs.FinMap.{int_cmp-IsAntisymmetric}
-use Rattle.std.proofs.lemmas.Cmp.{int_cmp_total}
-use Rattle.std.proofs.lemmas.Map.Views.{exact_unsigned_eq}
-use Rattle.std.proofs.lemmas.Bool.{cases_Bool}
 use Rattle.sqlite.specs.declared.types.Value.TheVariants.{Int, Text}
 use Rattle.sqlite.specs.State.{State, Executes}
 use Rattle.table_access.specs.Columns.{text_cmp, whole_at, by_both}
@@ -22,19 +18,8 @@ use Rattle.broker_tables.specs.Holds.{Holds}
 use Rattle.broker_tables.proofs.Frames.{frame_of, deployed_change}
 use Rattle.broker_tables.proofs.NumberLemmas.{number_ties}
 use Rattle.broker_tables.proofs.Orders.{exact_triple}
-use Rattle.broker_tables.proofs.Ties.{two_tests, both_eq}
-use Rattle.deploy_tables.proofs.DeployedRows.{Place, place_of, record_sql, recorded}
-
--- numbers are the same by the machine's test and by the order of the columns
-pub nat_ties : (k n : ℕ) → (k == n) ≡ eq_by_cmp int_cmp (pos k) (pos n)
-nat_ties k n = elim (cases_Bool (k == n)) [
-  | inl same ↦ same ∙ sym (ap (λ m. eq_by_cmp int_cmp (pos k) (pos m)) (sym (exact_unsigned_eq k n same)) ∙ (eq_by_cmp_equiv int_cmp_total).refl (pos k))
-  | inr other ↦ other ∙ sym (none other (eq_by_cmp int_cmp (pos k) (pos n)) refl)
-]
-  where
-    none : (k == n) ≡ false → (b : Bool) → eq_by_cmp int_cmp (pos k) (pos n) ≡ b → eq_by_cmp int_cmp (pos k) (pos n) ≡ false
-    none other true hit = absurd (let ints : pos k ≡ pos n = int_cmp-IsAntisymmetric (pos k) (pos n) ((Equal-is (int_cmp (pos k) (pos n))).0 hit) in let nats : k ≡ n = cc in let e : (k == n) ≡ true = ap (λ m. k == m) (sym nats) ∙ nat_eq_equiv.refl k in cc)
-    none other false miss = miss
+use Rattle.broker_tables.proofs.Ties.{two_tests, both_eq, nat_ties}
+use Rattle.deploy_tables.proofs.DeployedRows.{Place, place_of, record_sql, recorded, empty_sql, emptied}
 
 same_itself : (t : Words) → same_text t t ≡ true
 same_itself t = texts_ties t t ∙ (eq_by_cmp_equiv nat_list_cmp_total).refl t
@@ -76,3 +61,19 @@ now_deployed e p i n v old new count s held numbered owner h =
         let same = exact_triple (f, (q, j)) (e, (p, i)) ((Equal-is (triple (f, (q, j)) (e, (p, i)))).0 hit) in
         ap (λ o. Some (option_map pos o)) (sym numbered) ∙ ap (λ x. Some (option_map pos (number_of s.versions (version x v.name)))) (owner ∙ sym (ap (λ k. k.1.0) same))
     go f q j false miss = held.deployed f q j
+
+-- nothing is deployed there now
+pub now_empty : (e p i : Words) (old new : State) (count : ℕ) (s : Broker) → Holds old.now s → Executes empty_sql (Text e ∷ Text p ∷ Text i ∷ []) old new (Ok count)
+    → Holds new.now (record s { deployed = put_at same_place s.deployed (e, p, i) None })
+now_empty e p i old new count s held h =
+    let it = emptied e p i old new count held.broker h in
+    deployed_change old.now new.now s _ held (frame_of (codes "deployed" ∷ []) 21 refl old new held.broker it.0) (λ f q j.
+    ap (option_map Some) (it.1 (f, (q, j))) ∙ go f q j (eq_by_cmp triple (f, (q, j)) (e, (p, i))) ∙ ap (λ b. option_map (λ name. option_map pos (number_of s.versions (version q name))) (cond b None (s.deployed (f, q, j)))) (sym (place_ties f q j e p i)))
+  where
+    triple : Place → Place → Ordering
+    triple = by_both text_cmp (by_both text_cmp text_cmp)
+
+    go : (f q j : Words) (b : Bool)
+        → option_map Some (cond b None (value_at triple place_of (whole_at 4) (old.now.trees 21) (f, (q, j)))) ≡ option_map (λ name. option_map pos (number_of s.versions (version q name))) (cond b None (s.deployed (f, q, j)))
+    go f q j true = refl
+    go f q j false = held.deployed f q j

@@ -7,3 +7,8 @@ pub mod ReleasedRows
 pub mod NeedLemmas
 pub mod NeedOrders
 pub mod ConsumerLoop
+pub mod QueryLemmas
+pub mod StandingLemmas
+pub mod MatrixLemmas
+pub mod MatrixOrders
+pub mod MatrixLoop

@@ -17,12 +17,13 @@ use Rattle.broker_core.proofs.Lists.{contains_none, contains_cases, contains_her
 use Rattle.broker_core.proofs.Judgement.{Contains-from_flat_map, Contains-flat_map, text_is, text_refl}
 use Rattle.broker_core.proofs.Order.{text_tied}
 use Rattle.broker_tables.specs.Numbers.{number_of}
-use Rattle.deploy_tables.specs.declared.needs.StandingVersion.{StandingVersion}
-use Rattle.deploy_tables.specs.declared.needs.OwnContract.{OwnContract}
-use Rattle.deploy_tables.specs.declared.needs.ConsumerContract.{ConsumerContract}
-use Rattle.deploy_tables.specs.declared.needs.Partner.{Partner}
-use Rattle.deploy_tables.specs.declared.needs.Pair.{Pair}
-use Rattle.deploy_tables.specs.Needs.{IsStanding, AreNumbered, IsOwnContract, IsConsumerContract, consumer_in, with_partner, without_partner, or_one, consumed, provided, pairs_among, partner_cmp, pair_cmp, need_in, need_cmp}
+use Rattle.deploy_tables.specs.declared.standing_versions.StandingVersion.{StandingVersion}
+use Rattle.contract_tables.specs.declared.listings.Contract.{Contract}
+use Rattle.deploy_tables.specs.declared.pairs.ConsumerContract.{ConsumerContract}
+use Rattle.deploy_tables.specs.declared.pairs.Partner.{Partner}
+use Rattle.deploy_tables.specs.declared.pairs.Pair.{Pair}
+use Rattle.contract_tables.specs.Listings.{contract_cmp}
+use Rattle.deploy_tables.specs.Needs.{IsStanding, AreNumbered, HaveNumbers, standing_cmp, IsOwnContract, IsConsumerContract, consumer_in, with_partner, without_partner, or_one, consumed, provided, pairs_among, partner_cmp, pair_cmp, IsNumberedPair, AreNumberedPairs, need_in, need_cmp}
 
 -- ---- lists
 
@@ -41,15 +42,15 @@ to_map f (z ∷ xs) x c = elim (contains_cases z xs x c) [
 ]
 
 -- a member of a list, or the one that stands where the list is empty
-from_or_one : {X : Type 0} (xs : List X) (z y : X) → Contains (or_one xs z) y → Contains xs y ⊎ ((xs ≡ []) × (z ≡ y))
+pub from_or_one : {X : Type 0} (xs : List X) (z y : X) → Contains (or_one xs z) y → Contains xs y ⊎ ((xs ≡ []) × (z ≡ y))
 from_or_one [] z y c = elim (contains_cases z [] y c) [ inl same ↦ inr (refl, same) | inr none ↦ absurd (contains_none y none) ]
 from_or_one (x ∷ xs) z y c = inl c
 
-to_or_one : {X : Type 0} (xs : List X) (z y : X) → Contains xs y → Contains (or_one xs z) y
+pub to_or_one : {X : Type 0} (xs : List X) (z y : X) → Contains xs y → Contains (or_one xs z) y
 to_or_one [] z y c = absurd (contains_none y c)
 to_or_one (x ∷ xs) z y c = c
 
-or_one_empty : {X : Type 0} (xs : List X) (z : X) → ((y : X) → Contains xs y → ⊥) → Contains (or_one xs z) z
+pub or_one_empty : {X : Type 0} (xs : List X) (z : X) → ((y : X) → Contains xs y → ⊥) → Contains (or_one xs z) z
 or_one_empty [] z none = contains_here z []
 or_one_empty (x ∷ xs) z none = absurd (none x (contains_here x xs))
 
@@ -76,22 +77,22 @@ when_same {B} true x y e = (refl, inside x y e)
     inside x y e = cc
 when_same false x y e = absurd (cc)
 
-abbrev pair_with : Version → OwnContract → Text → ℕ → Pair
+abbrev pair_with : Version → Contract → Text → ℕ → Pair
 pair_with v c w m = record { consumer = v.pacticipant; consumer_version = v.name; provider = c.provider; partner = Some (record { name = w; number = m }); content = c.content }
 
 pub record IsPaired (s : State) (v : Version) (e : Text) (p : Pair) : Type 0 where
   pub contract : s.contracts (version p.consumer p.consumer_version, p.provider) ≡ Some p.content
-  pub partner : MatchOption p.partner ⊤ (λ w. number_of s.versions (version p.provider w.name) ≡ Some w.number)
+  pub partner : IsNumberedPair s p
   pub need : IsNeed s v e (need_in s p)
 
-module _ (s : State) (v : Version) (n : ℕ) (e : Text) (own : List OwnContract) (standing : List StandingVersion) (consumers : List ConsumerContract)
+module _ (s : State) (v : Version) (n : ℕ) (e : Text) (own : List Contract) (standing : List StandingVersion) (consumers : List ConsumerContract)
     (number : number_of s.versions v ≡ Some n)
     (stand : (x : StandingVersion) → Contains standing x ↔ IsStanding s e x)
     (numbered : AreNumbered s e)
-    (owns : (c : OwnContract) → Contains own c ↔ IsOwnContract s v c)
+    (owns : (c : Contract) → Contains own c ↔ IsOwnContract s v c)
     (uses : (c : ConsumerContract) → Contains consumers c ↔ IsConsumerContract s v e c) where
   -- each pair is a need
-  paired_with : (c : OwnContract) (x : StandingVersion) (p : Pair) → Contains own c → Contains standing x → with_partner v c x ≡ Some p → IsPaired s v e p
+  paired_with : (c : Contract) (x : StandingVersion) (p : Pair) → Contains own c → Contains standing x → with_partner v c x ≡ Some p → IsPaired s v e p
   paired_with c x p mine there is =
       let it = when_same (same_text x.pacticipant c.provider) _ p is in
       let same : x.pacticipant ≡ c.provider = text_is _ _ it.0 in
@@ -103,13 +104,13 @@ module _ (s : State) (v : Version) (n : ℕ) (e : Text) (own : List OwnContract)
       })
 
   -- a version that stands there is paired
-  pairs_with : (c : OwnContract) (w : Text) → Stands s e (version c.provider w) → (m : ℕ) × Contains (filter_map (with_partner v c) standing) (pair_with v c w m)
+  pairs_with : (c : Contract) (w : Text) → Stands s e (version c.provider w) → (m : ℕ) × Contains (filter_map (with_partner v c) standing) (pair_with v c w m)
   pairs_with c w stands =
       let m = numbered (version c.provider w) stands in
       let x : StandingVersion = record { pacticipant = c.provider; name = w; number = m.0 } in
       (m.0, Contains-filter_map (with_partner v c) standing x (pair_with v c w m.0) ((stand x).1 (stands, m.1)) (ap (λ b. if b then Some (pair_with v c w m.0) else None) (text_refl c.provider)))
 
-  paired_without : (c : OwnContract) → Contains own c → filter_map (with_partner v c) standing ≡ [] → IsPaired s v e (without_partner v c)
+  paired_without : (c : Contract) → Contains own c → filter_map (with_partner v c) standing ≡ [] → IsPaired s v e (without_partner v c)
   paired_without c mine none = record {
     contract = (owns c).0 mine;
     partner = tt;
@@ -143,7 +144,7 @@ module _ (s : State) (v : Version) (n : ℕ) (e : Text) (own : List OwnContract)
   abbrev FromPair : Need → Type 0
   FromPair need = (p : Pair) × Contains (pairs_among v n own standing consumers) p × (need_in s p ≡ need)
 
-  own_pair : (c : OwnContract) (p : Pair) → Contains own c → Contains (consumed v standing c) p → Contains (pairs_among v n own standing consumers) p
+  own_pair : (c : Contract) (p : Pair) → Contains own c → Contains (consumed v standing c) p → Contains (pairs_among v n own standing consumers) p
   own_pair c p mine there = Contains-append_left (flat_map (consumed v standing) own) (map (provided v n) consumers) p (Contains-flat_map (consumed v standing) own c p mine there)
 
   alike : (a b : Need) → a.consumer ≡ b.consumer → a.consumer_version ≡ b.consumer_version → a.provider ≡ b.provider → a.provider_version ≡ b.provider_version → a.latest ≡ b.latest → a ≡ b
@@ -153,7 +154,7 @@ module _ (s : State) (v : Version) (n : ℕ) (e : Text) (own : List OwnContract)
       → need.latest ≡ option_and_then (λ w. latest s content (version need.provider w)) o → FromPair need
   from_standing need content contract mine None is there result = absurd there
   from_standing need content contract mine (Some w) is there result =
-      let c : OwnContract = record { provider = need.provider; content = content } in
+      let c : Contract = record { provider = need.provider; content = content } in
       let has = (owns c).1 (subst (λ u. s.contracts (u, need.provider) ≡ Some content) mine contract) in
       let it = pairs_with c w there in
       (pair_with v c w it.0, own_pair c (pair_with v c w it.0) has (to_or_one (filter_map (with_partner v c) standing) (without_partner v c) (pair_with v c w it.0) it.1), alike (need_in s (pair_with v c w it.0)) need (sym (ap (λ (u : Version). u.pacticipant) mine)) (sym (ap (λ (u : Version). u.name) mine)) refl (sym is) (sym result))
@@ -161,7 +162,7 @@ module _ (s : State) (v : Version) (n : ℕ) (e : Text) (own : List OwnContract)
   from_absent : (need : Need) (content : ℕ) → s.contracts (consumer_of need, need.provider) ≡ Some content → consumer_of need ≡ v → need.provider_version ≡ None → ((w : Text) → ¬ (Stands s e (version need.provider w)))
       → need.latest ≡ option_and_then (λ w. latest s content (version need.provider w)) need.provider_version → FromPair need
   from_absent need content contract mine is never result =
-      let c : OwnContract = record { provider = need.provider; content = content } in
+      let c : Contract = record { provider = need.provider; content = content } in
       let has = (owns c).1 (subst (λ u. s.contracts (u, need.provider) ≡ Some content) mine contract) in (
         without_partner v c,
         own_pair c (without_partner v c) has (or_one_empty (filter_map (with_partner v c) standing) (without_partner v c) (λ p there.
@@ -197,7 +198,7 @@ inside x y e = cc
 -- pairs whose names tie are the same number and content
 module _ (s : State) where
   abbrev IsKeyed : Pair → Type 0
-  IsKeyed p = (s.contracts (version p.consumer p.consumer_version, p.provider) ≡ Some p.content) × MatchOption p.partner ⊤ (λ w. number_of s.versions (version p.provider w.name) ≡ Some w.number)
+  IsKeyed p = (s.contracts (version p.consumer p.consumer_version, p.provider) ≡ Some p.content) × IsNumberedPair s p
 
   first_less : (a b c : Ordering) → ordering_then a b ≡ Less → (a ≡ Equal → b ≡ Less → c ≡ Less) → ordering_then a c ≡ Less
   first_less Less b c h more = refl
@@ -234,21 +235,23 @@ module _ (s : State) where
 
 -- ---- the whole
 
--- the parts as they are read, paired and in order, are the needs, each once, in their order
-pub needs_are : (s : State) (v : Version) (n : ℕ) (e : Text) (own : List OwnContract) (standing : List StandingVersion) (consumers : List ConsumerContract) → number_of s.versions v ≡ Some n
-    → ((x : StandingVersion) → Contains standing x ↔ IsStanding s e x) → AreNumbered s e → ((c : OwnContract) → Contains own c ↔ IsOwnContract s v c) → ((c : ConsumerContract) → Contains consumers c ↔ IsConsumerContract s v e c)
-    → (pairs : List Pair) → Lists pair_cmp (Contains (pairs_among v n own standing consumers)) pairs → Lists need_cmp (IsNeed s v e) (map (need_in s) pairs)
+-- the parts as they are read, paired and in order, are the needs, each once, in their order; their numbers are right
+pub needs_are : (s : State) (v : Version) (n : ℕ) (e : Text) (own : List Contract) (standing : List StandingVersion) (consumers : List ConsumerContract) → number_of s.versions v ≡ Some n
+    → ((x : StandingVersion) → Contains standing x ↔ IsStanding s e x) → AreNumbered s e → ((c : Contract) → Contains own c ↔ IsOwnContract s v c) → ((c : ConsumerContract) → Contains consumers c ↔ IsConsumerContract s v e c)
+    → (pairs : List Pair) → Lists pair_cmp (Contains (pairs_among v n own standing consumers)) pairs → AreNumberedPairs s pairs × Lists need_cmp (IsNeed s v e) (map (need_in s) pairs)
 needs_are s v n e own standing consumers number stand numbered owns uses pairs listed =
-    let each : (p : Pair) → Contains pairs p → IsPaired s v e p = λ p c. paired s v n e own standing consumers number stand numbered owns uses p ((listed.exactly p).0 c) in
-    record {
-      sorted = rises_by (IsKeyed s) pair_cmp need_cmp (need_in s) (less_need s) pairs (λ p c. let it = each p c in (it.contract, it.partner)) listed.sorted;
-      exactly = λ need. (
-        λ c. let it = from_map (need_in s) pairs need c in subst (IsNeed s v e) it.2 (each it.0 it.1).need,
-        λ is.
-            let it = from_need s v n e own standing consumers number stand numbered owns uses need is in
-            subst (Contains (map (need_in s) pairs)) it.2 (to_map (need_in s) pairs it.0 ((listed.exactly it.0).1 it.1)),
-      );
-    }
+    let each : (p : Pair) → Contains pairs p → IsPaired s v e p = λ p c. paired s v n e own standing consumers number stand numbered owns uses p ((listed.exactly p).0 c) in (
+      λ p c. (each p c).partner,
+      record {
+        sorted = rises_by (IsKeyed s) pair_cmp need_cmp (need_in s) (less_need s) pairs (λ p c. let it = each p c in (it.contract, it.partner)) listed.sorted;
+        exactly = λ need. (
+          λ c. let it = from_map (need_in s) pairs need c in subst (IsNeed s v e) it.2 (each it.0 it.1).need,
+          λ is.
+              let it = from_need s v n e own standing consumers number stand numbered owns uses need is in
+              subst (Contains (map (need_in s) pairs)) it.2 (to_map (need_in s) pairs it.0 ((listed.exactly it.0).1 it.1)),
+        );
+      },
+    )
 
 -- ---- the contracts that are looked up
 
@@ -287,3 +290,14 @@ consumers_are s v e standing stand numbered c = (
   where
     told_of : StandingVersion → ℕ → ConsumerContract
     told_of x content = record { consumer = x.pacticipant; consumer_version = x.name; content = content }
+
+-- ---- from what the calls answer
+
+pub needs_read : (s : State) (v : Version) (n : ℕ) (e : Text) (own : List Contract) (standing : List StandingVersion) (consumers : List ConsumerContract)
+    → Lists standing_cmp (IsStanding s e) standing × AreNumbered s e → ((w : Version) → number_of s.versions w ≡ Some n → Lists contract_cmp (IsOwnContract s w) own)
+    → (HaveNumbers s standing → consumers ≡ filter_map (consumer_in s v.pacticipant) standing)
+    → (pairs : List Pair) → Lists pair_cmp (Contains (pairs_among v n own standing consumers)) pairs → number_of s.versions v ≡ Some n → AreNumberedPairs s pairs × Lists need_cmp (IsNeed s v e) (map (need_in s) pairs)
+needs_read s v n e own standing consumers there mine theirs pairs listed number =
+    let found = theirs (λ x c. ((there.0.exactly x).0 c).1) in
+    needs_are s v n e own standing consumers number there.0.exactly there.1 (mine v number).exactly
+    (λ c. subst (λ xs. Contains xs c ↔ IsConsumerContract s v e c) (sym found) (consumers_are s v e standing there.0.exactly there.1 c)) pairs listed

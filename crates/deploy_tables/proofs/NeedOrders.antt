@@ -13,9 +13,9 @@ use Rattle.std.specs.FinMap.{nat_cmp-IsAntisymmetric}
 use Rattle.broker_core.specs.Listing.{Lists}
 use Rattle.broker_core.proofs.Order.{text_tied, both_equal}
 use Rattle.broker_core.proofs.Lists.{sorted_dedup}
-use Rattle.deploy_tables.specs.declared.needs.StandingVersion.{StandingVersion}
-use Rattle.deploy_tables.specs.declared.needs.Partner.{Partner}
-use Rattle.deploy_tables.specs.declared.needs.Pair.{Pair}
+use Rattle.deploy_tables.specs.declared.standing_versions.StandingVersion.{StandingVersion}
+use Rattle.deploy_tables.specs.declared.pairs.Partner.{Partner}
+use Rattle.deploy_tables.specs.declared.pairs.Pair.{Pair}
 use Rattle.deploy_tables.specs.Needs.{standing_cmp, partner_cmp, pair_cmp}
 
 nats_tie : (x y : ℕ) → nat_eq x y ≡ is_eq (nat_cmp x y)
@@ -28,10 +28,6 @@ once {R = R} {E = E} o ties tied xs ys moved sorted =
     let equiv : IsEquivalence E = subst IsEquivalence (λ i x y. sym (ties x y) i) (eq_by_cmp_equiv o) in
     let both = sorted_dedup {E = E} o equiv ties (λ x y e. tied x y ((Equal-is (R x y)).0 (sym (ties x y) ∙ e))) xs ys moved sorted in
     record { sorted = both.0; exactly = both.1 }
-
-pub once_of : {X : Type 0} {R : X → X → Ordering} {E : X → X → Bool} (o : IsTotalOrder R) (ties : (x y : X) → E x y ≡ eq_by_cmp R x y) (tied : (x y : X) → R x y ≡ Equal → x ≡ y)
-    (all xs ys : List X) → xs ≡ all → IsPermutation xs ys → IsSorted R ys → Lists R (Contains all) (dedup E ys)
-once_of {R = R} {E = E} o ties tied all xs ys is moved sorted = subst (λ zs. Lists R (Contains zs) (dedup E ys)) is (once o ties tied xs ys moved sorted)
 
 -- ---- standing versions
 

@@ -1,10 +1,11 @@
 -- The list of what is released.
-use Rattle.std.proofs.Common.{true≢false, slice_get, IsTrue, ◌≡◌, inl, inr, ℕ, ℤ, pos, codes, List, [], ◌∷◌, map, Bool, true, false, refl, sym, ap, subst, ◌∙◌, Some, None, Option, Ordering, Equal}
+use Rattle.std.proofs.Common.{true≢false, slice_get, IsTrue, ◌≡◌, inl, inr, ℕ, ℤ, pos, codes, List, [], ◌∷◌, Bool, true, false, refl, sym, ap, subst, ◌∙◌, Some, None, Option, Ordering, Less, Equal}
 use Rattle.std.specs.Prelude.{option_map}
-use Rattle.std.specs.Ordering.{eq_by_cmp, is_eq, int_cmp, ordering_then}
+use Rattle.std.specs.Ordering.{eq_by_cmp, is_eq, int_cmp, nat_cmp, ordering_then}
 use Rattle.std.specs.Cmp.{eq_by_cmp_equiv, Equal-is}
-use Rattle.std.proofs.lemmas.Cmp.{int_cmp_total, on_total}
+use Rattle.std.proofs.lemmas.Cmp.{int_cmp_total}
 use Rattle.sqlite.specs.Tree.{IsAscending}
+use Rattle.sqlite.specs.Edit.{id_in}
 use Rattle.sqlite.specs.declared.types.Value.TheVariants.{Int, Text}
 use Rattle.sqlite.specs.Order.{Row, column, value_cmp}
 use Rattle.sqlite.specs.Term.{Term, col, eval_all}
@@ -17,14 +18,11 @@ use Rattle.sqlite.specs.Command.TheVariants.{Select}
 use Rattle.sqlite.specs.Effect.{Database}
 use Rattle.sqlite.specs.Listing.{understood}
 use Rattle.sqlite_rules.specs.Lists.{Has}
-use Rattle.sqlite_keyed.specs.Lists.{sort_by}
-use Rattle.sqlite_keyed.proofs.ListLemmas.{map-map}
 use Rattle.sqlite_value.proofs.OrderLemmas.{value_cmp-Text, then-Equal}
 use Rattle.sqlite_tied.specs.Compute.{everything}
 use Rattle.table_access.specs.Columns.{text, text_cmp, whole_at, by_both, pair_cmp}
 use Rattle.table_access.specs.Sound.{text_in}
 use Rattle.sqlite.specs.Effect.{Answers}
-use Rattle.std.specs.Cmp.{IsTotalOrder}
 use Rattle.std.specs.Cmp.Lexicographic.{nat_list_cmp_total}
 use Rattle.table_access.specs.Statements.{from_both, keeps_both, pairs_kept}
 use Rattle.table_access.specs.Reading.{AreRead}
@@ -33,9 +31,7 @@ use Rattle.table_access.proofs.SoundLemmas.{has_place, text_at, whole_in, any_of
 use Rattle.table_access.proofs.Keys.{ascending_on, apart_by}
 use Rattle.table_access.proofs.Parts.{text_part, whole_part, agree_last, agree_and, once, numbers_once}
 use Rattle.table_access.proofs.Maps.{has_find}
-use Rattle.table_access.proofs.Members.{any_has, contains_has, has_contains, map_has, has_map, pair_has, has_pair, pairs_rise, rises_map}
-use Rattle.table_access.proofs.Ordered.{joins_in_order, same_sort, rises, sorted_has, has_sorted}
-use Rattle.table_access.proofs.ReadLemmas.{read_is}
+use Rattle.table_access.proofs.Members.{any_has, pair_has, has_pair, pairs_rise}
 use Rattle.broker_core.specs.declared.command.Version.{Version}
 use Rattle.broker_core.specs.Text.{Text as Words, version}
 use Rattle.broker_core.specs.Listing.{Lists}
@@ -46,11 +42,14 @@ use Rattle.broker_tables.specs.Rows.{stands_at}
 use Rattle.broker_tables.specs.Numbers.{number_of}
 use Rattle.broker_tables.specs.Holds.{Holds, IsBroker}
 use Rattle.broker_tables.proofs.Frames.{meant}
+use Rattle.broker_tables.proofs.Listed.{sorts, lists_join}
 use Rattle.broker_tables.proofs.NumberLemmas.{version_row}
 use Rattle.broker_tables.proofs.Orders.{pairs_total, exact_pair, placed_total, exact_placed}
 use Rattle.broker_tables.proofs.Placed.{released, released_there, versions, versions_there}
+use Rattle.deploy_tables.specs.declared.standing_versions.StandingVersion.{StandingVersion}
 use Rattle.deploy_tables.specs.Listings.{IsReleasedRow}
-use Rattle.deploy_tables.proofs.VersionRows.{joined_by, joined_is, is_joined, versions_numbered, find_version}
+use Rattle.deploy_tables.specs.Needs.{IsReleasedThere, IsStandingRow, standing_cmp}
+use Rattle.deploy_tables.proofs.VersionRows.{joined_by, joined_is, is_joined, versions_numbered, find_version, same_some, same_pos, still_less}
 use Rattle.table_access.proofs.Changes.{apart_or_same}
 use Rattle.sqlite.specs.Schema.{Schema}
 use Rattle.std.specs.Option.{option_map_or}
@@ -73,6 +72,24 @@ list_text = record { is = refl; plain = (refl, refl); unlisted = refl }
 
 pub list_means : (db : Database) → IsBroker db → Means db.schema list_sql list_command
 list_means db broker = meant db broker list_sql list_text
+
+-- ---- the same rows, with the versions' numbers
+
+abbrev pub standing_sql : List ℕ
+standing_sql = codes "SELECT r.version_number, v.pacticipant, v.version FROM released r JOIN versions v ON v.number = r.version_number WHERE r.environment = ?1 ORDER BY v.pacticipant, v.version"
+
+abbrev standing_project : List Term
+standing_project = col 1 2 ∷ col 2 2 ∷ col 2 3 ∷ []
+
+abbrev pub standing_command : Command
+standing_command = Select (record { lets = []; body = from_both 23 6 (joined_by 2) standing_project list_order }) (codes "version_number" ∷ codes "pacticipant" ∷ codes "version" ∷ [])
+
+standing_text : Means broker_schema standing_sql standing_command
+unfolding understood everything
+standing_text = record { is = refl; plain = (refl, refl); unlisted = refl }
+
+pub standing_means : (db : Database) → IsBroker db → Means db.schema standing_sql standing_command
+standing_means db broker = meant db broker standing_sql standing_text
 
 -- ---- the columns
 
@@ -114,14 +131,8 @@ module _ (db : Database) (broker : IsBroker db) where
 abbrev Pair : Type 0
 Pair = Row × Row
 
-abbrev item_of : Pair → Version
-item_of q = version (text 2 q.1) (text 3 q.1)
-
 abbrev by_key : Pair → Pair → Ordering
 by_key a b = pair_cmp (text 2 a.1, text 3 a.1) (text 2 b.1, text 3 b.1)
-
-by_key_total : IsTotalOrder by_key
-by_key_total = on_total (λ (q : Pair). (text 2 q.1, text 3 q.1)) pairs_total
 
 -- the number that a row shows
 numbered_as : (z : ℤ) (o : Option ℕ) → Some z ≡ option_map pos o → (k : ℕ) × (o ≡ Some k) × (z ≡ pos k)
@@ -180,24 +191,12 @@ module _ (db : Database) (broker : IsBroker db) (e : Words) where
       let b = joined_is db broker 2 e f w (numbers db broker f hf) (environments db broker f hf) hw kw in
       apart_by_name d f v w hv hw a b apart (is_eq (by_key (d, v) (f, w))) refl) (keys db broker))
 
-  abbrev sorted : List Pair
-  sorted = sort_by by_key kept
+  apart : IsAscending (λ a b. is_eq (sorts list_order env a b) ≡ false) kept
+  apart = ascending_on _ _ kept (λ a b ha hb apart. ap is_eq (sort_is a b ha hb) ∙ apart) no_ties
 
-  rows_are : (rows : List Row) → Answers db (record { lets = []; body = from_both 23 6 (joined_by 2) list_project list_order }) (Text e ∷ []) rows → rows ≡ map (λ q. eval_all list_project (env q)) sorted
-  rows_are rows h =
-      joins_in_order db (Text e ∷ []) 23 6 (joined_by 2) list_project list_order rows h (ascending_on _ _ kept (λ a b ha hb apart. ap is_eq (sort_is a b ha hb) ∙ apart) no_ties)
-      ∙ ap (map (λ q. eval_all list_project (env q))) (same_sort (λ a b. sort_cmp list_order (env a) (env b)) by_key kept sort_is)
-
-  items_are : (rows : List Row) (items : List Version) → Answers db (record { lets = []; body = from_both 23 6 (joined_by 2) list_project list_order }) (Text e ∷ []) rows → AreRead IsReleasedRow rows items → items ≡ map item_of sorted
-  items_are rows items h read =
-      read_is IsReleasedRow (λ row. version (text 0 row) (text 1 row)) (λ row item is i. version (text_in (sym is.0 i)) (text_in (sym is.1 i))) rows items read
-      ∙ ap (map (λ row. version (text 0 row) (text 1 row))) (rows_are rows h) ∙ map-map _ _ sorted
-
-  in_sorted : (q : Pair) → Has sorted q → Has kept q
-  in_sorted q has = contains_has kept q (sorted_has by_key by_key_total kept q (has_contains sorted q has))
-
-  to_sorted : (q : Pair) → Has kept q → Has sorted q
-  to_sorted q has = contains_has sorted q (has_sorted by_key by_key_total kept q (has_contains kept q has))
+  -- the order of the rows is that of the names that they show
+  in_order : (a b : Pair) (p n q m : Words) → Has kept a → Has kept b → text 2 a.1 ≡ p → text 3 a.1 ≡ n → text 2 b.1 ≡ q → text 3 b.1 ≡ m → sorts list_order env a b ≡ Less → pair_cmp (p, n) (q, m) ≡ Less
+  in_order a b p n q m ha hb ap_is an_is bq_is bm_is h = (λ i. pair_cmp (sym ap_is i, sym an_is i) (sym bq_is i, sym bm_is i)) ∙ sym (sort_is a b ha hb) ∙ h
 
   module _ (s : Broker) (held : Holds db s) where
     -- what is listed is released
@@ -225,15 +224,51 @@ module _ (db : Database) (broker : IsBroker db) (e : Words) where
 
     pub released_listed : (rows : List Row) (items : List Version) → Answers db (record { lets = []; body = from_both 23 6 (joined_by 2) list_project list_order }) (Text e ∷ []) rows → AreRead IsReleasedRow rows items
         → Lists version_cmp (λ v. IsTrue (s.released (e, v))) items
-    released_listed rows items h read = subst (Lists version_cmp (λ v. IsTrue (s.released (e, v)))) (sym (items_are rows items h read)) (record {
-      sorted = rises_map by_key version_cmp item_of (λ a b less. less) sorted (rises by_key by_key_total kept no_ties);
-      exactly = λ x. (
-        λ c.
-            let it = map_has item_of sorted x (contains_has (map item_of sorted) x c) in
-            subst (λ y. IsTrue (s.released (e, y))) (sym it.2) (is_released it.0 (in_sorted it.0 it.1)),
-        λ there.
-            let q = is_listed x.pacticipant x.name there in
-            let same : item_of q.0 ≡ x = λ j. version (q.2 j) (q.3 j) in
-            has_contains (map item_of sorted) x (subst (Has (map item_of sorted)) same (has_map item_of sorted q.0 (to_sorted q.0 q.1))),
-      );
-    })
+    released_listed = lists_join db (Text e ∷ []) (joined_by 2) list_project list_order IsReleasedRow version_cmp (λ v. IsTrue (s.released (e, v))) 23 6 apart
+        (λ a b x y ha hb ra rb h. in_order a b x.pacticipant x.name y.pacticipant y.name ha hb (ap text_in ra.0) (ap text_in ra.1) (ap text_in rb.0) (ap text_in rb.1) h)
+        (λ q x has read. subst (λ v. IsTrue (s.released (e, v))) (λ i. version (text_in (read.0 i)) (text_in (read.1 i))) (is_released q has))
+        (λ x there. let q = is_listed x.pacticipant x.name there in (q.0, q.1, λ y read i. version ((sym (ap text_in read.0) ∙ q.2) i) ((sym (ap text_in read.1) ∙ q.3) i)))
+
+    -- ---- with the numbers
+
+    -- the version that a row names has the number that it shows
+    row_number : (q : Pair) → Has kept q → (k : ℕ) × (number_of s.versions (version (text 2 q.1) (text 3 q.1)) ≡ Some k) × (whole_at 2 q.0 ≡ pos k)
+    row_number q has =
+        let v = q.1 in
+        let it = has_kept q has in
+        let known = numbered_as (whole_at 0 v) (number_of s.versions (version (text 2 v) (text 3 v)))
+        (sym (has_find pairs_total exact_pair (λ r. (text 2 r, text 3 r)) (whole_at 0) (db.trees 6) v (version_keys db broker) it.1) ∙ version_row (db.trees 6) s.versions (text 2 v) (text 3 v) held.versions) in
+        (known.0, known.1, sym it.2.0 ∙ known.2)
+
+    -- each version that is released there has a number
+    pub released_numbered : (v : Version) → IsTrue (s.released (e, v)) → (n : ℕ) × (number_of s.versions v ≡ Some n)
+    released_numbered v there =
+        let known = has_number (number_of s.versions v) (λ n. stands_at placed place_of (db.trees 23) (e, pos n)) (held.released e v ∙ there) in
+        (known.0, known.1)
+
+    -- a row that is read as a version, and the pair that it shows
+    standing_item : (q : Pair) → Has kept q → (x : StandingVersion) → IsStandingRow (eval_all standing_project (env q)) x → (text 2 q.1 ≡ x.pacticipant) × (text 3 q.1 ≡ x.name) × (number_of s.versions (version x.pacticipant x.name) ≡ Some x.number)
+    standing_item q has x reads =
+        let p : text 2 q.1 ≡ x.pacticipant = ap text_in reads.1 in
+        let name : text 3 q.1 ≡ x.name = ap text_in reads.2 in
+        let it = row_number q has in
+        let shown : whole_at 2 q.0 ≡ pos x.number = ap id_in reads.0 in
+        (p, name, (λ i. number_of s.versions (version (sym p i) (sym name i))) ∙ it.1 ∙ ap Some (same_pos it.0 x.number (sym it.2 ∙ shown)))
+
+    pub standing_listed : (rows : List Row) (items : List StandingVersion) → Answers db (record { lets = []; body = from_both 23 6 (joined_by 2) standing_project list_order }) (Text e ∷ []) rows → AreRead IsStandingRow rows items
+        → Lists standing_cmp (IsReleasedThere s e) items
+    standing_listed = lists_join db (Text e ∷ []) (joined_by 2) standing_project list_order IsStandingRow standing_cmp (IsReleasedThere s e) 23 6 apart
+        (λ a b x y ha hb ra rb h. still_less (text_cmp x.pacticipant y.pacticipant) (text_cmp x.name y.name) (nat_cmp x.number y.number)
+        (in_order a b x.pacticipant x.name y.pacticipant y.name ha hb (ap text_in ra.1) (ap text_in ra.2) (ap text_in rb.1) (ap text_in rb.2) h))
+        (λ q x has read. let item = standing_item q has x read in (subst (λ v. IsTrue (s.released (e, v))) (λ i. version (item.0 i) (item.1 i)) (is_released q has), item.2))
+        (λ x there.
+        let q = is_listed x.pacticipant x.name there.0 in (
+          q.0,
+          q.1,
+          λ y read.
+              let item = standing_item q.0 q.1 y read in
+              let p : y.pacticipant ≡ x.pacticipant = sym item.0 ∙ q.2 in
+              let name : y.name ≡ x.name = sym item.1 ∙ q.3 in
+              let n : y.number ≡ x.number = same_some y.number x.number (sym item.2 ∙ (λ i. number_of s.versions (version (p i) (name i))) ∙ there.1) in
+              λ i. record { pacticipant = p i; name = name i; number = n i },
+        ))

@@ -1,7 +1,7 @@
 -- The version that a row names by its number.
-use Rattle.std.proofs.Common.{◌≡◌, inl, inr, ℕ, pos, List, [], ◌∷◌, Bool, true, false, ◌&&◌, refl, sym, ap, ◌∙◌, Some}
+use Rattle.std.proofs.Common.{◌≡◌, inl, inr, ℕ, pos, List, [], ◌∷◌, Bool, true, false, ◌&&◌, refl, sym, ap, ◌∙◌, Some, Ordering, Less, Equal, Greater}
 use Rattle.std.specs.Prelude.{option_map}
-use Rattle.std.specs.Ordering.{eq_by_cmp, int_cmp}
+use Rattle.std.specs.Ordering.{eq_by_cmp, int_cmp, ordering_then}
 use Rattle.std.specs.Cmp.{eq_by_cmp_equiv, Equal-is}
 use Rattle.std.specs.FinMap.{int_cmp-IsAntisymmetric}
 use Rattle.std.proofs.lemmas.Cmp.{int_cmp_total}
@@ -36,6 +36,19 @@ use Rattle.broker_tables.proofs.Placed.{versions, versions_there}
 -- ON v.number = the number at this place, WHERE the environment is the parameter
 abbrev pub joined_by : ℕ → List Term
 joined_by place = op2 (Compare Eq Binary) (col 2 0) (col 1 place) ∷ op2 (Compare Eq Binary) (col 1 1) (col 0 0) ∷ []
+
+pub same_some : (m n : ℕ) → Some m ≡ Some n → m ≡ n
+same_some m n h = cc
+
+pub same_pos : (m n : ℕ) → pos m ≡ pos n → m ≡ n
+same_pos m n h = cc
+
+pub still_less : (x y z : Ordering) → ordering_then x y ≡ Less → ordering_then x (ordering_then y z) ≡ Less
+still_less Less y z h = refl
+still_less Equal Less z h = refl
+still_less Equal Equal z h = absurd cc
+still_less Equal Greater z h = absurd cc
+still_less Greater y z h = absurd cc
 
 both_true : (a b : Bool) → (a && (b && true)) ≡ true → (a ≡ true) × (b ≡ true)
 both_true true true h = (refl, refl)

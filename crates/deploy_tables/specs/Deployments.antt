@@ -1,8 +1,9 @@
--- What a deployment changes of the state.
-use Rattle.std.specs.Prelude.{◌≡◌, ℕ, Some}
+-- What a deployment and its end change of the state.
+use Rattle.std.specs.Prelude.{◌≡◌, ℕ, Some, None, if◌then◌else◌}
 use Rattle.broker_core.specs.declared.command.Version.{Version}
 use Rattle.broker_core.specs.Text.{Text, put_at, same_place}
 use Rattle.broker_core.specs.State.{State}
+use Rattle.broker_core.specs.Change.{is_text}
 use Rattle.broker_tables.specs.Numbers.{number_of}
 
 -- the version of this number, one of the pacticipant, is deployed there in place of what was, and all else is as it was
@@ -10,3 +11,18 @@ abbrev pub RecordsDeployed : Text → Text → Text → ℕ → State → State 
 RecordsDeployed e p instance number s t =
     (v : Version) × (number_of s.versions v ≡ Some number) × (v.pacticipant ≡ p)
     × (t ≡ record s { deployed = put_at same_place s.deployed (e, p, instance) (Some v.name) })
+
+-- there is a version of this number, one of the pacticipant
+abbrev pub IsVersionOf : Text → ℕ → State → Type 0
+IsVersionOf p number s = (v : Version) × (number_of s.versions v ≡ Some number) × (v.pacticipant ≡ p)
+
+-- the state where nothing is deployed in that instance, and all else is as it was
+abbrev pub without_instance : State → Text → Text → Text → State
+without_instance s e p instance = record s { deployed = put_at same_place s.deployed (e, p, instance) None }
+
+-- the version of this number, one of the pacticipant, isn't deployed in that instance any more; where another
+-- version or none is deployed there, all is as it was
+abbrev pub TakesOut : Text → Text → Text → ℕ → State → State → Type 0
+TakesOut e p instance number s t =
+    (v : Version) × (number_of s.versions v ≡ Some number) × (v.pacticipant ≡ p)
+    × (t ≡ (if is_text v.name (s.deployed (e, p, instance)) then without_instance s e p instance else s))

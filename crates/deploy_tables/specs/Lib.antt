@@ -1,4 +1,5 @@
 pub mod Deployments
 pub mod Listings
 pub mod Needs
+pub mod Matrix
 pub mod Releases

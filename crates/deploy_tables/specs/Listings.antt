@@ -1,13 +1,13 @@
 -- How the rows of the listings read.
-use Rattle.std.specs.Prelude.{◌≡◌, ℕ, ◌<◌, List, length, IsUtf8}
+use Rattle.std.specs.Prelude.{◌≡◌}
 use Rattle.sqlite.specs.Order.{Row, column}
 use Rattle.sqlite.specs.declared.types.Value.TheVariants.{Text}
 use Rattle.table_access.specs.declared.StoreFault.{StoreFault}
 use Rattle.table_access.specs.declared.StoreFault.TheVariants.{Store}
 use Rattle.table_access.specs.Reading.{IsTextAt}
-use Rattle.broker_core.specs.Name.{IsName}
 use Rattle.broker_core.specs.declared.command.Version.{Version}
 use Rattle.broker_core.specs.declared.answer.DeployedItem.{DeployedItem}
+use Rattle.broker_tables.specs.Names.{IsNameAt}
 
 -- the columns are the pacticipant, the instance and the version's name
 abbrev pub IsDeployedRow : Row → DeployedItem → Type 0
@@ -17,10 +17,6 @@ IsDeployedRow row item = (column row 0 ≡ Text item.pacticipant) × (column row
 -- the columns are the pacticipant and the version's name
 abbrev pub IsReleasedRow : Row → Version → Type 0
 IsReleasedRow row version = (column row 0 ≡ Text version.pacticipant) × (column row 1 ≡ Text version.name)
-
--- there is such a column, and it is a name
-abbrev pub IsNameAt : ℕ → Row → Type 0
-IsNameAt at row = (at < length row) × ((name : List ℕ) × (column row at ≡ Text name) × IsUtf8 name × IsName name)
 
 -- the row reads as something that is deployed
 abbrev pub ReadsAsDeployed : Row → Type 0

@@ -1,6 +1,6 @@
 -- What a version needs in an environment, from the parts that are read: what stands there, its own contracts,
 -- and those that are with it.
-use Rattle.std.specs.Prelude.{Contains, ◌≡◌, ◌≢◌, ℕ, List, [], ◌∷◌, ◌++◌, map, filter_map, flat_map, Option, Some, None, option_map, option_and_then, if◌then◌else◌, IsTrue, pos}
+use Rattle.std.specs.Prelude.{Contains, ◌≡◌, ◌≢◌, ℕ, List, [], ◌∷◌, ◌++◌, map, filter_map, flat_map, Option, Some, None, option_map, option_and_then, if◌then◌else◌, IsTrue, MatchOption, ⊤, pos}
 use Rattle.sqlite.specs.Order.{Row, column}
 use Rattle.sqlite.specs.declared.types.Value.TheVariants.{Int, Text as SqlText}
 use Rattle.std.specs.declared.cmp.Ordering.{Ordering}
@@ -15,12 +15,12 @@ use Rattle.broker_tables.specs.Numbers.{number_of}
 use Rattle.table_access.specs.declared.StoreFault.{StoreFault}
 use Rattle.table_access.specs.declared.StoreFault.TheVariants.{Store}
 use Rattle.table_access.specs.Reading.{IsNumberRow}
-use Rattle.deploy_tables.specs.Listings.{IsNameAt}
-use Rattle.deploy_tables.specs.declared.needs.StandingVersion.{StandingVersion}
-use Rattle.deploy_tables.specs.declared.needs.OwnContract.{OwnContract}
-use Rattle.deploy_tables.specs.declared.needs.ConsumerContract.{ConsumerContract}
-use Rattle.deploy_tables.specs.declared.needs.Partner.{Partner}
-use Rattle.deploy_tables.specs.declared.needs.Pair.{Pair}
+use Rattle.broker_tables.specs.Names.{IsNameAt}
+use Rattle.deploy_tables.specs.declared.standing_versions.StandingVersion.{StandingVersion}
+use Rattle.contract_tables.specs.declared.listings.Contract.{Contract}
+use Rattle.deploy_tables.specs.declared.pairs.ConsumerContract.{ConsumerContract}
+use Rattle.deploy_tables.specs.declared.pairs.Partner.{Partner}
+use Rattle.deploy_tables.specs.declared.pairs.Pair.{Pair}
 
 -- ---- what is read
 
@@ -45,6 +45,11 @@ AreDeployedNumbered s e =
     (p instance name : Text) → s.deployed (e, p, instance) ≡ Some name
     → (n : ℕ) × (number_of s.versions (version p name) ≡ Some n)
 
+-- and so have those that are released there
+abbrev pub AreReleasedNumbered : State → Text → Type 0
+AreReleasedNumbered s e =
+    (v : Version) → IsTrue (s.released (e, v)) → (n : ℕ) × (number_of s.versions v ≡ Some n)
+
 -- the columns are the version's number, its pacticipant and its name
 abbrev pub IsStandingRow : Row → StandingVersion → Type 0
 IsStandingRow row x = (column row 0 ≡ Int (pos x.number)) × (column row 1 ≡ SqlText x.pacticipant)
@@ -68,7 +73,7 @@ standing_cmp x y = ordering_then (text_cmp x.pacticipant y.pacticipant)
     (ordering_then (text_cmp x.name y.name) (nat_cmp x.number y.number))
 
 -- v has this contract
-abbrev pub IsOwnContract : State → Version → OwnContract → Type 0
+abbrev pub IsOwnContract : State → Version → Contract → Type 0
 IsOwnContract s v c = s.contracts (v, c.provider) ≡ Some c.content
 
 -- a version of another pacticipant stands there, and has this contract with the pacticipant of v
@@ -88,7 +93,7 @@ consumer_in s p x = if same_text x.pacticipant p then None else option_map (λ c
 -- ---- how it is paired
 
 -- a contract of v with this version, where that is one of the provider
-abbrev pub with_partner : Version → OwnContract → StandingVersion → Option Pair
+abbrev pub with_partner : Version → Contract → StandingVersion → Option Pair
 with_partner v c x = if same_text x.pacticipant c.provider then Some (record {
   consumer = v.pacticipant;
   consumer_version = v.name;
@@ -98,7 +103,7 @@ with_partner v c x = if same_text x.pacticipant c.provider then Some (record {
 }) else None
 
 -- with no version of its provider
-abbrev pub without_partner : Version → OwnContract → Pair
+abbrev pub without_partner : Version → Contract → Pair
 without_partner v c = record {
   consumer = v.pacticipant;
   consumer_version = v.name;
@@ -112,7 +117,7 @@ or_one [] x = x ∷ []
 or_one (y ∷ ys) x = y ∷ ys
 
 -- with each version of its provider, or with none
-abbrev pub consumed : Version → List StandingVersion → OwnContract → List Pair
+abbrev pub consumed : Version → List StandingVersion → Contract → List Pair
 consumed v standing c = or_one (filter_map (with_partner v c) standing) (without_partner v c)
 
 -- a contract with the pacticipant of v, and v, whose number is n
@@ -125,7 +130,7 @@ provided v n c = record {
   content = c.content;
 }
 
-abbrev pub pairs_among : Version → ℕ → List OwnContract → List StandingVersion → List ConsumerContract → List Pair
+abbrev pub pairs_among : Version → ℕ → List Contract → List StandingVersion → List ConsumerContract → List Pair
 pairs_among v n own standing consumers = flat_map (consumed v standing) own ++ map (provided v n) consumers
 
 abbrev pub partner_cmp : Partner → Partner → Ordering
@@ -140,6 +145,13 @@ pair_cmp x y = ordering_then (text_cmp x.consumer y.consumer)
     (nat_cmp x.content y.content))))
 
 -- ---- the needs
+
+-- the number beside the version of the provider, if any, is its own
+abbrev pub IsNumberedPair : State → Pair → Type 0
+IsNumberedPair s p = MatchOption p.partner ⊤ (λ w. number_of s.versions (version p.provider w.name) ≡ Some w.number)
+
+abbrev pub AreNumberedPairs : State → List Pair → Type 0
+AreNumberedPairs s pairs = (p : Pair) → Contains pairs p → IsNumberedPair s p
 
 -- the need that a pair is in a state
 abbrev pub need_in : State → Pair → Need

@@ -7,7 +7,8 @@ ghost use Rattle.broker_tables.specs.Numbers.{number_of as number_in};
 ghost use Rattle.broker_tables.specs.Holds.{Queries};
 ghost use Rattle.deploy_tables.specs.Needs.{HaveNumbers, consumer_in};
 
-use crate::needs::{ConsumerContract, StandingVersion};
+use crate::pairs::ConsumerContract;
+use crate::standing_versions::StandingVersion;
 use broker_core::name::Name;
 use contract_tables::contract_of;
 use sqlite::{Alter, Connection};
@@ -79,7 +80,7 @@ fn keep(
 ///
 /// # Errors
 /// `StoreFault::Memory` where the database is out of memory, or there is none for the answer; `StoreFault::Store` where it refused a query.
-pub fn consumer_contracts<S: Alter>(
+pub(crate) fn consumer_contracts<S: Alter>(
     alloc: Global,
     conn: &mut Connection<S>,
     pacticipant: &Name,

@@ -4,9 +4,9 @@ ghost use Rattle.std.specs.Option.{option_map_or};
 ghost use Rattle.sqlite.specs.Held.{state};
 ghost use Rattle.broker_core.specs.declared.command.Version.{Version as VersionModel};
 ghost use Rattle.broker_core.specs.Change.{is_text};
-ghost use Rattle.broker_tables.specs.Holds.{QueriesInPlace, Changes};
+ghost use Rattle.broker_tables.specs.Holds.{QueriesInPlace, Changes, ChangesAndAnswers};
 ghost use Rattle.broker_tables.specs.Numbers.{number_of as number_in};
-ghost use Rattle.deploy_tables.specs.Deployments.{RecordsDeployed};
+ghost use Rattle.deploy_tables.specs.Deployments.{RecordsDeployed, IsVersionOf, TakesOut, without_instance};
 
 use sqlite::{Alter, Connection, params};
 use table_access::{StoreFault, change, number_of};
@@ -67,4 +67,48 @@ pub fn record_deployed<S: Alter>(
         "INSERT INTO deployed (environment, pacticipant, instance, version_number) VALUES (?1, ?2, ?3, ?4) ON CONFLICT (environment, pacticipant, instance) DO UPDATE SET version_number = excluded.version_number",
         params![environment, pacticipant, instance, number],
     )
+}
+
+/// Takes out what is deployed in the environment as that instance.
+fn empty_instance<S: Alter>(
+    conn: &mut Connection<S>,
+    environment: &str,
+    pacticipant: &str,
+    instance: &str,
+) -> Result<(), StoreFault>
+    ensures { Changes (state S.Store conn.old) (state S.Store conn.new) result
+        (λ s t. t ≡ without_instance s environment.now pacticipant.now instance.now) }
+{
+    change(
+        conn,
+        "DELETE FROM deployed WHERE environment = ?1 AND pacticipant = ?2 AND instance = ?3",
+        params![environment, pacticipant, instance],
+    )
+}
+
+/// Takes the version of that number, one of the pacticipant, out of the environment as that instance, and answers whether it was deployed there. Its other instances stay, and so does another version that is deployed there.
+///
+/// # Errors
+/// `StoreFault::Memory` where the database is out of memory; `StoreFault::Store` where it refused the query or the change, or where the row holds no number of a version.
+pub fn take_out<S: Alter>(
+    conn: &mut Connection<S>,
+    environment: &str,
+    pacticipant: &str,
+    instance: &str,
+    number: u32,
+) -> Result<bool, StoreFault>
+    ensures { ChangesAndAnswers (state S.Store conn.old) (state S.Store conn.new) result
+        (IsVersionOf pacticipant.now number)
+        (λ stood s t. TakesOut environment.now pacticipant.now instance.now number s t
+        × ((v : VersionModel) → number_in s.versions v ≡ Some number → v.pacticipant ≡ pacticipant.now →
+        stood ≡ is_text v.name (s.deployed (environment.now, pacticipant.now, instance.now)))) }
+{
+    match is_deployed(conn, environment, pacticipant, instance, number) {
+        Ok(true) => match empty_instance(conn, environment, pacticipant, instance) {
+            Ok(()) => Ok(true),
+            Err(fault) => Err(fault),
+        },
+        Ok(false) => Ok(false),
+        Err(fault) => Err(fault),
+    }
 }

@@ -6,15 +6,19 @@
 
 mod consumers;
 mod deployments;
+mod entries;
+mod gate;
 mod listings;
 mod making;
-pub mod needs;
+mod matrix_rows;
+mod pairs;
 mod releases;
-mod standing;
+mod standing_versions;
 
-pub use consumers::consumer_contracts;
-pub use deployments::{is_deployed, record_deployed};
+pub use deployments::{is_deployed, record_deployed, take_out};
+pub use gate::needs;
 pub use listings::{deployed, released};
 pub use making::make_tables;
+pub use matrix_rows::matrix;
 pub use releases::{end_support, is_released, record_released};
-pub use standing::deployed_versions;
+pub use standing_versions::{StandingVersion, standing};

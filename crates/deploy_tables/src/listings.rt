@@ -1,49 +1,18 @@
 //! What stands in an environment, listed.
-ghost use Rattle.std.specs.Prelude.{◌≡◌, ◌↔◌, IsTrue, IfOk, IfErr, Some, string_bytes};
+ghost use Rattle.std.specs.Prelude.{◌≡◌, IsTrue, Some};
 ghost use Rattle.sqlite.specs.Held.{state};
-ghost use Rattle.sqlite.specs.Order.{column};
-ghost use Rattle.sqlite.specs.declared.types.Value.TheVariants.{Text as SqlText};
-ghost use Rattle.table_access.specs.Reading.{IsTextAt};
 ghost use Rattle.broker_core.specs.Listing.{Lists};
 ghost use Rattle.broker_core.specs.Machine.{deployed_cmp, version_cmp};
 ghost use Rattle.broker_tables.specs.Holds.{Queries};
-ghost use Rattle.deploy_tables.specs.Listings.{IsDeployedRow, IsReleasedRow, IsNameAt, FailsAsDeployed, FailsAsReleased};
+ghost use Rattle.deploy_tables.specs.Listings.{IsDeployedRow, IsReleasedRow, FailsAsDeployed, FailsAsReleased};
 
 use broker_core::answer::DeployedItem;
 use broker_core::command::Version;
-use broker_core::name::{Name, NameFault, Text};
+use broker_core::name::Text;
+use broker_tables::{name_in, text_in};
 use sqlite::{Alter, Connection, Row, params};
 use std::alloc::Global;
-use table_access::{ReadRow, StoreFault, list_of, text_at};
-
-/// The text in a column. `StoreFault::Store` exactly where there is none.
-fn text_in(alloc: Global, row: &Row, at: usize) -> Result<String, StoreFault>
-    ensures ok { IfOk result (λ text. column row.now at ≡ SqlText (string_bytes text)) }
-    ensures cause { IfErr result (λ f. (f ≡ StoreFault.Store) ↔ (¬ IsTextAt at row.now)) }
-{
-    match text_at(row, at) {
-        Some(text) => match String::from_str(alloc, text) {
-            Ok(text) => Ok(text),
-            Err(_) => Err(StoreFault::Memory),
-        },
-        None => Err(StoreFault::Store),
-    }
-}
-
-/// The name in a column. `StoreFault::Store` exactly where there is none.
-pub(crate) fn name_in(alloc: Global, row: &Row, at: usize) -> Result<Name, StoreFault>
-    ensures ok { IfOk result (λ name. (column row.now at ≡ SqlText name) × IsNameAt at row.now) }
-    ensures cause { IfErr result (λ f. (f ≡ StoreFault.Store) ↔ (¬ IsNameAt at row.now)) }
-{
-    match text_at(row, at) {
-        Some(text) => match Name::new(alloc, text) {
-            Ok(name) => Ok(name),
-            Err(NameFault::Memory) => Err(StoreFault::Memory),
-            Err(NameFault::BadName) => Err(StoreFault::Store),
-        },
-        None => Err(StoreFault::Store),
-    }
-}
+use table_access::{ReadRow, StoreFault, list_of};
 
 /// A pacticipant, an instance and a version.
 struct DeployedRow;

@@ -31,12 +31,12 @@ use Rattle.sqlite_keyed.specs.Lists.{sort_by}
 use Rattle.sqlite_keyed.proofs.RuleLemmas.{first_of_both, second_of_both}
 use Rattle.sqlite_tied.specs.Compute.{everything}
 use Rattle.table_access.specs.Columns.{text, text_cmp, whole_at, by_both}
-use Rattle.table_access.specs.Statements.{from_both, keeps_both, pairs_kept}
+use Rattle.table_access.specs.Statements.{from_both, keeps_both}
 use Rattle.table_access.proofs.Values.{same_texts, same_ints}
 use Rattle.table_access.proofs.Steps.{Means, shown_answers}
 use Rattle.table_access.proofs.Keys.{ascending_on}
 use Rattle.table_access.proofs.Maps.{find_has, has_find}
-use Rattle.table_access.proofs.Members.{contains_has, has_contains, has_map, map_has, has_pair, pair_has, pairs_rise, rises_map}
+use Rattle.table_access.proofs.Members.{contains_has, has_contains, has_map, map_has, pairs, has_pair, pair_has, pairs_rise, rises_map}
 use Rattle.table_access.proofs.Ordered.{joins_in_order, same_sort, rises, sorted_has, has_sorted}
 use Rattle.table_access.proofs.Parts.{numbers_once}
 use Rattle.table_access.proofs.SoundLemmas.{at_has, any_of}
@@ -59,10 +59,10 @@ use Rattle.registry_tables.proofs.BranchRows.{key}
 abbrev pub numbers_sql : List ℕ
 numbers_sql = codes "SELECT v.number FROM versions v JOIN branches b ON b.version_number = v.number WHERE v.pacticipant = ?1 AND b.branch = ?2 ORDER BY v.number DESC"
 
-abbrev terms : List Term
+abbrev pub terms : List Term
 terms = op2 (Compare Eq Binary) (col 2 1) (col 1 0) ∷ op2 (Compare Eq Binary) (col 1 2) (col 0 0) ∷ op2 (Compare Eq Binary) (col 2 2) (col 0 1) ∷ []
 
-abbrev order : List (Term × Key)
+abbrev pub order : List (Term × Key)
 order = (col 1 0, record { collation = Binary; descending = true }) ∷ []
 
 abbrev pub numbers_command : Command
@@ -105,10 +105,10 @@ pair_ascending R S (x ∷ xs) each up = (all xs up.0 (λ b has. each x b (inl re
 -- ---- the pairs that the query keeps
 
 module _ (db : Database) (broker : IsBroker db) (p b : List ℕ) where
-  abbrev params : Row
+  abbrev pub params : Row
   params = Text p ∷ Text b ∷ []
 
-  ids : (r : Row) → Has (db.trees 6) r → column r 0 ≡ Int (whole_at 0 r)
+  pub ids : (r : Row) → Has (db.trees 6) r → column r 0 ≡ Int (whole_at 0 r)
   ids r has = int_is (rowid r) (at_has _ (db.trees 6) r (of_versions.numbered_rows db broker).1 has)
 
   test : (r s : Row) → Has (db.trees 6) r → Has (db.trees 8) s → keeps_both terms params r s ≡ (is_eq (int_cmp (whole_at 1 s) (whole_at 0 r)) && (is_eq (text_cmp (text 2 r) p) && (is_eq (text_cmp (text 2 s) b) && true)))
@@ -145,54 +145,88 @@ module _ (db : Database) (broker : IsBroker db) (p b : List ℕ) where
       z : is_eq (text_cmp (text 2 s) b) ≡ true
       z = ap (λ t. is_eq (text_cmp t b)) branch ∙ (eq_by_cmp_equiv nat_list_cmp_total).refl b
 
-  abbrev pairs : List (Row × Row)
-  pairs = pairs_kept terms params (db.trees 6) (db.trees 8)
-
-  abbrev by_query : Row × Row → Row × Row → Ordering
+  abbrev pub by_query : Row × Row → Row × Row → Ordering
   by_query a c = sort_cmp order (params ∷ a.0 ∷ a.1 ∷ []) (params ∷ c.0 ∷ c.1 ∷ [])
 
-  abbrev number : Row × Row → ℤ
+  abbrev pub number : Row × Row → ℤ
   number q = whole_at 0 q.0
 
-  abbrev by_number : Row × Row → Row × Row → Ordering
+  abbrev pub by_number : Row × Row → Row × Row → Ordering
   by_number = on number (flip_args int_cmp)
 
   same_order : (a c : Row × Row) → Has (db.trees 6) a.0 → Has (db.trees 6) c.0 → by_query a c ≡ by_number a c
   same_order a c ha hc =
       then-Equal (value_cmp (column c.0 0) (column a.0 0)) ∙ ap (λ v. value_cmp v (column a.0 0)) (ids c.0 hc) ∙ ap (value_cmp (Int (whole_at 0 c.0))) (ids a.0 ha) ∙ value_cmp-Int (whole_at 0 c.0) (whole_at 0 a.0)
 
-  apart : IsAscending (λ a c. is_eq (by_number a c) ≡ false) pairs
-  apart = pairs_rise (keeps_both terms params) (db.trees 8) (λ a c. is_eq (by_number a c) ≡ false) (db.trees 6) inner outer
-    where
-      inner : (x : Row) → Has (db.trees 6) x → IsAscending (λ y z. keeps_both terms params x y ≡ true → keeps_both terms params x z ≡ true → is_eq (by_number (x, y) (x, z)) ≡ false) (db.trees 8)
-      inner x hx = ascending_on _ _ (db.trees 8) (λ y z hy hz differ ky kz.
-          let one = agrees x y hx hy ky in
-          let two = agrees x z hx hz kz in
-          let same : key y ≡ key z = λ i. ((one.0 ∙ sym two.0) i, (one.2 ∙ sym two.2) i) in
-          let tied : eq_by_cmp (by_both int_cmp text_cmp) (key y) (key z) ≡ true = ap (eq_by_cmp (by_both int_cmp text_cmp) (key y)) (sym same) ∙ (eq_by_cmp_equiv marked_total).refl (key y) in
-          absurd (let clash : true ≡ false = sym tied ∙ differ in cc)) (of_branches.keys db broker)
-
-      outer : IsAscending (λ x w. (y z : Row) → Has (db.trees 8) y → Has (db.trees 8) z → keeps_both terms params x y ≡ true → keeps_both terms params w z ≡ true → is_eq (by_number (x, y) (w, z)) ≡ false) (db.trees 6)
-      outer = ascending_on _ _ (db.trees 6) (λ x w hx hw differ y z hy hz ky kz. (eq_by_cmp_equiv int_cmp_total).symm (whole_at 0 w) (whole_at 0 x) ∙ differ) (numbers_once (db.trees 6) (of_versions.numbered_rows db broker))
-
-  from_rows : (q : Row × Row) → Has pairs q → Has (db.trees 6) q.0 × Has (db.trees 8) q.1 × (keeps_both terms params q.0 q.1 ≡ true)
-  from_rows q has = pair_has (keeps_both terms params) (db.trees 8) (db.trees 6) q has
-
-  total : IsTotalOrder by_number
+  pub total : IsTotalOrder by_number
   total = on_total number (back_total int_cmp_total)
 
-  sorted : sort_by by_query pairs ≡ sort_by by_number pairs
-  sorted = same_sort by_query by_number pairs (λ a c ha hc. same_order a c (from_rows a ha).0 (from_rows c hc).0)
+  -- the pairs that a query keeps which asks for this, and maybe for more
+  module _ (keep : Row → Row → Bool) (asks : (r s : Row) → keep r s ≡ true → keeps_both terms params r s ≡ true) where
+    abbrev pub kept_pairs : List (Row × Row)
+    kept_pairs = pairs keep (db.trees 8) (db.trees 6)
 
-  apart_too : IsAscending (λ a c. is_eq (by_query a c) ≡ false) pairs
-  apart_too = pair_ascending _ _ pairs (λ a c ha hc h. ap is_eq (same_order a c (from_rows a ha).0 (from_rows c hc).0) ∙ h) apart
+    apart : IsAscending (λ a c. is_eq (by_number a c) ≡ false) kept_pairs
+    apart = pairs_rise keep (db.trees 8) (λ a c. is_eq (by_number a c) ≡ false) (db.trees 6) inner outer
+      where
+        inner : (x : Row) → Has (db.trees 6) x → IsAscending (λ y z. keep x y ≡ true → keep x z ≡ true → is_eq (by_number (x, y) (x, z)) ≡ false) (db.trees 8)
+        inner x hx = ascending_on _ _ (db.trees 8) (λ y z hy hz differ ky kz.
+            let one = agrees x y hx hy (asks x y ky) in
+            let two = agrees x z hx hz (asks x z kz) in
+            let same : key y ≡ key z = λ i. ((one.0 ∙ sym two.0) i, (one.2 ∙ sym two.2) i) in
+            let tied : eq_by_cmp (by_both int_cmp text_cmp) (key y) (key z) ≡ true = ap (eq_by_cmp (by_both int_cmp text_cmp) (key y)) (sym same) ∙ (eq_by_cmp_equiv marked_total).refl (key y) in
+            absurd (let clash : true ≡ false = sym tied ∙ differ in cc)) (of_branches.keys db broker)
 
-exact_pos : (n k : ℕ) → pos n ≡ pos k → n ≡ k
+        outer : IsAscending (λ x w. (y z : Row) → Has (db.trees 8) y → Has (db.trees 8) z → keep x y ≡ true → keep w z ≡ true → is_eq (by_number (x, y) (w, z)) ≡ false) (db.trees 6)
+        outer = ascending_on _ _ (db.trees 6) (λ x w hx hw differ y z hy hz ky kz. (eq_by_cmp_equiv int_cmp_total).symm (whole_at 0 w) (whole_at 0 x) ∙ differ) (numbers_once (db.trees 6) (of_versions.numbered_rows db broker))
+
+    pub from_rows : (q : Row × Row) → Has kept_pairs q → Has (db.trees 6) q.0 × Has (db.trees 8) q.1 × (keep q.0 q.1 ≡ true)
+    from_rows q has = pair_has keep (db.trees 8) (db.trees 6) q has
+
+    pub sorted : sort_by by_query kept_pairs ≡ sort_by by_number kept_pairs
+    sorted = same_sort by_query by_number kept_pairs (λ a c ha hc. same_order a c (from_rows a ha).0 (from_rows c hc).0)
+
+    pub apart_too : IsAscending (λ a c. is_eq (by_query a c) ≡ false) kept_pairs
+    apart_too = pair_ascending _ _ kept_pairs (λ a c ha hc h. ap is_eq (same_order a c (from_rows a ha).0 (from_rows c hc).0) ∙ h) apart
+
+    -- by falling numbers, each once
+    pub falls : IsStrictlySortedBy by_number (sort_by by_number kept_pairs)
+    falls = rises by_number total kept_pairs apart
+
+-- ---- the rows of a version on the branch
+
+pub exact_pos : (n k : ℕ) → pos n ≡ pos k → n ≡ k
 exact_pos n k e = cc
 
 exact_number : (o : Option ℕ) (n : ℕ) → option_map pos o ≡ Some (pos n) → o ≡ Some n
 exact_number None n e = absurd cc
 exact_number (Some k) n e = let same : k ≡ n = cc in ap Some same
+
+module _ (db : Database) (s : Broker) (held : Holds db s) (p b : List ℕ) where
+  pub from_pair : (r x : Row) → Has (db.trees 6) r → Has (db.trees 8) x → keeps_both terms (params db held.broker p b) r x ≡ true → (n : ℕ) → pos n ≡ whole_at 0 r → IsBranchNumber s p b n
+  from_pair r x hr hx kept n is =
+      let agree = agrees db held.broker p b r x hr hx kept in
+      let v = version (text 2 r) (text 3 r) in
+      let numbered : option_map pos (number_of s.versions v) ≡ Some (pos n) =
+      sym (version_row (db.trees 6) s.versions (text 2 r) (text 3 r) held.versions) ∙ has_find pairs_total exact_pair (λ r. (text 2 r, text 3 r)) (whole_at 0) (db.trees 6) r (of_versions.keys db held.broker) hr ∙ ap Some (sym is) in
+      let number_is : number_of s.versions v ≡ Some n = exact_number (number_of s.versions v) n numbered in
+      let stands : stands_at (by_both int_cmp text_cmp) key (db.trees 8) (pos n, b) ≡ true =
+      any_of (λ r. eq_by_cmp (by_both int_cmp text_cmp) (pos n, b) (key r)) (db.trees 8) x hx
+      (ap (eq_by_cmp (by_both int_cmp text_cmp) (pos n, b)) (λ i. ((agree.0 ∙ sym is) i, agree.2 i)) ∙ (eq_by_cmp_equiv marked_total).refl (pos n, b)) in
+      let on_it : s.branches (v, b) ≡ true =
+      sym (held.branches v b) ∙ ap (λ o. option_map_or (λ k. stands_at (by_both int_cmp text_cmp) key (db.trees 8) (pos k, b)) o false) number_is ∙ stands in
+      (v, number_is, agree.1, on_it)
+
+  pub to_pair : (n : ℕ) → IsBranchNumber s p b n → (q : Row × Row) × Has (db.trees 6) q.0 × Has (db.trees 8) q.1 × (keeps_both terms (params db held.broker p b) q.0 q.1 ≡ true) × (whole_at 0 q.0 ≡ pos n)
+  to_pair n (v, is_number, owner, on_it) =
+      let row = find_has pairs_total exact_pair (λ r. (text 2 r, text 3 r)) (whole_at 0) (v.pacticipant, v.name) (pos n) (db.trees 6)
+      (version_row (db.trees 6) s.versions v.pacticipant v.name held.versions ∙ ap (option_map pos) is_number) in
+      let stands : stands_at (by_both int_cmp text_cmp) key (db.trees 8) (pos n, b) ≡ true =
+      sym (ap (λ o. option_map_or (λ k. stands_at (by_both int_cmp text_cmp) key (db.trees 8) (pos k, b)) o false) is_number) ∙ held.branches v b ∙ on_it in
+      let other = any_has (λ r. eq_by_cmp (by_both int_cmp text_cmp) (pos n, b) (key r)) (db.trees 8) stands in
+      let same : (pos n, b) ≡ key other.0 = exact_marked (pos n, b) (key other.0) ((Equal-is (by_both int_cmp text_cmp (pos n, b) (key other.0))).0 other.2) in
+      let kept = both_kept db held.broker p b row.0 other.0 row.1 other.1 (sym (ap (λ (k : ℤ × List ℕ). k.0) same) ∙ sym row.3) (sym (ap (λ (k : List ℕ × List ℕ). k.0) row.2) ∙ owner) (sym (ap (λ (k : ℤ × List ℕ). k.1) same)) in
+      ((row.0, other.0), row.1, other.1, kept, row.3)
 
 wholes : (items : List ℕ) → map id_in (map (λ n. Int (pos n)) items) ≡ map pos items
 wholes [] = refl
@@ -206,47 +240,38 @@ pub numbers_listed : (p b : List ℕ) (old new : State) (rows : List Row) (items
     → Lists (flip_args nat_cmp) (IsBranchNumber s p b) items
 numbers_listed p b old new rows items s held h read = record { sorted = unmapped items rising; exactly = λ n. (there n, back n) }
   where
-    is : rows ≡ map (λ (q : Row × Row). eval_all (col 1 0 ∷ []) ((Text p ∷ Text b ∷ []) ∷ q.0 ∷ q.1 ∷ [])) (sort_by (by_query old.now held.broker p b) (pairs old.now held.broker p b))
-    is = joins_in_order old.now (Text p ∷ Text b ∷ []) 6 8 terms (col 1 0 ∷ []) order rows (shown_answers numbers_sql (Text p ∷ Text b ∷ []) old new _ _ (numbers_means old.now held.broker) rows h) (apart_too old.now held.broker p b)
+    keep : Row → Row → Bool
+    keep = keeps_both terms (Text p ∷ Text b ∷ [])
 
-    ints : map pos items ≡ map (number old.now held.broker p b) (sort_by (by_number old.now held.broker p b) (pairs old.now held.broker p b))
-    ints = sym (wholes items) ∙ ap (map id_in) (read ∙ ap (map (λ r. column r 0)) is) ∙ firsts p b _ ∙ ap (map (number old.now held.broker p b)) (sorted old.now held.broker p b)
+    itself : (r x : Row) → keep r x ≡ true → keep r x ≡ true
+    itself r x kept = kept
+
+    in_order : List (Row × Row)
+    in_order = sort_by (by_number old.now held.broker p b) (kept_pairs old.now held.broker p b keep itself)
+
+    is : rows ≡ map (λ (q : Row × Row). eval_all (col 1 0 ∷ []) ((Text p ∷ Text b ∷ []) ∷ q.0 ∷ q.1 ∷ [])) (sort_by (by_query old.now held.broker p b) (kept_pairs old.now held.broker p b keep itself))
+    is = joins_in_order old.now (Text p ∷ Text b ∷ []) 6 8 terms (col 1 0 ∷ []) order rows (shown_answers numbers_sql (Text p ∷ Text b ∷ []) old new _ _ (numbers_means old.now held.broker) rows h) (apart_too old.now held.broker p b keep itself)
+
+    ints : map pos items ≡ map (number old.now held.broker p b) in_order
+    ints = sym (wholes items) ∙ ap (map id_in) (read ∙ ap (map (λ r. column r 0)) is) ∙ firsts p b _ ∙ ap (map (number old.now held.broker p b)) (sorted old.now held.broker p b keep itself)
 
     rising : IsStrictlySortedBy (flip_args int_cmp) (map pos items)
-    rising = subst (IsStrictlySortedBy (flip_args int_cmp)) (sym ints) (rises_map (by_number old.now held.broker p b) (flip_args int_cmp) (number old.now held.broker p b) (λ a c less. less) _
-        (rises (by_number old.now held.broker p b) (total old.now held.broker p b) (pairs old.now held.broker p b) (apart old.now held.broker p b)))
+    rising = subst (IsStrictlySortedBy (flip_args int_cmp)) (sym ints) (rises_map (by_number old.now held.broker p b) (flip_args int_cmp) (number old.now held.broker p b) (λ a c less. less) _ (falls old.now held.broker p b keep itself))
 
     there : (n : ℕ) → Contains items n → IsBranchNumber s p b n
     there n contains =
         let one : Has (map pos items) (pos n) = has_map pos items n (contains_has items n contains) in
-        let q = map_has (number old.now held.broker p b) _ (pos n) (subst (λ xs. Has xs (pos n)) ints one) in
-        let among : Has (pairs old.now held.broker p b) q.0 = contains_has _ q.0 (sorted_has (by_number old.now held.broker p b) (total old.now held.broker p b) (pairs old.now held.broker p b) q.0 (has_contains _ q.0 q.1)) in
-        let stand = from_rows old.now held.broker p b q.0 among in
-        let agree = agrees old.now held.broker p b q.0.0 q.0.1 stand.0 stand.1 stand.2 in
-        let v = version (text 2 q.0.0) (text 3 q.0.0) in
-        let numbered : option_map pos (number_of s.versions v) ≡ Some (pos n) =
-        sym (version_row (old.now.trees 6) s.versions (text 2 q.0.0) (text 3 q.0.0) held.versions) ∙ has_find pairs_total exact_pair (λ r. (text 2 r, text 3 r)) (whole_at 0) (old.now.trees 6) q.0.0 (of_versions.keys old.now held.broker) stand.0 ∙ ap Some (sym q.2) in
-        let number_is : number_of s.versions v ≡ Some n = exact_number (number_of s.versions v) n numbered in
-        let stands : stands_at (by_both int_cmp text_cmp) key (old.now.trees 8) (pos n, b) ≡ true =
-        any_of (λ r. eq_by_cmp (by_both int_cmp text_cmp) (pos n, b) (key r)) (old.now.trees 8) q.0.1 stand.1
-        (ap (eq_by_cmp (by_both int_cmp text_cmp) (pos n, b)) (λ i. ((agree.0 ∙ sym q.2) i, agree.2 i)) ∙ (eq_by_cmp_equiv marked_total).refl (pos n, b)) in
-        let on_it : s.branches (v, b) ≡ true =
-        sym (held.branches v b) ∙ ap (λ o. option_map_or (λ k. stands_at (by_both int_cmp text_cmp) key (old.now.trees 8) (pos k, b)) o false) number_is ∙ stands in
-        (v, number_is, agree.1, on_it)
+        let q = map_has (number old.now held.broker p b) in_order (pos n) (subst (λ xs. Has xs (pos n)) ints one) in
+        let among : Has (kept_pairs old.now held.broker p b keep itself) q.0 = contains_has _ q.0 (sorted_has (by_number old.now held.broker p b) (total old.now held.broker p b) (kept_pairs old.now held.broker p b keep itself) q.0 (has_contains in_order q.0 q.1)) in
+        let stand = from_rows old.now held.broker p b keep itself q.0 among in
+        from_pair old.now s held p b q.0.0 q.0.1 stand.0 stand.1 stand.2 n q.2
 
     back : (n : ℕ) → IsBranchNumber s p b n → Contains items n
-    back n (v, is_number, owner, on_it) =
-        let row = find_has pairs_total exact_pair (λ r. (text 2 r, text 3 r)) (whole_at 0) (v.pacticipant, v.name) (pos n) (old.now.trees 6)
-        (version_row (old.now.trees 6) s.versions v.pacticipant v.name held.versions ∙ ap (option_map pos) is_number) in
-        let stands : stands_at (by_both int_cmp text_cmp) key (old.now.trees 8) (pos n, b) ≡ true =
-        sym (ap (λ o. option_map_or (λ k. stands_at (by_both int_cmp text_cmp) key (old.now.trees 8) (pos k, b)) o false) is_number) ∙ held.branches v b ∙ on_it in
-        let other = any_has (λ r. eq_by_cmp (by_both int_cmp text_cmp) (pos n, b) (key r)) (old.now.trees 8) stands in
-        let same : (pos n, b) ≡ key other.0 = exact_marked (pos n, b) (key other.0) ((Equal-is (by_both int_cmp text_cmp (pos n, b) (key other.0))).0 other.2) in
-        let kept = both_kept old.now held.broker p b row.0 other.0 row.1 other.1 (sym (ap (λ (k : ℤ × List ℕ). k.0) same) ∙ sym row.3) (sym (ap (λ (k : List ℕ × List ℕ). k.0) row.2) ∙ owner) (sym (ap (λ (k : ℤ × List ℕ). k.1) same)) in
-        let among : Has (pairs old.now held.broker p b) (row.0, other.0) = has_pair (keeps_both terms (Text p ∷ Text b ∷ [])) (old.now.trees 8) (old.now.trees 6) row.0 other.0 row.1 other.1 kept in
-        let listed : Has (sort_by (by_number old.now held.broker p b) (pairs old.now held.broker p b)) (row.0, other.0) =
-        contains_has _ (row.0, other.0) (has_sorted (by_number old.now held.broker p b) (total old.now held.broker p b) (pairs old.now held.broker p b) (row.0, other.0) (has_contains _ (row.0, other.0) among)) in
-        let whole : Has (map pos items) (pos n) = subst (λ xs. Has xs (pos n)) (sym ints) (subst (Has _) row.3 (has_map (number old.now held.broker p b) _ (row.0, other.0) listed)) in
+    back n on_branch =
+        let q = to_pair old.now s held p b n on_branch in
+        let among : Has (kept_pairs old.now held.broker p b keep itself) q.0 = has_pair keep (old.now.trees 8) (old.now.trees 6) q.0.0 q.0.1 q.1 q.2 q.3 in
+        let listed : Has in_order q.0 = contains_has in_order q.0 (has_sorted (by_number old.now held.broker p b) (total old.now held.broker p b) (kept_pairs old.now held.broker p b keep itself) q.0 (has_contains _ q.0 among)) in
+        let whole : Has (map pos items) (pos n) = subst (λ xs. Has xs (pos n)) (sym ints) (subst (Has _) q.4 (has_map (number old.now held.broker p b) in_order q.0 listed)) in
         let item = map_has pos items (pos n) whole in
         let nat : n ≡ item.0 = exact_pos n item.0 item.2 in
         has_contains items n (subst (Has items) (sym nat) item.1)

@@ -8,3 +8,4 @@ pub mod EnvironmentRows
 pub mod MetaRow
 pub mod FoundFormat
 pub mod BranchNumbers
+pub mod BranchBelow

@@ -30,6 +30,7 @@ use Rattle.table_access.proofs.Keys.{apart_by, text_keys, by_text}
 use Rattle.table_access.proofs.SoundLemmas.{text_at, has_place}
 use Rattle.broker_core.specs.Text.{put_at, same_text}
 use Rattle.broker_core.specs.State.{State as Broker}
+use Rattle.broker_core.specs.Laws.{TeamsDiffer}
 use Rattle.broker_tables.specs.Schema.{broker_schema}
 use Rattle.broker_tables.specs.Rows.{value_at}
 use Rattle.broker_tables.specs.Holds.{Holds, IsBroker}
@@ -104,6 +105,13 @@ team_found digest old new rows s held h = subst (IsTeamOf s digest) (sym (found_
 pub by_view : {X : Type 0} (view : X → List ℕ) (s : Broker) (digest : List ℕ) (found : Option X) → IsTeamOf s digest (option_map view found) → MatchOption found ((t : List ℕ) → ¬ (s.teams t ≡ Some digest)) (λ name. s.teams (view name) ≡ Some digest)
 by_view view s digest None h = h
 by_view view s digest (Some name) h = h
+
+-- a digest is that of one team's token
+pub teams_differ : (db : Database) (s : Broker) → Holds db s → TeamsDiffer s
+teams_differ db s held digest a b has_a has_b = let both : Some a ≡ Some b = sym (team_with a has_a) ∙ team_with b has_b in cc
+  where
+    team_with : (team : List ℕ) → s.teams team ≡ Some digest → value_at text_cmp (text 2) (text 1) (db.trees 1) digest ≡ Some team
+    team_with team has = other_way nat_list_cmp_total exact_texts nat_list_cmp_total exact_texts (text 2) (text 1) (db.trees 1) digest team (digest_keys db held.broker) (held.teams team ∙ has)
 
 -- ---- a new team
 

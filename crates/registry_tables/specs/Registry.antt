@@ -1,5 +1,5 @@
 -- What each change of the registry makes of a state, and where it may be asked for.
-use Rattle.std.specs.Prelude.{◌≡◌, ◌+◌, ℕ, Bool, IsTrue, true, false, [], ◌∷◌, ◌++◌, Some, None, is_some, length, codes}
+use Rattle.std.specs.Prelude.{◌≡◌, ◌+◌, ◌<◌, ◌≤◌, ℕ, Option, MatchOption, Bool, IsTrue, true, false, [], ◌∷◌, ◌++◌, Some, None, is_some, length, codes}
 use Rattle.broker_core.specs.Text.{Text, put_at, same_text, same_pair, same_version}
 use Rattle.broker_core.specs.declared.command.Version.{Version}
 use Rattle.broker_core.specs.declared.command.Marks.{Marks}
@@ -88,3 +88,10 @@ PutsMeta n digest old new =
 abbrev pub IsBranchNumber : State → Text → Text → ℕ → Type 0
 IsBranchNumber s p branch n = (v : Version) × (number_of s.versions v ≡ Some n) × (v.pacticipant ≡ p)
     × (s.branches (v, branch) ≡ true)
+
+-- the greatest of those numbers that are below this one; none just where there is none
+abbrev pub IsNewestBelow : State → Text → Text → ℕ → Option ℕ → Type 0
+IsNewestBelow s p branch below found =
+    MatchOption found ((n : ℕ) → IsBranchNumber s p branch n → below ≤ n)
+    (λ n. IsBranchNumber s p branch n × (n < below)
+    × ((m : ℕ) → IsBranchNumber s p branch m → m < below → m ≤ n))

@@ -9,11 +9,11 @@ ghost use Rattle.sqlite.specs.Held.{state};
 ghost use Rattle.broker_core.specs.declared.command.Version.{Version as VersionModel};
 ghost use Rattle.broker_tables.specs.Numbers.{number_of as number_at};
 ghost use Rattle.broker_tables.specs.Holds.{Queries, QueriesInPlace, Changes};
-ghost use Rattle.registry_tables.specs.Registry.{AddsBranch, IsBranchNumber};
+ghost use Rattle.registry_tables.specs.Registry.{AddsBranch, IsBranchNumber, IsNewestBelow};
 
 use sqlite::{Alter, Connection, Row, params};
 use std::alloc::Global;
-use table_access::{ReadRow, StoreFault, change, has_row, list_of, number_in};
+use table_access::{ReadRow, StoreFault, change, has_row, list_of, number_in, number_of};
 
 /// Whether the version with this number is on the branch.
 ///
@@ -88,5 +88,25 @@ pub fn branch_numbers<S: Alter>(
         conn,
         "SELECT v.number FROM versions v JOIN branches b ON b.version_number = v.number WHERE v.pacticipant = ?1 AND b.branch = ?2 ORDER BY v.number DESC",
         params![pacticipant, branch],
+    )
+}
+
+/// The greatest number, below this one, of a version of the pacticipant that is on the branch, or `None` where there is none.
+///
+/// # Errors
+/// `StoreFault::Memory` where the database is out of memory; `StoreFault::Store` where it refused the query or holds no number there.
+pub fn branch_number_below<S: Alter>(
+    conn: &mut Connection<S>,
+    pacticipant: &str,
+    branch: &str,
+    below: u32,
+) -> Result<Option<u32>, StoreFault>
+    ensures { QueriesInPlace (state S.Store conn.old) (state S.Store conn.new) result
+        (λ found s. IsNewestBelow s pacticipant.now branch.now below found) }
+{
+    number_of(
+        conn,
+        "SELECT v.number FROM versions v JOIN branches b ON b.version_number = v.number WHERE v.pacticipant = ?1 AND b.branch = ?2 AND v.number < ?3 ORDER BY v.number DESC LIMIT 1",
+        params![pacticipant, branch, below],
     )
 }

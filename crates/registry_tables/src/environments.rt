@@ -1,27 +1,14 @@
 //! Environments and their two marks: whether the gate judges what comes in, and whether it trusts checked results alone.
-ghost use Rattle.std.specs.Prelude.{◌≡◌, ◌==◌, ◌<◌, false, IfOk, IfErr, IsSomeAnd, Some, option_map};
+ghost use Rattle.std.specs.Prelude.{◌≡◌, ◌==◌, false, Some, option_map};
 ghost use Rattle.sqlite.specs.Held.{state};
 ghost use Rattle.broker_core.specs.declared.command.Marks.{Marks as MarksModel};
 ghost use Rattle.broker_tables.specs.Holds.{QueriesInPlace, Changes};
 ghost use Rattle.registry_tables.specs.Registry.{AddsEnvironment, marks, MakesStrict};
 
 use broker_core::command::Marks;
+use broker_tables::truth_of;
 use sqlite::{Alter, Connection, params};
 use table_access::{StoreFault, change, has_row, number_of};
-
-/// The truth value that a number stands for: 0 is false, and 1 true.
-fn truth_of(found: Option<u32>) -> Result<Option<bool>, StoreFault>
-    ensures ok { IfOk result (λ truth. truth ≡ option_map (λ n. n == 1) found) }
-    ensures cause { IfErr result
-        (λ fault. (fault ≡ StoreFault.Store) × IsSomeAnd found (λ n. 1 < n)) }
-{
-    match found {
-        None => Ok(None),
-        Some(0) => Ok(Some(false)),
-        Some(1) => Ok(Some(true)),
-        Some(_) => Err(StoreFault::Store),
-    }
-}
 
 /// Whether the environment is gated, or `None` where there is no such environment.
 ///

@@ -14,7 +14,7 @@ mod pacticipants;
 mod teams;
 mod versions;
 
-pub use branches::{add_branch, branch_numbers, on_branch};
+pub use branches::{add_branch, branch_number_below, branch_numbers, on_branch};
 pub use environments::{add_environment, gated, marks_of, strict_of};
 pub use format::format_of;
 pub use grants::{add_grant, granted, remove_grant};

@@ -11,7 +11,7 @@ use Rattle.sqlite_value.specs.declared.keys.Key.{Key}
 use Rattle.sqlite_sql.specs.Query.{sort_cmp}
 use Rattle.sqlite.specs.declared.types.Value.TheVariants.{Null, Int}
 use Rattle.sqlite.specs.Order.{Row, column, value_cmp}
-use Rattle.sqlite.specs.Term.{Term, col}
+use Rattle.sqlite.specs.Term.{Term, col, eval_all}
 use Rattle.sqlite.specs.Tree.{IsAscending, rowid}
 use Rattle.sqlite.specs.Query.{IsAnswer}
 use Rattle.sqlite.specs.Program.{overlay}
@@ -20,8 +20,8 @@ use Rattle.sqlite.specs.Effect.{Database, Answers}
 use Rattle.sqlite.specs.State.{State, Shown}
 use Rattle.table_access.specs.Columns.{whole_at}
 use Rattle.table_access.specs.Sound.{IsNumbered}
-use Rattle.table_access.specs.Statements.{from_table, up_to, newest, keeps, shows}
-use Rattle.table_access.proofs.Ordered.{selects_in_order}
+use Rattle.table_access.specs.Statements.{from_table, from_both, pairs_kept, up_to, newest, keeps, shows}
+use Rattle.table_access.proofs.Ordered.{selects_in_order, joins_in_order}
 use Rattle.table_access.proofs.ReadLemmas.{number_found}
 use Rattle.table_access.proofs.Steps.{Means, shown_answers}
 
@@ -40,6 +40,17 @@ module _ (db : Database) (params : Row) (t : ℕ) (terms project : List Term) (o
   pub selects_first : IsAscending (λ a b. is_eq (sort_cmp order (params ∷ a ∷ []) (params ∷ b ∷ [])) ≡ false) (filter (keeps terms params) (db.trees t))
       → rows ≡ take n (map (shows project params) (sort_by (λ a b. sort_cmp order (params ∷ a ∷ []) (params ∷ b ∷ [])) (filter (keeps terms params) (db.trees t))))
   selects_first apart = first_rows.2 ∙ ap (take n) (selects_in_order db params t terms project order first_rows.0 first_rows.1 apart)
+
+-- SELECT project FROM a table JOIN another WHERE terms ORDER BY order LIMIT n, where no two pairs tie
+pub joins_first : (db : Database) (params : Row) (t u : ℕ) (terms project : List Term) (order : List (Term × Key)) (n : ℕ) (rows : List Row) → Answers db (record { lets = []; body = up_to n (from_both t u terms project order) }) params rows
+    → IsAscending (λ a b. is_eq (sort_cmp order (params ∷ a.0 ∷ a.1 ∷ []) (params ∷ b.0 ∷ b.1 ∷ [])) ≡ false) (pairs_kept terms params (db.trees t) (db.trees u))
+    → rows ≡ take n (map (λ p. eval_all project (params ∷ p.0 ∷ p.1 ∷ [])) (sort_by (λ a b. sort_cmp order (params ∷ a.0 ∷ a.1 ∷ []) (params ∷ b.0 ∷ b.1 ∷ [])) (pairs_kept terms params (db.trees t) (db.trees u))))
+joins_first db params t u terms project order n rows h apart =
+    let a : IsAnswer (up_to n (from_both t u terms project order)) (overlay db.trees []) params rows = h.answer Null in
+    let all = map (λ o. o.1) a.ordered in
+    let whole : Answers db (record { lets = []; body = from_both t u terms project order }) params all =
+    record { typed = h.typed; answer = λ lost. record { staged = a.staged; grouped = a.grouped; kept = a.kept; distinct = a.distinct; ordered = a.ordered; same = a.same; sorted = a.sorted; shown = refl } } in
+    a.shown ∙ ap (take n) (joins_in_order db params t u terms project order all whole apart)
 
 -- ---- a list that falls, sorted
 

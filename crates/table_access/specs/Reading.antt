@@ -43,9 +43,9 @@ FailsToTake Tells sql params old new fault =
 abbrev pub IsTextAt : ℕ → Row → Type 0
 IsTextAt at row = (at < length row) × ((text : List ℕ) × (column row at ≡ Text text) × IsUtf8 text)
 
--- the first column is a number from 0 to 2^32 - 1
-abbrev pub IsNumberRow : Row → Type 0
-IsNumberRow row = (0 < length row) × ((n : ℕ) × (column row 0 ≡ Int (pos n)) × (n < 2 ^ 32))
+-- there is such a column, and it is a number from 0 to 2^32 - 1
+abbrev pub IsNumberAt : ℕ → Row → Type 0
+IsNumberAt at row = (at < length row) × ((n : ℕ) × (column row at ≡ Int (pos n)) × (n < 2 ^ 32))
 
 -- Store where this doesn't stand in the row, and Memory where it does, and there is no room for it
 abbrev pub TellsWhether : Type 0 → StoreFault → Type 0
@@ -54,6 +54,13 @@ TellsWhether Stands fault = ((fault ≡ Store) × (¬ Stands)) ⊎ ((fault ≡ M
 abbrev pub TellsText : Row → StoreFault → Type 0
 TellsText row = TellsWhether (IsTextAt 0 row)
 
--- Store, where there is no number
+-- in the first column
+abbrev pub IsNumberRow : Row → Type 0
+IsNumberRow row = IsNumberAt 0 row
+
+-- Store, where there is no number in this column; in the first
+abbrev pub TellsNumberAt : ℕ → Row → StoreFault → Type 0
+TellsNumberAt at row fault = (fault ≡ Store) × (¬ IsNumberAt at row)
+
 abbrev pub TellsNumber : Row → StoreFault → Type 0
-TellsNumber row fault = (fault ≡ Store) × (¬ IsNumberRow row)
+TellsNumber row = TellsNumberAt 0 row

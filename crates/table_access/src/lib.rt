@@ -22,7 +22,7 @@ use sqlite::{Alter, Connection, Error, ErrorCode, Row};
 
 mod rows;
 
-pub use rows::{ReadRow, has_row, list_of, number_in, number_of, text_at, text_of};
+pub use rows::{ReadRow, has_row, list_of, number_at, number_in, number_of, text_at, text_of};
 
 /// Why a call on the tables failed.
 #[derive(Clone, Copy, Debug, PartialEq, Eq)]

@@ -9,7 +9,7 @@ ghost use Rattle.sqlite_rules.specs.Lists.{Has};
 ghost use Rattle.sqlite.specs.declared.types.Value.TheVariants.{Int, Text as SqlText};
 ghost use Rattle.table_access.specs.Calls.{CallsTables, CallsStore};
 ghost use Rattle.table_access.specs.Columns.{text};
-ghost use Rattle.table_access.specs.Reading.{AreRead, IsRefusedAs, FailsToRead, FailsToReadRow, FailsToTake, IsTextAt, TellsText, TellsNumber};
+ghost use Rattle.table_access.specs.Reading.{AreRead, IsRefusedAs, FailsToRead, FailsToReadRow, FailsToTake, IsTextAt, TellsText, TellsNumber, TellsNumberAt};
 
 use crate::{StoreFault, fault_of, select};
 use sqlite::types::ValueRef;
@@ -127,7 +127,15 @@ pub fn number_in(row: &Row) -> Result<u32, StoreFault>
     ensures ok { IfOk result (λ n. column row.now 0 ≡ Int (pos n)) }
     ensures cause { IfErr result (TellsNumber row.now) }
 {
-    match row.get_ref(0) {
+    number_at(row, 0)
+}
+
+/// The whole number in a column. `StoreFault::Store` where there is no such column, or no number from 0 to 2^32 - 1 in it.
+pub fn number_at(row: &Row, place: usize) -> Result<u32, StoreFault>
+    ensures ok { IfOk result (λ n. column row.now place ≡ Int (pos n)) }
+    ensures cause { IfErr result (TellsNumberAt place row.now) }
+{
+    match row.get_ref(place) {
         Ok(ValueRef::Int(number)) => match u32::try_from(number) {
             Ok(number) => Ok(number),
             Err(_) => Err(StoreFault::Store),

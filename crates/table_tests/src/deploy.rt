@@ -1,13 +1,13 @@
-//! What is deployed and released, and what a version's needs are made of.
+//! What is deployed and released, and what a version needs there.
 use crate::fixture::{fail_of, filled};
 use broker_core::command::Version;
 use broker_core::name::Name;
+use broker_core::need::Latest;
 use content_store::{Sha256Digester, put};
-use contract_tables::add_contract;
-use deploy_tables::needs::pairs_of;
+use contract_tables::{add_contract, record_result};
 use deploy_tables::{
-    consumer_contracts, deployed, deployed_versions, end_support, is_deployed, is_released,
-    record_deployed, record_released, released,
+    deployed, end_support, is_deployed, is_released, needs, record_deployed, record_released,
+    released, standing, take_out,
 };
 use registry_tables::{add_pacticipant, add_version};
 use sqlite::{Connection, MemStore, params};
@@ -122,31 +122,180 @@ fn listed(alloc: Global, conn: &mut Connection<MemStore>) -> Result<String, Fail
     Ok(text)
 }
 
-/// A version that is deployed stands with its number, its contract with a pacticipant is found, and pairs with a version of that one.
-#[test]
-fn pairs_contracts(rt: HostRuntime) -> Result<(), Fail> {
-    let alloc = rt.alloc();
-    let mut conn = database(alloc)?;
-    assert!(rt; put(&mut conn, &Sha256Digester, "pact") == Ok(1));
-    add_contract(&mut conn, 2, "stock", 1).map_err(fail_of)?;
-    record_deployed(&mut conn, "live", "shop", "", 2).map_err(fail_of)?;
-    let standing = deployed_versions(alloc, &mut conn, "live").map_err(fail_of)?;
-    assert!(rt; standing.len() == 1);
-    let version = Version {
-        pacticipant: Name::new(alloc, "stock")?,
-        name: Name::new(alloc, "7")?,
-    };
-    let consumers = consumer_contracts(alloc, &mut conn, &version.pacticipant, &standing).map_err(
-        fail_of,
-    )?;
-    let pairs = pairs_of(alloc, &version, 4, &[], &standing, &consumers)?;
-    assert!(rt; pairs.len() == 1);
-    for pair in &pairs {
-        assert!(rt; pair.consumer.as_str() == "shop");
-        assert!(rt; pair.consumer_version.as_str() == "10");
-        assert!(rt; pair.provider.as_str() == "stock");
-        assert!(rt; pair.content == 1);
-        assert!(rt; pair.partner.is_some());
+/// Five versions of three pacticipants, two contents, and the contracts of three consumer versions with stock.
+fn gated(alloc: Global) -> Result<Connection<MemStore>, Fail> {
+    let mut conn = filled(alloc)?;
+    add_pacticipant(&mut conn, "a \"b\" é", "red").map_err(fail_of)?;
+    for number in [1, 2, 3, 4, 5] {
+        let (pacticipant, version) = names_of(number);
+        let _ = add_version(&mut conn, pacticipant, version).map_err(fail_of)?;
     }
+    for text in ["pact", "another pact"] {
+        let _ = put(&mut conn, &Sha256Digester, text).map_err(fail_of)?;
+    }
+    for (version, content) in [(1, 1), (2, 2), (5, 1)] {
+        add_contract(&mut conn, version, "stock", content).map_err(fail_of)?;
+    }
+    Ok(conn)
+}
+
+fn names_of(number: u32) -> (&'static str, &'static str) {
+    match number {
+        1 => ("shop", "1"),
+        2 => ("shop", "2"),
+        3 => ("stock", "1"),
+        4 => ("stock", "2"),
+        _ => ("a \"b\" é", "it's"),
+    }
+}
+
+fn said(latest: Option<Latest>) -> &'static str {
+    match latest {
+        None => "missing",
+        Some(latest) => { if latest.pass { "passed" } else { "failed" } }
+    }
+}
+
+/// The needs of the version of that number in live.
+fn asked(alloc: Global, conn: &mut Connection<MemStore>, number: u32) -> Result<String, Fail> {
+    let (pacticipant, name) = names_of(number);
+    let version = Version {
+        pacticipant: Name::new(alloc, pacticipant)?,
+        name: Name::new(alloc, name)?,
+    };
+    let mut text = String::new(alloc);
+    for need in needs(alloc, conn, number, &version, "live").map_err(fail_of)? {
+        let provider_version = match &need.provider_version {
+            Some(name) => name.as_str(),
+            None => "none",
+        };
+        for part in [
+            need.consumer.as_str(),
+            " ",
+            need.consumer_version.as_str(),
+            ", ",
+            need.provider.as_str(),
+            " ",
+            provider_version,
+            ": ",
+            said(need.latest),
+            "; ",
+        ] {
+            text.push_str(part)?;
+        }
+    }
+    Ok(text)
+}
+
+/// What stands in live, each with what its number names.
+fn stands(alloc: Global, conn: &mut Connection<MemStore>) -> Result<String, Fail> {
+    let mut text = String::new(alloc);
+    for version in standing(alloc, conn, "live").map_err(fail_of)? {
+        let (pacticipant, name) = names_of(version.number);
+        for part in [
+            version.pacticipant.as_str(),
+            " ",
+            version.name.as_str(),
+            " = ",
+            pacticipant,
+            " ",
+            name,
+            "; ",
+        ] {
+            text.push_str(part)?;
+        }
+    }
+    Ok(text)
+}
+
+/// A consumer needs each version of its provider that stands there, once, or none where none stands.
+#[test]
+fn consumer_needs(rt: HostRuntime) -> Result<(), Fail> {
+    let alloc = rt.alloc();
+    let mut conn = gated(alloc)?;
+    add_contract(&mut conn, 2, "a \"b\" é", 2).map_err(fail_of)?;
+    assert!(rt; asked(alloc, &mut conn, 1)?.as_str() == "shop 1, stock none: missing; ");
+    record_deployed(&mut conn, "dev", "stock", "", 4).map_err(fail_of)?;
+    record_deployed(&mut conn, "live", "stock", "a", 3).map_err(fail_of)?;
+    for (result, pass, wanted) in [
+        (1, true, "shop 1, stock 1: passed; "),
+        (2, false, "shop 1, stock 1: failed; "),
+        (3, true, "shop 1, stock 1: passed; "),
+    ] {
+        record_result(&mut conn, result, 1, "stock", 3, pass, false, None).map_err(fail_of)?;
+        assert!(rt; asked(alloc, &mut conn, 1)?.as_str() == wanted, "{result}");
+    }
+    record_deployed(&mut conn, "live", "stock", "b", 4).map_err(fail_of)?;
+    record_deployed(&mut conn, "live", "shop", "", 1).map_err(fail_of)?;
+    record_released(&mut conn, "live", 3).map_err(fail_of)?;
+    for (number, instance, stood) in [(3, "b", false), (3, "a", true), (3, "a", false)] {
+        for (version, wanted) in [
+            (1, "shop 1, stock 1: passed; shop 1, stock 2: missing; "),
+            (
+                2,
+                "shop 2, a \"b\" é none: missing; shop 2, stock 1: missing; shop 2, stock 2: missing; ",
+            ),
+            (
+                5,
+                "a \"b\" é it's, stock 1: passed; a \"b\" é it's, stock 2: missing; ",
+            ),
+        ] {
+            assert!(rt;
+                asked(alloc, &mut conn, version)?.as_str() == wanted,
+                "{instance}"
+            );
+        }
+        assert!(rt;
+            take_out(&mut conn, "live", "stock", instance, number) == Ok(stood),
+            "{instance}"
+        );
+    }
+    assert!(rt;
+        stands(alloc, &mut conn)?.as_str()
+            == "shop 1 = shop 1; stock 1 = stock 1; stock 2 = stock 2; "
+    );
+    assert!(rt; end_support(&mut conn, "live", 3) == Ok(true));
+    assert!(rt; asked(alloc, &mut conn, 1)?.as_str() == "shop 1, stock 2: missing; ");
+    assert!(rt; take_out(&mut conn, "live", "stock", "b", 4) == Ok(true));
+    assert!(rt; asked(alloc, &mut conn, 1)?.as_str() == "shop 1, stock none: missing; ");
+    assert!(rt; commit(&mut conn));
+    Ok(())
+}
+
+/// A provider needs each consumer version that stands there, by its own contract, and each need stands once.
+#[test]
+fn provider_needs(rt: HostRuntime) -> Result<(), Fail> {
+    let alloc = rt.alloc();
+    let mut conn = gated(alloc)?;
+    assert!(rt; asked(alloc, &mut conn, 3)?.as_str() == "");
+    for (result, content, version) in [(1, 1, 3), (2, 2, 3), (3, 2, 4)] {
+        record_result(
+            &mut conn, result, content, "stock", version, true, false, None,
+        )
+        .map_err(fail_of)?;
+    }
+    record_deployed(&mut conn, "live", "stock", "", 3).map_err(fail_of)?;
+    record_released(&mut conn, "live", 1).map_err(fail_of)?;
+    record_deployed(&mut conn, "live", "shop", "", 2).map_err(fail_of)?;
+    for instance in ["a", "b"] {
+        assert!(rt;
+            asked(alloc, &mut conn, 4)?.as_str()
+                == "shop 1, stock 2: missing; shop 2, stock 2: passed; ",
+            "{instance}"
+        );
+        record_deployed(&mut conn, "live", "shop", instance, 1).map_err(fail_of)?;
+    }
+    assert!(rt;
+        asked(alloc, &mut conn, 3)?.as_str() == "shop 1, stock 1: passed; shop 2, stock 1: passed; "
+    );
+    record_released(&mut conn, "live", 5).map_err(fail_of)?;
+    assert!(rt;
+        asked(alloc, &mut conn, 4)?.as_str()
+            == "a \"b\" é it's, stock 2: missing; shop 1, stock 2: missing; shop 2, stock 2: passed; "
+    );
+    assert!(rt;
+        stands(alloc, &mut conn)?.as_str()
+            == "a \"b\" é it's = a \"b\" é it's; shop 1 = shop 1; shop 2 = shop 2; stock 1 = stock 1; "
+    );
     Ok(())
 }

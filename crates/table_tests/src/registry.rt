@@ -3,9 +3,9 @@ use crate::fixture::{fail_of, filled, is_text, made};
 use broker_core::command::Marks;
 use registry_tables::{
     add_branch, add_environment, add_grant, add_pacticipant, add_team, add_version, add_version_as,
-    branch_numbers, digest_of, format_of, gated, granted, has_team, is_blank, marks_of,
-    office_digest, on_branch, owner_of, remove_grant, strict_of, team_of_digest, version_count,
-    version_of,
+    branch_number_below, branch_numbers, digest_of, format_of, gated, granted, has_team, is_blank,
+    marks_of, office_digest, on_branch, owner_of, remove_grant, strict_of, team_of_digest,
+    version_count, version_of,
 };
 use sqlite::{Alter, Connection, params};
 use std::test::Fail;
@@ -165,6 +165,13 @@ fn keeps_branches(rt: HostRuntime) -> Result<(), Fail> {
             .map_err(fail_of)?
             .is_empty()
     );
+    for (below, found) in [(u32::MAX, Some(4)), (4, Some(3)), (3, Some(1)), (1, None)] {
+        assert!(rt;
+            branch_number_below(&mut conn, "shop", "main", below) == Ok(found),
+            "{below}"
+        );
+    }
+    assert!(rt; branch_number_below(&mut conn, "stock", "next", 9) == Ok(None));
     for (number, branch, stands) in [(1, "main", true), (1, "next", false), (5, "main", false)] {
         assert!(rt;
             on_branch(&mut conn, number, branch) == Ok(stands),

@@ -1,0 +1,38 @@
+-- What has a number, in a list that is numbered from 1.
+use Rattle.std.proofs.Common.{◌≡◌, ◌==◌, ◌+◌, ◌-◌, ◌<◌, ℕ, pos, zero, suc, cond, List, [], ◌∷◌, map, true, false, Bool, refl, sym, ap, ◌∙◌, slice_get, Some, None, arith}
+use Rattle.std.specs.Prelude.{if◌then◌else◌, ℤ}
+use Rattle.std.specs.List.{enumerate_from}
+use Rattle.std.specs.Ordering.{eq_by_cmp, int_cmp}
+use Rattle.std.specs.Cmp.{int_cmp_total, eq_by_cmp_equiv, Equal-is}
+use Rattle.std.specs.FinMap.Entries.{find}
+use Rattle.std.specs.FinMap.{int_cmp-IsAntisymmetric}
+use Rattle.std.proofs.lemmas.Bool.{ne_eqb}
+use Rattle.broker_tables.specs.Numbers.{numbered}
+
+differ : (a b : ℕ) → (a ≡ b → ⊥) → eq_by_cmp int_cmp (pos a) (pos b) ≡ false
+differ a b apart = go (eq_by_cmp int_cmp (pos a) (pos b)) refl
+  where
+    go : (t : Bool) → eq_by_cmp int_cmp (pos a) (pos b) ≡ t → eq_by_cmp int_cmp (pos a) (pos b) ≡ false
+    go true e = absurd (let same : pos a ≡ pos b = int_cmp-IsAntisymmetric (pos a) (pos b) ((Equal-is (int_cmp (pos a) (pos b))).0 e) in let nats : a ≡ b = cc in apart nats)
+    go false e = e
+
+module _ {X : Type 0} where
+  abbrev numbers_from : ℕ → List X → List (ℤ × X)
+  numbers_from m xs = map (λ e. (pos e.0, e.1)) (enumerate_from m xs)
+
+  -- no number is below the first
+  none_below : (m : ℕ) (xs : List X) (n : ℕ) → n < m → find int_cmp (pos n) (numbers_from m xs) ≡ None
+  none_below m [] n low = refl
+  none_below m (x ∷ xs) n low = ap (λ b. cond b (Some x) (find int_cmp (pos n) (numbers_from (m + 1) xs))) (differ n m (λ same. omega (arith, low, same))) ∙ none_below (m + 1) xs n (omega (arith, low))
+
+  at_place : (m : ℕ) (xs : List X) (i : ℕ) → find int_cmp (pos (m + i)) (numbers_from m xs) ≡ slice_get xs i
+  at_place m [] i = refl
+  at_place m (x ∷ xs) zero = ap (λ b. cond b (Some x) (find int_cmp (pos (m + 0)) (numbers_from (m + 1) xs))) (ap (λ k. eq_by_cmp int_cmp (pos k) (pos m)) (let e : m + 0 ≡ m = omega arith in e) ∙ (eq_by_cmp_equiv int_cmp_total).refl (pos m))
+  at_place m (x ∷ xs) (suc i) =
+      ap (λ b. cond b (Some x) (find int_cmp (pos (m + suc i)) (numbers_from (m + 1) xs))) (differ (m + suc i) m (λ same. omega (arith, same)))
+      ∙ ap (λ k. find int_cmp (pos k) (numbers_from (m + 1) xs)) (let e : m + suc i ≡ m + 1 + i = omega arith in e) ∙ at_place (m + 1) xs i
+
+  pub by_number : (xs : List X) (n : ℕ) → find int_cmp (pos n) (numbered xs) ≡ (if n == 0 then None else slice_get xs (n - 1))
+  by_number xs zero = none_below 1 xs 0 (omega arith)
+  by_number xs (suc i) = ap (λ k. find int_cmp (pos k) (numbers_from 1 xs)) (let e : suc i ≡ 1 + i = omega arith in e) ∙ at_place 1 xs i
+      ∙ ap (λ k. slice_get xs k) (let e : i ≡ suc i - 1 = omega arith in e) ∙ sym (ap (λ b. cond b None (slice_get xs (suc i - 1))) (ne_eqb (suc i) 0 (λ e. omega (arith, e))))

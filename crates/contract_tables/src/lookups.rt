@@ -1,0 +1,225 @@
+//! What the results say: the latest one for a content and a version of its provider, and each by its number.
+ghost use Rattle.std.specs.Prelude.{◌≡◌, option_map, Some, length, IfOk, IfErr, slice_get};
+ghost use Rattle.sqlite.specs.Held.{state};
+ghost use Rattle.broker_core.specs.declared.command.Version.{Version as VersionModel};
+ghost use Rattle.broker_core.specs.State.{Verification, said_by, latest_result, latest};
+ghost use Rattle.broker_core.specs.Change.{result_of_run as run_result};
+ghost use Rattle.broker_tables.specs.Numbers.{number_of as number_in};
+ghost use Rattle.broker_tables.specs.Holds.{QueriesInPlace};
+ghost use Rattle.sqlite.specs.Order.{Row as SqlRow};
+ghost use Rattle.contract_tables.specs.Verified.{result_with, cells, cells_of, ReadsAsResult, by_numbers, numbers_are, told_of, told};
+
+use broker_core::need::Latest;
+use broker_tables::{truth_at, truth_of};
+use sqlite::{Alter, Connection, Row, params};
+use table_access::{StoreFault, has_row, number_at, number_of, select};
+
+/// How many results there are: the number of the newest, or 0.
+///
+/// # Errors
+/// `StoreFault::Memory` where the database is out of memory; `StoreFault::Store` where it refused the query or holds no number there.
+pub fn result_count<S: Alter>(conn: &mut Connection<S>) -> Result<u64, StoreFault>
+    ensures { QueriesInPlace (state S.Store conn.old) (state S.Store conn.new) result
+        (λ count s. count ≡ length s.results) }
+{
+    match number_of(
+        conn,
+        "SELECT number FROM results ORDER BY number DESC LIMIT 1",
+        &[],
+    ) {
+        Ok(newest) => Ok(newest.unwrap_or(0) as u64),
+        Err(fault) => Err(fault),
+    }
+}
+
+/// The number of the latest result for a content and the version of this number, or `None` where there is none.
+///
+/// # Errors
+/// `StoreFault::Memory` where the database is out of memory; `StoreFault::Store` where it refused the query or holds no number there.
+pub fn latest_number<S: Alter>(
+    conn: &mut Connection<S>,
+    content: u32,
+    version_number: u32,
+) -> Result<Option<u32>, StoreFault>
+    ensures { QueriesInPlace (state S.Store conn.old) (state S.Store conn.new) result
+        (λ found s. (v : VersionModel) → number_in s.versions v ≡ Some version_number →
+        found ≡ option_map (λ e. e.0) (latest_result s content v)) }
+{
+    number_of(
+        conn,
+        "SELECT result FROM latest WHERE content = ?1 AND provider_version = ?2",
+        params![content, version_number],
+    )
+}
+
+/// Whether the result with this number is a pass, or `None` where there is no such result.
+fn passed<S: Alter>(conn: &mut Connection<S>, number: u32) -> Result<Option<bool>, StoreFault>
+    ensures { QueriesInPlace (state S.Store conn.old) (state S.Store conn.new) result
+        (λ found s. found ≡ option_map (λ r. r.pass) (result_with s number)) }
+{
+    match number_of(
+        conn,
+        "SELECT pass FROM results WHERE number = ?1",
+        params![number],
+    ) {
+        Ok(found) => truth_of(found),
+        Err(fault) => Err(fault),
+    }
+}
+
+/// Whether the broker checked the result with this number, which is there.
+fn is_checked<S: Alter>(conn: &mut Connection<S>, number: u32) -> Result<bool, StoreFault>
+    ensures { QueriesInPlace (state S.Store conn.old) (state S.Store conn.new) result
+        (λ checked s. (r : Verification) → result_with s number ≡ Some r → checked ≡ r.checked) }
+{
+    has_row(
+        conn,
+        "SELECT result FROM checked_results WHERE result = ?1",
+        params![number],
+    )
+}
+
+/// What the result with this number says, or `None` where there is no such result.
+///
+/// # Errors
+/// `StoreFault::Memory` where the database is out of memory; `StoreFault::Store` where it refused a query or holds no truth value there.
+pub fn result_said<S: Alter>(
+    conn: &mut Connection<S>,
+    number: u32,
+) -> Result<Option<Latest>, StoreFault>
+    ensures { QueriesInPlace (state S.Store conn.old) (state S.Store conn.new) result
+        (λ found s. found ≡ option_map said_by (result_with s number)) }
+{
+    match passed(conn, number) {
+        Ok(Some(pass)) => match is_checked(conn, number) {
+            Ok(checked) => Ok(Some(Latest { pass, checked })),
+            Err(fault) => Err(fault),
+        },
+        Ok(None) => Ok(None),
+        Err(fault) => Err(fault),
+    }
+}
+
+/// What the latest result for a content and the version of this number says, or `None` where there is none.
+///
+/// # Errors
+/// `StoreFault::Memory` where the database is out of memory; `StoreFault::Store` where it refused a query, or holds no number or truth value there.
+pub fn latest_of<S: Alter>(
+    conn: &mut Connection<S>,
+    content: u32,
+    version_number: u32,
+) -> Result<Option<Latest>, StoreFault>
+    ensures { QueriesInPlace (state S.Store conn.old) (state S.Store conn.new) result
+        (λ found s. (v : VersionModel) → number_in s.versions v ≡ Some version_number →
+        found ≡ latest s content v) }
+{
+    match latest_number(conn, content, version_number) {
+        Ok(Some(number)) => result_said(conn, number),
+        Ok(None) => Ok(None),
+        Err(fault) => Err(fault),
+    }
+}
+
+/// A result with its number, the number of its content and that of the version that was verified.
+#[derive(Clone, Copy, Debug, PartialEq, Eq)]
+pub struct ResultRow {
+    pub number: u32,
+    pub content: u32,
+    pub provider_version: u32,
+    /// Whether it is a pass.
+    pub pass: bool,
+    /// Whether the broker checked recorded replies; otherwise its sender claimed it.
+    pub checked: bool,
+}
+
+/// A result as its row tells it.
+#[derive(Clone, Copy)]
+struct StoredResult {
+    number: u32,
+    content: u32,
+    provider_version: u32,
+    pass: bool,
+}
+
+/// The result in a row of its number, its content, the number of its version and whether it is a pass. `StoreFault::Store` where one of them isn't there.
+fn read_result(row: &Row) -> Result<StoredResult, StoreFault>
+    ensures ok { IfOk result (λ r. cells_of r.number r.content r.provider_version r.pass ≡ cells row.now) }
+    ensures cause { IfErr result (λ f. (f ≡ StoreFault.Store) × (¬ ReadsAsResult row.now)) }
+{
+    let number = number_at(row, 0)?;
+    let content = number_at(row, 1)?;
+    let provider_version = number_at(row, 2)?;
+    let pass = truth_at(row, 3)?;
+    Ok(StoredResult {
+        number,
+        content,
+        provider_version,
+        pass,
+    })
+}
+
+/// The result in the first row, if there is a row. `StoreFault::Store` where that doesn't read.
+fn first_result(rows: &[Row]) -> Result<Option<StoredResult>, StoreFault>
+    ensures ok { IfOk result
+        (λ found. option_map (λ r. cells_of r.number r.content r.provider_version r.pass) found
+        ≡ option_map cells (slice_get rows.now 0)) }
+    ensures cause { IfErr result (λ f. (f ≡ StoreFault.Store)
+        × (row : SqlRow) × (slice_get rows.now 0 ≡ Some row) × (¬ ReadsAsResult row)) }
+{
+    match rows.first() {
+        None => Ok(None),
+        Some(row) => match read_result(row) {
+            Ok(found) => Ok(Some(found)),
+            Err(fault) => Err(fault),
+        },
+    }
+}
+
+/// The result of a run of the provider, without the mark whether the broker checked it.
+fn stored_of_run<S: Alter>(
+    conn: &mut Connection<S>,
+    provider: &str,
+    run: &str,
+) -> Result<Option<StoredResult>, StoreFault>
+    ensures { QueriesInPlace (state S.Store conn.old) (state S.Store conn.new) result
+        (λ found s. option_map (λ r. numbers_are r.number r.content r.provider_version r.pass) found
+        ≡ option_map (by_numbers s.versions) (run_result s provider.now (Some run.now))) }
+{
+    match select(
+        conn,
+        "SELECT number, content, provider_version, pass FROM results WHERE provider = ?1 AND run = ?2",
+        params![provider, run],
+    ) {
+        Ok(rows) => first_result(&rows),
+        Err(fault) => Err(fault),
+    }
+}
+
+/// The result of a run of the provider, or `None` where it has none.
+///
+/// # Errors
+/// `StoreFault::Memory` where the database is out of memory; `StoreFault::Store` where it refused a query, or holds no number or truth value there.
+pub fn result_of_run<S: Alter>(
+    conn: &mut Connection<S>,
+    provider: &str,
+    run: &str,
+) -> Result<Option<ResultRow>, StoreFault>
+    ensures { QueriesInPlace (state S.Store conn.old) (state S.Store conn.new) result
+        (λ found s. option_map (λ r. told r.number r.content r.provider_version r.pass r.checked) found
+        ≡ option_map (told_of s.versions) (run_result s provider.now (Some run.now))) }
+{
+    match stored_of_run(conn, provider, run) {
+        Ok(Some(stored)) => match is_checked(conn, stored.number) {
+            Ok(checked) => Ok(Some(ResultRow {
+                number: stored.number,
+                content: stored.content,
+                provider_version: stored.provider_version,
+                pass: stored.pass,
+                checked,
+            })),
+            Err(fault) => Err(fault),
+        },
+        Ok(None) => Ok(None),
+        Err(fault) => Err(fault),
+    }
+}

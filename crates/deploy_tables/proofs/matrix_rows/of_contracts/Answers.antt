@@ -1,0 +1,18 @@
+use Rattle.std.proofs.Common.{◌≡◌, take, arith}
+use Rattle.std.proofs.lemmas.List.{take_all}
+use Rattle.sqlite.specs.Held.{state}
+use Rattle.deploy_tables.specs.Matrix.{IsOfContract}
+use Rattle.deploy_tables.proofs.MatrixLoop.{read_both, read_made, of_more, of_all}
+use Rattle.deploy_tables.proofs.matrix_rows.of_contracts.Goals as goal
+
+pub loop-contract-preserved : goal.loop-contract-preserved
+loop-contract-preserved g c =
+    read_both (state g.S.Store c.args.conn.now) (state g.S.Store c.loop-contract.conn) (state g.S.Store c.of_contract.new.conn) c.loop-contract.found c.in-Ok.more c.add.new.found _ _ _
+    (λ s was here. of_more (IsOfContract s c.args.version.now) c.args.contracts.now c.loop-contract.contract-index c.contract-item.result c.loop-contract.found.items c.in-Ok.more.items c.add.new.found.items c.loop-contract-test.true c.contract-item.is c.in-Ok-add.ensures was here)
+    c.loop-contract.invariant c.in-Ok.ensures
+
+pub returns : goal.returns
+returns g c =
+    let whole : take c.loop-contract.contract-index c.args.contracts.now ≡ c.args.contracts.now = take_all c.loop-contract.contract-index c.args.contracts.now (omega arith) in
+    read_made (state g.S.Store c.args.conn.now) (state g.S.Store c.loop-contract.conn) c.loop-contract.found c.loop-contract.found _ _
+    (λ s was. of_all (IsOfContract s c.args.version.now) c.args.contracts.now c.loop-contract.contract-index c.loop-contract.found.items whole was) c.loop-contract.invariant

@@ -1,0 +1,8 @@
+use Rattle.std.proofs.Common.{subst}
+use Rattle.std.specs.Prelude.{Contains}
+use Rattle.broker_core.specs.Listing.{Lists}
+use Rattle.deploy_tables.specs.Needs.{pair_cmp}
+use Rattle.deploy_tables.proofs.pairs.pairs_of.Goals as goal
+
+pub returns-in-Ok : goal.returns-in-Ok
+returns-in-Ok c = subst (λ all. Lists pair_cmp (Contains all) c.each_once.result.items) c.in-Ok.ensures c.each_once.ensures

@@ -1,0 +1,127 @@
+//! The versions that stand in an environment, with their numbers.
+ghost use Rattle.std.specs.Prelude.{Contains, ◌↔◌, ◌++◌, IfOk};
+ghost use Rattle.sqlite.specs.Held.{state};
+ghost use Rattle.broker_core.specs.Listing.{Lists};
+ghost use Rattle.broker_tables.specs.Holds.{Queries};
+ghost use Rattle.deploy_tables.specs.declared.standing_versions.StandingVersion.{StandingVersion as StandingModel};
+ghost use Rattle.deploy_tables.specs.Needs.{IsDeployedThere, AreDeployedNumbered, IsReleasedThere, AreReleasedNumbered, IsStandingRow, FailsAsStanding};
+ghost use Rattle.deploy_tables.specs.Needs.{IsStanding, AreNumbered, standing_cmp};
+
+use broker_core::name::Name;
+use broker_tables::name_in;
+use sqlite::{Alter, Connection, Row, params};
+use std::alloc::Global;
+use table_access::{ReadRow, StoreFault, list_of, number_in};
+
+/// A version that stands in an environment, and its number.
+#[derive(Debug, Drop, PartialEq, Eq, PartialOrd, Ord)]
+pub struct StandingVersion {
+    pub pacticipant: Name,
+    pub name: Name,
+    pub number: u32,
+}
+
+/// A version's number, its pacticipant and its name.
+struct StandingRow;
+
+impl ReadRow for StandingRow {
+    type Item = StandingVersion;
+
+    ghost reads_as = { IsStandingRow };
+
+    ghost fails_as = { FailsAsStanding };
+
+    fn read(alloc: Global, row: &Row) -> Result<StandingVersion, StoreFault> {
+        let number = number_in(row)?;
+        let pacticipant = name_in(alloc, row, 1)?;
+        let name = name_in(alloc, row, 2)?;
+        Ok(StandingVersion {
+            pacticipant,
+            name,
+            number,
+        })
+    }
+}
+
+/// The versions that are deployed in the environment, in any instance, with their numbers; one that is in two instances stands twice.
+fn deployed_versions<S: Alter>(
+    alloc: Global,
+    conn: &mut Connection<S>,
+    environment: &str,
+) -> Result<Vec<StandingVersion>, StoreFault>
+    ensures { Queries (state S.Store conn.old) (state S.Store conn.new) result
+        (λ items s. ((x : StandingModel) → Contains items.items x ↔ IsDeployedThere s environment.now x)
+        × AreDeployedNumbered s environment.now) }
+{
+    list_of::<StandingRow, S>(
+        alloc,
+        conn,
+        "SELECT d.version_number, d.pacticipant, v.version FROM deployed d JOIN versions v ON v.number = d.version_number WHERE d.environment = ?1 ORDER BY d.pacticipant, d.instance",
+        params![environment],
+    )
+}
+
+/// The versions that are released in the environment, with their numbers, each once.
+fn released_versions<S: Alter>(
+    alloc: Global,
+    conn: &mut Connection<S>,
+    environment: &str,
+) -> Result<Vec<StandingVersion>, StoreFault>
+    ensures { Queries (state S.Store conn.old) (state S.Store conn.new) result
+        (λ items s. Lists standing_cmp (IsReleasedThere s environment.now) items.items
+        × AreReleasedNumbered s environment.now) }
+{
+    list_of::<StandingRow, S>(
+        alloc,
+        conn,
+        "SELECT r.version_number, v.pacticipant, v.version FROM released r JOIN versions v ON v.number = r.version_number WHERE r.environment = ?1 ORDER BY v.pacticipant, v.version",
+        params![environment],
+    )
+}
+
+/// These versions, each once, in the order of pacticipants and names.
+fn each_once(versions: Vec<StandingVersion>) -> Vec<StandingVersion>
+    ensures { Lists standing_cmp (Contains versions.items) result.items }
+{
+    let mut versions = versions;
+    versions.sort_unstable();
+    versions.dedup();
+    versions
+}
+
+/// The versions of both lists, each once, in the order of pacticipants and names.
+fn of_both(
+    deployed: Vec<StandingVersion>,
+    released: Vec<StandingVersion>,
+) -> Result<Vec<StandingVersion>, StoreFault>
+    ensures { IfOk result (λ all. Lists standing_cmp (Contains (deployed.items ++ released.items)) all.items) }
+{
+    let mut all = deployed;
+    let mut released = released;
+    match all.append(&mut released) {
+        Ok(()) => Ok(each_once(all)),
+        Err(_) => Err(StoreFault::Memory),
+    }
+}
+
+/// The versions that stand in the environment, with their numbers: those that are deployed there in any instance, and those that are released there. Each stands once, in the order of pacticipants and names.
+///
+/// # Errors
+/// `StoreFault::Memory` where the database is out of memory, or there is none for the answer; `StoreFault::Store` where it refused a query, or where a row doesn't read.
+pub fn standing<S: Alter>(
+    alloc: Global,
+    conn: &mut Connection<S>,
+    environment: &str,
+) -> Result<Vec<StandingVersion>, StoreFault>
+    ensures { Queries (state S.Store conn.old) (state S.Store conn.new) result
+        (λ items s. Lists standing_cmp (IsStanding s environment.now) items.items
+        × AreNumbered s environment.now) }
+{
+    match deployed_versions(alloc, conn, environment) {
+        Ok(deployed) => match released_versions(alloc, conn, environment) {
+            Ok(released) => of_both(deployed, released),
+            Err(fault) => Err(fault),
+        },
+        Err(fault) => Err(fault),
+    }
+}
