@@ -1,0 +1,10 @@
+//! What the written machine takes from pact files and recorded replies: how they are read, and how they compare.
+#![tactic(auto)]
+
+mod checking;
+pub mod laws;
+mod reading;
+
+pub use checking::{Comparison, compare};
+pub use reading::{ReadFault, ReadPact, read_pact_file, read_replies_body};
+pub use reply_check::Replies;
