@@ -1,11 +1,11 @@
 -- A new database in memory has no tables.
-use Rattle.std.proofs.Common.{◌≡◌, sym, subst, ◌∙◌}
+use Rattle.std.proofs.Common.{sym, subst}
 use Rattle.sqlite.specs.Tree.{Trees}
-use Rattle.sqlite.specs.Effect.{Database, IsDatabase}
+use Rattle.sqlite.specs.Effect.{IsDatabase}
 use Rattle.sqlite.specs.Held.{Held, state}
 use Rattle.sqlite.specs.Steps.{over_memory, IsEmpty}
 use Rattle.sqlite_trees.specs.declared.memory.MemStore.{MemStore}
-use Rattle.table_access.specs.Durability.{HoldsDurably, IsOnDisk}
+use Rattle.table_access.specs.Durability.{HoldsDurably}
 use Rattle.broker_tables.specs.Making.{IsBlank}
 
 -- so a broker can be created on it

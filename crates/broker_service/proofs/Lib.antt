@@ -1,7 +1,13 @@
 pub mod PerformLemmas
 pub mod CallerLemmas
 pub mod Transaction
-pub mod Unpublished
+pub mod Sound
+pub mod EndLemmas
+pub mod CallerSteps
+pub mod PlaceLemmas
+pub mod GateJudgement
 pub mod FollowLemmas
 pub mod Blank
 pub mod Judgements
+pub mod PactLemmas
+pub mod WhereLemmas

@@ -1,14 +1,13 @@
 -- How a command is put together from calls on the tables.
-use Rattle.std.proofs.Common.{◌≡◌, Ok, Result, sym, subst}
+use Rattle.std.proofs.Common.{◌≡◌, Ok, Result, inl, sym, subst}
 use Rattle.sqlite.specs.State.{State}
 use Rattle.table_access.specs.declared.StoreFault.{StoreFault}
-use Rattle.table_access.specs.Calls.{CallsTables}
 use Rattle.table_access.proofs.CallLemmas.{call_with, then_ok, seq, idle}
 use Rattle.broker_core.specs.State.{State as Broker}
 use Rattle.broker_core.specs.Change.{Transition, unchanged_with}
 use Rattle.broker_core.specs.declared.answer.Answer.{Answer}
-use Rattle.broker_tables.specs.Holds.{Holds, Queries, Changes}
-use Rattle.broker_service.specs.Performs.{Performs, CallersStep}
+use Rattle.broker_tables.specs.Holds.{Holds, Queries, Changes, ChangesAndAnswers}
+use Rattle.broker_service.specs.Performs.{Performs, PerformsWhere, CallersStep}
 use Rattle.broker_service.specs.Primitives.{broker_primitives}
 use Rattle.broker_core.specs.Machine.{StepOfCaller}
 use Rattle.broker_core.specs.declared.command.Command.{Command}
@@ -52,9 +51,41 @@ pub shown_then : {A : Type 0} (old mid new : State) (x : A) (r : Result Answer S
     → ((s : Broker) → P x s → (answer : Answer) → Q answer s → R s (unchanged_with s answer)) → Queries old mid (Ok x) P → Queries mid new r Q → Performs old new R r
 shown_then old mid new x r P Q R f one two = seq old mid new x r _ _ _ (λ p b q s held. let first = p s held in let second = q s first.1 in (s, f s first.0 b second.0, second.1)) one two
 
--- so it is where nothing is asked of needs
-pub without_needs : (old new : State) (r : Result Answer StoreFault) (caller : Caller) (given command : Command) → given ≡ command
+-- a command that is always a step
+pub always_steps : (old new : State) (r : Result Answer StoreFault) (caller : Caller) (given command : Command) → given ≡ command
     → Performs old new (λ s out. StepOfCaller broker_primitives s caller command out) r → Performs old new (CallersStep caller given) r
-without_needs old new r caller given command is it =
+always_steps old new r caller given command is it =
     subst (λ c. Performs old new (CallersStep caller c) r) (sym is)
-    (call_with old new r _ _ (λ answer h s held. let next = h s held in (next.0, λ _. next.1, next.2)) it)
+    (call_with old new r _ _ (λ answer h s held. let next = h s held in (next.0, λ sound. inl next.1, next.2)) it)
+
+-- ---- commands that the state allows
+
+-- a query that tells that the state allows it, and then a command
+pub performs_where : {A : Type 0} (old mid new : State) (x : A) (r : Result Answer StoreFault) (P : A → Broker → Type 0) (Allows : Broker → Type 0) (Q R : Broker → Transition → Type 0)
+    → ((s : Broker) → P x s → Allows s × ((out : Transition) → Q s out → R s out)) → Queries old mid (Ok x) P → PerformsWhere mid new Allows Q r → Performs old new R r
+performs_where old mid new x r P Allows Q R f one two =
+    seq old mid new x r _ _ _ (λ p b q s held. let first = p s held in let go = f s first.0 in let next = q s first.1 go.0 in (next.0, go.1 _ next.1, next.2)) one two
+
+-- where the state allows it, a query and then a command
+pub where_then : {A : Type 0} (old mid new : State) (x : A) (r : Result Answer StoreFault) (Allows : Broker → Type 0) (P : A → Broker → Type 0) (Next : Broker → Type 0) (Q R : Broker → Transition → Type 0)
+    → ((s : Broker) → Allows s → P x s → Next s × ((out : Transition) → Q s out → R s out)) → Queries old mid (Ok x) P → PerformsWhere mid new Next Q r → PerformsWhere old new Allows R r
+where_then old mid new x r Allows P Next Q R f one two =
+    seq old mid new x r _ _ _ (λ p b q s held allowed. let first = p s held in let go = f s allowed first.0 in let next = q s first.1 go.0 in (next.0, go.1 _ next.1, next.2)) one two
+
+-- a query, and an answer
+pub where_answered : {A : Type 0} (old new : State) (x : A) (answer : Answer) (Allows : Broker → Type 0) (P : A → Broker → Type 0) (Q : Broker → Transition → Type 0)
+    → ((s : Broker) → Allows s → P x s → Q s (unchanged_with s answer)) → Queries old new (Ok x) P → PerformsWhere old new Allows Q (Ok answer)
+where_answered old new x answer Allows P Q f it = then_ok old new x answer _ _ (λ h s held allowed. (s, f s allowed (h s held).0, (h s held).1)) it
+
+-- a query, and a change
+pub where_changed : {A : Type 0} (old mid new : State) (x : A) (u : Unit {0}) (answer : Answer) (Allows : Broker → Type 0) (P : A → Broker → Type 0) (Next : Broker → Broker → Type 0) (Q : Broker → Transition → Type 0)
+    → ((s : Broker) → Allows s → P x s → (t : Broker) × Next s t × Q s (record { answer = answer; state = t })) → Queries old mid (Ok x) P → Changes mid new (Ok u) Next → PerformsWhere old new Allows Q (Ok answer)
+where_changed old mid new x u answer Allows P Next Q f one two =
+    then_ok old new u answer (λ _. (s : Broker) → Holds old.now s → Allows s → (t : Broker) × Q s (record { answer = answer; state = t }) × Holds new.now t) _ (λ h. h)
+    (seq old mid new x (Ok u) _ _ _ (λ p b q s held allowed. let first = p s held in let next = f s allowed first.0 in (next.0, next.2, q s first.1 next.0 next.1)) one two.call)
+
+-- a change that answers
+pub where_told : {A : Type 0} (old new : State) (x : A) (answer : Answer) (Allows Takes : Broker → Type 0) (Next : A → Broker → Broker → Type 0) (Q : Broker → Transition → Type 0)
+    → ((s : Broker) → Allows s → Takes s × ((t : Broker) → Next x s t → Q s (record { answer = answer; state = t }))) → ChangesAndAnswers old new (Ok x) Takes Next → PerformsWhere old new Allows Q (Ok answer)
+where_told old new x answer Allows Takes Next Q f it =
+    then_ok old new x answer _ _ (λ h s held allowed. let go = f s allowed in let next = h s held go.0 in (next.0, go.1 next.0 next.1, next.2)) it.call

@@ -1,5 +1,5 @@
 -- What a transaction leaves of the connection that it began on.
-use Rattle.std.proofs.Common.{◌≡◌, inl, inr, true, false, refl, IsTrue, Result, Ok, Err, sym, subst, ◌∙◌, arith, ap}
+use Rattle.std.proofs.Common.{◌≡◌, inl, inr, false, refl, IsTrue, Result, sym, subst, ◌∙◌, arith}
 use Rattle.sqlite.specs.Effect.{Database, IsDatabase}
 use Rattle.std.specs.Prelude.{⊤}
 use Rattle.sqlite.specs.Tree.{Trees}

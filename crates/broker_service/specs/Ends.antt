@@ -6,21 +6,17 @@ use Rattle.sqlite.specs.State.{State}
 use Rattle.table_access.specs.declared.StoreFault.{StoreFault}
 use Rattle.table_access.specs.declared.StoreFault.TheVariants as fault
 use Rattle.table_access.specs.Calls.{KeepsLastCommit}
-use Rattle.table_access.specs.Durability.{HoldsDurably, HoldsEither}
+use Rattle.table_access.specs.Durability.{HoldsEither}
 use Rattle.broker_core.specs.Text.{Text}
 use Rattle.broker_core.specs.State.{State as Broker}
 use Rattle.broker_core.specs.Machine.{Step, is_step}
-use Rattle.broker_core.specs.Laws.{IsDone}
+use Rattle.broker_core.specs.Laws.{IsDone, TeamsDiffer}
 use Rattle.broker_core.specs.declared.command.Command.{Command}
 use Rattle.broker_core.specs.declared.answer.Answer.{Answer}
-use Rattle.broker_core.specs.declared.answer.Answer.TheVariants.{Memory, Store}
-use Rattle.broker_tables.specs.Holds.{Holds}
+use Rattle.broker_core.specs.declared.answer.Answer.TheVariants.{Pattern, Memory, Store}
 use Rattle.broker_service.specs.Primitives.{broker_primitives}
-use Rattle.broker_service.specs.Served.{HasNoContract}
-
--- the connection holds the state durably
-abbrev pub HoldsState : Broker → State → Type 0
-HoldsState s = HoldsDurably (λ db. Holds db s)
+use Rattle.broker_service.specs.Patterns.{AsksPattern}
+use Rattle.broker_service.specs.Stored.{Stores, HoldsState}
 
 -- what a crash leaves, it left before
 abbrev pub AddsNoCrashState : State → State → Type 0
@@ -39,31 +35,35 @@ module _ (s : Broker) (token : Option Text) (command : Command) where
   abbrev pub HoldsNext : Database → Type 0
   HoldsNext db =
       (answer : Answer) × (t : Broker)
-      × Step broker_primitives s token command (record { answer = answer; state = t })
-      × (HasNoContract s → HasNoContract t) × Holds db t
+      × Step broker_primitives s token command (record { answer = answer; state = t }) × Stores db t
 
-  -- the answer is that of a step of the machine, and the connection keeps the next state: it holds it, and a crash
-  -- leaves it
+  -- the answer is that of a step of the machine, from a state in which no two teams have tokens with one digest, and
+  -- the connection keeps the next state: it holds it, and a crash leaves it
   pub record Steps (new : State) (answer : Answer) : Type 0 where
     pub next : Broker
     pub step : Step broker_primitives s token command (record { answer = answer; state = next })
     pub is_machines : is_step answer ≡ true
-    pub unpublished : HasNoContract s → HasNoContract next
+    pub teams_differ : TeamsDiffer s
     pub keeps : HoldsState next new
 
-  -- A step; or there was no memory, and the state is kept; or the database failed, and a crash may leave the state
-  -- or the next one.
+  -- no step: a pattern of the pact with which replies were to be compared was refused, and the state is kept
+  abbrev pub KeepsAtPattern : State → Answer → Type 0
+  KeepsAtPattern new answer = (answer ≡ Pattern) × AsksPattern s token command × HoldsState s new
+
+  -- A step; or a pattern was refused, or there was no memory, and the state is kept; or the database failed, and a
+  -- crash may leave the state or the next one.
   abbrev pub Applies : State → Answer → Type 0
   Applies new answer =
       Steps new answer
+      ⊎ (KeepsAtPattern new answer
       ⊎ (((answer ≡ Memory) × HoldsState s new)
-      ⊎ ((answer ≡ Store) × HoldsEither (λ db. Holds db s) HoldsNext new))
+      ⊎ ((answer ≡ Store) × HoldsEither (λ db. Stores db s) HoldsNext new)))
 
   -- the same of a transaction, before its failure is an answer
   abbrev pub Ends : State → Result Answer StoreFault → Type 0
-  Ends new (Ok answer) = Steps new answer
+  Ends new (Ok answer) = Steps new answer ⊎ KeepsAtPattern new answer
   Ends new (Err fault.Memory) = HoldsState s new
-  Ends new (Err fault.Store) = HoldsEither (λ db. Holds db s) HoldsNext new
+  Ends new (Err fault.Store) = HoldsEither (λ db. Stores db s) HoldsNext new
 
 -- Whatever the database is: only Done and a failure of the database leave it otherwise than it was, and after that
 -- failure the last commit is the old one while the connection is open.

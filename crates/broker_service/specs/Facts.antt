@@ -1,24 +1,28 @@
 -- what the commands read of a state, for the clauses of private functions: no public clause cites it
-use Rattle.std.specs.Prelude.{◌≡◌, ℕ, List, [], ◌∷◌, Option, Some, None, Bool, is_some, false, true, IsTrue, length}
+use Rattle.std.specs.Prelude.{◌≡◌, ◌⊎◌, ℕ, List, [], ◌∷◌, Option, Some, None, Bool, is_some, false, true, IsTrue, length}
 use Rattle.broker_core.specs.Text.{Text}
 use Rattle.broker_core.specs.State.{State as Broker}
 use Rattle.broker_core.specs.Machine.{IsCallerOfDigest, StepOfCaller}
-use Rattle.broker_core.specs.Change.{Transition, is_text, on_branch}
+use Rattle.broker_core.specs.Change.{Transition, on_branch}
 use Rattle.broker_core.specs.Limit.{has_room}
 use Rattle.broker_core.specs.Policy.{allows}
 use Rattle.broker_core.specs.Request.{has_grant, is_known}
-use Rattle.broker_core.specs.declared.command.Command.TheVariants.{PutTeam}
+use Rattle.broker_core.specs.declared.command.Command.{Command}
+use Rattle.broker_core.specs.declared.command.Command.TheVariants.{PutTeam, Deploy, Undeploy, Release, EndSupport}
 use Rattle.broker_core.specs.declared.command.Version.{Version}
 use Rattle.broker_core.specs.declared.answer.Answer.{Answer}
 use Rattle.broker_core.specs.declared.answer.Answer.TheVariants.{Shown}
 use Rattle.broker_core.specs.declared.answer.DeployedItem.{DeployedItem}
 use Rattle.broker_core.specs.declared.answer.Shown.TheVariants as shown
 use Rattle.broker_core.specs.declared.command.Marks.{Marks}
+use Rattle.broker_core.specs.declared.need.PairFault.{PairFault}
 use Rattle.broker_core.specs.declared.policy.Caller.{Caller}
 use Rattle.broker_core.specs.declared.policy.Rule.{Rule}
 use Rattle.broker_core.specs.declared.policy.Rule.TheVariants.{A3, A7}
 use Rattle.broker_tables.specs.Numbers.{number_of}
 use Rattle.broker_service.specs.Primitives.{broker_primitives}
+use Rattle.broker_service.specs.declared.places.PlaceFacts.{PlaceFacts}
+use Rattle.broker_service.specs.declared.places.VersionFacts.{VersionFacts}
 
 -- the digest of the team, and who has this one
 abbrev pub TeamFacts : Broker → Text → Text → Option Text → Option Caller → Type 0
@@ -76,20 +80,34 @@ pub record CanJoin (s : Broker) (v : Version) (branch : Option Text) (number : O
   pub count_is : count ≡ length s.versions
   pub apart : is_some number ≡ true → on_branch s v branch ≡ false
 
--- the number of a version, and whether it is deployed there as this instance
-pub record DeployedFacts (s : Broker) (e : Text) (v : Version) (instance : Text) (number : Option ℕ)
-    (stands : Bool) : Type 0 where
-  pub number_is : number_of s.versions v ≡ number
-  pub known_is : is_known s v ≡ is_some number
-  pub stands_is : is_some number ≡ true → is_text v.name (s.deployed (e, v.pacticipant, instance)) ≡ stands
+-- of a version: whether its pacticipant is there, whether the rule lets the caller, with a grant or without, and its
+-- number
+pub record IsVersionRead (s : Broker) (caller : Caller) (rule : Rule) (v : Version) (granted : Bool)
+    (found : VersionFacts) : Type 0 where
+  pub owner : OwnerFacts s caller rule v.pacticipant granted found.has_pacticipant found.is_allowed
+  pub number_is : number_of s.versions v ≡ found.number
+  pub known_is : is_known s v ≡ is_some found.number
 
--- what a deployment asks of a state
-pub record DeploymentFacts (s : Broker) (caller : Caller) (e : Text) (v : Version) (instance : Text)
-    (has_environment has_pacticipant may : Bool) (number : Option ℕ) (stands : Bool) : Type 0 where
-  pub environment_is : is_some (s.environments e) ≡ has_environment
-  pub owner : OwnerFacts s caller A7 v.pacticipant (has_grant s caller (Some e)) has_pacticipant may
-  pub standing : DeployedFacts s e v instance number stands
+-- what is asked of a version by a caller who would change where it stands, and the environment's marks
+pub record IsPlaceRead (s : Broker) (caller : Caller) (e : Text) (v : Version) (found : PlaceFacts) : Type 0 where
+  pub version : IsVersionRead s caller A7 v (has_grant s caller (Some e)) found.version
+  pub marks_is : s.environments e ≡ found.marks
+
+-- the command would change whether v stands in e
+abbrev pub ChangesPlace : Text → Version → Command → Type 0
+ChangesPlace e v command =
+    ((instance : Option Text) × (command ≡ Deploy e v instance))
+    ⊎ (((instance : Option Text) × (command ≡ Undeploy e v instance))
+    ⊎ ((command ≡ Release e v) ⊎ (command ≡ EndSupport e v)))
+
+-- the version has this number, and the environment these marks
+abbrev pub IsAdmitted : Broker → Text → Marks → Version → ℕ → Type 0
+IsAdmitted s e marks v number = (s.environments e ≡ Some marks) × (number_of s.versions v ≡ Some number)
 
 -- the answer that shows an environment with its lists
 abbrev pub shows : Text → Marks → List DeployedItem → List Version → Answer
 shows e marks deployed released = Shown (shown.Environment e marks deployed released)
+
+-- the answer that shows what the gate says
+abbrev pub shows_gate : Text → Marks → Bool → List PairFault → Answer
+shows_gate e marks permitted faults = Shown (shown.Gate e marks permitted faults)

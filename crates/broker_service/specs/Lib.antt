@@ -1,8 +1,12 @@
 pub mod Primitives
 pub mod Served
+pub mod Stored
+pub mod Patterns
 pub mod BrokerView
 pub mod Performs
 pub mod Facts
+pub mod Pacts
 pub mod Ends
+pub mod Headline
 pub mod Opening
 pub mod Handed

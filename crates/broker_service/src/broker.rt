@@ -1,20 +1,25 @@
 //! The broker.
-ghost use Rattle.std.specs.Prelude.{◌≡◌, ◌≢◌, ◌↔◌, ⊤, ℕ, List, Some, None, false, IsTrue, IfOk, IfErr, IsErrAnd, option_map};
+ghost use Rattle.std.specs.Prelude.{◌≡◌, ◌≢◌, ◌↔◌, ⊤, ℕ, List, Option, Some, None, false, IsTrue, IfOk, IfErr, IsErrAnd, option_map};
 ghost use Rattle.sqlite.specs.State.{HasCleanDisk, Survives};
 ghost use Rattle.sqlite.specs.Held.{state};
 ghost use Rattle.table_access.specs.Calls.{KeepsLastCommit};
 ghost use Rattle.table_access.specs.Durability.{HoldsDurably};
 ghost use Rattle.broker_core.specs.Laws.{IsDone};
+ghost use Rattle.broker_core.specs.Change.{instance_of};
+ghost use Rattle.broker_core.specs.Machine.{is_step};
 ghost use Rattle.broker_core.specs.State.{State as BrokerState, opening};
+ghost use Rattle.broker_core.specs.declared.command.Command.TheVariants.{Deploy, Release};
+ghost use Rattle.broker_core.specs.declared.command.Version.{Version as VersionModel};
 ghost use Rattle.broker_core.specs.declared.answer.Answer.TheVariants as outcome;
-ghost use Rattle.broker_tables.specs.Holds.{Holds};
 ghost use Rattle.broker_tables.specs.Schema.{no_schema};
 ghost use Rattle.broker_tables.specs.Making.{IsBlank, IsMarked};
 ghost use Rattle.broker_service.specs.Primitives.{broker_primitives};
 ghost use Rattle.broker_service.specs.Opening.{Refuses, IsUnchangedUnless, Judged, IsJudged};
 ghost use Rattle.broker_service.specs.Handed.{left_by, verdict};
-ghost use Rattle.broker_service.specs.Served.{IsServed, HasNoNeeds};
-ghost use Rattle.broker_service.specs.Ends.{Applies, HoldsState, IsAsBefore, AddsNoCrashState};
+ghost use Rattle.broker_service.specs.Served.{IsServed};
+ghost use Rattle.broker_service.specs.Ends.{Applies, IsAsBefore, AddsNoCrashState};
+ghost use Rattle.broker_service.specs.Headline.{RecordsExactly};
+ghost use Rattle.broker_service.specs.Stored.{Stores, HoldsState};
 
 use crate::opening::{self, OpenFault};
 use crate::work::transact;
@@ -71,7 +76,7 @@ impl<S: Alter> Broker<S> {
             → HoldsDurably IsBlank (state S.Store conn)
             → (state S.Store conn).now.schema ≡ no_schema
             → Refuses IsBlank (λ db.
-            Holds db (opening (broker_primitives.digest_of office.now)))
+            Stores db (opening (broker_primitives.digest_of office.now)))
             (state S.Store r.connection) r.fault) }
         ensures not_empty { IsErrAnd result (λ r. r.fault ≡ OpenFault.NotEmpty)
             ↔ (¬ ((state S.Store conn).now.schema ≡ no_schema)) }
@@ -143,7 +148,13 @@ impl<S: Alter> Broker<S> {
     /// Runs one command of the caller with this token, in one transaction.
     ///
     /// The answer is the machine's, and the database then holds the machine's next state; or it is
-    /// `Memory`, `Store` or `Stopped`, and there was no step.
+    /// `Pattern`, `Memory`, `Store` or `Stopped`, and there was no step.
+    /// A deployment and a release are recorded exactly where every contract with the partners that
+    /// stand there has a successful latest verification, no required provider is absent, and the
+    /// caller's team is granted; otherwise the answer names every pair at fault, or what else
+    /// refuses, and nothing changes.
+    /// `Pattern`: replies were to be compared with a stored pact whose pattern was refused; nothing
+    /// has changed.
     /// `Memory`: a growth was refused, or the database has no memory; nothing has changed.
     /// `Store`: the database refused the commit or a rollback, or another call for another cause
     /// than memory, or a row broke the rules of the tables.
@@ -153,11 +164,21 @@ impl<S: Alter> Broker<S> {
         requires { IsServed command.now }
         ensures stopped { IsTrue self.old.is_stopped → (result ≡ outcome.Stopped) × (self.new ≡ self.old) }
         ensures applies { HasCleanDisk (state S.Store self.new.connection) → self.old.is_stopped ≡ false
-            → (s : BrokerState) → HasNoNeeds s command.now
-            → HoldsState s (state S.Store self.old.connection)
+            → (s : BrokerState) → HoldsState s (state S.Store self.old.connection)
             → Applies s (option_map
             (λ text. text.now) token.entry) command.now
             (state S.Store self.new.connection) result }
+        ensures deployments { HasCleanDisk (state S.Store self.new.connection) → self.old.is_stopped ≡ false
+            → IsTrue (is_step result) → (s : BrokerState) → HoldsState s (state S.Store self.old.connection)
+            → (e : List ℕ) (v : VersionModel) (instance : Option (List ℕ)) → command.now ≡ Deploy e v instance
+            → RecordsExactly s (option_map (λ text. text.now) token.entry) e v
+            (λ t. t.deployed (e, v.pacticipant, instance_of instance) ≡ Some v.name)
+            (state S.Store self.new.connection) result }
+        ensures releases { HasCleanDisk (state S.Store self.new.connection) → self.old.is_stopped ≡ false
+            → IsTrue (is_step result) → (s : BrokerState) → HoldsState s (state S.Store self.old.connection)
+            → (e : List ℕ) (v : VersionModel) → command.now ≡ Release e v
+            → RecordsExactly s (option_map (λ text. text.now) token.entry) e v
+            (λ t. IsTrue (t.released (e, v))) (state S.Store self.new.connection) result }
         ensures unchanged { HasCleanDisk (state S.Store self.new.connection) → self.old.is_stopped ≡ false
             → result ≢ outcome.Store → ¬ (IsDone result)
             → IsAsBefore (state S.Store self.old.connection) (state S.Store self.new.connection) }
@@ -171,6 +192,28 @@ impl<S: Alter> Broker<S> {
         if self.stopped {
             return Answer::failed(Outcome::Stopped);
         }
+        self.run(alloc, token, command)
+    }
+
+    /// Runs one command of the caller with this token, in one transaction. Where the database fails
+    /// the broker is stopped.
+    fn run(&mut self, alloc: Global, token: Option<&str>, command: &Command) -> Answer
+        requires { IsServed command.now }
+        ensures applies { HasCleanDisk (state S.Store self.new.connection) → (s : BrokerState)
+            → HoldsState s (state S.Store self.old.connection)
+            → Applies s (option_map
+            (λ text. text.now) token.entry) command.now
+            (state S.Store self.new.connection) result }
+        ensures unchanged { HasCleanDisk (state S.Store self.new.connection)
+            → result ≢ outcome.Store → ¬ (IsDone result)
+            → IsAsBefore (state S.Store self.old.connection) (state S.Store self.new.connection) }
+        ensures fails { HasCleanDisk (state S.Store self.new.connection) → result ≡ outcome.Store
+            → KeepsLastCommit (state S.Store self.old.connection)
+            (state S.Store self.new.connection) }
+        ensures stops { IsTrue self.new.is_stopped ↔ (result ≡ outcome.Store) }
+        ensures survives { Survives (state S.Store self.old.connection) (state S.Store self.new.connection)
+            (λ _. ⊤) }
+    {
         let answer = match transact(alloc, &mut self.conn, token, command) {
             Ok(answer) => answer,
             Err(StoreFault::Memory) => Answer::failed(Outcome::Memory),

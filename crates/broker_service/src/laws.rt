@@ -1,5 +1,6 @@
 //! The laws of the machine as this broker runs it. The program calls none of these.
-ghost use Rattle.broker_core.specs.Laws.{DeploysAsJudged, ReleasesAsJudged, OnlyDoneChanges, GateLocality, Retry, SessionsCompose, RunsOnce, StepExists, StepOnce};
+ghost use Rattle.broker_core.specs.Headline.{DeploysExactly, ReleasesExactly, PermitsVerified};
+ghost use Rattle.broker_core.specs.Laws.{OnlyDoneChanges, OpeningIsSound, ContentsStay, GateLocality, GateAnswersOnce, Retry, SessionsCompose, RunsOnce, StepExists, StepOnce};
 ghost use Rattle.broker_service.specs.Primitives.{broker_primitives};
 
 use broker_core::laws::{self, Machine};
@@ -11,18 +12,13 @@ impl Machine for BrokerMachine {
     ghost primitives = { broker_primitives };
 }
 
-/// See [`laws::deploys_as_judged`].
-pub fn deploys_as_judged()
-    ensures { DeploysAsJudged broker_primitives }
+/// See [`laws::headline`].
+pub fn headline()
+    ensures deployments { DeploysExactly broker_primitives }
+    ensures releases { ReleasesExactly broker_primitives }
+    ensures gate { PermitsVerified }
 {
-    laws::deploys_as_judged::<BrokerMachine>()
-}
-
-/// See [`laws::releases_as_judged`].
-pub fn releases_as_judged()
-    ensures { ReleasesAsJudged broker_primitives }
-{
-    laws::releases_as_judged::<BrokerMachine>()
+    laws::headline::<BrokerMachine>()
 }
 
 /// See [`laws::only_done_changes`].
@@ -32,9 +28,18 @@ pub fn only_done_changes()
     laws::only_done_changes::<BrokerMachine>()
 }
 
+/// See [`laws::contents_stay`].
+pub fn contents_stay()
+    ensures opening { OpeningIsSound broker_primitives }
+    ensures steps { ContentsStay broker_primitives }
+{
+    laws::contents_stay::<BrokerMachine>()
+}
+
 /// See [`laws::gate_locality`].
 pub fn gate_locality()
-    ensures { GateLocality broker_primitives }
+    ensures every_state { GateLocality broker_primitives }
+    ensures one_answer { GateAnswersOnce broker_primitives }
 {
     laws::gate_locality::<BrokerMachine>()
 }

@@ -3,15 +3,25 @@
 
 mod broker;
 mod callers;
+mod can_i_deploy;
 mod deploy;
+mod end_support;
 mod environments;
+mod gate;
 mod grants;
 pub mod laws;
 mod listing;
+mod matrix;
 mod opening;
+mod pacts;
+mod places;
+mod publish;
 mod put_pacticipant;
 mod put_team;
+mod release;
 mod rules;
+mod sides;
+mod undeploy;
 mod undo;
 mod versions;
 mod work;

@@ -10,7 +10,8 @@ ghost use Rattle.broker_tables.specs.Schema.{no_schema, registry_part, contents,
 ghost use Rattle.broker_tables.specs.Holds.{Holds, format};
 ghost use Rattle.broker_tables.specs.Making.{IsBlank, HasTables, IsMarked};
 ghost use Rattle.broker_service.specs.Primitives.{broker_primitives};
-ghost use Rattle.broker_service.specs.Ends.{HoldsState, IsAsBefore, AddsNoCrashState};
+ghost use Rattle.broker_service.specs.Ends.{IsAsBefore, AddsNoCrashState};
+ghost use Rattle.broker_service.specs.Stored.{Stores, HoldsState};
 ghost use Rattle.broker_service.specs.Opening as spec;
 ghost use Rattle.broker_service.specs.Opening.{CreatesOrFails, FailsUnchanged, Refuses, IsUnchangedUnless, Judged, IsJudged, judgement};
 
@@ -119,7 +120,7 @@ fn make_all<S: Alter>(conn: &mut Connection<S>, digest: &str) -> Result<(), Stor
 fn make<S: Alter>(conn: &mut Connection<S>, digest: &str) -> Result<(), StoreFault>
     ensures ends { HasCleanDisk (state S.Store conn.new) → HoldsDurably IsBlank (state S.Store conn.old)
         → CreatesOrFails IsBlank
-        (λ db. Holds db (opening digest.now)) (state S.Store conn.new) result }
+        (λ db. Stores db (opening digest.now)) (state S.Store conn.new) result }
     ensures unchanged { HasCleanDisk (state S.Store conn.new)
         → FailsUnchanged (state S.Store conn.old) (state S.Store conn.new) result }
     ensures survives { Survives (state S.Store conn.old) (state S.Store conn.new) (λ _. ⊤) }
@@ -149,7 +150,7 @@ pub(crate) fn create<S: Alter>(
     ensures refuses { HasCleanDisk (state S.Store conn.new) → HoldsDurably IsBlank (state S.Store conn.old)
         → (state S.Store conn.old).now.schema ≡ no_schema
         → IfErr result (Refuses IsBlank
-        (λ db. Holds db (opening (broker_primitives.digest_of office.now)))
+        (λ db. Stores db (opening (broker_primitives.digest_of office.now)))
         (state S.Store conn.new)) }
     ensures not_empty { (result ≡ Err OpenFault.NotEmpty)
         ↔ (¬ ((state S.Store conn.old).now.schema ≡ no_schema)) }

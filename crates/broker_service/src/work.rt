@@ -6,16 +6,24 @@ ghost use Rattle.broker_core.specs.State.{State as BrokerState};
 ghost use Rattle.broker_core.specs.Laws.{IsDone};
 ghost use Rattle.broker_core.specs.declared.answer.Answer.TheVariants.{BadForm};
 ghost use Rattle.broker_service.specs.Performs.{Performs, CallersStep, TokensStep};
-ghost use Rattle.broker_service.specs.Served.{IsServed, HasNoNeeds};
-ghost use Rattle.broker_service.specs.Ends.{Ends, HoldsState, IsUnchangedUnless};
+ghost use Rattle.broker_service.specs.Served.{IsServed};
+ghost use Rattle.broker_service.specs.Ends.{Ends, IsUnchangedUnless};
+ghost use Rattle.broker_service.specs.Stored.{HoldsState};
 
 use crate::callers::caller_of;
+use crate::can_i_deploy::can_i_deploy;
 use crate::deploy::deploy;
+use crate::end_support::end_support;
 use crate::environments::put_environment;
 use crate::grants::{delete_grant, put_grant};
 use crate::listing::get_environment;
+use crate::matrix::get_matrix;
+use crate::pacts::get_pact;
+use crate::publish::put_pact;
 use crate::put_pacticipant::put_pacticipant;
 use crate::put_team::put_team;
+use crate::release::release;
+use crate::undeploy::undeploy;
 use crate::undo::undo;
 use crate::versions::put_version;
 use answer_texts::Answer;
@@ -81,11 +89,31 @@ fn follow<S: Alter>(
         Command::PutVersion { version, branch } => put_version(
             alloc, conn, caller, version, branch,
         ),
+        Command::PutPact { path, file } => put_pact(alloc, conn, caller, path, file),
+        Command::GetPact { path } => get_pact(alloc, conn, caller, path),
         Command::Deploy {
             environment,
             version,
             instance,
         } => deploy(alloc, conn, caller, environment, version, instance),
+        Command::Undeploy {
+            environment,
+            version,
+            instance,
+        } => undeploy(alloc, conn, caller, environment, version, instance),
+        Command::Release {
+            environment,
+            version,
+        } => release(alloc, conn, caller, environment, version),
+        Command::EndSupport {
+            environment,
+            version,
+        } => end_support(alloc, conn, caller, environment, version),
+        Command::CanIDeploy {
+            version,
+            environment,
+        } => can_i_deploy(alloc, conn, caller, version, environment),
+        Command::GetMatrix { version } => get_matrix(alloc, conn, caller, version),
         Command::GetEnvironment { environment } => get_environment(
             alloc,
             conn,
@@ -165,8 +193,7 @@ pub(crate) fn transact<S: Alter>(
     command: &Command,
 ) -> Result<Answer, StoreFault>
     requires { IsServed command.now }
-    ensures ends { HasCleanDisk (state S.Store conn.new) → (s : BrokerState) → HasNoNeeds s command.now
-        → HoldsState s (state S.Store conn.old)
+    ensures ends { HasCleanDisk (state S.Store conn.new) → (s : BrokerState) → HoldsState s (state S.Store conn.old)
         → Ends s (option_map (λ text.
         text.now) token.entry) command.now (state S.Store conn.new) result }
     ensures unchanged { HasCleanDisk (state S.Store conn.new)

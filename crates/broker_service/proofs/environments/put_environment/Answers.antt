@@ -1,4 +1,3 @@
-use Rattle.std.proofs.Common.{Ok, Some}
 use Rattle.sqlite.specs.Held.{state}
 use Rattle.broker_core.specs.Machine.{StepOfCaller}
 use Rattle.broker_core.specs.declared.command.Command.TheVariants.{PutEnvironment}

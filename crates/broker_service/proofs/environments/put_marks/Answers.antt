@@ -1,7 +1,6 @@
-use Rattle.std.proofs.Common.{Some, true, false, sym, ◌∙◌, ap, refl}
-use Rattle.std.specs.Option.{is_some}
+use Rattle.std.proofs.Common.{Some, sym, ◌∙◌, ap}
 use Rattle.sqlite.specs.Held.{state}
-use Rattle.broker_core.specs.Text.{put_at, same_text, same_pair, Text}
+use Rattle.broker_core.specs.Text.{put_at, same_text, Text}
 use Rattle.broker_core.specs.Machine.{StepOfCaller}
 use Rattle.broker_core.specs.declared.command.Command.TheVariants.{PutEnvironment}
 use Rattle.broker_core.specs.declared.answer.Answer.TheVariants.{Done}

@@ -1,4 +1,4 @@
-use Rattle.std.proofs.Common.{◌≡◌, Ok, Err, refl, arith}
+use Rattle.std.proofs.Common.{Ok, Err, refl, arith}
 use Rattle.sqlite.specs.State.{HasCleanDisk}
 use Rattle.sqlite.specs.Held.{state}
 use Rattle.table_access.specs.Durability.{HoldsDurably}
@@ -6,9 +6,10 @@ use Rattle.table_access.specs.declared.StoreFault.{StoreFault}
 use Rattle.table_access.specs.declared.StoreFault.TheVariants.{Memory, Store}
 use Rattle.table_access.proofs.EndLemmas.{begins, commits, refused, keeps_unsure}
 use Rattle.broker_core.specs.State.{opening}
-use Rattle.broker_tables.specs.Holds.{Holds}
 use Rattle.broker_tables.specs.Making.{IsBlank}
 use Rattle.broker_service.specs.Opening.{CreatesOrFails}
+use Rattle.broker_service.specs.Stored.{Stores}
+use Rattle.broker_service.proofs.Sound.{opens_sound}
 use Rattle.broker_service.proofs.Transaction.{outlives, outlives_one, not_begun, rolled_back, keeps_on}
 use Rattle.broker_service.proofs.opening.make.Goals as goal
 
@@ -21,7 +22,7 @@ returns-then-commit-clause-ends g c clean keeps =
     let done_clean : HasCleanDisk done = omega (arith, c.commit.ensures.survives.clean, clean) in
     let mid_clean : HasCleanDisk mid = omega (arith, c.make_all.ensures.call.survives.clean, done_clean) in
     let begun = c.in-Ok.ensures.begun mid_clean in
-    commits (λ db. Holds db (opening c.args.digest.now)) done new (c.if-commit.ensures.done clean refl) c.commit.ensures.live (λ db now may. g.met.S.Store.settled _ db now may) (c.in-Ok-make_all.ensures.call.ok done_clean (begins IsBlank old mid begun keeps))
+    commits (λ db. Stores db (opening c.args.digest.now)) done new (c.if-commit.ensures.done clean refl) c.commit.ensures.live (λ db now may. g.met.S.Store.settled _ db now may) (record { tables = c.in-Ok-make_all.ensures.call.ok done_clean (begins IsBlank old mid begun keeps); contents = opens_sound c.args.digest.now })
 
 pub returns-else-commit-clause-ends : goal.returns-else-commit-clause-ends
 returns-else-commit-clause-ends g c clean keeps =
@@ -32,9 +33,9 @@ returns-else-commit-clause-ends g c clean keeps =
     let done_clean : HasCleanDisk done = omega (arith, c.commit.ensures.survives.clean, clean) in
     let mid_clean : HasCleanDisk mid = omega (arith, c.make_all.ensures.call.survives.clean, done_clean) in
     let begun = c.in-Ok.ensures.begun mid_clean in
-    refused IsBlank old mid done (Ok c.in-Ok-make_all.field-0) _ keeps begun c.begin.ensures.survives c.in-Ok-make_all.ensures.call done_clean new (λ db. Holds db (opening c.args.digest.now))
+    refused IsBlank old mid done (Ok c.in-Ok-make_all.field-0) _ keeps begun c.begin.ensures.survives c.in-Ok-make_all.ensures.call done_clean new (λ db. Stores db (opening c.args.digest.now))
     ((c.in-Ok-make_all.ensures.call.goes_on done_clean begun.1.mode).1 begun.1.is_open) c.commit.ensures.live (λ db now may. g.met.S.Store.settled _ db now may) (c.if-commit.ensures.refused clean refl) clean c.commit.ensures.survives
-    (c.in-Ok-make_all.ensures.call.ok done_clean (begins IsBlank old mid begun keeps))
+    (record { tables = c.in-Ok-make_all.ensures.call.ok done_clean (begins IsBlank old mid begun keeps); contents = opens_sound c.args.digest.now })
 
 pub returns-in-Err-make_all-clause-ends : goal.returns-in-Err-make_all-clause-ends
 returns-in-Err-make_all-clause-ends g c clean keeps =
@@ -48,7 +49,7 @@ returns-in-Err-make_all-clause-ends g c clean keeps =
     let before = rolled_back old mid done (Err c.in-Err-make_all.fault) _ begun c.begin.ensures.survives c.in-Err-make_all.ensures.call done_clean new (c.undo.ensures.over clean) (c.undo.ensures.commit clean) clean c.undo.ensures.survives in
     go c.undo.result (keeps_on IsBlank old new before keeps)
   where
-    go : (fault : StoreFault) → HoldsDurably IsBlank (state g.S.Store c.undo.new.conn) → CreatesOrFails IsBlank (λ db. Holds db (opening c.args.digest.now)) (state g.S.Store c.undo.new.conn) (Err fault)
+    go : (fault : StoreFault) → HoldsDurably IsBlank (state g.S.Store c.undo.new.conn) → CreatesOrFails IsBlank (λ db. Stores db (opening c.args.digest.now)) (state g.S.Store c.undo.new.conn) (Err fault)
     go Memory it = it
     go Store it = keeps_unsure IsBlank _ _ it
 
@@ -58,7 +59,7 @@ returns-in-Err-clause-ends g c clean keeps =
     let new = state g.S.Store c.begin.new.conn in
     go c.in-Err.fault (keeps_on IsBlank old new (not_begun old new (c.in-Err.ensures.refused clean) c.begin.ensures.survives clean) keeps)
   where
-    go : (fault : StoreFault) → HoldsDurably IsBlank (state g.S.Store c.begin.new.conn) → CreatesOrFails IsBlank (λ db. Holds db (opening c.args.digest.now)) (state g.S.Store c.begin.new.conn) (Err fault)
+    go : (fault : StoreFault) → HoldsDurably IsBlank (state g.S.Store c.begin.new.conn) → CreatesOrFails IsBlank (λ db. Stores db (opening c.args.digest.now)) (state g.S.Store c.begin.new.conn) (Err fault)
     go Memory it = it
     go Store it = keeps_unsure IsBlank _ _ it
 

@@ -1,7 +1,7 @@
-use Rattle.std.proofs.Common.{◌≡◌, ◌++◌, ◌∷◌, [], List, ℕ, Ok, Err, inl, inr, refl, arith, ap, ◌∙◌}
+use Rattle.std.proofs.Common.{◌++◌, ◌∷◌, [], Ok, inl, refl}
 use Rattle.sqlite.specs.Held.{state}
 use Rattle.table_access.proofs.CallLemmas.{statement_seq}
-use Rattle.broker_tables.specs.Schema.{registry_part, contents, contract_part, deploy_part, checked_results, strict_environments}
+use Rattle.broker_tables.specs.Schema.{registry_part, contents, contract_part}
 use Rattle.broker_tables.specs.Holds.{format}
 use Rattle.broker_tables.specs.Making.{IsBlank, HasTables}
 use Rattle.broker_tables.proofs.Opening.{has_more}

@@ -1,4 +1,4 @@
-use Rattle.std.proofs.Common.{◌≡◌, ◌↔◌, Some, Option, List, ℕ, sym, subst}
+use Rattle.std.proofs.Common.{◌≡◌, ◌↔◌, Option, List, ℕ, sym, subst}
 use Rattle.std.specs.Prelude.{IsSomeAnd, String, string_bytes}
 use Rattle.std.specs.declared.alloc.Global.{Global}
 use Rattle.table_access.specs.declared.StoreFault.TheVariants.{Store}

@@ -1,4 +1,4 @@
-use Rattle.std.proofs.Common.{◌≡◌, subst}
+use Rattle.std.proofs.Common.{subst}
 use Rattle.sqlite.specs.Held.{state}
 use Rattle.table_access.proofs.CallLemmas.{statement_seq}
 use Rattle.broker_core.specs.State.{State}

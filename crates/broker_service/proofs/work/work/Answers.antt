@@ -1,10 +1,7 @@
 use Rattle.std.proofs.Common.{Ok, Bor, List, ℕ, option_map, sym, subst}
 use Rattle.sqlite.specs.Held.{state}
 use Rattle.broker_core.specs.declared.answer.Answer.{Answer}
-use Rattle.broker_core.specs.Machine.{Step}
-use Rattle.broker_service.specs.Primitives.{broker_primitives}
-use Rattle.broker_service.specs.Performs.{Performs, CallersStep, TokensStep}
-use Rattle.broker_service.specs.Served.{HasNoNeeds}
+use Rattle.broker_service.specs.Performs.{Performs, TokensStep}
 use Rattle.broker_service.proofs.work.work.Goals as goal
 
 pub returns-in-Ok-answer_of : goal.returns-in-Ok-answer_of

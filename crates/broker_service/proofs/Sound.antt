@@ -1,0 +1,17 @@
+-- Each stored pact can be read again: so it is in a new broker's state, and each step keeps it.
+use Rattle.std.proofs.Common.{Option}
+use Rattle.broker_core.specs.Contents.{HasSoundContents}
+use Rattle.broker_core.specs.State.{State, opening}
+use Rattle.broker_core.specs.Text.{Text}
+use Rattle.broker_core.specs.Change.{Transition}
+use Rattle.broker_core.specs.Machine.{Step}
+use Rattle.broker_core.specs.declared.command.Command.{Command}
+use Rattle.broker_core.proofs.SoundContents.{contents_stay, opening_is_sound}
+use Rattle.pact_reading.proofs.Again.{reads_again}
+use Rattle.broker_service.specs.Primitives.{broker_primitives}
+
+pub stays_sound : (s : State) (token : Option Text) (command : Command) (out : Transition) → HasSoundContents broker_primitives s → Step broker_primitives s token command out → HasSoundContents broker_primitives out.state
+stays_sound s token command out sound step = contents_stay broker_primitives s token command out reads_again sound step
+
+pub opens_sound : (office : Text) → HasSoundContents broker_primitives (opening office)
+opens_sound office = opening_is_sound broker_primitives office
