@@ -41,16 +41,23 @@ parsed-served operation.Deploy path query body r here p =
     served-then _ _ r p (λ environment s q. served-then _ _ s q.2 (λ version u v. served-then _ _ u v (λ instance last e. served-made _ last e tt)))
 parsed-served operation.GetEnvironment path query body r here p =
     served-then _ _ r p (λ environment last e. served-made _ last e tt)
-parsed-served operation.PutPact path query body r here p = cc
-parsed-served operation.GetPact path query body r here p = cc
+parsed-served operation.PutPact path query body r here p =
+    served-then _ _ r p (λ of last e. served-made _ last e tt)
+parsed-served operation.GetPact path query body r here p =
+    served-then _ _ r p (λ of last e. served-made _ last e tt)
 parsed-served operation.GetBranchPact path query body r here p = cc
 parsed-served operation.PostResult path query body r here p = cc
 parsed-served operation.PostReplies path query body r here p = cc
-parsed-served operation.Undeploy path query body r here p = cc
-parsed-served operation.Release path query body r here p = cc
-parsed-served operation.EndSupport path query body r here p = cc
-parsed-served operation.CanIDeploy path query body r here p = cc
-parsed-served operation.GetMatrix path query body r here p = cc
+parsed-served operation.Undeploy path query body r here p =
+    served-then _ _ r p (λ environment s q. served-then _ _ s q.2 (λ version u v. served-then _ _ u v (λ instance last e. served-made _ last e tt)))
+parsed-served operation.Release path query body r here p =
+    served-then _ _ r p (λ environment s q. served-then _ _ s q.2 (λ version last e. served-made _ last e tt))
+parsed-served operation.EndSupport path query body r here p =
+    served-then _ _ r p (λ environment s q. served-then _ _ s q.2 (λ version last e. served-made _ last e tt))
+parsed-served operation.CanIDeploy path query body r here p =
+    served-then _ _ r p (λ v s q. served-then _ _ s q (λ environment last e. served-made _ last e tt))
+parsed-served operation.GetMatrix path query body r here p =
+    served-then _ _ r p (λ v last e. served-made _ last e tt)
 
 command-served : (t : Operation) (path query body : List ℕ) (c : Command) → is_served t ≡ true → IsCommand t path query body c → IsServed c
 command-served t path query body c here p = subst IsServed (sym p.2) (parsed-served t path query body p.0 here p.1)

@@ -1,4 +1,5 @@
 mod AskedLemmas
+mod JournalLemmas
 mod ModeLemmas
 mod OneReading
 mod ResponsesLemmas

@@ -9,11 +9,9 @@ use Rattle.broker_core.specs.Text.{Text}
 use Rattle.broker_core.specs.declared.answer.Answer.{Answer}
 use Rattle.broker_core.specs.declared.answer.Answer.TheVariants as answers
 use Rattle.broker_core.specs.declared.command.Command.{Command}
-use Rattle.broker_service.specs.Served.{HasNoContract}
 use Rattle.broker_service.specs.BrokerView.{BrokerView}
 use Rattle.broker_service.specs.Ends.{Applies}
 use Rattle.broker_service.proofs.Transaction.{outlives_itself, outlives}
-use Rattle.broker_service.proofs.Unpublished.{no_needs}
 use Rattle.http_responses.specs.Responses.{Response}
 use Rattle.broker_http.specs.Stream.{Responses}
 use Rattle.http_requests.specs.declared.requests.Request.{Request}
@@ -39,19 +37,21 @@ module _ {X : Type 0} (shown : Held X → State) where
 
   -- an answer of a broker that runs
   applied : (s : Broker) (token : Option Text) (command : Command) (answer : Answer) (new : BrokerView X)
-      → HasNoContract s → (IsTrue new.is_stopped ↔ (answer ≡ answers.Store)) → Applies s token command (shown new.connection) answer
+      → (IsTrue new.is_stopped ↔ (answer ≡ answers.Store)) → Applies s token command (shown new.connection) answer
       → (next : Mode) × ModeStep (Running s) token command answer next × IsInMode shown next new
-  applied s token command answer new none stops (inl p) =
-      (Running p.next, inl (p.is_machines, p.step), (not_true new.is_stopped (λ yes. no_step answer p.is_machines (stops.0 yes)), p.unpublished none, p.keeps))
-  applied s token command answer new none stops (inr (inl p)) =
-      (Running s, inr (p.0, refl), (not_true new.is_stopped (λ yes. let wrong = sym p.0 ∙ stops.0 yes in cc), none, p.1))
-  applied s token command answer new none stops (inr (inr p)) =
+  applied s token command answer new stops (inl p) =
+      (Running p.next, inl (p.is_machines, p.step), (not_true new.is_stopped (λ yes. no_step answer p.is_machines (stops.0 yes)), p.keeps))
+  applied s token command answer new stops (inr (inl p)) =
+      (Running s, inr (inr (p.0, p.1, refl)), (not_true new.is_stopped (λ yes. let wrong = sym p.0 ∙ stops.0 yes in cc), p.2))
+  applied s token command answer new stops (inr (inr (inl p))) =
+      (Running s, inr (inl (p.0, refl)), (not_true new.is_stopped (λ yes. let wrong = sym p.0 ∙ stops.0 yes in cc), p.1))
+  applied s token command answer new stops (inr (inr (inr p))) =
       (IsStopped s token command, (p.0, refl, refl, refl), (stops.1 p.0, p.1))
 
   mode_step : (mode : Mode) (old new : BrokerView X) (token : Option Text) (command : Command) (answer : Answer)
       → HasCleanDisk (shown new.connection) → IsInMode shown mode old → Applied shown old token command answer new
       → (next : Mode) × ModeStep mode token command answer next × IsInMode shown next new
-  mode_step (Running s) old new token command answer clean held a = applied s token command answer new held.1 (a.stops held.0) (a.applies clean held.0 s (no_needs s held.1 command) held.2)
+  mode_step (Running s) old new token command answer clean held a = applied s token command answer new (a.stops held.0) (a.applies clean held.0 s held.1)
   mode_step (IsStopped s of failed) old new token command answer clean held a =
       let still = a.stopped held.0 in
       (IsStopped s of failed, (still.0, refl), subst (IsInMode shown (IsStopped s of failed)) (sym still.1) held)

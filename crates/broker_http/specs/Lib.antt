@@ -2,4 +2,5 @@ pub mod Faults
 pub mod Stream
 pub mod Exchange
 pub mod Serving
+pub mod Journal
 pub mod Asked

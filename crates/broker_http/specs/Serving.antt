@@ -12,11 +12,11 @@ use Rattle.broker_core.specs.Text.{Text}
 use Rattle.broker_core.specs.declared.answer.Answer.{Answer}
 use Rattle.broker_core.specs.declared.answer.Answer.TheVariants as answers
 use Rattle.broker_core.specs.declared.command.Command.{Command}
-use Rattle.broker_tables.specs.Holds.{Holds}
 use Rattle.broker_service.specs.BrokerView.{BrokerView}
-use Rattle.broker_service.specs.Ends.{Applies, HoldsNext, HoldsState, IsAsBefore}
+use Rattle.broker_service.specs.Ends.{Applies, HoldsNext, IsAsBefore}
+use Rattle.broker_service.specs.Patterns.{AsksPattern}
 use Rattle.broker_service.specs.Primitives.{broker_primitives}
-use Rattle.broker_service.specs.Served.{HasNoContract, HasNoNeeds}
+use Rattle.broker_service.specs.Stored.{Stores, HoldsState}
 use Rattle.http_messages.specs.Message.{Message}
 use Rattle.http_responses.specs.Responses.{Response}
 use Rattle.broker_http.specs.Stream.{texts, Responses, StreamEnds, StreamCut}
@@ -28,12 +28,13 @@ pub data Mode : Type 0 where
   Running : Broker → Mode
   IsStopped : (s : Broker) (token : Option Text) (command : Command) → Mode
 
--- An answer and the next mode: a step of the machine; or no memory, and no step; or a failure of the
--- database, after which each answer is Stopped.
+-- An answer and the next mode: a step of the machine; or no memory, or a pattern that was refused as replies were
+-- compared with a stored pact, and no step; or a failure of the database, after which each answer is Stopped.
 abbrev pub ModeStep : Mode → Option Text → Command → Answer → Mode → Type 0
 ModeStep (Running s) token command answer (Running t) =
     ((is_step answer ≡ true) × Step broker_primitives s token command (record { answer = answer; state = t }))
-    ⊎ ((answer ≡ answers.Memory) × (t ≡ s))
+    ⊎ (((answer ≡ answers.Memory) × (t ≡ s))
+    ⊎ ((answer ≡ answers.Pattern) × AsksPattern s token command × (t ≡ s)))
 ModeStep (Running s) token command answer (IsStopped u of failed) =
     (answer ≡ answers.Store) × (u ≡ s) × (of ≡ token) × (failed ≡ command)
 ModeStep (IsStopped s of failed) token command answer next =
@@ -45,16 +46,16 @@ module _ {X : Type 0} (shown : Held X → State) where
   -- stands the state before the command that failed;
   -- where a fault of the disk has shut the connection, a crash may leave the state behind that command too.
   abbrev pub IsInMode : Mode → BrokerView X → Type 0
-  IsInMode (Running s) b = (b.is_stopped ≡ false) × HasNoContract s × HoldsState s (shown b.connection)
+  IsInMode (Running s) b = (b.is_stopped ≡ false) × HoldsState s (shown b.connection)
   IsInMode (IsStopped s token command) b =
-      (b.is_stopped ≡ true) × HoldsEither (λ db. Holds db s) (HoldsNext s token command) (shown b.connection)
+      (b.is_stopped ≡ true) × HoldsEither (λ db. Stores db s) (HoldsNext s token command) (shown b.connection)
 
   -- how a broker runs a command, on any disk and any database
   pub record Applied (old : BrokerView X) (token : Option Text) (command : Command) (answer : Answer)
       (new : BrokerView X) : Type 0 where
     pub stopped : IsTrue old.is_stopped → (answer ≡ answers.Stopped) × (new ≡ old)
     pub applies : HasCleanDisk (shown new.connection) → old.is_stopped ≡ false
-        → (s : Broker) → HasNoNeeds s command → HoldsState s (shown old.connection)
+        → (s : Broker) → HoldsState s (shown old.connection)
         → Applies s token command (shown new.connection) answer
     pub unchanged : HasCleanDisk (shown new.connection) → old.is_stopped ≡ false
         → answer ≢ answers.Store → ¬ (IsDone answer) → IsAsBefore (shown old.connection) (shown new.connection)

@@ -4,7 +4,8 @@ ghost use Rattle.std.specs.Io.KnownBytes.{IsAtEnd};
 ghost use Rattle.sqlite.specs.Held.{state};
 ghost use Rattle.sqlite.specs.State.{HasCleanDisk, Survives};
 ghost use Rattle.broker_http.specs.Exchange.{Exchange};
-ghost use Rattle.broker_http.specs.Serving.{Applied, Mode, ModeStep, IsInMode, Serves, ServesUntil};
+ghost use Rattle.broker_http.specs.Serving.{Applied, Mode, IsInMode, Serves, ServesUntil};
+ghost use Rattle.broker_http.specs.Journal.{Journal, JournalStep, IsRunFrom, blank};
 
 use crate::exchange::answer;
 use crate::served::{Ended, ServeFault, Served};
@@ -116,19 +117,19 @@ pub fn serve<R: Read, W: Write, S: Alter>(
     // stays.
     ensures survives { Survives (state S.Store broker.old.connection) (state S.Store broker.new.connection)
         (λ _. ⊤) }
-    // On a clean disk, from a database that holds a state of the machine, the answers are the machine's, and
-    // the database holds its last state.
+    // On a clean disk, from a database that holds a state of the machine, the answers are the machine's: those
+    // that are steps run it, in order, from that state to the last, which the database holds.
     ensures machine { IfOk result (λ served. HasCleanDisk (state S.Store broker.new.connection)
         → (mode : Mode) → IsInMode (state S.Store) mode broker.old
-        → (last : Mode) × IsInMode (state S.Store) last broker.new
-        × Serves (Exchange ModeStep) mode last
+        → (last : Journal) × IsInMode (state S.Store) last.mode broker.new × IsRunFrom mode last
+        × Serves (Exchange JournalStep) (blank mode) last
         (R.remaining reader.old) (R.remaining reader.new)
         (W.contents writer.old) (W.contents writer.new) served) }
     // The same of the messages that are answered before a fault.
     ensures machine_until { IfErr result (λ fault. HasCleanDisk (state S.Store broker.new.connection)
         → (mode : Mode) → IsInMode (state S.Store) mode broker.old
-        → (last : Mode) × IsInMode (state S.Store) last broker.new
-        × ServesUntil (Exchange ModeStep) mode last
+        → (last : Journal) × IsInMode (state S.Store) last.mode broker.new × IsRunFrom mode last
+        × ServesUntil (Exchange JournalStep) (blank mode) last
         (R.remaining reader.old) (R.remaining reader.new)
         (W.contents writer.old) (W.contents writer.new) fault) }
 {

@@ -13,7 +13,7 @@ use Rattle.http_routes.specs.Methods.{operation_at}
 use Rattle.http_routes.specs.Routes.{resource_of}
 use Rattle.http_routes.specs.declared.Resource.{Resource}
 use Rattle.http_routes.specs.declared.Operation.{Operation}
-use Rattle.http_routes.specs.declared.Operation.TheVariants.{PutTeam, PutPacticipant, PutEnvironment, PutGrant, DeleteGrant, PutVersion, Deploy, GetEnvironment}
+use Rattle.http_routes.specs.declared.Operation.TheVariants.{GetBranchPact, PostResult, PostReplies}
 use Rattle.http_requests.specs.Commands.{IsCommand}
 use Rattle.http_requests.specs.Tokens.{IsTokenOf}
 use Rattle.http_requests.specs.declared.requests.Request.{Request}
@@ -31,15 +31,10 @@ query_of target = after_first is_question_mark target
 
 -- the operations that this broker serves so far
 abbrev pub is_served : Operation → Bool
-is_served PutTeam = true
-is_served PutPacticipant = true
-is_served PutEnvironment = true
-is_served PutGrant = true
-is_served DeleteGrant = true
-is_served PutVersion = true
-is_served Deploy = true
-is_served GetEnvironment = true
-is_served operation = false
+is_served GetBranchPact = false
+is_served PostResult = false
+is_served PostReplies = false
+is_served operation = true
 
 -- the operation that the method asks of the resource
 abbrev pub operation_asked : Resource → Option Method → Option Operation

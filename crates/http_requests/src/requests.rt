@@ -48,15 +48,8 @@ fn is_served(operation: Operation) -> bool
     ensures { result ≡ is_served operation }
 {
     match operation {
-        Operation::PutTeam
-        | Operation::PutPacticipant
-        | Operation::PutEnvironment
-        | Operation::PutGrant => true,
-        Operation::DeleteGrant
-        | Operation::PutVersion
-        | Operation::Deploy
-        | Operation::GetEnvironment => true,
-        _ => false,
+        Operation::GetBranchPact | Operation::PostResult | Operation::PostReplies => false,
+        _ => true,
     }
 }
 
@@ -70,7 +63,7 @@ fn operation_asked(resource: Resource, method: Option<Method>) -> Option<Operati
     }
 }
 
-/// The command that a operation asks, with the token of its caller.
+/// The command that an operation asks, with the token of its caller.
 fn command_request(
     alloc: Global,
     text: &[u8],

@@ -1,6 +1,8 @@
-use Rattle.std.proofs.Common.{Result, Ok, Err, IfOk, IfErr}
+use Rattle.std.proofs.Common.{Result, Ok, Err, IfOk, IfErr, [], refl}
 use Rattle.broker_http.specs.Exchange.{Exchange}
-use Rattle.broker_http.specs.Serving.{Applied, ModeStep}
+use Rattle.broker_http.specs.Serving.{Applied}
+use Rattle.broker_http.specs.Journal.{Journal, JournalStep, blank}
+use Rattle.broker_http.proofs.JournalLemmas.{journaled, runs}
 use Rattle.broker_http.proofs.ResponsesLemmas.{ServesUntil-nothing}
 use Rattle.std.proofs.lemmas.Result.{IfOk-weaker, err_from_is_err_and}
 use Rattle.sqlite.specs.Held.{state}
@@ -21,7 +23,9 @@ returns-clause-machine g c =
     IfOk-weaker c.serve_all.result _ _
     (λ served p clean mode held.
     let m = machine (state g.S.Store) mode _ p.0 p.1 _ p.2 p.4 clean held in
-    (m.0, m.2, (p.0, p.1, p.2, p.3, m.1, p.5, p.6, p.7)))
+    let j = journaled mode m.0 [] p.0 p.1 p.2 m.1 in
+    let last : Journal = record { mode = m.0; steps = j.0 } in
+    (last, m.2, runs mode last p.0 p.1 p.2 j.1, (p.0, p.1, p.2, p.3, j.1, p.5, p.6, p.7)))
     c.serve_all.ensures.ok
 
 pub returns-clause-machine_until : goal.returns-clause-machine_until
@@ -29,7 +33,9 @@ returns-clause-machine_until g c =
     err_weaker c.serve_all.result _ _
     (λ fault p clean mode held.
     let m = machine (state g.S.Store) mode _ p.0 p.1 _ p.2 p.5 clean held in
-    (m.0, m.2, (p.0, p.1, p.2, p.3, p.4, m.1, p.6, p.7)))
+    let j = journaled mode m.0 [] p.0 p.1 p.2 m.1 in
+    let last : Journal = record { mode = m.0; steps = j.0 } in
+    (last, m.2, runs mode last p.0 p.1 p.2 j.1, (p.0, p.1, p.2, p.3, p.4, j.1, p.6, p.7)))
     c.serve_all.ensures.fault
 
 pub returns-in_err-routes-clause-fault : goal.returns-in_err-routes-clause-fault
@@ -41,7 +47,7 @@ pub returns-in_err-routes-clause-machine_until : goal.returns-in_err-routes-clau
 returns-in_err-routes-clause-machine_until g c =
     let p = err_from_is_err_and c.from_residual.result c.from_residual.ensures.1 in
     rw (p.1, p.2) (λ clean mode held.
-    (mode, held, ServesUntil-nothing (Exchange ModeStep) mode _ _ _ c.in_err-routes.ensures))
+    (blank mode, held, refl, ServesUntil-nothing (Exchange JournalStep) (blank mode) _ _ _ c.in_err-routes.ensures))
 
 pub returns-clause-survives : goal.returns-clause-survives
 returns-clause-survives g c =

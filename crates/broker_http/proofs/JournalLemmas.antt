@@ -1,0 +1,81 @@
+-- What is answered by steps is a run of the machine.
+use Rattle.std.proofs.Common.{◌≡◌, inl, inr, ℕ, if◌then◌else◌, List, [], ◌∷◌, ◌++◌, map, Option, refl, sym, ap, ◌∙◌, subst}
+use Rattle.broker_core.specs.Machine.{Request as Asked, Run, Step}
+use Rattle.broker_core.specs.State.{State as Broker}
+use Rattle.broker_core.specs.Text.{Text}
+use Rattle.broker_core.specs.declared.answer.Answer.{Answer}
+use Rattle.broker_core.specs.declared.command.Command.{Command}
+use Rattle.broker_service.specs.Primitives.{broker_primitives}
+use Rattle.http_responses.specs.Responses.{Response}
+use Rattle.http_requests.specs.declared.requests.Request.{Request}
+use Rattle.http_requests.specs.declared.requests.Request.TheVariants.{Refused, NoRoute, NoMethod, Asks}
+use Rattle.broker_http.specs.Stream.{Responses}
+use Rattle.broker_http.specs.Exchange as exchange
+use Rattle.broker_http.specs.Serving.{Mode, ModeStep}
+use Rattle.broker_http.specs.Serving.Mode.{Running, IsStopped}
+use Rattle.broker_http.specs.Journal.{Journal, JournalStep, written, state_of, blank, IsRunFrom}
+
+-- ---- every answer of the machine can be written down
+
+responded : (old new : Mode) (steps : List (Asked × Answer)) (asked : Request) (response : Response) → exchange.Responds ModeStep old asked response new
+    → (later : List (Asked × Answer)) × exchange.Responds JournalStep (record { mode = old; steps = steps }) asked response (record { mode = new; steps = later })
+responded old new steps (Refused refusal is_bodiless) response p = (steps, (p.0, λ i. record { mode = p.1 i; steps = steps }))
+responded old new steps (NoRoute closes) response p = (steps, (p.0, λ i. record { mode = p.1 i; steps = steps }))
+responded old new steps (NoMethod resource closes) response p = (steps, (p.0, λ i. record { mode = p.1 i; steps = steps }))
+responded old new steps (Asks token command closes) response p = (written steps token command p.0, (p.0, (p.1, refl), p.2))
+
+pub journaled : (old new : Mode) (steps : List (Asked × Answer)) (stream : List ℕ) (responses : List Response) (rest : List ℕ)
+    → Responses (exchange.Exchange ModeStep) old stream responses new rest
+    → (later : List (Asked × Answer)) × Responses (exchange.Exchange JournalStep) (record { mode = old; steps = steps }) stream responses (record { mode = new; steps = later }) rest
+journaled old new steps stream [] rest p = (steps, ((λ i. record { mode = p.0 i; steps = steps }), p.1))
+journaled old new steps stream (response ∷ responses) rest p =
+    let here = responded old p.1 steps p.4.0 response p.4.2 in
+    let later = journaled p.1 new here.0 p.2 responses rest p.5 in
+    (later.0, (p.0, record { mode = p.1; steps = here.0 }, p.2, p.3, (p.4.0, p.4.1, here.1), later.1))
+
+-- ---- what is written down is a run
+
+RunTo : Broker → List (Asked × Answer) → Broker → Type 0
+RunTo s steps t = Run broker_primitives s (map (λ x. x.0) steps) (map (λ x. x.1) steps) t
+
+-- one step more
+run_more : (s t u : Broker) (steps : List (Asked × Answer)) (token : Option Text) (command : Command) (answer : Answer)
+    → RunTo s steps t → Step broker_primitives t token command (record { answer = answer; state = u })
+    → RunTo s (steps ++ (record { token = token; command = command }, answer) ∷ []) u
+unfolding RunTo
+run_more s t u [] token command answer run step = (u, subst (λ (v : Broker). Step broker_primitives v token command (record { answer = answer; state = u })) run step, refl)
+run_more s t u (x ∷ steps) token command answer run step = (run.0, run.1, run_more run.0 t u steps token command answer run.2 step)
+
+-- an answer, by the mode that it comes in
+run_on : (s : Broker) (old new : Mode) (steps later : List (Asked × Answer)) (token : Option Text) (command : Command) (answer : Answer)
+    → ModeStep old token command answer new → later ≡ written steps token command answer → RunTo s steps (state_of old) → RunTo s later (state_of new)
+run_on s (Running t) (Running u) steps later token command answer (inl p) is run =
+    subst (λ xs. RunTo s xs u) (sym (is ∙ ap (λ b. if b then steps ++ (record { token = token; command = command }, answer) ∷ [] else steps) p.0)) (run_more s t u steps token command answer run p.1)
+run_on s (Running t) (Running u) steps later token command answer (inr (inr p)) is run =
+    subst (λ xs. RunTo s xs u) (sym (is ∙ ap (written steps token command) p.0)) (subst (λ (v : Broker). RunTo s steps v) (sym p.2) run)
+run_on s (Running t) (Running u) steps later token command answer (inr (inl p)) is run =
+    subst (λ xs. RunTo s xs u) (sym (is ∙ ap (written steps token command) p.0)) (subst (λ (v : Broker). RunTo s steps v) (sym p.1) run)
+run_on s (Running t) (IsStopped u of failed) steps later token command answer p is run =
+    subst (λ xs. RunTo s xs u) (sym (is ∙ ap (written steps token command) p.0)) (subst (λ (v : Broker). RunTo s steps v) (sym p.1) run)
+run_on s (IsStopped t of failed) new steps later token command answer p is run =
+    subst (λ xs. RunTo s xs (state_of new)) (sym (is ∙ ap (written steps token command) p.0)) (subst (λ m. RunTo s steps (state_of m)) (sym p.1) run)
+
+run_response : (s : Broker) (old new : Journal) (asked : Request) (response : Response) → exchange.Responds JournalStep old asked response new
+    → RunTo s old.steps (state_of old.mode) → RunTo s new.steps (state_of new.mode)
+run_response s old new (Refused refusal is_bodiless) response p run = subst (λ (j : Journal). RunTo s j.steps (state_of j.mode)) (sym p.1) run
+run_response s old new (NoRoute closes) response p run = subst (λ (j : Journal). RunTo s j.steps (state_of j.mode)) (sym p.1) run
+run_response s old new (NoMethod resource closes) response p run = subst (λ (j : Journal). RunTo s j.steps (state_of j.mode)) (sym p.1) run
+run_response s old new (Asks token command closes) response p run = run_on s old.mode new.mode old.steps new.steps token command p.0 p.1.0 p.1.1 run
+
+run_responses : (s : Broker) (old new : Journal) (stream : List ℕ) (responses : List Response) (rest : List ℕ)
+    → Responses (exchange.Exchange JournalStep) old stream responses new rest
+    → RunTo s old.steps (state_of old.mode) → RunTo s new.steps (state_of new.mode)
+run_responses s old new stream [] rest p run = subst (λ (j : Journal). RunTo s j.steps (state_of j.mode)) (sym p.0) run
+run_responses s old new stream (response ∷ responses) rest p run =
+    run_responses s p.1 new p.2 responses rest p.5 (run_response s old p.1 p.4.0 response p.4.2 run)
+
+-- from a blank journal
+pub runs : (mode : Mode) (last : Journal) (stream : List ℕ) (responses : List Response) (rest : List ℕ)
+    → Responses (exchange.Exchange JournalStep) (blank mode) stream responses last rest → IsRunFrom mode last
+unfolding RunTo
+runs mode last stream responses rest p = run_responses (state_of mode) (blank mode) last stream responses rest p refl
