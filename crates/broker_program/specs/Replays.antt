@@ -6,7 +6,8 @@ use Rattle.broker_core.specs.State.{opening}
 use Rattle.broker_core.specs.Text.{Text}
 use Rattle.broker_service.specs.Primitives.{broker_primitives}
 use Rattle.broker_http.specs.Exchange.{Exchange}
-use Rattle.broker_http.specs.Serving.{Mode, ModeStep, Serves, ServesUntil}
+use Rattle.broker_http.specs.Journal.{Journal, JournalStep, IsRunFrom, blank}
+use Rattle.broker_http.specs.Serving.{Mode, Serves, ServesUntil}
 use Rattle.broker_http.specs.Serving.Mode.{Running}
 use Rattle.broker_http.specs.declared.served.Ended.TheVariants as ends
 use Rattle.broker_http.specs.declared.served.ServeFault.{ServeFault}
@@ -26,16 +27,18 @@ new_broker office = Running (opening (broker_primitives.digest_of office))
 
 module _ (office : Text) (before after old new : Option (List ℕ)) where
   -- What was read is a stream whose messages are answered in turn, as the machine answers them from the
-  -- opening state of an office with this token, and nothing else is written. It ends where the reader
-  -- ends, or behind an answer that closes.
+  -- opening state of an office with this token, and nothing else is written: the answers that are steps run
+  -- it, in order, to its last state. It ends where the reader ends, or behind an answer that closes.
   abbrev pub Replays : Type 0
   Replays =
-      (last : Mode) × (served : Served)
-      × Serves (Exchange ModeStep) (new_broker office) last before after old new served
+      (last : Journal) × (served : Served)
+      × IsRunFrom (new_broker office) last
+      × Serves (Exchange JournalStep) (blank (new_broker office)) last before after old new served
       × (served.ended ≢ ends.Closed → IsAtEnd after)
 
   -- The same of the messages before a fault of serving.
   abbrev pub ReplaysUntil : Type 0
   ReplaysUntil =
-      (last : Mode) × (fault : ServeFault)
-      × ServesUntil (Exchange ModeStep) (new_broker office) last before after old new fault
+      (last : Journal) × (fault : ServeFault)
+      × IsRunFrom (new_broker office) last
+      × ServesUntil (Exchange JournalStep) (blank (new_broker office)) last before after old new fault
