@@ -14,3 +14,4 @@ pub mod NextRow
 pub mod Listed
 pub mod VersionRows
 pub mod ByNumber
+pub mod Former

@@ -52,7 +52,8 @@ checked_results = record schema.checked_results { tree = 25 }
 abbrev pub strict_environments : Table
 strict_environments = record schema.strict_environments { tree = 26 }
 
-all_calm : IsCalm schema.broker_schema.tables
+-- no foreign key acts on a change of its parent
+pub all_calm : IsCalm schema.broker_schema.tables
 all_calm =
     (tt, (tt, (((refl, refl), tt), (((refl, refl), tt), (((refl, refl), tt), (tt, (((refl, refl), ((refl, refl), tt)), (tt, (((refl, refl), ((refl, refl), ((refl, refl), tt))), (((refl, refl), ((refl, refl), ((refl, refl), tt))), (((refl, refl), ((refl, refl), ((refl, refl), tt))), (((refl, refl), ((refl, refl), ((refl, refl), tt))), (((refl, refl), ((refl, refl), tt)), (((refl, refl), tt), (((refl, refl), tt), tt)))))))))))))))
 

@@ -4,3 +4,4 @@ pub mod Names
 pub mod Numbers
 pub mod Holds
 pub mod Making
+pub mod Former

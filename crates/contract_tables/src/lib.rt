@@ -8,6 +8,7 @@ mod contracts;
 mod listings;
 mod lookups;
 mod making;
+mod migration;
 mod results;
 
 pub use contracts::{add_contract, contract_of};
@@ -17,4 +18,5 @@ pub use listings::{
 };
 pub use lookups::{ResultRow, latest_number, latest_of, result_count, result_of_run, result_said};
 pub use making::{make_checked_results, make_indexes, make_tables};
+pub use migration::to_format_2;
 pub use results::record_result;

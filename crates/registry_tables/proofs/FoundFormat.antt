@@ -19,7 +19,7 @@ use Rattle.sqlite.specs.State.{State, Shown}
 use Rattle.sqlite.specs.Listing.{understood}
 use Rattle.sqlite_tied.specs.Compute.{everything}
 use Rattle.table_access.specs.Statements.{from_table, keeps, shows}
-use Rattle.table_access.proofs.Steps.{Means, selects}
+use Rattle.table_access.proofs.Steps.{Means, selects, shown_unchanged}
 use Rattle.broker_tables.specs.Schema.{meta}
 use Rattle.registry_tables.specs.Format.{IsMetaTable, Finds}
 
@@ -77,3 +77,7 @@ found_in db t first is rows same (Some n) one =
 pub format_found : (old new : State) (t : Table) → slice_get old.now.schema.tables 0 ≡ Some t → IsMetaTable t → (rows : List Row) → Shown format_sql [] old new rows → (found : Option ℕ)
     → MatchOption found (length rows ≢ 1) (λ n. map (λ row. column row 0) rows ≡ Int (pos n) ∷ []) → Finds old.now found
 format_found old new t first is rows h found it = found_in old.now t first is rows (selects format_sql [] old new 0 [] (col 1 2 ∷ []) [] (codes "format" ∷ []) (means old.now.schema t first is) rows h) found it
+
+-- and the database is as it was
+pub format_read : (old new : State) (t : Table) → slice_get old.now.schema.tables 0 ≡ Some t → IsMetaTable t → (rows : List Row) → Shown format_sql [] old new rows → new.now ≡ old.now
+format_read old new t first is rows h = (shown_unchanged format_sql [] old new rows (means old.now.schema t first is).plain h).0.now_is

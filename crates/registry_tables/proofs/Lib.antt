@@ -9,3 +9,4 @@ pub mod MetaRow
 pub mod FoundFormat
 pub mod BranchNumbers
 pub mod BranchBelow
+pub mod FormatRow

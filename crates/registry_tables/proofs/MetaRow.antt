@@ -38,7 +38,7 @@ put_text : Means (schema_of registry_part) put_sql put_command
 unfolding understood everything
 put_text = record { is = refl; plain = (refl, refl); unlisted = refl }
 
-alone : (old new : List Row) (row : Row) → IsAdded old new row → old ≡ [] → new ≡ row ∷ []
+pub alone : (old new : List Row) (row : Row) → IsAdded old new row → old ≡ [] → new ≡ row ∷ []
 alone old new row it none = go it.front it.back (sym none ∙ it.was) it.is
   where
     go : (front back : List Row) → [] ≡ front ++ back → new ≡ front ++ row ∷ back → new ≡ row ∷ []

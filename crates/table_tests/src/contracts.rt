@@ -10,7 +10,7 @@ use registry_tables::add_version;
 use std::test::Fail;
 use table_access::StoreFault;
 
-/// A contract is found by its version and its provider, and each result is the latest of its content and version until the next one.
+/// A contract is found by its version and its provider, and each result is the latest of its content and version until the next one. Two providers may each have a run of one name, and a content that isn't there gets no result.
 #[test]
 fn keeps_contracts_and_results(rt: HostRuntime) -> Result<(), Fail> {
     let mut conn = filled(rt.alloc())?;
@@ -29,16 +29,33 @@ fn keeps_contracts_and_results(rt: HostRuntime) -> Result<(), Fail> {
         );
     }
     assert!(rt; latest_number(&mut conn, 1, 2) == Ok(None));
-    for (number, version, pass, checked, run, recorded) in [
-        (1, 2, true, false, Some("run 1"), Ok(())),
-        (2, 3, true, true, None, Ok(())),
-        (3, 2, false, true, Some("run 2"), Ok(())),
-        (4, 3, true, false, Some("run 1"), Err(StoreFault::Store)),
+    for (number, content, provider, version, pass, checked, run, recorded) in [
+        (1, 1, "stock", 2, true, false, Some("run 1"), Ok(())),
+        (2, 1, "stock", 3, true, true, None, Ok(())),
+        (3, 1, "stock", 2, false, true, Some("run 2"), Ok(())),
+        (
+            4,
+            1,
+            "stock",
+            3,
+            true,
+            false,
+            Some("run 1"),
+            Err(StoreFault::Store),
+        ),
+        (4, 2, "stock", 3, true, false, None, Err(StoreFault::Store)),
+        (4, 1, "shop", 1, true, false, Some("run 1"), Ok(())),
     ] {
         assert!(rt;
-            record_result(&mut conn, number, 1, "stock", version, pass, checked, run) == recorded,
-            "{number}"
+            record_result(
+                &mut conn, number, content, provider, version, pass, checked, run
+            ) == recorded,
+            "{number}, {provider}, {content}"
         );
+    }
+    for (provider, number) in [("stock", 1), ("shop", 4)] {
+        let found = result_of_run(&mut conn, provider, "run 1").map_err(fail_of)?;
+        assert!(rt; found.map(|row| row.number) == Some(number), "{provider}");
     }
     for (version, number) in [(2, 3), (3, 2)] {
         assert!(rt;

@@ -6,8 +6,8 @@ use broker_core::need::Latest;
 use content_store::{Sha256Digester, put};
 use contract_tables::{add_contract, record_result};
 use deploy_tables::{
-    deployed, end_support, is_deployed, is_released, needs, record_deployed, record_released,
-    released, standing, take_out,
+    deployed, end_support, is_deployed, is_released, matrix, needs, record_deployed,
+    record_released, released, standing, take_out,
 };
 use registry_tables::{add_pacticipant, add_version};
 use sqlite::{Connection, MemStore, params};
@@ -156,13 +156,17 @@ fn said(latest: Option<Latest>) -> &'static str {
     }
 }
 
-/// The needs of the version of that number in live.
-fn asked(alloc: Global, conn: &mut Connection<MemStore>, number: u32) -> Result<String, Fail> {
+fn version_of(alloc: Global, number: u32) -> Result<Version, Fail> {
     let (pacticipant, name) = names_of(number);
-    let version = Version {
+    Ok(Version {
         pacticipant: Name::new(alloc, pacticipant)?,
         name: Name::new(alloc, name)?,
-    };
+    })
+}
+
+/// The needs of the version of that number in live.
+fn asked(alloc: Global, conn: &mut Connection<MemStore>, number: u32) -> Result<String, Fail> {
+    let version = version_of(alloc, number)?;
     let mut text = String::new(alloc);
     for need in needs(alloc, conn, number, &version, "live").map_err(fail_of)? {
         let provider_version = match &need.provider_version {
@@ -262,7 +266,7 @@ fn consumer_needs(rt: HostRuntime) -> Result<(), Fail> {
     Ok(())
 }
 
-/// A provider needs each consumer version that stands there, by its own contract, and each need stands once.
+/// A provider needs each consumer version that stands there, by its own contract, and each need stands once. A contract of a pacticipant with itself is a need of the consumer alone.
 #[test]
 fn provider_needs(rt: HostRuntime) -> Result<(), Fail> {
     let alloc = rt.alloc();
@@ -297,5 +301,113 @@ fn provider_needs(rt: HostRuntime) -> Result<(), Fail> {
         stands(alloc, &mut conn)?.as_str()
             == "a \"b\" é it's = a \"b\" é it's; shop 1 = shop 1; shop 2 = shop 2; stock 1 = stock 1; "
     );
+    add_contract(&mut conn, 1, "shop", 1).map_err(fail_of)?;
+    for (version, wanted) in [
+        (
+            1,
+            "shop 1, shop 1: missing; shop 1, shop 2: missing; shop 1, stock 1: passed; ",
+        ),
+        (2, "shop 2, stock 1: passed; "),
+    ] {
+        assert!(rt;
+            asked(alloc, &mut conn, version)?.as_str() == wanted,
+            "{version}"
+        );
+    }
+    Ok(())
+}
+
+/// The matrix of the version of that number.
+fn rows(alloc: Global, conn: &mut Connection<MemStore>, number: u32) -> Result<String, Fail> {
+    let version = version_of(alloc, number)?;
+    let mut text = String::new(alloc);
+    for row in matrix(alloc, conn, number, &version).map_err(fail_of)? {
+        let consumer = row.consumer.as_str();
+        let consumer_version = row.consumer_version.as_str();
+        let provider = row.provider.as_str();
+        let verified = match &row.verified {
+            Some(verified) => {
+                let provider_version = verified.provider_version.as_str();
+                let latest = said(Some(verified.latest));
+                format!(in alloc; "{provider_version}: {} {latest}", verified.result)?
+            }
+            None => String::from_str(alloc, "none")?,
+        };
+        let verified = verified.as_str();
+        let row = format!(in alloc; "{consumer} {consumer_version}, {provider} {verified}; ")?;
+        text.push_str(row.as_str())?;
+    }
+    Ok(text)
+}
+
+/// A version's matrix has the latest result for each contract that it is a side of, and a row for each contract of its own without one.
+#[test]
+fn matrices(rt: HostRuntime) -> Result<(), Fail> {
+    let alloc = rt.alloc();
+    let mut conn = gated(alloc)?;
+    add_contract(&mut conn, 2, "a \"b\" é", 2).map_err(fail_of)?;
+    assert!(rt; rows(alloc, &mut conn, 1)?.as_str() == "shop 1, stock none; ");
+    assert!(rt; rows(alloc, &mut conn, 3)?.as_str() == "");
+    for (result, content, version, pass) in [
+        (1, 1, 3, true),
+        (2, 1, 3, false),
+        (3, 2, 3, false),
+        (4, 2, 3, true),
+        (5, 2, 4, false),
+    ] {
+        record_result(
+            &mut conn, result, content, "stock", version, pass, false, None,
+        )
+        .map_err(fail_of)?;
+    }
+    for (version, wanted) in [
+        (1, "shop 1, stock 1: 2 failed; "),
+        (
+            2,
+            "shop 2, a \"b\" é none; shop 2, stock 1: 4 passed; shop 2, stock 2: 5 failed; ",
+        ),
+        (
+            3,
+            "a \"b\" é it's, stock 1: 2 failed; shop 1, stock 1: 2 failed; shop 2, stock 1: 4 passed; ",
+        ),
+        (4, "shop 2, stock 2: 5 failed; "),
+    ] {
+        assert!(rt;
+            rows(alloc, &mut conn, version)?.as_str() == wanted,
+            "{version}"
+        );
+    }
+    Ok(())
+}
+
+/// Deploys a version of a pacticipant of its own, which has a contract with stock.
+fn deploy_consumer(
+    alloc: Global,
+    conn: &mut Connection<MemStore>,
+    pacticipant: u32,
+) -> Result<(), Fail> {
+    let name = format!(in alloc; "p{pacticipant}")?;
+    add_pacticipant(conn, name.as_str(), "red").map_err(fail_of)?;
+    let number = add_version(conn, name.as_str(), "1").map_err(fail_of)?;
+    add_contract(conn, number, "stock", 1).map_err(fail_of)?;
+    record_deployed(conn, "live", name.as_str(), "", number).map_err(fail_of)
+}
+
+/// Two hundred pacticipants stand, each of them a consumer.
+#[test]
+fn two_hundred_stand(rt: HostRuntime) -> Result<(), Fail> {
+    let alloc = rt.alloc();
+    let mut conn = gated(alloc)?;
+    for pacticipant in 100..300 {
+        deploy_consumer(alloc, &mut conn, pacticipant)?;
+    }
+    let there = standing(alloc, &mut conn, "live").map_err(fail_of)?;
+    assert!(rt; there.len() == 200);
+    let stock = version_of(alloc, 3)?;
+    let needed = needs(alloc, &mut conn, 3, &stock, "live").map_err(fail_of)?;
+    assert!(rt; needed.len() == 200);
+    for (version, need) in there.iter().zip(needed.iter()) {
+        assert!(rt; version.pacticipant.as_str() == need.consumer.as_str());
+    }
     Ok(())
 }

@@ -1,0 +1,128 @@
+-- A database of format 1, as it becomes one of format 2.
+use Rattle.std.proofs.Common.{◌≡◌, ◌≢◌, ◌+◌, ℕ, ℤ, pos, List, [], ◌∷◌, ◌++◌, map, false, codes, refl, sym, ap, subst, subst₂, ◌∙◌, arith}
+use Rattle.std.specs.List.{AllByRecursion, enumerate_from}
+use Rattle.std.specs.Cmp.Lexicographic.{nat_list_cmp_total}
+use Rattle.sqlite.specs.Table.{Table}
+use Rattle.sqlite.specs.Tree.{Trees}
+use Rattle.sqlite.specs.Schema.{Schema}
+use Rattle.sqlite.specs.Order.{Row}
+use Rattle.sqlite.specs.Change.{created, next_tree, KeepsRows}
+use Rattle.sqlite.specs.Effect.{Database}
+use Rattle.table_access.specs.Columns.{text, whole_at}
+use Rattle.table_access.specs.Sound.{IsKept}
+use Rattle.table_access.specs.Statements.{Creates, MakesIndexes, indexed_by}
+use Rattle.table_access.proofs.Creation.{made_kept}
+use Rattle.table_access.proofs.Indexing.{indexes_schema, indexes_keep, indexes_kept}
+use Rattle.table_access.proofs.Maps.{find_has}
+use Rattle.broker_core.specs.declared.command.Marks.{Marks}
+use Rattle.broker_core.specs.declared.command.Version.{Version}
+use Rattle.broker_core.specs.State.{State as Broker, Verification}
+use Rattle.broker_tables.specs.Schema.{schema_of, all_tables, all_indexes, checked_results, strict_environments}
+use Rattle.broker_tables.specs.Rows.{rows_of}
+use Rattle.broker_tables.specs.Holds.{Holds, IsMeta, format, AreTeams, ArePacticipants, AreVersions, AreBranches, AreEnvironments, AreGrants, AreContents, AreContracts, AreResults, AreLatest, AreDeployed, AreReleased, ResultRow, result_in, result_of, marks_in}
+use Rattle.broker_tables.specs.Former.{HoldsUnmarked, IsUnmarked, former_tables, added_tables}
+use Rattle.broker_tables.proofs.Orders.{exact_texts}
+
+-- ---- the tables of format 1 keep their rows
+
+abbrev pub KeepsOthers : Trees → Trees → Table → Type 0
+KeepsOthers old new t = t.tree ≢ 0 → new t.tree ≡ old t.tree
+
+unless_meta : (old new : Trees) (ts : List Table) → KeepsRows ts old new → AllByRecursion (KeepsOthers old new) ts
+unless_meta old new [] same = tt
+unless_meta old new (t ∷ ts) same = ((λ _. same.0), unless_meta old new ts same.1)
+
+-- The tables but meta have the rows that they had, meta has its row, and the tables that are added have none.
+pub still_unmarked : (n m : ℕ) (more next : List Table) (old new : Database) (s : Broker) → HoldsUnmarked n more old s
+    → AllByRecursion (KeepsOthers old.trees new.trees) (schema_of former_tables).tables → IsMeta m s.office (new.trees 0)
+    → new.schema ≡ schema_of (former_tables ++ next) → IsKept new → AllByRecursion (λ t. rows_of new t.name ≡ []) next → HoldsUnmarked m next new s
+still_unmarked n m more next old new s held same meta schema kept empty = record {
+  schema = schema;
+  kept = kept;
+  empty = empty;
+  meta = meta;
+  teams = subst (AreTeams s.teams) (sym (same.1.0 (omega arith))) held.teams;
+  pacticipants = subst (ArePacticipants s.pacticipants) (sym (same.1.1.0 (omega arith))) held.pacticipants;
+  versions = subst (AreVersions s.versions) (sym (same.1.1.1.0 (omega arith))) held.versions;
+  branches = subst (AreBranches s.versions s.branches) (sym (same.1.1.1.1.0 (omega arith))) held.branches;
+  environments = subst (λ rows. AreEnvironments s.environments rows []) (sym (same.1.1.1.1.1.0 (omega arith))) held.environments;
+  grants = subst (AreGrants s.grants) (sym (same.1.1.1.1.1.1.0 (omega arith))) held.grants;
+  contents = subst (AreContents s.contents) (sym (same.1.1.1.1.1.1.1.0 (omega arith))) held.contents;
+  contracts = subst (AreContracts s.versions s.contracts) (sym (same.1.1.1.1.1.1.1.1.0 (omega arith))) held.contracts;
+  results = subst (λ rows. AreResults s.versions s.results rows []) (sym (same.1.1.1.1.1.1.1.1.1.0 (omega arith))) held.results;
+  latest = subst (AreLatest s) (sym (same.1.1.1.1.1.1.1.1.1.1.0 (omega arith))) held.latest;
+  deployed = subst (AreDeployed s.versions s.deployed) (sym (same.1.1.1.1.1.1.1.1.1.1.1.0 (omega arith))) held.deployed;
+  released = subst (AreReleased s.versions s.released) (sym (same.1.1.1.1.1.1.1.1.1.1.1.1.0 (omega arith))) held.released;
+}
+
+front_of : {X : Type 0} (P : X → Type 0) (xs ys : List X) → AllByRecursion P (xs ++ ys) → AllByRecursion P xs
+front_of P [] ys all = tt
+front_of P (x ∷ xs) ys all = (all.0, front_of P xs ys all.1)
+
+module _ (n : ℕ) (old new : Database) (s : Broker) where
+  -- the table of checked results is made
+  pub checked_made : HoldsUnmarked n [] old s → Creates old new checked_results → HoldsUnmarked n (checked_results ∷ []) new s
+  checked_made held made =
+      let keeps : KeepsRows (schema_of former_tables).tables old.trees new.trees = subst (λ (c : Schema). KeepsRows c.tables old.trees new.trees) held.schema made.others in
+      still_unmarked n n [] (checked_results ∷ []) old new s held (unless_meta old.trees new.trees (schema_of former_tables).tables keeps) (subst (IsMeta n s.office) (sym keeps.0) held.meta)
+      (made.schema ∙ ap (λ c. created c checked_results) held.schema) (made_kept (checked_results ∷ []) old new (new, made, refl) held.kept)
+      (subst (λ c. new.trees (next_tree c) ≡ []) held.schema made.empty, tt)
+
+  -- the table of strict environments is made
+  pub strict_made : HoldsUnmarked n (checked_results ∷ []) old s → Creates old new strict_environments → HoldsUnmarked n added_tables new s
+  strict_made held made =
+      let before = former_tables ++ checked_results ∷ [] in
+      let keeps : KeepsRows (schema_of before).tables old.trees new.trees = subst (λ (c : Schema). KeepsRows c.tables old.trees new.trees) held.schema made.others in
+      let front = front_of (λ t. new.trees t.tree ≡ old.trees t.tree) (schema_of former_tables).tables (record checked_results { tree = 25 } ∷ []) keeps in
+      still_unmarked n n (checked_results ∷ []) added_tables old new s held (unless_meta old.trees new.trees (schema_of former_tables).tables front) (subst (IsMeta n s.office) (sym keeps.0) held.meta)
+      (made.schema ∙ ap (λ c. created c strict_environments) held.schema) (made_kept (strict_environments ∷ []) old new (new, made, refl) held.kept)
+      (keeps.1.1.1.1.1.1.1.1.1.1.1.1.1.0 ∙ held.empty.0, (subst (λ c. new.trees (next_tree c) ≡ []) held.schema made.empty, tt))
+
+  -- meta tells another format
+  pub format_told : (m : ℕ) → HoldsUnmarked n added_tables old s → new.schema ≡ old.schema → IsKept new → AllByRecursion (KeepsOthers old.trees new.trees) (schema_of all_tables).tables → IsMeta m s.office (new.trees 0) → HoldsUnmarked m added_tables new s
+  format_told m held same kept others meta =
+      let front = front_of (KeepsOthers old.trees new.trees) (schema_of former_tables).tables (record checked_results { tree = 25 } ∷ record strict_environments { tree = 26 } ∷ []) others in
+      still_unmarked n m added_tables added_tables old new s held front meta (same ∙ held.schema) kept
+      (others.1.1.1.1.1.1.1.1.1.1.1.1.1.0 (omega arith) ∙ held.empty.0, (others.1.1.1.1.1.1.1.1.1.1.1.1.1.1.0 (omega arith) ∙ held.empty.1.0, tt))
+
+-- then the indexes are made: the database holds the state as a new broker's does
+pub migrated : (old new : Database) (s : Broker) → HoldsUnmarked format added_tables old s → MakesIndexes all_indexes old new → Holds new s
+migrated old new s held makes =
+    let k : KeepsRows (schema_of all_tables).tables old.trees new.trees = subst (λ (c : Schema). KeepsRows c.tables old.trees new.trees) held.schema (indexes_keep all_indexes old new makes) in
+    let none = k.1.1.1.1.1.1.1.1.1.1.1.1.1.0 ∙ held.empty.0 in
+    let lenient = k.1.1.1.1.1.1.1.1.1.1.1.1.1.1.0 ∙ held.empty.1.0 in
+    record {
+      broker = record { schema = indexes_schema all_indexes old new makes ∙ ap (λ c. indexed_by c all_indexes) held.schema; kept = indexes_kept all_indexes old new makes held.kept };
+      meta = subst (IsMeta format s.office) (sym k.0) held.meta;
+      teams = subst (AreTeams s.teams) (sym k.1.0) held.teams;
+      pacticipants = subst (ArePacticipants s.pacticipants) (sym k.1.1.0) held.pacticipants;
+      versions = subst (AreVersions s.versions) (sym k.1.1.1.0) held.versions;
+      branches = subst (AreBranches s.versions s.branches) (sym k.1.1.1.1.0) held.branches;
+      environments = subst₂ (AreEnvironments s.environments) (sym k.1.1.1.1.1.0) (sym lenient) held.environments;
+      grants = subst (AreGrants s.grants) (sym k.1.1.1.1.1.1.0) held.grants;
+      contents = subst (AreContents s.contents) (sym k.1.1.1.1.1.1.1.0) held.contents;
+      contracts = subst (AreContracts s.versions s.contracts) (sym k.1.1.1.1.1.1.1.1.0) held.contracts;
+      results = subst₂ (AreResults s.versions s.results) (sym k.1.1.1.1.1.1.1.1.1.0) (sym none) held.results;
+      latest = subst (AreLatest s) (sym k.1.1.1.1.1.1.1.1.1.1.0) held.latest;
+      deployed = subst (AreDeployed s.versions s.deployed) (sym k.1.1.1.1.1.1.1.1.1.1.1.0) held.deployed;
+      released = subst (AreReleased s.versions s.released) (sym k.1.1.1.1.1.1.1.1.1.1.1.1.0) held.released;
+    }
+
+-- ---- every result is claimed, and no environment is strict
+
+claims : (versions : List Version) (m : ℕ) (rows : List Row) (results : List Verification)
+    → map {B = ℤ × ResultRow} (λ r. (whole_at 0 r, result_in [] r)) rows ≡ map {B = ℤ × ResultRow} (λ e. (pos e.0, e.1)) (enumerate_from m (map (result_of versions) results)) → AllByRecursion (λ r. r.checked ≡ false) results
+claims versions m rows [] e = tt
+claims versions m [] (r ∷ results) e = absurd cc
+claims versions m (row ∷ rows) (r ∷ results) e =
+    let pair : ◌≡◌ {A = ℤ × ResultRow} (whole_at 0 row, result_in [] row) (pos m, result_of versions r) = cc in
+    let later : map {B = ℤ × ResultRow} (λ x. (whole_at 0 x, result_in [] x)) rows ≡ map {B = ℤ × ResultRow} (λ x. (pos x.0, x.1)) (enumerate_from (m + 1) (map (result_of versions) results)) = cc in
+    (sym (ap (λ (x : ℤ × ResultRow). x.1.checked) pair), claims versions (m + 1) rows results later)
+
+pub unmarked : (n : ℕ) (more : List Table) (db : Database) (s : Broker) → HoldsUnmarked n more db s → IsUnmarked s
+unmarked n more db s held = record {
+  claimed = claims s.versions 1 (rows_of db (codes "results")) s.results held.results;
+  lenient = λ e marks is.
+      let row = find_has nat_list_cmp_total exact_texts (text 1) (marks_in []) e marks (rows_of db (codes "environments")) (held.environments e ∙ is) in
+      sym (ap (λ (m : Marks). m.strict) row.3);
+}
