@@ -1,4 +1,3 @@
-mod AskedLemmas
 mod JournalLemmas
 mod ModeLemmas
 mod OneReading

@@ -3,4 +3,3 @@ pub mod Stream
 pub mod Exchange
 pub mod Serving
 pub mod Journal
-pub mod Asked

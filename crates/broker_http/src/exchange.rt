@@ -2,10 +2,8 @@
 ghost use Rattle.std.specs.Prelude.{◌≡◌, ◌≤◌, [], vec_capacity, IfOk, IfErr};
 ghost use Rattle.std.specs.Io.KnownBytes.{Appends};
 ghost use Rattle.sqlite.specs.Held.{state};
-ghost use Rattle.broker_service.specs.Served.{IsServed};
 ghost use Rattle.http_messages.specs.Views.{IsHeadRead};
 ghost use Rattle.http_responses.specs.Responses.{Response, Writes};
-ghost use Rattle.broker_http.specs.Asked.{IsAskedServed};
 ghost use Rattle.broker_http.specs.Exchange.{Exchange, Responds};
 ghost use Rattle.broker_http.specs.Serving.{Applied};
 ghost use Rattle.broker_http.specs.Stream.{ExchangeCut};
@@ -31,7 +29,6 @@ fn apply<S: Alter>(
     token: &Option<Token>,
     command: &Command,
 ) -> Answer
-    requires { IsServed command.now }
     ensures { Applied (state S.Store) broker.old token.now command.now result broker.new }
 {
     match token {
@@ -52,7 +49,6 @@ fn respond<S: Alter, W: Write>(
 ) -> Result<bool, WriteFault>
     requires empty { head_buffer.items ≡ [] }
     requires capacity { HEAD_CAPACITY ≤ vec_capacity head_buffer }
-    requires served { IsAskedServed request }
     ensures { (response : Response)
         × Responds (Applied (state S.Store)) broker.old request response broker.new
         × Writes (W.contents writer.old) (W.contents writer.new) response result }

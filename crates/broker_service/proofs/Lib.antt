@@ -3,6 +3,9 @@ pub mod CallerLemmas
 pub mod Transaction
 pub mod Sound
 pub mod EndLemmas
+pub mod LeavingLemmas
+pub mod SchemaLemmas
+pub mod SessionLemmas
 pub mod CallerSteps
 pub mod PlaceLemmas
 pub mod GateJudgement
@@ -10,4 +13,7 @@ pub mod FollowLemmas
 pub mod Blank
 pub mod Judgements
 pub mod PactLemmas
-pub mod WhereLemmas
+pub mod BranchLast
+pub mod ResultLemmas
+pub mod CheckLemmas
+pub mod MigrationLemmas

@@ -34,8 +34,9 @@ use Rattle.content_store.proofs.TextNumbers.{same_is, same_itself, none_before}
 use Rattle.contract_tables.specs.Verified.{AddsContract}
 use Rattle.pact_reading.specs.declared.reading.ReadFault.TheVariants.{Form}
 use Rattle.broker_service.specs.Facts.{owners_of, OwnerFacts}
-use Rattle.broker_service.specs.Pacts.{SidesFacts, HasSides, ContractFacts, RoomFacts, CanContract, contracted, Publishes, AsksContract, Reaches}
+use Rattle.broker_service.specs.Pacts.{SidesFacts, HasSides, ContractFacts, RoomFacts, CanContract, contracted, Publishes, AsksContract, Reaches, ShowsReached}
 use Rattle.broker_service.specs.Primitives.{broker_primitives}
+use Rattle.broker_service.proofs.CallerSteps.{refuses, acts}
 
 -- ---- refusals
 
@@ -83,14 +84,6 @@ sides_there command true false may h = absurd cc
 
 -- ---- the names of a file
 
-both_true : (a b : Bool) → (a && b) ≡ true → (a ≡ true) × (b ≡ true)
-both_true true true h = (refl, refl)
-both_true true false h = absurd cc
-both_true false b h = absurd cc
-
-pub names_same : (c p consumer provider : Text) → (same_text c consumer && same_text p provider) ≡ true → (c ≡ consumer) × (p ≡ provider)
-names_same c p consumer provider h = let both = both_true (same_text c consumer) (same_text p provider) h in (same_is c consumer both.0, same_is p provider both.1)
-
 pub names_differ : (c p consumer provider text : Text) → (same_text c consumer && same_text p provider) ≡ false → Some fault.Names ≡ fault_of_reading consumer provider (IsPact c p text)
 names_differ c p consumer provider text h = sym (ap (λ b. cond b None (Some fault.Names)) h)
 
@@ -106,11 +99,6 @@ first_put s v provider text =
     cond (can_name s v && (is_stored s text || has_room s.contents))
     (record { answer = Done (Content (content_number s text)); state = published s v provider text })
     (unchanged_with s Full)
-
-pub put_again : (s : State) (v : Version) (provider text : Text) (content : ℕ) (answer : Answer) → s.contracts (v, provider) ≡ Some content → answer ≡ republished s text content → unchanged_with s answer ≡ put_pact s v provider text
-put_again s v provider text content answer is told = ap (unchanged_with s) told ∙ sym (again (s.contracts (v, provider)) is) where
-  again : (o : Option ℕ) → o ≡ Some content → option_map_or (λ n. unchanged_with s (republished s text n)) o (first_put s v provider text) ≡ unchanged_with s (republished s text content)
-  again o h = ap (λ q. option_map_or (λ n. unchanged_with s (republished s text n)) q (first_put s v provider text)) h
 
 pub put_first : (s : State) (v : Version) (provider text : Text) (b : Bool) → s.contracts (v, provider) ≡ None → (can_name s v && (is_stored s text || has_room s.contents)) ≡ b
     → cond b (record { answer = Done (Content (content_number s text)); state = published s v provider text }) (unchanged_with s Full) ≡ put_pact s v provider text
@@ -148,7 +136,7 @@ or_both : (a b : Bool) → (a || (b || false)) ≡ ((a || false) || (b || false)
 or_both true b = refl
 or_both false b = refl
 
-two_owners : (o q : Option Text) (caller : Caller) (granted : Bool) → allows A5 caller (cons_option o (cons_option q [])) granted ≡ (allows A5 caller (owners_of o) false || allows A5 caller (owners_of q) false)
+pub two_owners : (o q : Option Text) (caller : Caller) (granted : Bool) → allows A5 caller (cons_option o (cons_option q [])) granted ≡ (allows A5 caller (owners_of o) false || allows A5 caller (owners_of q) false)
 two_owners o q Office granted = refl
 two_owners None None (Team t) granted = refl
 two_owners None (Some b) (Team t) granted = refl
@@ -195,22 +183,9 @@ admits R (Ok n) f g h k = f n h
 admits R (Err a) f g h k = g a k
 
 -- what a contract shows
-pub shows_contract : (s : State) (caller : Caller) (path : PactPath) (content : ℕ) (text : Text) → s.contracts (consumer_version path, path.provider) ≡ Some content → refusal s caller (GetPact path) ≡ None → text_of s content ≡ Some text
+shows_contract : (s : State) (caller : Caller) (path : PactPath) (content : ℕ) (text : Text) → s.contracts (consumer_version path, path.provider) ≡ Some content → refusal s caller (GetPact path) ≡ None → text_of s content ≡ Some text
     → StepOfCaller broker_primitives s caller (GetPact path) (unchanged_with s (Shown (shown.Pact text)))
-shows_contract s caller path content text is none has = (
-  None,
-  refl,
-  subst (λ (o : Option Answer). MatchOption o (TakesEffect broker_primitives s (GetPact path) (unchanged_with s (Shown (shown.Pact text)))) (λ told. unchanged_with s (Shown (shown.Pact text)) ≡ unchanged_with s told)) (sym none)
-      (text, ap (option_and_then (text_of s)) is ∙ has, refl),
-)
-
--- and a refusal of it
-pub contract_refused : (s : State) (caller : Caller) (path : PactPath) (answer : Answer) → refusal s caller (GetPact path) ≡ Some answer → StepOfCaller broker_primitives s caller (GetPact path) (unchanged_with s answer)
-contract_refused s caller path answer is = (
-  None,
-  refl,
-  subst (λ (o : Option Answer). MatchOption o (TakesEffect broker_primitives s (GetPact path) (unchanged_with s answer)) (λ told. unchanged_with s answer ≡ unchanged_with s told)) (sym is) refl,
-)
+shows_contract s caller path content text is none has = acts s caller (GetPact path) refl (unchanged_with s (Shown (shown.Pact text))) none (text, ap (option_and_then (text_of s)) is ∙ has, refl)
 
 -- ---- what naming a version and storing a text leave
 
@@ -289,7 +264,7 @@ test_lt m k h = grind (arith, nat_tests)
 test_ge : (m k : ℕ) → ¬ (m < k) → nat_lt m k ≡ false
 test_ge m k h = grind (arith, nat_tests)
 
-pub room_is : (xs : List Text) (count : ℕ) (b : Bool) → IsTrue b ↔ HasRoom count → count ≡ length xs → has_room xs ≡ b
+pub room_is : {X : Type 0} (xs : List X) (count : ℕ) (b : Bool) → IsTrue b ↔ HasRoom count → count ≡ length xs → has_room xs ≡ b
 room_is xs count true h is = test_lt (length xs) limit (subst (λ n. n < limit) is (h.0 refl))
 room_is xs count false h is = test_ge (length xs) limit (λ low. true≢false (sym (h.1 (subst (λ n. n < limit) (sym is) low))))
 
@@ -310,14 +285,9 @@ form_same f e h = cc
 asks_to_show : (path : PactPath) → AsksContract path A5 (path.provider ∷ path.consumer ∷ []) (GetPact path)
 asks_to_show path = record { rule_is = refl; owned_is = refl; missing_is = λ s. refl }
 
-pub shows_reached : (s : State) (caller : Caller) (path : PactPath) (content : ℕ) (answer : Answer) (place : Result ℕ Answer) → place ≡ Ok content → Reaches s caller path A5 (path.provider ∷ path.consumer ∷ []) place
-    → ((text : Text) × (text_of s content ≡ Some text) × (answer ≡ Shown (shown.Pact text))) → StepOfCaller broker_primitives s caller (GetPact path) (unchanged_with s answer)
-shows_reached s caller path content answer place is reach it =
-    let reached = subst (λ r. Reaches s caller path A5 (path.provider ∷ path.consumer ∷ []) r) is reach in
-    subst (λ a. StepOfCaller broker_primitives s caller (GetPact path) (unchanged_with s a)) (sym it.2)
-    (shows_contract s caller path content it.0 reached.0 (reached.1 (GetPact path) (asks_to_show path)) it.1)
-
-pub refuses_reached : (s : State) (caller : Caller) (path : PactPath) (answer : Answer) (place : Result ℕ Answer) → place ≡ Err answer → Reaches s caller path A5 (path.provider ∷ path.consumer ∷ []) place
+pub shown_reached : (s : State) (caller : Caller) (path : PactPath) (place : Result ℕ Answer) (answer : Answer) → Reaches s caller path A5 (path.provider ∷ path.consumer ∷ []) place → ShowsReached s place answer
     → StepOfCaller broker_primitives s caller (GetPact path) (unchanged_with s answer)
-refuses_reached s caller path answer place is reach =
-    contract_refused s caller path answer (subst (λ r. Reaches s caller path A5 (path.provider ∷ path.consumer ∷ []) r) is reach (GetPact path) (asks_to_show path))
+shown_reached s caller path (Ok content) answer reach it =
+    subst (λ a. StepOfCaller broker_primitives s caller (GetPact path) (unchanged_with s a)) (sym it.2) (shows_contract s caller path content it.0 reach.0 (reach.1 (GetPact path) (asks_to_show path)) it.1)
+shown_reached s caller path (Err refusal) answer reach it =
+    subst (λ a. StepOfCaller broker_primitives s caller (GetPact path) (unchanged_with s a)) (sym it) (refuses s caller (GetPact path) refl refusal (reach (GetPact path) (asks_to_show path)))

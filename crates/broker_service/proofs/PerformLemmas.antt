@@ -1,17 +1,23 @@
 -- How a command is put together from calls on the tables.
-use Rattle.std.proofs.Common.{◌≡◌, Ok, Result, inl, sym, subst}
+use Rattle.std.proofs.Common.{◌≡◌, Ok, Err, Result, inl, refl, sym, subst}
 use Rattle.sqlite.specs.State.{State}
 use Rattle.table_access.specs.declared.StoreFault.{StoreFault}
+use Rattle.table_access.specs.declared.StoreFault.TheVariants as store
 use Rattle.table_access.proofs.CallLemmas.{call_with, then_ok, seq, idle}
 use Rattle.broker_core.specs.State.{State as Broker}
 use Rattle.broker_core.specs.Change.{Transition, unchanged_with}
 use Rattle.broker_core.specs.declared.answer.Answer.{Answer}
-use Rattle.broker_tables.specs.Holds.{Holds, Queries, Changes, ChangesAndAnswers}
+use Rattle.broker_core.specs.declared.answer.Answer.TheVariants.{BadForm}
+use Rattle.broker_tables.specs.Holds.{Holds, IsRead, Queries, Changes, ChangesAndAnswers}
 use Rattle.broker_service.specs.Performs.{Performs, PerformsWhere, CallersStep}
+use Rattle.broker_service.specs.Pacts.{answer_to}
 use Rattle.broker_service.specs.Primitives.{broker_primitives}
 use Rattle.broker_core.specs.Machine.{StepOfCaller}
 use Rattle.broker_core.specs.declared.command.Command.{Command}
+use Rattle.broker_core.specs.declared.command.FormFault.{FormFault}
 use Rattle.broker_core.specs.declared.policy.Caller.{Caller}
+use Rattle.pact_reading.specs.declared.reading.ReadFault.{ReadFault}
+use Rattle.pact_reading.specs.declared.reading.ReadFault.TheVariants.{Form, Memory}
 
 -- nothing is called
 pub refused : (c : State) (answer : Answer) (Q : Broker → Transition → Type 0) → ((s : Broker) → Q s (unchanged_with s answer)) → Performs c c Q (Ok answer)
@@ -34,6 +40,13 @@ pub read_both : {A B C : Type 0} (old mid new : State) (x : A) (y : B) (z : C) (
 read_both old mid new x y z P Q R f one two =
     then_ok old new z z (λ _. (s : Broker) → Holds old.now s → R z s × Holds new.now s) _ (λ h. h)
     (seq old mid new x (Ok z) _ (λ _. (s : Broker) → Holds mid.now s → Q y s × Holds new.now s) _ (λ p b q s held. let first = p s held in let second = q s first.1 in (f s first.0 second.0, second.1)) one (then_ok mid new y z _ _ (λ h. h) two))
+
+-- the same, by what the database holds too
+pub read_held : {A B C : Type 0} (old mid new : State) (x : A) (y : B) (z : C) (P : A → Broker → Type 0) (Q : B → Broker → Type 0) (R : C → Broker → Type 0)
+    → ((s : Broker) → Holds new.now s → P x s → Q y s → R z s) → Queries old mid (Ok x) P → Queries mid new (Ok y) Q → Queries old new (Ok z) R
+read_held old mid new x y z P Q R f one two =
+    then_ok old new z z (IsRead old new (λ _ s. P x s × Q y s)) _ (λ h s held. let both = h s held in (f s both.1 both.0.0 both.0.1, both.1))
+    (read_both old mid new x y z P Q (λ _ s. P x s × Q y s) (λ s p q. (p, q)) one two)
 
 -- a query, and a change
 pub changed_then : {A : Type 0} (old mid new : State) (x : A) (u : Unit {0}) (answer : Answer) (P : A → Broker → Type 0) (Next : Broker → Broker → Type 0) (Q : Broker → Transition → Type 0)
@@ -89,3 +102,18 @@ pub where_told : {A : Type 0} (old new : State) (x : A) (answer : Answer) (Allow
     → ((s : Broker) → Allows s → Takes s × ((t : Broker) → Next x s t → Q s (record { answer = answer; state = t }))) → ChangesAndAnswers old new (Ok x) Takes Next → PerformsWhere old new Allows Q (Ok answer)
 where_told old new x answer Allows Takes Next Q f it =
     then_ok old new x answer _ _ (λ h s held allowed. let go = f s allowed in let next = h s held go.0 in (next.0, go.1 next.0 next.1, next.2)) it.call
+
+-- a query, and a change that answers
+pub where_then_told : {A B : Type 0} (old mid new : State) (x : A) (y : B) (answer : Answer) (P : A → Broker → Type 0) (First Then : Broker → Type 0) (Next : B → Broker → Broker → Type 0) (R : Broker → Transition → Type 0)
+    → ((s : Broker) → First s → P x s → Then s) → ((s : Broker) → First s → P x s → (t : Broker) → Next y s t → R s (record { answer = answer; state = t }))
+    → Queries old mid (Ok x) P → ChangesAndAnswers mid new (Ok y) Then Next → PerformsWhere old new First R (Ok answer)
+where_then_told old mid new x y answer P First Then Next R may f one two =
+    then_ok old new y answer _ _ (λ h s held allows. let it = h s held allows in (it.0, f s allows it.1.0 it.0 it.1.1, it.2))
+    (seq old mid new x (Ok y) _ _ (λ b. (s : Broker) → Holds old.now s → First s → (t : Broker) × (P x s × Next b s t) × Holds new.now t)
+    (λ p b q s held allows. let first = p s held in let next = q s first.1 (may s allows first.0) in (next.0, (first.0, next.1), next.2)) one two.call)
+
+-- ---- a file that wasn't read
+
+pub unread : (c : State) (e : ReadFault) (r : Result Answer StoreFault) (Q : Broker → Transition → Type 0) → r ≡ answer_to e → ((found : FormFault) → e ≡ Form found → (s : Broker) → Q s (unchanged_with s (BadForm found))) → Performs c c Q r
+unread c (Form found) r Q is f = subst (λ (a : Result Answer StoreFault). Performs c c Q a) (sym is) (idle c (Ok (BadForm found)) _ (λ s held. (s, f found refl s, held)))
+unread c Memory r Q is f = subst (λ (a : Result Answer StoreFault). Performs c c Q a) (sym is) (idle c (Err store.Memory) _ tt)

@@ -1,12 +1,16 @@
 pub mod Primitives
-pub mod Served
 pub mod Stored
 pub mod Patterns
 pub mod BrokerView
 pub mod Performs
 pub mod Facts
 pub mod Pacts
+pub mod BranchPact
+pub mod Results
+pub mod Checks
 pub mod Ends
 pub mod Headline
 pub mod Opening
+pub mod Migration
 pub mod Handed
+pub mod Sessions

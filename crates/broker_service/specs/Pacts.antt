@@ -3,12 +3,13 @@ use Rattle.std.specs.Prelude.{◌≡◌, ℕ, Option, Some, None, List, Bool, is
 use Rattle.broker_core.specs.Text.{Text, same_pair, same_version, same_text, put_at}
 use Rattle.broker_core.specs.State.{State as Broker}
 use Rattle.broker_core.specs.Limit.{has_room}
-use Rattle.broker_core.specs.Change.{Transition, named, stored, is_stored, number_of as content_number}
+use Rattle.broker_core.specs.Change.{Transition, named, stored, is_stored, text_of, number_of as content_number}
 use Rattle.broker_core.specs.Machine.{StepOfCaller}
 use Rattle.broker_core.specs.Machine.Reading.{IsPact}
 use Rattle.broker_core.specs.Request.{consumer_version, is_known, rule_of, sides_of, first_missing, unless_contract, refusal}
 use Rattle.broker_core.specs.declared.answer.Answer.{Answer}
-use Rattle.broker_core.specs.declared.answer.Answer.TheVariants.{BadForm}
+use Rattle.broker_core.specs.declared.answer.Answer.TheVariants.{BadForm, Shown}
+use Rattle.broker_core.specs.declared.answer.Shown.TheVariants as shown
 use Rattle.pact_reading.specs.declared.reading.ReadFault.{ReadFault}
 use Rattle.pact_reading.specs.declared.reading.ReadFault.TheVariants.{Form, Memory}
 use Rattle.table_access.specs.declared.StoreFault.{StoreFault}
@@ -85,6 +86,12 @@ Reaches s caller path rule owned (Ok content) =
     × ((command : Command) → AsksContract path rule owned command → refusal s caller command ≡ None)
 Reaches s caller path rule owned (Err answer) =
     (command : Command) → AsksContract path rule owned command → refusal s caller command ≡ Some answer
+
+-- what is shown of a contract that was reached: the text of its content; or the refusal
+abbrev pub ShowsReached : Broker → Result ℕ Answer → Answer → Type 0
+ShowsReached s (Ok content) answer =
+    (text : Text) × (text_of s content ≡ Some text) × (answer ≡ Shown (shown.Pact text))
+ShowsReached s (Err refusal) answer = answer ≡ refusal
 
 -- what is told of a file that wasn't read
 abbrev pub answer_to : ReadFault → Result Answer StoreFault

@@ -16,9 +16,9 @@ ghost use Rattle.broker_tables.specs.Making.{IsBlank, IsMarked};
 ghost use Rattle.broker_service.specs.Primitives.{broker_primitives};
 ghost use Rattle.broker_service.specs.Opening.{Refuses, IsUnchangedUnless, Judged, IsJudged};
 ghost use Rattle.broker_service.specs.Handed.{left_by, verdict};
-ghost use Rattle.broker_service.specs.Served.{IsServed};
 ghost use Rattle.broker_service.specs.Ends.{Applies, IsAsBefore, AddsNoCrashState};
 ghost use Rattle.broker_service.specs.Headline.{RecordsExactly};
+ghost use Rattle.broker_service.specs.Sessions.{CommandLeaves, OpeningLeaves, MakingLeaves};
 ghost use Rattle.broker_service.specs.Stored.{Stores, HoldsState};
 
 use crate::opening::{self, OpenFault};
@@ -85,6 +85,7 @@ impl<S: Alter> Broker<S> {
             → IsUnchangedUnless (state S.Store conn) (state S.Store r.connection) r.fault) }
         ensures runs { IfOk result (λ b. b.is_stopped ≡ false) }
         ensures survives { Survives (state S.Store conn) (state S.Store (left_by result)) (λ _. ⊤) }
+        ensures leaves { MakingLeaves (state S.Store) conn (broker_primitives.digest_of office.now) result }
     {
         let mut conn = conn;
         match opening::create(alloc, &mut conn, office) {
@@ -123,6 +124,7 @@ impl<S: Alter> Broker<S> {
             → AddsNoCrashState (state S.Store conn) (state S.Store (left_by result)) }
         ensures runs { IfOk result (λ b. b.is_stopped ≡ false) }
         ensures survives { Survives (state S.Store conn) (state S.Store (left_by result)) (λ _. ⊤) }
+        ensures leaves { OpeningLeaves (state S.Store) conn result }
     {
         let mut conn = conn;
         match opening::open(&mut conn) {
@@ -145,6 +147,13 @@ impl<S: Alter> Broker<S> {
         conn
     }
 
+    /// Whether the broker is stopped: a command was answered `Store`, and each one since is answered `Stopped`.
+    pub fn is_stopped(&self) -> bool
+        ensures { result ≡ self.now.is_stopped }
+    {
+        self.stopped
+    }
+
     /// Runs one command of the caller with this token, in one transaction.
     ///
     /// The answer is the machine's, and the database then holds the machine's next state; or it is
@@ -161,8 +170,8 @@ impl<S: Alter> Broker<S> {
     /// From then on each answer is `Stopped`, and nothing changes. After a refused commit a crash
     /// may leave the next state.
     pub fn apply(&mut self, alloc: Global, token: Option<&str>, command: &Command) -> Answer
-        requires { IsServed command.now }
         ensures stopped { IsTrue self.old.is_stopped → (result ≡ outcome.Stopped) × (self.new ≡ self.old) }
+        ensures runs { self.old.is_stopped ≡ false → result ≢ outcome.Stopped }
         ensures applies { HasCleanDisk (state S.Store self.new.connection) → self.old.is_stopped ≡ false
             → (s : BrokerState) → HoldsState s (state S.Store self.old.connection)
             → Applies s (option_map
@@ -188,6 +197,10 @@ impl<S: Alter> Broker<S> {
         ensures stops { self.old.is_stopped ≡ false → (IsTrue self.new.is_stopped ↔ (result ≡ outcome.Store)) }
         ensures survives { Survives (state S.Store self.old.connection) (state S.Store self.new.connection)
             (λ _. ⊤) }
+        ensures leaves { CommandLeaves (state S.Store) self.old (record {
+          token = option_map (λ text. text.now) token.entry;
+          command = command.now;
+        }) result self.new }
     {
         if self.stopped {
             return Answer::failed(Outcome::Stopped);
@@ -198,7 +211,7 @@ impl<S: Alter> Broker<S> {
     /// Runs one command of the caller with this token, in one transaction. Where the database fails
     /// the broker is stopped.
     fn run(&mut self, alloc: Global, token: Option<&str>, command: &Command) -> Answer
-        requires { IsServed command.now }
+        ensures runs { result ≢ outcome.Stopped }
         ensures applies { HasCleanDisk (state S.Store self.new.connection) → (s : BrokerState)
             → HoldsState s (state S.Store self.old.connection)
             → Applies s (option_map

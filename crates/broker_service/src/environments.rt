@@ -7,7 +7,6 @@ ghost use Rattle.broker_core.specs.Text.{put_at, same_text};
 ghost use Rattle.broker_core.specs.Change.{unchanged_with, done};
 ghost use Rattle.broker_core.specs.Machine.{StepOfCaller, fault_of_marks};
 ghost use Rattle.broker_core.specs.declared.command.Command.TheVariants.{PutEnvironment};
-ghost use Rattle.broker_tables.specs.Holds.{Queries};
 ghost use Rattle.broker_service.specs.Primitives.{broker_primitives};
 ghost use Rattle.broker_service.specs.Performs.{Performs};
 
@@ -16,21 +15,10 @@ use broker_core::answer::{Answer, Clash, Detail};
 use broker_core::command::{FormFault, Marks};
 use broker_core::name::{Name, Text};
 use broker_core::policy::{Caller, Rule};
-use registry_tables::add_environment;
+use registry_tables::{add_environment, marks_of};
 use sqlite::{Alter, Connection};
 use std::alloc::Global;
 use table_access::StoreFault;
-
-/// The marks of an environment, none where it isn't there.
-pub(crate) fn marks_of<S: Alter>(
-    conn: &mut Connection<S>,
-    environment: &Name,
-) -> Result<Option<Marks>, StoreFault>
-    ensures { Queries (state S.Store conn.old) (state S.Store conn.new) result
-        (λ marks s. marks ≡ s.environments environment.now) }
-{
-    registry_tables::marks_of(conn, environment.as_str())
-}
 
 /// The answer to marks that no environment may have.
 fn form_of(alloc: Global, marks: Marks) -> Result<Option<Answer>, StoreFault>
@@ -87,7 +75,7 @@ fn put_marks<S: Alter>(
         (λ s out. StepOfCaller broker_primitives s caller.now
         (PutEnvironment environment.now marks) out) result }
 {
-    match marks_of(conn, environment) {
+    match marks_of(conn, environment.as_str()) {
         Ok(old) => match decide(alloc, caller, old, marks) {
             Some(answer) => Ok(answer),
             None => match add_environment(conn, environment.as_str(), marks.gated, marks.strict) {

@@ -1,9 +1,12 @@
 //! The laws of the machine as this broker runs it. The program calls none of these.
 ghost use Rattle.broker_core.specs.Headline.{DeploysExactly, ReleasesExactly, PermitsVerified};
 ghost use Rattle.broker_core.specs.Laws.{OnlyDoneChanges, OpeningIsSound, ContentsStay, GateLocality, GateAnswersOnce, Retry, SessionsCompose, RunsOnce, StepExists, StepOnce};
+ghost use Rattle.sqlite.specs.Held.{state};
 ghost use Rattle.broker_service.specs.Primitives.{broker_primitives};
+ghost use Rattle.broker_service.specs.Sessions.{SessionsFromFound, SessionsFromNew, SessionsRetried};
 
 use broker_core::laws::{self, Machine};
+use sqlite::Alter;
 
 /// The machine with SHA-256 and the readers of this broker.
 struct BrokerMachine;
@@ -44,12 +47,31 @@ pub fn gate_locality()
     laws::gate_locality::<BrokerMachine>()
 }
 
-/// See [`laws::retry`].
-pub fn retry()
-    ensures { Retry broker_primitives (λ s. Unit {0}) }
+/// A command that comes twice leaves what it leaves once, in every state; a result without a run,
+/// which is counted each time, aside. And where sessions of calls lead to a state and each command
+/// that was cut comes first in the next session and is answered by a step there, the state is that of
+/// a run over all commands, each once.
+pub fn retry<S: Alter>()
+    ensures twice { Retry broker_primitives (λ s. Unit {0}) }
+    ensures sessions { SessionsRetried (state S.Store) }
 {
     laws::retry::<BrokerMachine>()
 }
+
+/// Stopped at any call on the disk, in a command or between two, any number of times, and opened
+/// again, the tables are those of the commands done: wherever sessions of calls of [`Broker`] lead,
+/// the state that is found in the files is one that the machine reaches by taking, session after
+/// session, a step for each command that was answered by a step, with that answer, and then the step
+/// of the command that was cut or answered `Store`, or nothing. So of each session just a prefix is
+/// done, which holds every acknowledged command (`runs`). Sessions begin from files in which a state
+/// is found, as `open` finds it, or with the making of a broker. The disk is one that returns what
+/// was written and that nobody else writes.
+///
+/// [`Broker`]: crate::Broker
+pub fn sessions<S: Alter>()
+    ensures found { SessionsFromFound (state S.Store) }
+    ensures new { SessionsFromNew (state S.Store) }
+{}
 
 /// See [`laws::sessions_compose`].
 pub fn sessions_compose()

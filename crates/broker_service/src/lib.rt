@@ -1,6 +1,7 @@
 //! The broker: one command at a time, each in one transaction.
 #![tactic(auto)]
 
+mod branch_pact;
 mod broker;
 mod callers;
 mod can_i_deploy;
@@ -12,6 +13,7 @@ mod grants;
 pub mod laws;
 mod listing;
 mod matrix;
+mod migration;
 mod opening;
 mod pacts;
 mod places;
@@ -19,6 +21,8 @@ mod publish;
 mod put_pacticipant;
 mod put_team;
 mod release;
+mod replies;
+mod results;
 mod rules;
 mod sides;
 mod undeploy;
@@ -28,4 +32,5 @@ mod work;
 
 pub use answer_texts::Answer;
 pub use broker::{Broker, Refused};
+pub use migration::migrate;
 pub use opening::OpenFault;

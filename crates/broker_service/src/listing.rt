@@ -11,12 +11,12 @@ ghost use Rattle.broker_service.specs.Primitives.{broker_primitives};
 ghost use Rattle.broker_service.specs.Performs.{Performs};
 ghost use Rattle.broker_service.specs.Facts.{shows};
 
-use crate::environments::marks_of;
 use broker_core::answer::{Answer, DeployedItem, DeployedItems, Missing, Shown, Versions};
 use broker_core::command::{Marks, Version};
 use broker_core::name::Name;
 use broker_core::policy::Caller;
 use deploy_tables::{deployed, released};
+use registry_tables::marks_of;
 use sqlite::{Alter, Connection};
 use std::alloc::Global;
 use table_access::StoreFault;
@@ -95,7 +95,7 @@ pub(crate) fn get_environment<S: Alter>(
         (λ s out. StepOfCaller broker_primitives s caller.now
         (GetEnvironment environment.now) out) result }
 {
-    match marks_of(conn, environment) {
+    match marks_of(conn, environment.as_str()) {
         Ok(Some(marks)) => list(alloc, conn, environment, marks),
         Ok(None) => Ok(Answer::Unknown(Missing::Environment)),
         Err(fault) => Err(fault),

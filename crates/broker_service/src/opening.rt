@@ -44,7 +44,7 @@ pub enum OpenFault {
     Store,
 }
 
-fn open_fault(fault: StoreFault) -> OpenFault
+pub(crate) fn open_fault(fault: StoreFault) -> OpenFault
     ensures { result ≡ spec.open_fault fault }
 {
     match fault {
@@ -87,7 +87,7 @@ fn make_rest<S: Alter>(conn: &mut Connection<S>) -> Result<(), StoreFault>
 }
 
 /// Makes the indexes, once all tables are made.
-fn make_indexes<S: Alter>(conn: &mut Connection<S>) -> Result<(), StoreFault>
+pub(crate) fn make_indexes<S: Alter>(conn: &mut Connection<S>) -> Result<(), StoreFault>
     ensures { CallsStore (state S.Store conn.old) (state S.Store conn.new) result
         (λ _. (state S.Store conn.old).now.schema ≡ schema_of all_tables
         → MakesIndexes all_indexes (state S.Store conn.old).now (state S.Store conn.new).now) }

@@ -1,11 +1,8 @@
 //! Contracts, shown by their version.
-ghost use Rattle.std.specs.Prelude.{◌≡◌, ◌∷◌, [], ℕ, List, Some};
+ghost use Rattle.std.specs.Prelude.{◌≡◌, ℕ, List, Some};
 ghost use Rattle.sqlite.specs.Held.{state};
-ghost use Rattle.broker_core.specs.Change.{text_of, unchanged_with};
-ghost use Rattle.broker_core.specs.declared.command.PactPath.{PactPath as PathModel};
-ghost use Rattle.broker_core.specs.declared.policy.Caller.{Caller as Who};
-ghost use Rattle.broker_core.specs.declared.policy.Rule.TheVariants.{A5};
-ghost use Rattle.broker_service.specs.Pacts.{Reaches};
+ghost use Rattle.broker_core.specs.Change.{text_of};
+ghost use Rattle.broker_service.specs.Pacts.{ShowsReached};
 ghost use Rattle.broker_core.specs.Machine.{StepOfCaller};
 ghost use Rattle.broker_core.specs.declared.command.Command.TheVariants.{GetPact};
 ghost use Rattle.broker_core.specs.declared.answer.Answer.TheVariants as told;
@@ -34,15 +31,12 @@ fn show_text<S: Alter>(conn: &mut Connection<S>, content: u32) -> Result<Answer,
     }
 }
 
-/// Shows a contract that was reached, or tells why not.
-fn show<S: Alter>(
+/// Shows the text of a contract's content, or tells the refusal.
+pub(crate) fn show<S: Alter>(
     conn: &mut Connection<S>,
     place: Result<u32, Answer>,
 ) -> Result<Answer, StoreFault>
-    ensures { Queries (state S.Store conn.old) (state S.Store conn.new) result
-        (λ answer s. (caller : Who) (path : PathModel)
-        → Reaches s caller path A5 (path.provider ∷ path.consumer ∷ []) place
-        → StepOfCaller broker_primitives s caller (GetPact path) (unchanged_with s answer)) }
+    ensures { Queries (state S.Store conn.old) (state S.Store conn.new) result (λ answer s. ShowsReached s place answer) }
 {
     match place {
         Ok(content) => show_text(conn, content),

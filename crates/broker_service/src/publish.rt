@@ -289,8 +289,8 @@ fn publish<S: Alter>(
     }
 }
 
-/// What is told of a file that wasn't read.
-fn tell_unread(fault: ReadFault) -> Result<Answer, StoreFault>
+/// What is told of a file or of replies that weren't read.
+pub(crate) fn tell_unread(fault: ReadFault) -> Result<Answer, StoreFault>
     ensures { result ≡ answer_to fault }
 {
     match fault {

@@ -188,3 +188,25 @@ pub(crate) fn read_to_show<S: Alter>(
         Err(fault) => Err(fault),
     }
 }
+
+/// The content of a contract of which the caller may report how its verification went, or the refusal.
+pub(crate) fn read_to_verify<S: Alter>(
+    alloc: Global,
+    conn: &mut Connection<S>,
+    caller: &Caller,
+    path: &PactPath,
+) -> Result<Result<u32, Answer>, StoreFault>
+    ensures { Queries (state S.Store conn.old) (state S.Store conn.new) result
+        (λ found s. Reaches s caller.now path.now A4 (path.now.provider ∷ []) found) }
+{
+    match read_place(alloc, conn, caller, Rule::A4, path) {
+        Ok((sides, number, content)) => Ok(admit(
+            Rule::A4,
+            sides,
+            number,
+            content,
+            sides.by_provider,
+        )),
+        Err(fault) => Err(fault),
+    }
+}

@@ -1,15 +1,15 @@
 //! A command inside its transaction, and the transaction round it.
-ghost use Rattle.std.specs.Prelude.{◌≡◌, ◌↔◌, ⊤, IsTrue, IfOk, IfErr, option_map};
+ghost use Rattle.std.specs.Prelude.{◌≡◌, ◌≢◌, ◌↔◌, ⊤, IsTrue, IfOk, IfErr, option_map};
 ghost use Rattle.sqlite.specs.State.{HasCleanDisk, Survives};
 ghost use Rattle.sqlite.specs.Held.{state};
 ghost use Rattle.broker_core.specs.State.{State as BrokerState};
 ghost use Rattle.broker_core.specs.Laws.{IsDone};
-ghost use Rattle.broker_core.specs.declared.answer.Answer.TheVariants.{BadForm};
+ghost use Rattle.broker_core.specs.declared.answer.Answer.TheVariants.{BadForm, Stopped};
 ghost use Rattle.broker_service.specs.Performs.{Performs, CallersStep, TokensStep};
-ghost use Rattle.broker_service.specs.Served.{IsServed};
 ghost use Rattle.broker_service.specs.Ends.{Ends, IsUnchangedUnless};
 ghost use Rattle.broker_service.specs.Stored.{HoldsState};
 
+use crate::branch_pact::get_branch_pact;
 use crate::callers::caller_of;
 use crate::can_i_deploy::can_i_deploy;
 use crate::deploy::deploy;
@@ -23,6 +23,8 @@ use crate::publish::put_pact;
 use crate::put_pacticipant::put_pacticipant;
 use crate::put_team::put_team;
 use crate::release::release;
+use crate::replies::post_replies;
+use crate::results::post_result;
 use crate::undeploy::undeploy;
 use crate::undo::undo;
 use crate::versions::put_version;
@@ -52,7 +54,6 @@ fn follow<S: Alter>(
     caller: &Caller,
     command: &Command,
 ) -> Result<Outcome, StoreFault>
-    requires { IsServed command.now }
     ensures { Performs (state S.Store conn.old) (state S.Store conn.new)
         (CallersStep caller.now command.now) result }
 {
@@ -91,6 +92,21 @@ fn follow<S: Alter>(
         ),
         Command::PutPact { path, file } => put_pact(alloc, conn, caller, path, file),
         Command::GetPact { path } => get_pact(alloc, conn, caller, path),
+        Command::GetBranchPact {
+            provider,
+            consumer,
+            branch,
+        } => get_branch_pact(alloc, conn, caller, provider, consumer, branch),
+        Command::PostResult {
+            path,
+            report,
+            success,
+        } => post_result(alloc, conn, caller, path, report, *success),
+        Command::PostReplies {
+            path,
+            report,
+            replies,
+        } => post_replies(alloc, conn, caller, path, report, replies),
         Command::Deploy {
             environment,
             version,
@@ -124,7 +140,6 @@ fn follow<S: Alter>(
             Ok(outcome) => Ok(outcome),
             Err(fault) => Err(fault),
         },
-        _ => Err(StoreFault::Store),
     }
 }
 
@@ -135,7 +150,6 @@ fn step_of<S: Alter>(
     token: Option<&str>,
     command: &Command,
 ) -> Result<Outcome, StoreFault>
-    requires { IsServed command.now }
     ensures { Performs (state S.Store conn.old) (state S.Store conn.new) (TokensStep (option_map
         (λ text. text.now) token.entry) command.now) result }
 {
@@ -146,11 +160,14 @@ fn step_of<S: Alter>(
     }
 }
 
-/// The answer with its body.
+/// The answer with its body. That the broker is stopped is told by `Broker::apply` alone, and never of a command.
 fn answer_of(alloc: Global, outcome: Outcome) -> Result<Answer, StoreFault>
-    ensures ok { IfOk result (λ answer. answer ≡ outcome) }
-    ensures cause { IfErr result (λ e. e ≡ StoreFault.Memory) }
+    ensures ok { IfOk result (λ answer. (answer ≡ outcome) × (answer ≢ Stopped)) }
+    ensures cause { outcome ≢ Stopped → IfErr result (λ e. e ≡ StoreFault.Memory) }
 {
+    if matches!(outcome, Outcome::Stopped) {
+        return Err(StoreFault::Store);
+    }
     match Answer::new(alloc, outcome) {
         Ok(answer) => Ok(answer),
         Err(_) => Err(StoreFault::Memory),
@@ -164,9 +181,9 @@ fn work<S: Alter>(
     token: Option<&str>,
     command: &Command,
 ) -> Result<Answer, StoreFault>
-    requires { IsServed command.now }
-    ensures { Performs (state S.Store conn.old) (state S.Store conn.new) (TokensStep (option_map
+    ensures performs { Performs (state S.Store conn.old) (state S.Store conn.new) (TokensStep (option_map
         (λ text. text.now) token.entry) command.now) result }
+    ensures runs { IfOk result (λ answer. answer ≢ Stopped) }
 {
     match step_of(alloc, conn, token, command) {
         Ok(outcome) => match answer_of(alloc, outcome) {
@@ -192,13 +209,13 @@ pub(crate) fn transact<S: Alter>(
     token: Option<&str>,
     command: &Command,
 ) -> Result<Answer, StoreFault>
-    requires { IsServed command.now }
     ensures ends { HasCleanDisk (state S.Store conn.new) → (s : BrokerState) → HoldsState s (state S.Store conn.old)
         → Ends s (option_map (λ text.
         text.now) token.entry) command.now (state S.Store conn.new) result }
     ensures unchanged { HasCleanDisk (state S.Store conn.new)
         → IsUnchangedUnless (state S.Store conn.old) (state S.Store conn.new) result }
     ensures survives { Survives (state S.Store conn.old) (state S.Store conn.new) (λ _. ⊤) }
+    ensures runs { IfOk result (λ answer. answer ≢ Stopped) }
 {
     match begin(conn) {
         Ok(()) => match work(alloc, conn, token, command) {

@@ -13,7 +13,6 @@ use Rattle.http_routes.specs.Methods.{operation_at}
 use Rattle.http_routes.specs.Routes.{resource_of}
 use Rattle.http_routes.specs.declared.Resource.{Resource}
 use Rattle.http_routes.specs.declared.Operation.{Operation}
-use Rattle.http_routes.specs.declared.Operation.TheVariants.{GetBranchPact, PostResult, PostReplies}
 use Rattle.http_requests.specs.Commands.{IsCommand}
 use Rattle.http_requests.specs.Tokens.{IsTokenOf}
 use Rattle.http_requests.specs.declared.requests.Request.{Request}
@@ -29,23 +28,15 @@ path_of target = before_first is_question_mark target
 abbrev pub query_of : List ℕ → List ℕ
 query_of target = after_first is_question_mark target
 
--- the operations that this broker serves so far
-abbrev pub is_served : Operation → Bool
-is_served GetBranchPact = false
-is_served PostResult = false
-is_served PostReplies = false
-is_served operation = true
-
 -- the operation that the method asks of the resource
 abbrev pub operation_asked : Resource → Option Method → Option Operation
 operation_asked resource None = None
 operation_asked resource (Some method) = operation_at resource method
 
 module _ (h : RequestHead) (body : List ℕ) where
-  -- a command and its caller's token; an operation that isn't served yet has no route
-  abbrev pub ByOperation : Operation → Bool → Request → Type 0
-  ByOperation operation false r = r ≡ request.NoRoute (is_last_head h)
-  ByOperation operation true r = (command : Command) × (token : Option (List ℕ))
+  -- a command and its caller's token
+  abbrev pub ByOperation : Operation → Request → Type 0
+  ByOperation operation r = (command : Command) × (token : Option (List ℕ))
       × IsCommand operation (path_of h.target) (query_of h.target) body command
       × IsTokenOf (values_named (codes "authorization") (fields_of h)) token
       × (r ≡ request.Asks token command (is_last_head h))
@@ -53,7 +44,7 @@ module _ (h : RequestHead) (body : List ℕ) where
   -- by the operation that is asked of a resource
   abbrev pub ByAsked : Resource → Option Operation → Request → Type 0
   ByAsked resource None r = r ≡ request.NoMethod resource (is_last_head h)
-  ByAsked resource (Some operation) r = ByOperation operation (is_served operation) r
+  ByAsked resource (Some operation) r = ByOperation operation r
 
   -- by the resource that the path names
   abbrev pub ByResource : Option Resource → Request → Type 0

@@ -5,7 +5,7 @@ ghost use Rattle.httparse.specs.Spans.{IsRequestAt, IsRequestWithin};
 ghost use Rattle.http_messages.specs.Heads.{is_last_head};
 ghost use Rattle.http_messages.specs.Views.{IsHeadRead};
 ghost use Rattle.http_routes.specs.Routes.{resource_of};
-ghost use Rattle.http_requests.specs.Requests.{operation_asked, is_served, path_of, ByResource, ByOperation, IsRequest};
+ghost use Rattle.http_requests.specs.Requests.{operation_asked, path_of, ByResource, ByOperation, IsRequest};
 
 use crate::commands::command_of;
 use crate::target::split_target;
@@ -43,16 +43,6 @@ pub enum Request {
     },
 }
 
-/// Whether this broker serves the operation so far.
-fn is_served(operation: Operation) -> bool
-    ensures { result ≡ is_served operation }
-{
-    match operation {
-        Operation::GetBranchPact | Operation::PostResult | Operation::PostReplies => false,
-        _ => true,
-    }
-}
-
 /// The operation that the method asks of the resource.
 fn operation_asked(resource: Resource, method: Option<Method>) -> Option<Operation>
     ensures { result ≡ operation_asked resource method }
@@ -73,12 +63,9 @@ fn command_request(
 ) -> Result<Request, AllocError>
     requires { IsRequestWithin text.now head.spans head.parsed }
     ensures { (h : RequestHead) → IsRequestAt text.now head.spans head.parsed h → head.closes ≡ is_last_head h
-        → IfOk result (ByOperation h body.now operation (is_served operation)) }
+        → IfOk result (ByOperation h body.now operation) }
 {
     let closes = head.closes;
-    if !is_served(operation) {
-        return Ok(Request::NoRoute { closes });
-    }
     let (path, query) = split_target(head.parsed.path.of(text));
     let command = command_of(alloc, operation, path, query, body)?;
     let fields = &head.spans[..head.parsed.headers];

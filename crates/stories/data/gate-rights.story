@@ -6,6 +6,8 @@
 < 200 {"answer":"shown","environment":"live","faults":[],"gated":true,"permitted":true}
 > O GET /can-i-deploy?pacticipant=shop&version=1&environment=live
 < 200 {"answer":"shown","environment":"live","faults":[],"gated":true,"permitted":true}
+> R GET /can-i-deploy?version=1&environment=live&pacticipant=sh%6Fp
+< 200 {"answer":"shown","environment":"live","faults":[],"gated":true,"permitted":true}
 > B GET /can-i-deploy?pacticipant=shop&version=1&environment=live
 < 403 {"answer":"denied","rule":"A6"}
 > - GET /can-i-deploy?pacticipant=shop&version=1&environment=live

@@ -2,6 +2,7 @@ use Rattle.sqlite.specs.Held.{state}
 use Rattle.broker_core.specs.Machine.{StepOfCaller}
 use Rattle.broker_core.specs.declared.command.Command.TheVariants.{GetPact}
 use Rattle.broker_service.specs.Primitives.{broker_primitives}
+use Rattle.broker_service.proofs.PactLemmas.{shown_reached}
 use Rattle.broker_service.proofs.PerformLemmas.{shown_then}
 use Rattle.broker_service.proofs.pacts.get_pact.Goals as goal
 
@@ -9,4 +10,4 @@ pub returns-in-Ok : goal.returns-in-Ok
 returns-in-Ok g c =
     shown_then (state g.S.Store c.args.conn.now) (state g.S.Store c.read_to_show.new.conn) (state g.S.Store c.show.new.conn) c.in-Ok.place c.show.result _ _
     (λ s out. StepOfCaller broker_primitives s c.args.caller.now (GetPact c.args.path.now) out)
-    (λ s reach answer steps. steps c.args.caller.now c.args.path.now reach) c.in-Ok.ensures c.show.ensures
+    (λ s reach answer shows. shown_reached s c.args.caller.now c.args.path.now c.in-Ok.place answer reach shows) c.in-Ok.ensures c.show.ensures

@@ -3,8 +3,7 @@ use Rattle.sqlite.specs.Held.{state}
 use Rattle.broker_core.specs.declared.command.Command.TheVariants.{PutPact}
 use Rattle.broker_service.specs.Pacts.{Publishes}
 use Rattle.broker_service.proofs.PactLemmas.{publication_refused, publishes_refused, publishes, sides_there}
-use Rattle.broker_service.proofs.PerformLemmas.{answered_then}
-use Rattle.broker_service.proofs.WhereLemmas.{allowed_then}
+use Rattle.broker_service.proofs.PerformLemmas.{answered_then, performs_where}
 use Rattle.broker_service.proofs.publish.publish.Goals as goal
 
 pub returns-in-Some : goal.returns-in-Some
@@ -23,7 +22,9 @@ returns-in-None g c =
     let text = c.args.text.now in
     let sides = c.in-Ok.sides in
     let both = sides_there (PutPact path []) sides.provider sides.consumer sides.by_consumer (sym c.in-None.is ∙ c.refuse.ensures (PutPact path []) refl) in
-    allowed_then (state g.S.Store c.args.conn.now) (state g.S.Store c.read_sides.new.conn) (state g.S.Store c.publish_between.new.conn) sides c.publish_between.result _ _ _ (λ s out. Publishes s caller path text out)
-    (λ s h. (h.provider_is.pacticipant_is ∙ both.0, h.consumer_is.pacticipant_is ∙ both.1))
-    (λ s h out is. publishes s caller path text out (λ file. publication_refused s caller path text file sides.provider sides.consumer sides.by_provider sides.by_consumer h ∙ sym (c.refuse.ensures (PutPact path file) refl) ∙ c.in-None.is) is)
+    performs_where (state g.S.Store c.args.conn.now) (state g.S.Store c.read_sides.new.conn) (state g.S.Store c.publish_between.new.conn) sides c.publish_between.result _ _ _ (λ s out. Publishes s caller path text out)
+    (λ s h. (
+      (h.provider_is.pacticipant_is ∙ both.0, h.consumer_is.pacticipant_is ∙ both.1),
+      λ out is. publishes s caller path text out (λ file. publication_refused s caller path text file sides.provider sides.consumer sides.by_provider sides.by_consumer h ∙ sym (c.refuse.ensures (PutPact path file) refl) ∙ c.in-None.is) is,
+    ))
     c.in-Ok.ensures c.publish_between.ensures

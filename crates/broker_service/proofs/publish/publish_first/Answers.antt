@@ -5,7 +5,7 @@ use Rattle.broker_core.specs.Request.{consumer_version}
 use Rattle.broker_core.specs.declared.answer.Answer.TheVariants.{Done}
 use Rattle.broker_core.specs.declared.answer.Detail.TheVariants.{Content}
 use Rattle.broker_service.proofs.PactLemmas.{published, put_first, has_place, now_published, room_needed}
-use Rattle.broker_service.proofs.WhereLemmas.{where_changed}
+use Rattle.broker_service.proofs.PerformLemmas.{where_then_told}
 use Rattle.broker_service.proofs.publish.publish_first.Goals as goal
 
 pub returns-in-Ok-record_contract : goal.returns-in-Ok-record_contract
@@ -15,7 +15,7 @@ returns-in-Ok-record_contract g c =
     let text = c.args.text.now in
     let rooms = c.in-Ok.rooms in
     let placed = sym c.has_place.ensures ∙ c.if-has_place.true in
-    where_changed (state g.S.Store c.args.conn.now) (state g.S.Store c.read_rooms.new.conn) (state g.S.Store c.record_contract.new.conn) rooms c.in-Ok-record_contract.content
+    where_then_told (state g.S.Store c.args.conn.now) (state g.S.Store c.read_rooms.new.conn) (state g.S.Store c.record_contract.new.conn) rooms c.in-Ok-record_contract.content
     (Done (Content c.in-Ok-record_contract.content)) _ _ _ _ (λ s out. out ≡ put_pact s v path.provider text)
     (λ s first k. (
       record {

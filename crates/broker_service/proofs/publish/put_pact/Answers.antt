@@ -3,7 +3,7 @@ use Rattle.broker_core.specs.Machine.{StepOfCaller}
 use Rattle.broker_core.specs.declared.command.Command.TheVariants.{PutPact}
 use Rattle.broker_service.specs.Primitives.{broker_primitives}
 use Rattle.broker_service.proofs.PactLemmas.{form_fault}
-use Rattle.broker_service.proofs.WhereLemmas.{unread}
+use Rattle.broker_service.proofs.PerformLemmas.{unread}
 use Rattle.broker_service.proofs.publish.put_pact.Goals as goal
 
 pub returns-in-Err : goal.returns-in-Err

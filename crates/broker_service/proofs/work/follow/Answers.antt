@@ -1,7 +1,7 @@
 use Rattle.std.proofs.Common.{inl, sym, subst, refl, Ok, Some}
 use Rattle.sqlite.specs.Held.{state}
 use Rattle.broker_core.specs.declared.command.Command.{Command}
-use Rattle.broker_core.specs.declared.command.Command.TheVariants.{PutTeam, PutPacticipant, PutEnvironment, PutGrant, DeleteGrant, PutVersion, PutPact, GetPact, GetEnvironment, Deploy, Undeploy, Release, EndSupport, CanIDeploy, GetMatrix, Malformed}
+use Rattle.broker_core.specs.declared.command.Command.TheVariants.{PutTeam, PutPacticipant, PutEnvironment, PutGrant, DeleteGrant, PutVersion, PutPact, GetPact, GetBranchPact, PostResult, PostReplies, GetEnvironment, Deploy, Undeploy, Release, EndSupport, CanIDeploy, GetMatrix, Malformed}
 use Rattle.broker_core.specs.declared.answer.Answer.{Answer}
 use Rattle.broker_core.specs.declared.answer.Answer.TheVariants.{BadForm}
 use Rattle.broker_service.specs.Performs.{Performs, CallersStep}
@@ -47,6 +47,20 @@ pub returns-in-GetPact : goal.returns-in-GetPact
 returns-in-GetPact g c =
     always_steps (state g.S.Store c.args.conn.now) (state g.S.Store c.get_pact.new.conn) c.get_pact.result c.args.caller.now c.args.command.now
     (GetPact c.in-GetPact.path) c.in-GetPact.is c.get_pact.ensures
+
+pub returns-in-GetBranchPact : goal.returns-in-GetBranchPact
+returns-in-GetBranchPact g c =
+    always_steps (state g.S.Store c.args.conn.now) (state g.S.Store c.get_branch_pact.new.conn) c.get_branch_pact.result c.args.caller.now c.args.command.now
+    (GetBranchPact c.in-GetBranchPact.provider c.in-GetBranchPact.consumer c.in-GetBranchPact.branch) c.in-GetBranchPact.is c.get_branch_pact.ensures
+
+pub returns-in-PostResult : goal.returns-in-PostResult
+returns-in-PostResult g c =
+    always_steps (state g.S.Store c.args.conn.now) (state g.S.Store c.post_result.new.conn) c.post_result.result c.args.caller.now c.args.command.now
+    (PostResult c.in-PostResult.path c.in-PostResult.report c.in-PostResult.success) c.in-PostResult.is c.post_result.ensures
+
+pub returns-in-PostReplies : goal.returns-in-PostReplies
+returns-in-PostReplies g c =
+    subst (λ (command : Command). Performs (state g.S.Store c.args.conn.now) (state g.S.Store c.post_replies.new.conn) (CallersStep c.args.caller.now command) c.post_replies.result) (sym c.in-PostReplies.is) c.post_replies.ensures
 
 pub returns-in-GetEnvironment : goal.returns-in-GetEnvironment
 returns-in-GetEnvironment g c =

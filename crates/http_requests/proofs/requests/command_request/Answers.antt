@@ -1,9 +1,9 @@
-use Rattle.std.proofs.Common.{sym, ap, ◌∙◌}
+use Rattle.std.proofs.Common.{ap}
 use Rattle.http_requests.specs.declared.requests.Request.TheVariants.{Asks}
 use Rattle.http_requests.proofs.requests.command_request.Goals as goal
 
 pub returns : goal.returns
-returns c = λ h at closes. rw (sym c.is_served.ensures ∙ c.if-not-is_served.false) (
+returns c = λ h at closes. (
   c.in_ok-command.command,
   c.in_ok-token.token,
   rw (c.split_target.ensures.path, c.split_target.ensures.query, c.of.ensures, at.path) at c.in_ok-command.ensures,

@@ -1,0 +1,162 @@
+-- What a migration finds, and what it leaves of a state.
+use Rattle.std.proofs.Common.{◌≡◌, ◌≢◌, ◌==◌, ◌⊎◌, ◌++◌, ◌∷◌, [], inl, inr, ℕ, List, Bool, true, false, not, ◌&&◌, refl, sym, ap, subst, ◌∙◌, drop, Option, Some, None, Result, Ok, Err}
+use Rattle.std.specs.Prelude.{if◌then◌else◌, option_map, IsTrue, ◌↔◌, IsSomeAnd}
+use Rattle.std.specs.Option.{option_map_or}
+use Rattle.std.proofs.lemmas.Bool.{eqb-true}
+use Rattle.sqlite.specs.Effect.{Database}
+use Rattle.sqlite.specs.State.{State}
+use Rattle.table_access.specs.Durability.{HoldsDurably}
+use Rattle.broker_core.specs.declared.answer.Answer.TheVariants.{Shown}
+use Rattle.broker_core.specs.declared.answer.Shown.TheVariants.{Gate}
+use Rattle.broker_core.specs.declared.command.Command.TheVariants.{CanIDeploy}
+use Rattle.broker_core.specs.declared.command.Marks.{Marks}
+use Rattle.broker_core.specs.declared.command.Version.{Version}
+use Rattle.broker_core.specs.declared.need.Kind.{Kind}
+use Rattle.broker_core.specs.declared.need.Kind.TheVariants.{Absent, Missing, Failed, Claimed}
+use Rattle.broker_core.specs.declared.need.Latest.{Latest}
+use Rattle.broker_core.specs.declared.need.Need.{Need}
+use Rattle.broker_core.specs.declared.need.PairFault.{PairFault}
+use Rattle.broker_core.specs.Change.{Transition, unchanged_with}
+use Rattle.broker_core.specs.Faults.{fault_of, kind_of}
+use Rattle.broker_core.specs.Gate.{IsNeed, IsGood, IsPermitted, IsFault, Judges}
+use Rattle.broker_core.specs.Machine.{TakesEffect}
+use Rattle.broker_core.specs.State.{State as Broker, is_strict}
+use Rattle.broker_core.specs.Text.{Text}
+use Rattle.broker_tables.specs.Schema.{schema_of}
+use Rattle.broker_tables.specs.Making.{IsMarked}
+use Rattle.broker_tables.specs.Former.{HoldsFormer, IsUnmarked, former_tables, former_format}
+use Rattle.broker_tables.proofs.Former.{unmarked}
+use Rattle.registry_tables.specs.Format.{IsOfFormat, Finds}
+use Rattle.broker_service.specs.Primitives.{broker_primitives}
+use Rattle.broker_service.specs.declared.opening.OpenFault.TheVariants.{Format}
+use Rattle.broker_service.specs.Migration.{IsJudgedFormer, former_judgement, WasGood, WasPermitted, WasFault, WasJudged, Showed, JudgesAsBefore, former_kind, former_fault, former_marks}
+use Rattle.broker_service.proofs.Judgements.{marked_some}
+
+-- what is held durably is seen, while the connection is open
+pub held_now : (P : Database → Type 0) (c : State) → HoldsDurably P c → IsTrue c.is_open → P c.now
+held_now P c keeps now = let was = keeps.held now in subst P (sym was.same) was.has
+
+-- ---- the format that is found
+
+pub judged_former : (db : Database) (found : Option ℕ) → Finds db found → IsJudgedFormer db (former_judgement found)
+judged_former db None it = it
+judged_former db (Some n) it = go (n == former_format) refl
+  where
+    go : (b : Bool) → (n == former_format) ≡ b → IsJudgedFormer db (if b then Ok tt else Err (Format n))
+    go true e = subst (λ k. IsOfFormat k db) (let same : n ≡ former_format = eqb-true n former_format e in same) it
+    go false e = (it, λ same. absurd (let clash : (former_format == former_format) ≡ false = subst (λ k. (k == former_format) ≡ false) same e in cc))
+
+-- a database of format 1 has meta as its first table, with its one row
+pub former_marked : (db : Database) (s : Broker) → HoldsFormer db s → IsMarked former_format s.office db
+former_marked db s held = record { tables = drop 1 (schema_of former_tables).tables; indexes = (schema_of former_tables).indexes; schema = held.schema; row = held.meta }
+
+pub former_found : (db : Database) (s : Broker) (found : Option ℕ) → HoldsFormer db s → Finds db found → found ≡ Some former_format
+former_found db s found held it = marked_some former_format s.office db found (former_marked db s held) it
+
+-- ---- the gate's words
+
+good_before : (need : Need) → IsGood false need → WasGood need
+good_before need good = (good.0, passes need.latest good.1)
+  where
+    passes : (o : Option Latest) → IsSomeAnd o (λ latest. IsTrue latest.pass × (IsTrue false → IsTrue latest.checked)) → IsSomeAnd o (λ latest. IsTrue latest.pass)
+    passes None h = h
+    passes (Some latest) h = h.0
+
+good_now : (need : Need) → WasGood need → IsGood false need
+good_now need good = (good.0, passes need.latest good.1)
+  where
+    passes : (o : Option Latest) → IsSomeAnd o (λ latest. IsTrue latest.pass) → IsSomeAnd o (λ latest. IsTrue latest.pass × (IsTrue false → IsTrue latest.checked))
+    passes None h = h
+    passes (Some latest) h = (h, λ never. absurd cc)
+
+same_kind : (w : Option Text) (latest : Option Latest) → kind_of false w latest ≡ former_kind w latest
+same_kind None latest = refl
+same_kind (Some w) None = refl
+same_kind (Some w) (Some latest) = by_pass latest.pass
+  where
+    by_pass : (pass : Bool) → (if not pass then Some Failed else if false && not latest.checked then Some Claimed else None) ≡ (if pass then None else Some Failed)
+    by_pass true = refl
+    by_pass false = refl
+
+same_fault : (need : Need) → fault_of false need ≡ former_fault need
+same_fault need = ap (option_map (λ kind. record {
+  consumer = need.consumer;
+  consumer_version = need.consumer_version;
+  provider = need.provider;
+  provider_version = need.provider_version;
+  kind = kind;
+})) (same_kind need.provider_version need.latest)
+
+-- ---- where no environment is strict
+
+module _ (s : Broker) (are : IsUnmarked s) where
+  lenient : (e : Text) → is_strict s e ≡ false
+  lenient e = go (s.environments e) refl
+    where
+      go : (o : Option Marks) → s.environments e ≡ o → option_map_or (λ (marks : Marks). marks.strict) o false ≡ false
+      go None is = refl
+      go (Some marks) is = are.lenient e marks is
+
+  permits_now : (v : Version) (e : Text) → IsPermitted s v e ↔ WasPermitted s v e
+  permits_now v e = (forward, back)
+    where
+      forward : IsPermitted s v e → WasPermitted s v e
+      forward (inl all) = inl (λ need is. good_before need (subst (λ strict. IsGood strict need) (lenient e) (all need is)))
+      forward (inr ungated) = inr ungated
+
+      back : WasPermitted s v e → IsPermitted s v e
+      back (inl all) = inl (λ need is. subst (λ strict. IsGood strict need) (sym (lenient e)) (good_now need (all need is)))
+      back (inr ungated) = inr ungated
+
+  same_now : (e : Text) (need : Need) → fault_of (is_strict s e) need ≡ former_fault need
+  same_now e need = ap (λ strict. fault_of strict need) (lenient e) ∙ same_fault need
+
+  faults_now : (v : Version) (e : Text) (fault : PairFault) → IsFault s v e fault ↔ WasFault s v e fault
+  faults_now v e fault = (
+    λ it. (it.0, it.1, sym (same_now e it.0) ∙ it.2),
+    λ it. (it.0, it.1, same_now e it.0 ∙ it.2),
+  )
+
+  judged_before : (v : Version) (e : Text) (permitted : Bool) (faults : List PairFault) → Judges s v e permitted faults → WasJudged s v e permitted faults
+  judged_before v e permitted faults it = record {
+    verdict = (λ yes. (permits_now v e).0 (it.verdict.0 yes), λ was. it.verdict.1 ((permits_now v e).1 was));
+    faults_are = record {
+      sorted = it.faults_are.sorted;
+      exactly = λ f. (λ c. (faults_now v e f).0 ((it.faults_are.exactly f).0 c), λ is. (it.faults_are.exactly f).1 ((faults_now v e f).1 is));
+    };
+  }
+
+  judged_now : (v : Version) (e : Text) (permitted : Bool) (faults : List PairFault) → WasJudged s v e permitted faults → Judges s v e permitted faults
+  judged_now v e permitted faults it = record {
+    verdict = (λ yes. (permits_now v e).1 (it.verdict.0 yes), λ is. it.verdict.1 ((permits_now v e).0 is));
+    faults_are = record {
+      sorted = it.faults_are.sorted;
+      exactly = λ f. (λ c. (faults_now v e f).1 ((it.faults_are.exactly f).0 c), λ is. (it.faults_are.exactly f).1 ((faults_now v e f).0 is));
+    };
+  }
+
+  marks_before : (e : Text) (marks : Marks) → s.environments e ≡ Some marks → marks ≡ former_marks marks.gated
+  marks_before e marks is = ap (λ strict. record marks { strict = strict }) (are.lenient e marks is)
+
+  shows_before : (v : Version) (e : Text) (out : Transition) → TakesEffect broker_primitives s (CanIDeploy v e) out → Showed s v e out
+  shows_before v e out (marks, is, (permitted, faults, judged, shown)) = (
+    marks.gated,
+    ap (option_map (λ (m : Marks). m.gated)) is,
+    (permitted, faults, judged_before v e permitted faults judged, shown ∙ ap (λ m. unchanged_with s (Shown (Gate e m permitted faults))) (marks_before e marks is)),
+  )
+
+  shows_now : (v : Version) (e : Text) (out : Transition) → Showed s v e out → TakesEffect broker_primitives s (CanIDeploy v e) out
+  shows_now v e out (gated, is, (permitted, faults, judged, shown)) = go (s.environments e) refl
+    where
+      go : (o : Option Marks) → s.environments e ≡ o → TakesEffect broker_primitives s (CanIDeploy v e) out
+      go None none = absurd (let some = is in cc)
+      go (Some marks) some =
+          let same : marks.gated ≡ gated = (let both : Some marks.gated ≡ Some gated = sym (ap (option_map (λ (m : Marks). m.gated)) some) ∙ is in cc) in
+          (marks, some, (permitted, faults, judged_now v e permitted faults judged, shown ∙ ap (λ m. unchanged_with s (Shown (Gate e m permitted faults))) (ap former_marks (sym same) ∙ sym (marks_before e marks some))))
+
+  pub judges_as_before : JudgesAsBefore s
+  judges_as_before = record { unmarked = are; permits = permits_now; faults = faults_now; shows = λ v e out. (shows_before v e out, shows_now v e out) }
+
+-- of each state that a database of format 1 holds
+pub judges_former : (db : Database) (s : Broker) → HoldsFormer db s → JudgesAsBefore s
+judges_former db s held = judges_as_before s (unmarked former_format [] db s held)

@@ -1,0 +1,131 @@
+-- how a broker's database of format 1 becomes one of today's, and what was said of a version before
+use Rattle.std.specs.Prelude.{◌≡◌, ◌≢◌, ◌⊎◌, ◌==◌, ◌↔◌, ℕ, List, Bool, false, if◌then◌else◌, IsTrue, IsFalse, IsSome, IsSomeAnd, Option, Some, None, option_map, Result, Ok, Err}
+use Rattle.sqlite.specs.Effect.{Database}
+use Rattle.sqlite.specs.State.{State}
+use Rattle.table_access.specs.declared.StoreFault.{StoreFault}
+use Rattle.table_access.specs.declared.StoreFault.TheVariants as fault
+use Rattle.table_access.specs.Calls.{KeepsLastCommit}
+use Rattle.table_access.specs.Durability.{HoldsDurably, HoldsEither}
+use Rattle.broker_core.specs.declared.answer.Answer.TheVariants.{Shown}
+use Rattle.broker_core.specs.declared.answer.Shown.TheVariants.{Gate}
+use Rattle.broker_core.specs.declared.command.Command.TheVariants.{CanIDeploy}
+use Rattle.broker_core.specs.declared.command.Marks.{Marks}
+use Rattle.broker_core.specs.declared.command.Version.{Version}
+use Rattle.broker_core.specs.declared.need.Kind.{Kind}
+use Rattle.broker_core.specs.declared.need.Kind.TheVariants.{Absent, Missing, Failed}
+use Rattle.broker_core.specs.declared.need.Latest.{Latest}
+use Rattle.broker_core.specs.declared.need.Need.{Need}
+use Rattle.broker_core.specs.declared.need.PairFault.{PairFault}
+use Rattle.broker_core.specs.Change.{Transition, unchanged_with}
+use Rattle.broker_core.specs.Contents.{HasSoundContents}
+use Rattle.broker_core.specs.Faults.{fault_cmp}
+use Rattle.broker_core.specs.Gate.{IsNeed, IsPermitted, IsFault}
+use Rattle.broker_core.specs.Listing.{Lists}
+use Rattle.broker_core.specs.Machine.{TakesEffect}
+use Rattle.broker_core.specs.State.{State as Broker, is_gated}
+use Rattle.broker_core.specs.Text.{Text}
+use Rattle.broker_tables.specs.Former.{HoldsFormer, IsUnmarked, former_format}
+use Rattle.registry_tables.specs.Format.{IsOfFormat, IsForeign}
+use Rattle.broker_service.specs.Primitives.{broker_primitives}
+use Rattle.broker_service.specs.Ends.{IsAsBefore}
+use Rattle.broker_service.specs.Stored.{Stores, HoldsState}
+use Rattle.broker_service.specs.declared.opening.OpenFault.{OpenFault}
+use Rattle.broker_service.specs.declared.opening.OpenFault.TheVariants.{NotEmpty, NotABroker, Format, Memory, Store}
+
+-- the tables are of format 1 and hold the state, and each stored pact can be read again
+pub record StoresFormer (db : Database) (s : Broker) : Type 0 where
+  pub tables : HoldsFormer db s
+  pub contents : HasSoundContents broker_primitives s
+
+-- the connection holds the state durably, in format 1
+abbrev pub HoldsFormerState : Broker → State → Type 0
+HoldsFormerState s = HoldsDurably (λ db. StoresFormer db s)
+
+-- ---- what is told of a database that is to be migrated
+
+-- a failure aside
+abbrev pub IsJudgedFormer : Database → Result (Unit {0}) OpenFault → Type 0
+IsJudgedFormer db (Ok u) = IsOfFormat former_format db
+IsJudgedFormer db (Err NotABroker) = IsForeign db
+IsJudgedFormer db (Err (Format n)) = IsOfFormat n db × (n ≢ former_format)
+IsJudgedFormer db (Err NotEmpty) = ⊥
+IsJudgedFormer db (Err Memory) = Unit {0}
+IsJudgedFormer db (Err Store) = Unit {0}
+
+-- by the format that is found in it: every other than 1 is refused, today's too
+abbrev pub former_judgement : Option ℕ → Result (Unit {0}) OpenFault
+former_judgement None = Err NotABroker
+former_judgement (Some n) = if n == former_format then Ok tt else Err (Format n)
+
+-- the judgement, or a failure
+abbrev pub JudgedFormer : Option ℕ → Result (Unit {0}) OpenFault → Type 0
+JudgedFormer found r = (r ≡ former_judgement found) ⊎ ((r ≡ Err Memory) ⊎ (r ≡ Err Store))
+
+-- ---- the gate of format 1, which knew no evidence and no strict environment
+
+-- the provider version is there and its latest result is a pass
+abbrev pub WasGood : Need → Type 0
+WasGood need = IsSome need.provider_version × IsSomeAnd need.latest (λ latest. IsTrue latest.pass)
+
+-- every need was good, or e wasn't gated
+abbrev pub WasPermitted : Broker → Version → Text → Type 0
+WasPermitted s v e = ((need : Need) → IsNeed s v e need → WasGood need) ⊎ IsFalse (is_gated s e)
+
+-- no provider version; no result; the latest result fails
+abbrev pub former_kind : Option Text → Option Latest → Option Kind
+former_kind None latest = Some Absent
+former_kind (Some w) None = Some Missing
+former_kind (Some w) (Some latest) = if latest.pass then None else Some Failed
+
+-- the fault of a need that wasn't good
+abbrev pub former_fault : Need → Option PairFault
+former_fault need = option_map (λ kind. record {
+  consumer = need.consumer;
+  consumer_version = need.consumer_version;
+  provider = need.provider;
+  provider_version = need.provider_version;
+  kind = kind;
+}) (former_kind need.provider_version need.latest)
+
+abbrev pub WasFault : Broker → Version → Text → PairFault → Type 0
+WasFault s v e fault = (need : Need) × IsNeed s v e need × (former_fault need ≡ Some fault)
+
+-- what the gate said of v in e
+pub record WasJudged (s : Broker) (v : Version) (e : Text) (permitted : Bool) (faults : List PairFault) : Type 0 where
+  pub verdict : IsTrue permitted ↔ WasPermitted s v e
+  pub faults_are : Lists fault_cmp (WasFault s v e) faults
+
+-- an environment's marks, where it has the one mark of format 1
+abbrev pub former_marks : Bool → Marks
+former_marks gated = record { gated = gated; strict = false }
+
+-- what can-i-deploy showed of v in e, which is there
+abbrev pub Showed : Broker → Version → Text → Transition → Type 0
+Showed s v e out =
+    (gated : Bool) × (option_map (λ (marks : Marks). marks.gated) (s.environments e) ≡ Some gated)
+    × ((permitted : Bool) × (faults : List PairFault) × WasJudged s v e permitted faults
+    × (out ≡ unchanged_with s (Shown (Gate e (former_marks gated) permitted faults))))
+
+-- Every result is claimed and no environment is strict; what each version is permitted in each environment, its faults
+-- and what can-i-deploy shows, of which its body is the text, are what they were in format 1.
+pub record JudgesAsBefore (s : Broker) : Type 0 where
+  pub unmarked : IsUnmarked s
+  pub permits : (v : Version) (e : Text) → IsPermitted s v e ↔ WasPermitted s v e
+  pub faults : (v : Version) (e : Text) (fault : PairFault) → IsFault s v e fault ↔ WasFault s v e fault
+  pub shows : (v : Version) (e : Text) (out : Transition)
+      → TakesEffect broker_primitives s (CanIDeploy v e) out ↔ Showed s v e out
+
+-- ---- the transaction of a migration, for the clauses of private functions: no public clause cites it
+
+-- from a database of format 1 to one of today's, or it fails
+abbrev pub MigratesOrFails : Broker → State → Result (Option ℕ) StoreFault → Type 0
+MigratesOrFails s new (Ok found) = (found ≡ Some former_format) × HoldsState s new
+MigratesOrFails s new (Err fault.Memory) = HoldsFormerState s new
+MigratesOrFails s new (Err fault.Store) = HoldsEither (λ db. StoresFormer db s) (λ db. Stores db s) new
+
+-- whatever the database is: where another format was found or none, or it failed, it is as it was, or after a failure
+-- of the database the last commit is the old one
+abbrev pub IsUnchangedUnlessFormer : State → State → Result (Option ℕ) StoreFault → Type 0
+IsUnchangedUnlessFormer old new (Ok found) = found ≢ Some former_format → IsAsBefore old new
+IsUnchangedUnlessFormer old new (Err fault.Memory) = IsAsBefore old new
+IsUnchangedUnlessFormer old new (Err fault.Store) = KeepsLastCommit old new

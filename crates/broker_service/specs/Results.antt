@@ -1,0 +1,74 @@
+-- what the commands on results read of a state and tell of it, for the clauses of private functions: no public clause
+-- cites it
+use Rattle.std.specs.Prelude.{◌≡◌, ◌+◌, ◌++◌, ◌∷◌, [], ℕ, List, Option, Some, None, Bool, is_some, IsTrue, length}
+use Rattle.broker_core.specs.Text.{Text, version}
+use Rattle.broker_core.specs.State.{State as Broker, Verification}
+use Rattle.broker_core.specs.Limit.{has_room}
+use Rattle.broker_core.specs.Request.{is_known}
+use Rattle.broker_core.specs.Change.{Transition, named, report, result_of_run}
+use Rattle.broker_core.specs.declared.command.Report.{Report}
+use Rattle.broker_core.specs.declared.command.Version.{Version}
+use Rattle.broker_core.specs.declared.answer.Answer.{Answer}
+use Rattle.broker_core.specs.declared.answer.Answer.TheVariants as answer
+use Rattle.broker_core.specs.declared.answer.Detail.{Detail}
+use Rattle.broker_core.specs.declared.answer.Clash.TheVariants as clash
+use Rattle.broker_tables.specs.Numbers.{number_of}
+use Rattle.contract_tables.specs.Verified.{Told, told, told_of, result_for}
+use Rattle.contract_tables.specs.declared.lookups.ResultRow.{ResultRow}
+use Rattle.broker_service.specs.declared.results.Finding.{Finding}
+use Rattle.broker_service.specs.declared.results.Reported.{Reported}
+use Rattle.broker_service.specs.declared.results.Reported.TheVariants.{Recorded, Known, RunTaken, Full}
+
+-- the pacticipant is there
+abbrev pub HasPacticipant : Broker → Text → Type 0
+HasPacticipant s p = IsTrue (is_some (s.pacticipants p))
+
+-- the version that a report is of
+abbrev pub reported_version : Text → Report → Version
+reported_version provider report = version provider report.provider_version
+
+-- the result that a report and what was found come to
+abbrev pub reported_result : Text → Report → Finding → Verification
+reported_result provider report found =
+    result_for found.content (reported_version provider report) found.pass found.checked report.run
+
+-- what is told of a result, with this detail beside its number
+abbrev pub told_as : (ℕ → Detail) → Reported → Answer
+told_as detail (Recorded number) = answer.Done (detail number)
+told_as detail (Known number) = answer.Already (detail number)
+told_as detail RunTaken = answer.Taken clash.Run
+told_as detail Full = answer.Full
+
+-- the result comes in: this is told of it, whatever the detail is, and the next state is t
+abbrev pub Reports : Broker → Verification → Reported → Broker → Type 0
+Reports s r it t = (detail : ℕ → Detail) → record { answer = told_as detail it; state = t } ≡ report s r detail
+
+-- the row as the tables tell a result
+abbrev pub told_row : ResultRow → Told
+told_row row = told row.number row.content row.provider_version row.pass row.checked
+
+-- the row is this result with its number
+abbrev pub IsRowOf : Broker → ResultRow → ℕ × Verification → Type 0
+IsRowOf s row e = told_row row ≡ told_of s.versions e
+
+-- the number of the version that a report is of
+pub record IsNumbered (s : Broker) (v : Version) (number : Option ℕ) : Type 0 where
+  pub number_is : number_of s.versions v ≡ number
+  pub known_is : is_known s v ≡ is_some number
+
+-- the provider is there, and has used no such run
+pub record IsUnused (s : Broker) (provider : Text) (report : Report) (number : Option ℕ) : Type 0 where
+  pub version : IsNumbered s (reported_version provider report) number
+  pub owned : HasPacticipant s provider
+  pub unused : result_of_run s provider report.run ≡ None
+
+-- how many versions and results there are, and what there is room for
+pub record CountFacts (s : Broker) (versions : ℕ) (for_version : Bool) (results : ℕ) (for_result : Bool) : Type 0 where
+  pub versions_are : versions ≡ length s.versions
+  pub version_is : has_room s.versions ≡ for_version
+  pub results_are : results ≡ length s.results
+  pub result_is : has_room s.results ≡ for_result
+
+-- the result stands last, and its version is named
+abbrev pub recorded : Broker → Verification → Broker
+recorded s r = record (named s r.version) { results = s.results ++ r ∷ [] }

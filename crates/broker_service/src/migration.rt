@@ -1,0 +1,146 @@
+//! Making today's database of one that a broker of format 1 left.
+ghost use Rattle.std.specs.Prelude.{◌≡◌, ◌↔◌, ⊤, ℕ, List, Some, None, IsTrue, OnOk, IfErr, IfOk};
+ghost use Rattle.sqlite.specs.State.{HasCleanDisk, Survives};
+ghost use Rattle.sqlite.specs.Held.{state};
+ghost use Rattle.table_access.specs.Calls.{CallsStore};
+ghost use Rattle.table_access.specs.Durability.{HoldsDurably};
+ghost use Rattle.broker_core.specs.State.{State as BrokerState};
+ghost use Rattle.broker_tables.specs.Holds.{Holds, format};
+ghost use Rattle.broker_tables.specs.Making.{IsBlank, IsMarked};
+ghost use Rattle.broker_tables.specs.Former.{HoldsFormer, HoldsUnmarked, former_format, added_tables};
+ghost use Rattle.registry_tables.specs.Format.{Finds};
+ghost use Rattle.broker_service.specs.Opening.{Refuses, IsUnchangedUnless};
+ghost use Rattle.broker_service.specs.Migration.{StoresFormer, HoldsFormerState, IsJudgedFormer, JudgedFormer, JudgesAsBefore, MigratesOrFails, IsUnchangedUnlessFormer, former_judgement};
+ghost use Rattle.broker_service.specs.Stored.{Stores, HoldsState};
+
+use crate::opening::{OpenFault, make_indexes, open_fault};
+use crate::undo::undo;
+use registry_tables::format_of;
+use sqlite::{Alter, Connection};
+use table_access::{StoreFault, begin, commit, rollback};
+
+/// Makes the tables that format 1 has not, and sets the format.
+fn add_tables<S: Alter>(conn: &mut Connection<S>) -> Result<(), StoreFault>
+    ensures { CallsStore (state S.Store conn.old) (state S.Store conn.new) result
+        (λ _. (s : BrokerState) → HoldsFormer (state S.Store conn.old).now s
+        → HoldsUnmarked format added_tables (state S.Store conn.new).now s) }
+{
+    match contract_tables::to_format_2(conn) {
+        Ok(()) => registry_tables::to_format_2(conn),
+        Err(fault) => Err(fault),
+    }
+}
+
+/// Makes the tables and the indexes that format 1 has not, and sets the format.
+fn add_all<S: Alter>(conn: &mut Connection<S>) -> Result<(), StoreFault>
+    ensures { CallsStore (state S.Store conn.old) (state S.Store conn.new) result
+        (λ _. (s : BrokerState) → HoldsFormer (state S.Store conn.old).now s
+        → Holds (state S.Store conn.new).now s) }
+{
+    match add_tables(conn) {
+        Ok(()) => make_indexes(conn),
+        Err(fault) => Err(fault),
+    }
+}
+
+/// Looks for the format, and where it is 1, makes the database one of today's. The answer is the format that was found.
+fn bring_up<S: Alter>(conn: &mut Connection<S>) -> Result<Option<u32>, StoreFault>
+    ensures { CallsStore (state S.Store conn.old) (state S.Store conn.new) result
+        (λ found. Finds (state S.Store conn.old).now found
+        × (found ≡ Some former_format → (s : BrokerState) → HoldsFormer (state S.Store conn.old).now s
+        → Holds (state S.Store conn.new).now s)) }
+{
+    match format_of(conn) {
+        Ok(Some(1)) => match add_all(conn) {
+            Ok(()) => Ok(Some(1)),
+            Err(fault) => Err(fault),
+        },
+        Ok(found) => Ok(found),
+        Err(fault) => Err(fault),
+    }
+}
+
+/// The judgement of a database by the format that was found.
+fn judge(found: Option<u32>) -> Result<(), OpenFault>
+    ensures { result ≡ former_judgement found }
+{
+    match found {
+        None => Err(OpenFault::NotABroker),
+        Some(1) => Ok(()),
+        Some(number) => Err(OpenFault::Format(number)),
+    }
+}
+
+/// Whether the format that was found is 1.
+fn is_former(found: Option<u32>) -> bool
+    ensures { IsTrue result ↔ (found ≡ Some former_format) }
+{
+    matches!(found, Some(1))
+}
+
+/// Brings a database up in one transaction, which is committed where its format was 1, and else rolled back. The
+/// answer is the format that was found.
+fn run<S: Alter>(conn: &mut Connection<S>) -> Result<Option<u32>, StoreFault>
+    ensures found { HasCleanDisk (state S.Store conn.new)
+        → IfOk result (λ found. IsTrue (state S.Store conn.old).is_open × Finds (state S.Store conn.old).now found) }
+    ensures ends { HasCleanDisk (state S.Store conn.new) → (s : BrokerState)
+        → HoldsFormerState s (state S.Store conn.old) → MigratesOrFails s (state S.Store conn.new) result }
+    ensures unchanged { HasCleanDisk (state S.Store conn.new)
+        → IsUnchangedUnlessFormer (state S.Store conn.old) (state S.Store conn.new) result }
+    ensures survives { Survives (state S.Store conn.old) (state S.Store conn.new) (λ _. ⊤) }
+{
+    match begin(conn) {
+        Ok(()) => match bring_up(conn) {
+            Ok(found) => if is_former(found) {
+                if commit(conn) {
+                    Ok(found)
+                } else {
+                    Err(StoreFault::Store)
+                }
+            } else {
+                if rollback(conn) {
+                    Ok(found)
+                } else {
+                    Err(StoreFault::Store)
+                }
+            },
+            Err(fault) => Err(undo(conn, fault)),
+        },
+        Err(fault) => Err(fault),
+    }
+}
+
+/// Makes today's database of one that a broker of format 1 left, in one transaction. Each row stays; every result is
+/// a claim of its sender, and no environment is strict. What each version is permitted in each environment, and what
+/// can-i-deploy answers, stays as it was.
+///
+/// # Errors
+/// `NotABroker`: the first table isn't `meta` with its columns and its key, or `meta` has not just one row. `Format`:
+/// the format in that row is this other one; today's is refused too. After both, and after `Memory`, the database is
+/// as it was.
+/// `Store`: the database refused a call, the commit or a rollback, or the format isn't a number from 0 to 2^32 - 1; the
+/// last commit is the old one, and after a refused commit a crash may leave today's database, whole.
+pub fn migrate<S: Alter>(conn: &mut Connection<S>) -> Result<(), OpenFault>
+    ensures migrates { HasCleanDisk (state S.Store conn.new) → (s : BrokerState)
+        → HoldsFormerState s (state S.Store conn.old)
+        → OnOk result (HoldsState s (state S.Store conn.new)) }
+    ensures permits { HasCleanDisk (state S.Store conn.new) → (s : BrokerState)
+        → HoldsFormerState s (state S.Store conn.old) → OnOk result (JudgesAsBefore s) }
+    ensures refuses { HasCleanDisk (state S.Store conn.new) → (s : BrokerState)
+        → HoldsFormerState s (state S.Store conn.old)
+        → IfErr result (Refuses (λ db. StoresFormer db s) (λ db. Stores db s) (state S.Store conn.new)) }
+    ensures judges { HasCleanDisk (state S.Store conn.new)
+        → IsJudgedFormer (state S.Store conn.old).now result }
+    ensures blank { HasCleanDisk (state S.Store conn.new) → HoldsDurably IsBlank (state S.Store conn.old)
+        → JudgedFormer None result }
+    ensures marked { HasCleanDisk (state S.Store conn.new) → (n : ℕ) (office : List ℕ)
+        → HoldsDurably (IsMarked n office) (state S.Store conn.old) → JudgedFormer (Some n) result }
+    ensures unchanged { HasCleanDisk (state S.Store conn.new)
+        → IfErr result (IsUnchangedUnless (state S.Store conn.old) (state S.Store conn.new)) }
+    ensures survives { Survives (state S.Store conn.old) (state S.Store conn.new) (λ _. ⊤) }
+{
+    match run(conn) {
+        Ok(found) => judge(found),
+        Err(fault) => Err(open_fault(fault)),
+    }
+}
