@@ -1,3 +1,5 @@
 pub mod Lines
 pub mod Replays
+pub mod Told
+pub mod Running
 pub mod Faults

@@ -1,24 +1,94 @@
 -- the program's command lines: a word that names a command, and the command's options, each with a value and
 -- each required (this project's own choice)
-use Rattle.std.specs.Prelude.{◌≡◌, List, [], ◌∷◌, Bool, false, ◌&&◌, Some, codes, bytes_eq, true}
-use Rattle.clap.specs.Words.{App, Rule, Text, first_of, matches_of, new_app, new_rule, takes, with_rule}
+use Rattle.std.specs.Prelude.{◌≡◌, ◌≤◌, ℕ, List, [], ◌∷◌, Bool, false, Option, Some, codes, bytes_eq, find, pos, true, ⊤}
+use Rattle.std.specs.Option.{option_map_or}
+use Rattle.std.specs.Str.Parse.{digits_value, without_leading_plus}
+use Rattle.clap.specs.Words.{App, Row, Rule, Text, first_of, matches_of, new_app, new_rule, one_of, takes, with_rule}
+use Rattle.clap.specs.declared.builder.value_parser.ValueParser.TheVariants.{Signed}
 use Rattle.broker_program.specs.declared.line.Line.{Line}
-use Rattle.broker_program.specs.declared.line.Line.TheVariants.{Replay}
+use Rattle.broker_program.specs.declared.names.CommandName.{CommandName}
+use Rattle.broker_program.specs.declared.names.CommandName.TheVariants as names
+use Rattle.broker_program.specs.declared.line.Line.TheVariants.{CanIDeploy, Check, Init, Normalise, Replay, Serve}
 
 -- `--name VALUE`
 abbrev pub option : Text → Rule
 option name = record (new_rule name) { long = Some name; required = true }
 
+-- `--name N`, a whole number from 1 to 1,000,000
+abbrev pub number_option : Text → Rule
+number_option name = record (option name) { parser = Some (Signed (pos 1) (pos 1000000)) }
+
 -- `replay --office-token T`
 abbrev pub replay : App
 replay = with_rule (new_app (codes "replay")) (option (codes "office-token"))
 
+-- `init --file F --office-token T`
+abbrev pub init : App
+init = with_rule (with_rule (new_app (codes "init")) (option (codes "file"))) (option (codes "office-token"))
+
+-- `serve --file F --listen A --connections N`
+abbrev pub serve : App
+serve =
+    with_rule (with_rule (with_rule (new_app (codes "serve"))
+    (option (codes "file"))) (option (codes "listen"))) (number_option (codes "connections"))
+
+-- `normalise`
+abbrev pub normalise : App
+normalise = new_app (codes "normalise")
+
+-- `check --pact F --replies G`
+abbrev pub check : App
+check = with_rule (with_rule (new_app (codes "check")) (option (codes "pact"))) (option (codes "replies"))
+
+-- `can-i-deploy --file F --token T --pacticipant P --version V --to-environment E`
+abbrev pub can_i_deploy : App
+can_i_deploy =
+    with_rule (with_rule (with_rule (with_rule (with_rule (new_app (codes "can-i-deploy"))
+    (option (codes "file"))) (option (codes "token"))) (option (codes "pacticipant")))
+    (option (codes "version"))) (option (codes "to-environment"))
+
+abbrev pub commands : List App
+commands = replay ∷ init ∷ serve ∷ normalise ∷ check ∷ can_i_deploy ∷ []
+
+-- the command of a line
+abbrev pub command_of : Line → App
+command_of (Replay token) = replay
+command_of (Init file token) = init
+command_of (Serve file listen connections) = serve
+command_of Normalise = normalise
+command_of (Check pact replies) = check
+command_of (CanIDeploy file token pacticipant version environment) = can_i_deploy
+
 abbrev pub name_of : Line → Text
-name_of (Replay token) = codes "replay"
+name_of line = (command_of line).top.name
+
+-- the option has this text
+abbrev pub HasText : List Row → Text → Text → Type 0
+HasText rows name text = first_of name rows ≡ Some text
+
+-- the option has this number, which its text writes in decimal digits
+abbrev pub HasNumber : List Row → Text → ℕ → Type 0
+HasNumber rows name n =
+    (text : Text) × (one_of name rows ≡ Some text) × (n ≡ digits_value 10 (without_leading_plus text))
+    × (1 ≤ n) × (n ≤ 1000000)
+
+-- the options have the values of the line
+abbrev pub HasValues : List Row → Line → Type 0
+HasValues rows (Replay token) = HasText rows (codes "office-token") token.now
+HasValues rows (Init file token) = HasText rows (codes "file") file.now × HasText rows (codes "office-token") token.now
+HasValues rows (Serve file listen connections) =
+    HasText rows (codes "file") file.now × HasText rows (codes "listen") listen.now
+    × HasNumber rows (codes "connections") connections
+HasValues rows Normalise = ⊤
+HasValues rows (Check pact replies) = HasText rows (codes "pact") pact.now × HasText rows (codes "replies") replies.now
+HasValues rows (CanIDeploy file token pacticipant version environment) =
+    HasText rows (codes "file") file.now × HasText rows (codes "token") token.now
+    × HasText rows (codes "pacticipant") pacticipant.now × HasText rows (codes "version") version.now
+    × HasText rows (codes "to-environment") environment.now
 
 -- the command's options have these values in the words that begin with its name
 abbrev pub HasOptions : List Text → Line → Type 0
-HasOptions words (Replay token) = first_of (codes "office-token") (matches_of replay words) ≡ Some token.now
+HasOptions words line = HasValues (matches_of (command_of line) words) line
 
 -- the words are the program's name, the command's and its options with these values
 abbrev pub Says : List Text → Line → Type 0
@@ -26,8 +96,35 @@ Says words line =
     (program : Text) × (rest : List Text)
     × (words ≡ program ∷ name_of line ∷ rest) × HasOptions (name_of line ∷ rest) line
 
--- the words are a command line of the program
-abbrev pub is_line : List Text → Bool
+-- the command that a word names
+abbrev pub command_at : Text → Option App
+command_at word = find (λ command. bytes_eq word command.top.name) commands
+
+-- the command takes the words, which begin with its name
+unfoldable pub is_taken : App → List Text → Bool
+is_taken command words = takes command words
+
+-- the words begin with a command's name, and the command takes them
+abbrev pub is_command : List Text → Bool
+is_command [] = false
+is_command (name ∷ rest) = option_map_or (λ command. is_taken command (name ∷ rest)) (command_at name) false
+
+-- the words are a command line of the program: its own name, a command and the command's options
+unfoldable pub is_line : List Text → Bool
 is_line [] = false
-is_line (program ∷ []) = false
-is_line (program ∷ name ∷ rest) = bytes_eq name (codes "replay") && takes replay (name ∷ rest)
+is_line (program ∷ rest) = is_command rest
+
+-- the command of a name
+abbrev pub command_named : CommandName → App
+command_named names.Replay = replay
+command_named names.Init = init
+command_named names.Serve = serve
+command_named names.Normalise = normalise
+command_named names.Check = check
+command_named names.CanIDeploy = can_i_deploy
+
+-- the words begin with the name, and are a command where its command takes them
+abbrev pub BeginsWith : List Text → CommandName → Type 0
+BeginsWith words name =
+    (rest : List Text) × (words ≡ (command_named name).top.name ∷ rest)
+    × (is_command words ≡ is_taken (command_named name) words)

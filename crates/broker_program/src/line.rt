@@ -1,11 +1,17 @@
 //! Reading the words of the command line.
-ghost use Rattle.std.specs.Prelude.{◌≡◌, IfErr, IfOk, map, true, false, codes, bytes_eq, slice_get};
-ghost use Rattle.std.specs.Option.{option_map_or};
-ghost use Rattle.clap.specs.Words.{app_of, kind_of, rule_of, takes};
-ghost use Rattle.broker_program.specs.Lines.{HasOptions, Says, is_line, name_of, option as option_of, replay as replay_of};
+ghost use Rattle.std.specs.Prelude.{◌≡◌, IfErr, IfOk, map, true};
+ghost use Rattle.clap.specs.Words.{kind_of};
+ghost use Rattle.broker_program.specs.Lines.{HasOptions, Says, command_named, command_of, is_line, is_taken};
+ghost use Rattle.broker_program.specs.Lines.{can_i_deploy, check, init, normalise, replay, serve};
 
+use crate::commands::{
+    can_i_deploy_command, check_command, init_command, normalise_command, program, replay_command,
+    serve_command,
+};
+use crate::names::{CommandName, named};
+use crate::options::{can_i_deploy_in, check_in, init_in, replay_in, serve_in};
+use clap::Error;
 use clap::error::ErrorKind;
-use clap::{Arg, Command, Error};
 use std::alloc::{AllocError, Global};
 
 /// A command of the program, with the values of its options.
@@ -15,6 +21,44 @@ pub enum Line<'a> {
     Replay {
         /// The token of the office of the new broker.
         office_token: &'a str,
+    },
+    /// Makes the file of a new broker.
+    Init {
+        /// The file's path.
+        file: &'a str,
+        /// The token of the office of the new broker.
+        office_token: &'a str,
+    },
+    /// Serves connections over the broker in a file, one after the other.
+    Serve {
+        /// The file's path.
+        file: &'a str,
+        /// An address of loopback, with its port.
+        listen: &'a str,
+        /// How many connections are served, from 1 to 1,000,000.
+        connections: u32,
+    },
+    /// Writes the normal text of the pact file on standard input.
+    Normalise,
+    /// Compares recorded replies with a pact file.
+    Check {
+        /// The path of the pact file.
+        pact: &'a str,
+        /// The path of the file of recorded replies.
+        replies: &'a str,
+    },
+    /// Asks the broker in a file whether a version may be deployed.
+    CanIDeploy {
+        /// The file's path.
+        file: &'a str,
+        /// The caller's token.
+        token: &'a str,
+        /// The pacticipant's name.
+        pacticipant: &'a str,
+        /// The version's name.
+        version: &'a str,
+        /// The environment's name.
+        environment: &'a str,
     },
 }
 
@@ -27,56 +71,116 @@ pub fn read_line<'a>(alloc: Global, words: &'a [&'a str]) -> Result<Line<'a>, Er
         → kind_of e ≡ ErrorKind.OutOfMemory) }
 {
     match words.split_first() {
-        Some((_, rest)) if begins_with(rest, "replay") => read_replay(alloc, rest),
-        _ => Err(no_command(alloc, words)?),
+        Some((_, rest)) => match named(rest) {
+            Some(name) => read_command(alloc, name, rest),
+            None => Err(no_command(alloc, words)?),
+        },
+        None => Err(no_command(alloc, words)?),
     }
 }
 
-/// Whether the words begin with the name.
-fn begins_with(words: &[&str], name: &str) -> bool
-    ensures { result ≡ option_map_or
-        (λ word. bytes_eq word name.now) (slice_get (map (λ word. word.now) words.now) 0) false }
+/// The command of this name, with the values that the words behind it give its options.
+fn read_command<'a>(
+    alloc: Global,
+    name: CommandName,
+    words: &'a [&'a str],
+) -> Result<Line<'a>, Error>
+    ensures ok { IfOk result (λ line. (command_of line ≡ command_named name)
+        × HasOptions (map (λ word. word.now) words.entry.now) line) }
+    ensures err { IfErr result (λ e. is_taken (command_named name) (map (λ word. word.now) words.entry.now) ≡ true
+        → kind_of e ≡ ErrorKind.OutOfMemory) }
 {
-    words.first().is_some_and(|word| *word == name)
+    match name {
+        CommandName::Replay => read_replay(alloc, words),
+        CommandName::Init => read_init(alloc, words),
+        CommandName::Serve => read_serve(alloc, words),
+        CommandName::Normalise => read_normalise(alloc, words),
+        CommandName::Check => read_check(alloc, words),
+        CommandName::CanIDeploy => read_can_i_deploy(alloc, words),
+    }
 }
 
 /// `replay` and its options.
 fn read_replay<'a>(alloc: Global, words: &'a [&'a str]) -> Result<Line<'a>, Error>
-    ensures ok { IfOk result (λ line. (name_of line ≡ codes "replay")
+    ensures ok { IfOk result (λ line. (command_of line ≡ replay)
         × HasOptions (map (λ word. word.now) words.entry.now) line) }
-    ensures err { IfErr result (λ e. takes replay_of (map (λ word. word.now) words.entry.now) ≡ true
+    ensures err { IfErr result (λ e. is_taken replay (map (λ word. word.now) words.entry.now) ≡ true
         → kind_of e ≡ ErrorKind.OutOfMemory) }
 {
     match replay_command(alloc)?.try_get_matches_from(words) {
-        Ok(matches) => match matches.get_str("office-token") {
-            Some(office_token) => Ok(Line::Replay { office_token }),
-            None => Err(Error::from(AllocError)),
-        },
+        Ok(matches) => replay_in(&matches),
         Err(error) => Err(error),
     }
 }
 
-fn replay_command<'a>(alloc: Global) -> Result<Command<'a>, AllocError>
-    ensures { IfOk result (λ command. app_of command ≡ replay_of) }
+/// `init` and its options.
+fn read_init<'a>(alloc: Global, words: &'a [&'a str]) -> Result<Line<'a>, Error>
+    ensures ok { IfOk result (λ line. (command_of line ≡ init)
+        × HasOptions (map (λ word. word.now) words.entry.now) line) }
+    ensures err { IfErr result (λ e. is_taken init (map (λ word. word.now) words.entry.now) ≡ true
+        → kind_of e ≡ ErrorKind.OutOfMemory) }
 {
-    Command::new(alloc, "replay")
-        .about("Serves the requests on standard input over tables in memory")
-        .arg(option(alloc, "office-token"))
+    match init_command(alloc)?.try_get_matches_from(words) {
+        Ok(matches) => init_in(&matches),
+        Err(error) => Err(error),
+    }
 }
 
-/// `--name VALUE`, which is required.
-fn option<'a>(alloc: Global, name: &'a str) -> Arg<'a>
-    ensures rule { rule_of result ≡ option_of name.entry.now }
-    ensures local { result.global ≡ false }
+/// `serve` and its options.
+fn read_serve<'a>(alloc: Global, words: &'a [&'a str]) -> Result<Line<'a>, Error>
+    ensures ok { IfOk result (λ line. (command_of line ≡ serve)
+        × HasOptions (map (λ word. word.now) words.entry.now) line) }
+    ensures err { IfErr result (λ e. is_taken serve (map (λ word. word.now) words.entry.now) ≡ true
+        → kind_of e ≡ ErrorKind.OutOfMemory) }
 {
-    Arg::new(alloc, name).long(name).required(true)
+    match serve_command(alloc)?.try_get_matches_from(words) {
+        Ok(matches) => serve_in(&matches),
+        Err(error) => Err(error),
+    }
+}
+
+/// `normalise`, which has no options.
+fn read_normalise<'a>(alloc: Global, words: &'a [&'a str]) -> Result<Line<'a>, Error>
+    ensures ok { IfOk result (λ line. (command_of line ≡ normalise)
+        × HasOptions (map (λ word. word.now) words.entry.now) line) }
+    ensures err { IfErr result (λ e. is_taken normalise (map (λ word. word.now) words.entry.now) ≡ true
+        → kind_of e ≡ ErrorKind.OutOfMemory) }
+{
+    match normalise_command(alloc).try_get_matches_from(words) {
+        Ok(_) => Ok(Line::Normalise),
+        Err(error) => Err(error),
+    }
+}
+
+/// `check` and its options.
+fn read_check<'a>(alloc: Global, words: &'a [&'a str]) -> Result<Line<'a>, Error>
+    ensures ok { IfOk result (λ line. (command_of line ≡ check)
+        × HasOptions (map (λ word. word.now) words.entry.now) line) }
+    ensures err { IfErr result (λ e. is_taken check (map (λ word. word.now) words.entry.now) ≡ true
+        → kind_of e ≡ ErrorKind.OutOfMemory) }
+{
+    match check_command(alloc)?.try_get_matches_from(words) {
+        Ok(matches) => check_in(&matches),
+        Err(error) => Err(error),
+    }
+}
+
+/// `can-i-deploy` and its options.
+fn read_can_i_deploy<'a>(alloc: Global, words: &'a [&'a str]) -> Result<Line<'a>, Error>
+    ensures ok { IfOk result (λ line. (command_of line ≡ can_i_deploy)
+        × HasOptions (map (λ word. word.now) words.entry.now) line) }
+    ensures err { IfErr result (λ e. is_taken can_i_deploy (map (λ word. word.now) words.entry.now) ≡ true
+        → kind_of e ≡ ErrorKind.OutOfMemory) }
+{
+    match can_i_deploy_command(alloc)?.try_get_matches_from(words) {
+        Ok(matches) => can_i_deploy_in(&matches),
+        Err(error) => Err(error),
+    }
 }
 
 /// What `clap` says of words that name no command.
 fn no_command<'a>(alloc: Global, words: &'a [&'a str]) -> Result<Error, AllocError> {
-    let mut program = Command::new(alloc, "broker")
-        .subcommand_required(true)
-        .subcommand(replay_command(alloc)?)?;
+    let mut program = program(alloc)?;
     match program.try_get_matches_from_mut(words) {
         Ok(_) => program.error(ErrorKind::InvalidSubcommand, "no command is named"),
         Err(error) => Ok(error),

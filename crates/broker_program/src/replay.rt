@@ -1,5 +1,5 @@
 //! Serving standard input over tables in memory.
-ghost use Rattle.std.specs.Prelude.{◌≡◌, ◌≢◌, ◌⊎◌, ◌↔◌, IfOk, OnOk, OnErr, IsErrOf, Err};
+ghost use Rattle.std.specs.Prelude.{◌≡◌, ◌≢◌, ◌⊎◌, ◌↔◌, IfOk, OnOk, OnErr, Err};
 ghost use Rattle.sqlite.specs.Held.{state};
 ghost use Rattle.sqlite.specs.Steps.{over_memory};
 ghost use Rattle.broker_core.specs.Name.{IsToken};
@@ -7,24 +7,13 @@ ghost use Rattle.broker_http.specs.Serving.{IsInMode};
 ghost use Rattle.broker_program.specs.Replays.{Replays, ReplaysUntil, new_broker};
 
 use crate::fault::RunFault;
-use broker_core::name::{Token, TokenFault};
+use crate::forms::token_of;
+use broker_core::name::Token;
 use broker_http::serve;
 use broker_service::Broker;
 use sqlite::{Connection, MemStore};
 use std::alloc::Global;
 use std::io::{Read, Write};
-
-/// The token of an office, by its text.
-fn token_of(alloc: Global, text: &str) -> Result<Token, RunFault>
-    ensures ok { IfOk result (λ token. (token ≡ text.now) × IsToken text.now) }
-    ensures bad { IsErrOf result RunFault.Token ↔ (¬ (IsToken text.now)) }
-{
-    match Token::new(alloc, text) {
-        Ok(token) => Ok(token),
-        Err(TokenFault::BadToken) => Err(RunFault::Token),
-        Err(TokenFault::Memory) => Err(RunFault::Memory),
-    }
-}
 
 /// A new broker over tables in memory.
 fn new_broker(alloc: Global, office: &Token) -> Result<Broker<MemStore>, RunFault>

@@ -1,23 +1,27 @@
 //! Running a command over any reader and writers.
-ghost use Rattle.std.specs.Prelude.{◌≡◌, ◌≢◌, ◌⊎◌, ℕ, List, map, true};
+ghost use Rattle.std.specs.Prelude.{◌≡◌, ◌≢◌, ◌⊎◌, IfOk, OnErr, map, true, false};
 ghost use Rattle.clap.specs.Values.{kind_of};
-ghost use Rattle.broker_core.specs.Name.{IsToken};
-ghost use Rattle.broker_program.specs.Lines.{is_line};
-ghost use Rattle.broker_program.specs.Replays.{AsksReplay, Replays, ReplaysUntil};
+ghost use Rattle.broker_program.specs.Lines.{Says, is_line};
+ghost use Rattle.broker_program.specs.Running.{Ends, Fails};
+ghost use Rattle.broker_program.specs.declared.line.Line.{Line as LineModel};
 
+use crate::asking::{Question, ask};
+use crate::check::check;
+use crate::connections::serve_file;
 use crate::fault::RunFault;
+use crate::init::init;
 use crate::line::{Line, read_line};
+use crate::normalise::normalise;
 use crate::replay::replay;
 use clap::Error;
 use clap::error::ErrorKind;
-use std::alloc::Global;
 use std::io::{Read, Write};
 
 /// Tells the fault as one line on standard error.
-fn fail<E: Write>(fault: RunFault, errors: &mut E) -> u8
+fn fail<E: Write>(fault: &RunFault, errors: &mut E) -> u8
     ensures { result ≡ 3 }
 {
-    let _ = writeln!(errors, "{fault}");
+    let _ = writeln!(errors, "{}", fault);
     3
 }
 
@@ -33,7 +37,7 @@ fn tell<W: Write, E: Write>(error: &Error, output: &mut W, errors: &mut E) -> u8
     ensures statuses { (result ≡ 0) ⊎ ((result ≡ 2) ⊎ (result ≡ 3)) }
 {
     if error.kind() == ErrorKind::OutOfMemory {
-        return fail(RunFault::Memory, errors);
+        return fail(&RunFault::Memory, errors);
     }
     if error.use_stderr() {
         let _ = write!(errors, "{error}");
@@ -41,53 +45,116 @@ fn tell<W: Write, E: Write>(error: &Error, output: &mut W, errors: &mut E) -> u8
     }
     match write!(output, "{error}") {
         Ok(()) => 0,
-        Err(_) => fail(RunFault::File, errors),
+        Err(_) => fail(&RunFault::File, errors),
+    }
+}
+
+/// Runs the command, and tells whether it is done, its check passed or its version is permitted.
+fn carry_out<R: Read, W: Write>(
+    rt: &HostRuntime,
+    line: Line<'_>,
+    input: &mut R,
+    output: &mut W,
+) -> Result<bool, RunFault>
+    ensures ends { IfOk result (Ends (R.remaining input.old) (R.remaining input.new)
+        (W.contents output.old) (W.contents output.new) line.entry) }
+    ensures fails { OnErr result (Fails (R.remaining input.old) (R.remaining input.new)
+        (W.contents output.old) (W.contents output.new) line.entry) }
+{
+    match line {
+        Line::Replay { office_token } => {
+            replay(rt.alloc(), office_token, input, output)?;
+            Ok(true)
+        }
+        Line::Init { file, office_token } => {
+            init(rt, file, office_token)?;
+            Ok(true)
+        }
+        Line::Serve {
+            file,
+            listen,
+            connections,
+        } => {
+            serve_file(rt, file, listen, connections)?;
+            Ok(true)
+        }
+        Line::Normalise => {
+            normalise(rt.alloc(), input, output)?;
+            Ok(true)
+        }
+        Line::Check { pact, replies } => check(rt, pact, replies, output),
+        Line::CanIDeploy {
+            file,
+            token,
+            pacticipant,
+            version,
+            environment,
+        } => {
+            let question = Question {
+                token,
+                pacticipant,
+                version,
+                environment,
+            };
+            ask(rt, file, question, output)
+        }
     }
 }
 
 /// Runs the command that the words name: the program's own name, a command and its options. The result
 /// is the status that the program ends with.
 ///
-/// 0: the command is done, or `clap`'s help was asked for, which is written to `output`.
+/// 0: the command is done, its check passed or its version is permitted; or `clap`'s help or the version
+/// was asked for, which is written to `output`.
+/// 1: the check failed, or the version isn't permitted.
 /// 2: the words are no command line, and `clap`'s text on them is written to `errors`.
-/// 3: the command failed, and one line on `errors` tells why. `token`: the office's token isn't 16 to
-/// 128 ASCII letters, digits and `-._~+/=`. `open 4` and `open 5`: the tables couldn't be made, for
-/// want of memory or since the database failed.
-/// `serve 1`, `serve 2` and `serve 3`: the input failed, the output failed, or there was no memory for
-/// a message; the answers before are out. `file`: the help couldn't be written. `memory`: there was no
-/// memory for anything else.
-/// Where `errors` fails too, its text is lost.
-pub fn run<H: AllocGlobal, R: Read, W: Write, E: Write>(
-    rt: &H,
+/// 3: the command failed, and one line on `errors` tells why.
+/// `token`, `name`: the text of an option isn't a token or a name. `file`: a file, `input` or `output`
+/// can't be read or written, or the file isn't there, is in use or is no database. `open n`: the broker
+/// couldn't be made or opened, by the number of the fault of `Broker::create` and `Broker::open`.
+/// `listen`: the address isn't one of loopback, or can't be listened on.
+/// `serve 1`, `serve 2` and `serve 3`, of `replay` alone: the input failed, the output failed, or there
+/// was no memory for a message; the answers before are out.
+/// `pact n`, `replies n`, `check n`: the fault of the pact file, of the replies, or of their comparison.
+/// An answer's body: what the broker answered `can-i-deploy` otherwise. `memory`: there was no memory
+/// for anything else.
+/// Where `errors` fails too, its text is lost. Neither `output` nor `errors` is flushed.
+pub fn run<R: Read, W: Write, E: Write>(
+    rt: &HostRuntime,
     words: &[&str],
     input: &mut R,
     output: &mut W,
     errors: &mut E,
 ) -> u8
-    ensures statuses { (result ≡ 0) ⊎ ((result ≡ 2) ⊎ (result ≡ 3)) }
-    // A replay that is done has answered what it read as a new broker answers it, and no fault is told.
-    ensures replays { result ≡ 0 → is_line (map (λ word. word.now) words.now) ≡ true
-        → (office : List ℕ) × AsksReplay (map (λ word. word.now) words.now) office × IsToken office
-        × Replays office
-        (R.remaining input.old) (R.remaining input.new)
-        (W.contents output.old) (W.contents output.new) }
+    ensures statuses { (result ≡ 0) ⊎ ((result ≡ 1) ⊎ ((result ≡ 2) ⊎ (result ≡ 3))) }
+    // What the command was to do is done, and `output` has what it tells.
+    ensures done { result ≡ 0 → is_line (map (λ word. word.now) words.now) ≡ true
+        → (line : LineModel) × Says (map (λ word. word.now) words.now) line
+        × Ends (R.remaining input.old) (R.remaining input.new)
+        (W.contents output.old) (W.contents output.new) line true }
+    // The check failed or the version isn't permitted, and `output` says so.
+    ensures refused { result ≡ 1
+        → (line : LineModel) × Says (map (λ word. word.now) words.now) line
+        × Ends (R.remaining input.old) (R.remaining input.new)
+        (W.contents output.old) (W.contents output.new) line false }
     ensures quiet { result ≡ 0 → is_line (map (λ word. word.now) words.now) ≡ true
         → errors.new ≡ errors.old }
+    ensures quiet_refused { result ≡ 1 → errors.new ≡ errors.old }
     // A mistake in the words is told on standard error alone, and nothing is read.
     ensures usage { result ≡ 2 → (is_line (map (λ word. word.now) words.now) ≢ true)
         × (input.new ≡ input.old) × (output.new ≡ output.old) }
-    // A replay that failed has written nothing but answers.
+    // A command that failed has written no more than a beginning of what it would have told.
     ensures fails { result ≡ 3 → is_line (map (λ word. word.now) words.now) ≡ true
         → ((input.new ≡ input.old) × (output.new ≡ output.old))
-        ⊎ ((office : List ℕ) × AsksReplay (map (λ word. word.now) words.now) office
-        × ReplaysUntil office
-        (R.remaining input.old) (R.remaining input.new)
-        (W.contents output.old) (W.contents output.new)) }
+        ⊎ ((line : LineModel) × Says (map (λ word. word.now) words.now) line
+        × Fails (R.remaining input.old) (R.remaining input.new)
+        (W.contents output.old) (W.contents output.new) line) }
 {
     match read_line(rt.alloc(), words) {
-        Ok(Line::Replay { office_token }) => match replay(rt.alloc(), office_token, input, output) {
-            Ok(()) => 0,
-            Err(fault) => fail(fault, errors),
+        Ok(line) => match carry_out(rt, line, input, output) {
+            Ok(true) => 0,
+            Ok(false) => 1,
+            Err(fault) => fail(&fault, errors),
         },
         Err(error) => tell(&error, output, errors),
     }

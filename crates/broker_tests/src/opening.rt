@@ -58,12 +58,14 @@ const ONE: &str =
 const TWO_ROWS: &str =
     "INSERT INTO meta (one, format, office_digest) VALUES (1, 2, 'd'), (2, 2, 'd')";
 
+const FORMAT_0: &str = "INSERT INTO meta (one, format, office_digest) VALUES (1, 0, 'd')";
+
 const FORMAT_1: &str = "INSERT INTO meta (one, format, office_digest) VALUES (1, 1, 'd')";
 
 const NO_FORMAT: &str = "INSERT INTO meta (one, format, office_digest) VALUES (1, -1, 'd')";
 
 /// The statements that made a database, and why no broker is opened on it.
-const NOT_OPENED: [(&[&str], OpenFault); 9] = [
+const NOT_OPENED: [(&[&str], OpenFault); 10] = [
     (&[], OpenFault::NotABroker),
     (&[OTHER], OpenFault::NotABroker),
     (&[NO_ROW], OpenFault::NotABroker),
@@ -71,6 +73,7 @@ const NOT_OPENED: [(&[&str], OpenFault); 9] = [
     (&[NOTES, META], OpenFault::NotABroker),
     (&[META, NOTES], OpenFault::NotABroker),
     (&[META, TWO_ROWS], OpenFault::NotABroker),
+    (&[META, FORMAT_0], OpenFault::Format(0)),
     (&[META, FORMAT_1], OpenFault::Format(1)),
     (&[META, NO_FORMAT], OpenFault::Store),
 ];

@@ -24,7 +24,7 @@ fn the_first_run(rt: HostRuntime) -> Result<(), Fail> {
 }
 
 /// The status that the words end with, and whether anything is written to the output and to the errors.
-fn told(rt: &impl AllocGlobal, words: &[&str], sent: &[u8]) -> (u8, bool, bool) {
+fn told(rt: &HostRuntime, words: &[&str], sent: &[u8]) -> (u8, bool, bool) {
     let mut input = sent;
     let mut output = Vec::new(rt.alloc());
     let mut errors = Vec::new(rt.alloc());
@@ -95,7 +95,7 @@ fn other_words_are_usage_faults(rt: HostRuntime) {
 /// Whether the program ends with status 3 and this text on standard error, where its input gives so many bytes of the
 /// first run and its output takes so many.
 fn fails_with(
-    rt: &impl AllocGlobal,
+    rt: &HostRuntime,
     words: &[&str],
     reads: usize,
     room: usize,

@@ -3,18 +3,18 @@ use Rattle.sqlite_trees.specs.View.{doubt}
 use Rattle.sqlite.specs.Held.{state}
 use Rattle.sqlite.specs.Steps.{over_memory}
 use Rattle.broker_http.specs.Serving.{IsInMode}
-use Rattle.broker_program.specs.Replays.{new_broker}
+use Rattle.broker_program.specs.Replays.{Replays, ReplaysUntil, new_broker}
 use Rattle.broker_program.proofs.replay.replay.Goals as goal
 
 pub returns-in-Ok-clause-ok : goal.returns-in-Ok-clause-ok
-unfolding doubt
+unfolding doubt Replays
 returns-in-Ok-clause-ok g c =
     let holds = subst (λ t. IsInMode (state over_memory) (new_broker t) c.in_ok-broker.broker) c.in_ok-office.ensures.ok.0 c.in_ok-broker.ensures.holds in
     let served = c.in-Ok.ensures.machine refl (new_broker c.args.office_token.now) holds in
     (served.0, c.in-Ok.field-0, served.2, served.3, c.in-Ok.ensures.end)
 
 pub returns-clause-fails : goal.returns-clause-fails
-unfolding doubt
+unfolding doubt ReplaysUntil
 returns-clause-fails g c =
     let holds = subst (λ t. IsInMode (state over_memory) (new_broker t) c.in_ok-broker.broker) c.in_ok-office.ensures.ok.0 c.in_ok-broker.ensures.holds in
     let served = c.in-Err.ensures.machine_until refl (new_broker c.args.office_token.now) holds in

@@ -1,0 +1,50 @@
+-- the values of a line, from the matches of its command, and the command that words name
+use Rattle.std.proofs.Common.{◌≡◌, ◌∙◌, List, [], ◌∷◌, Bool, true, false, Option, Some, None, cond, refl, ap, sym, subst, unwrap_or}
+use Rattle.std.specs.Prelude.{MatchOption, find, option_map, bytes_eq}
+use Rattle.std.specs.Option.{option_map_or}
+use Rattle.std.proofs.lemmas.Slice.Eq.{bytes_eq-Decides}
+use Rattle.clap.specs.Words.{App, HasMatchesOf, Row, Text, found_of, is_simple, matches_of, rows_of}
+use Rattle.clap.specs.declared.parser.matches.ArgMatches.{ArgMatches}
+use Rattle.broker_program.specs.Lines.{BeginsWith, HasOptions, HasValues, command_at, command_named, command_of, commands, is_command, is_line, is_taken}
+use Rattle.broker_program.specs.declared.line.Line.{Line}
+use Rattle.broker_program.specs.declared.names.CommandName.{CommandName}
+
+pub has_options : (a c : App) (words : List Text) (m : ArgMatches) (line : Line) → c ≡ a → is_simple a ≡ true → HasMatchesOf c words m
+    → (command_of line ≡ a) × HasValues (rows_of (found_of m)) line → (command_of line ≡ a) × HasOptions words line
+has_options a c words m line is simple matches read =
+    let rows : rows_of (found_of m) ≡ matches_of (command_of line) words =
+    (matches (ap is_simple is ∙ simple)).0 ∙ ap (λ (k : App). matches_of k words) (is ∙ sym read.0) in
+    (read.0, subst (λ (rs : List Row). HasValues rs line) rows read.1)
+
+-- what is found passes the test
+found : {X : Type 0} (p : X → Bool) (xs : List X) (x : X) → Some x ≡ find p xs → p x ≡ true
+found p [] x e = cc
+found p (y ∷ ys) x e = first (p y) refl (found p ys x) e
+  where
+    first : (b : Bool) → p y ≡ b → (Some x ≡ find p ys → p x ≡ true) → Some x ≡ cond b (Some y) (find p ys) → p x ≡ true
+    first true is later e = ap p (ap (λ o. unwrap_or o x) e) ∙ is
+    first false is later e = later e
+
+pub begins : (word : Text) (rest : List Text) (name : Option CommandName) → option_map command_named name ≡ command_at word
+    → MatchOption name (is_command (word ∷ rest) ≡ false) (BeginsWith (word ∷ rest))
+begins word rest None e = subst (λ (o : Option App). option_map_or (λ command. is_taken command (word ∷ rest)) o false ≡ false) e refl
+begins word rest (Some name) e =
+    let same : word ≡ (command_named name).top.name = (bytes_eq-Decides word (command_named name).top.name).0 (found (λ command. bytes_eq word command.top.name) commands (command_named name) e) in
+    (rest, ap (λ w. w ∷ rest) same, subst (λ (o : Option App). option_map_or (λ command. is_taken command (word ∷ rest)) o false ≡ is_taken (command_named name) (word ∷ rest)) e refl)
+
+pub taken : (words : List Text) (program : Text) (rest : List Text) (name : CommandName) → words ≡ program ∷ rest → BeginsWith rest name
+    → is_line words ≡ true → is_taken (command_named name) rest ≡ true
+unfolding is_line
+taken words program rest name is begins line = sym begins.2 ∙ subst (λ (ws : List Text). is_line ws ≡ true) is line
+
+pub unnamed : (words : List Text) (program : Text) (rest : List Text) → words ≡ program ∷ rest → is_command rest ≡ false → is_line words ≡ true → ⊥
+unfolding is_line
+unnamed words program rest is none line =
+    let bad : true ≡ false = sym (subst (λ (ws : List Text). is_line ws ≡ true) is line) ∙ none in
+    cc
+
+pub wordless : (words : List Text) → words ≡ [] → is_line words ≡ true → ⊥
+unfolding is_line
+wordless words is line =
+    let bad : false ≡ true = subst (λ (ws : List Text). is_line ws ≡ true) is line in
+    cc

@@ -1,0 +1,18 @@
+use Rattle.std.proofs.Common.{ap, map, ◌∙◌}
+use Rattle.std.proofs.lemmas.Result.{IfErr-weaker}
+use Rattle.std.proofs.lemmas.List.{nil_from_length}
+use Rattle.broker_program.proofs.LineLemmas.{taken, unnamed, wordless}
+use Rattle.broker_program.proofs.line.read_line.Goals as goal
+
+pub returns-in-Some-named-clause-err : goal.returns-in-Some-named-clause-err
+returns-in-Some-named-clause-err c =
+    IfErr-weaker c.read_command.result _ _
+    (λ e memory line. memory (taken _ _ _ c.in-Some-named.name (ap (map (λ word. word.now)) c.in-Some.ensures.cases.0) c.in-Some-named.ensures line))
+    c.read_command.ensures.err
+
+pub returns-in_ok-no_command-in-None-named-clause-err : goal.returns-in_ok-no_command-in-None-named-clause-err
+returns-in_ok-no_command-in-None-named-clause-err c =
+    λ line. absurd (unnamed _ _ _ (ap (map (λ word. word.now)) c.in-Some.ensures.cases.0) c.in-None-named.ensures line)
+
+pub returns-in_ok-no_command-in-None-clause-err : goal.returns-in_ok-no_command-in-None-clause-err
+returns-in_ok-no_command-in-None-clause-err c = λ line. absurd (wordless _ (ap (map (λ word. word.now)) (nil_from_length c.args.words.now c.in-None.ensures.cases)) line)

@@ -1,0 +1,198 @@
+//! The commands of the program, as `clap` reads them.
+ghost use Rattle.std.specs.Prelude.{◌≡◌, IfOk, codes};
+ghost use Rattle.clap.specs.Words.{app_of, new_app, with_rule};
+ghost use Rattle.broker_program.specs.Lines.{can_i_deploy as can_i_deploy_of, check as check_of, init as init_of};
+ghost use Rattle.broker_program.specs.Lines.{normalise as normalise_of, replay as replay_of, serve as serve_of};
+ghost use Rattle.broker_program.specs.Lines.{number_option, option as option_of};
+
+use crate::help;
+use clap::builder::ValueParser;
+use clap::{Arg, Command};
+use std::alloc::{AllocError, Global};
+
+/// A command without options, with what it says of itself.
+fn bare<'a>(
+    alloc: Global,
+    name: &'a str,
+    usage: &'a str,
+    about: &'a str,
+    after: &'a str,
+) -> Command<'a>
+    ensures { app_of result ≡ new_app name.entry.now }
+{
+    Command::new(alloc, name).about(about).after_help(after)
+}
+
+/// The command with one more option, which is required: `--name VALUE`.
+fn with_option<'a>(
+    alloc: Global,
+    command: Command<'a>,
+    name: &'a str,
+    help: &'a str,
+) -> Result<Command<'a>, AllocError>
+    ensures { IfOk result (λ more. app_of more ≡ with_rule (app_of command.entry) (option_of name.entry.now)) }
+{
+    command.arg(Arg::new(alloc, name).long(name).help(help).required(true))
+}
+
+/// The command with one more option, which is required: `--name N`, a whole number from 1 to 1,000,000.
+fn with_number<'a>(
+    alloc: Global,
+    command: Command<'a>,
+    name: &'a str,
+    help: &'a str,
+) -> Result<Command<'a>, AllocError>
+    ensures { IfOk result (λ more. app_of more ≡ with_rule (app_of command.entry) (number_option name.entry.now)) }
+{
+    let number = Arg::new(alloc, name)
+        .long(name)
+        .help(help)
+        .required(true)
+        .value_parser(ValueParser::Signed(1, 1_000_000));
+    command.arg(number)
+}
+
+pub(crate) fn replay_command<'a>(alloc: Global) -> Result<Command<'a>, AllocError>
+    ensures { IfOk result (λ command. app_of command ≡ replay_of) }
+{
+    let command = bare(
+        alloc,
+        "replay",
+        help::USAGE_REPLAY,
+        help::REPLAY,
+        help::AFTER_REPLAY,
+    );
+    with_option(
+        alloc,
+        command,
+        "office-token",
+        "The token of the new broker's office",
+    )
+}
+
+pub(crate) fn init_command<'a>(alloc: Global) -> Result<Command<'a>, AllocError>
+    ensures { IfOk result (λ command. app_of command ≡ init_of) }
+{
+    let command = bare(
+        alloc,
+        "init",
+        help::USAGE_INIT,
+        help::INIT,
+        help::AFTER_INIT,
+    );
+    let command = with_option(alloc, command, "file", "The file to make")?;
+    with_option(
+        alloc,
+        command,
+        "office-token",
+        "The token of the new broker's office",
+    )
+}
+
+pub(crate) fn serve_command<'a>(alloc: Global) -> Result<Command<'a>, AllocError>
+    ensures { IfOk result (λ command. app_of command ≡ serve_of) }
+{
+    let command = bare(
+        alloc,
+        "serve",
+        help::USAGE_SERVE,
+        help::SERVE,
+        help::AFTER_SERVE,
+    );
+    let command = with_option(alloc, command, "file", "The broker's file")?;
+    let command = with_option(alloc, command, "listen", "The address, as 127.0.0.1:9292")?;
+    with_number(
+        alloc,
+        command,
+        "connections",
+        "How many connections to serve, from 1 to 1000000",
+    )
+}
+
+pub(crate) fn normalise_command<'a>(alloc: Global) -> Command<'a>
+    ensures { app_of result ≡ normalise_of }
+{
+    bare(
+        alloc,
+        "normalise",
+        help::USAGE_NORMALISE,
+        help::NORMALISE,
+        help::AFTER_NORMALISE,
+    )
+}
+
+pub(crate) fn check_command<'a>(alloc: Global) -> Result<Command<'a>, AllocError>
+    ensures { IfOk result (λ command. app_of command ≡ check_of) }
+{
+    let command = bare(
+        alloc,
+        "check",
+        help::USAGE_CHECK,
+        help::CHECK,
+        help::AFTER_CHECK,
+    );
+    let command = with_option(alloc, command, "pact", "The pact file")?;
+    with_option(alloc, command, "replies", "The file of recorded replies")
+}
+
+/// `can-i-deploy` with its first three options.
+fn asking_command<'a>(alloc: Global) -> Result<Command<'a>, AllocError>
+    ensures { IfOk result (λ command. app_of command
+        ≡ with_rule (with_rule (with_rule (new_app (codes "can-i-deploy"))
+        (option_of (codes "file"))) (option_of (codes "token"))) (option_of (codes "pacticipant"))) }
+{
+    let command = bare(
+        alloc,
+        "can-i-deploy",
+        help::USAGE_CAN_I_DEPLOY,
+        help::CAN_I_DEPLOY,
+        help::AFTER_CAN_I_DEPLOY,
+    );
+    let command = with_option(alloc, command, "file", "The broker's file")?;
+    let command = with_option(
+        alloc,
+        command,
+        "token",
+        "The token of the team that owns the pacticipant, or the office's",
+    )?;
+    with_option(alloc, command, "pacticipant", "The pacticipant's name")
+}
+
+pub(crate) fn can_i_deploy_command<'a>(alloc: Global) -> Result<Command<'a>, AllocError>
+    ensures { IfOk result (λ command. app_of command ≡ can_i_deploy_of) }
+{
+    let command = asking_command(alloc)?;
+    let command = with_option(alloc, command, "version", "The version's name")?;
+    with_option(alloc, command, "to-environment", "The environment's name")
+}
+
+/// The commands over tables and files of brokers.
+fn with_brokers<'a>(alloc: Global, program: Command<'a>) -> Result<Command<'a>, AllocError> {
+    program
+        .subcommand(init_command(alloc)?)?
+        .subcommand(serve_command(alloc)?)
+}
+
+/// The commands over pact files.
+fn with_pacts<'a>(alloc: Global, program: Command<'a>) -> Result<Command<'a>, AllocError> {
+    program
+        .subcommand(normalise_command(alloc))?
+        .subcommand(check_command(alloc)?)
+}
+
+/// The commands that answer a question or a stream.
+fn with_answers<'a>(alloc: Global, program: Command<'a>) -> Result<Command<'a>, AllocError> {
+    program
+        .subcommand(can_i_deploy_command(alloc)?)?
+        .subcommand(replay_command(alloc)?)
+}
+
+/// The whole program, which tells its commands and what is wrong with words that name none.
+pub(crate) fn program<'a>(alloc: Global) -> Result<Command<'a>, AllocError> {
+    let program = bare(alloc, "broker", help::USAGE, help::ABOUT, help::AFTER)
+        .version(help::VERSION)
+        .subcommand_required(true);
+    let program = with_brokers(alloc, program)?;
+    let program = with_pacts(alloc, program)?;
+    with_answers(alloc, program)
+}

@@ -1,0 +1,134 @@
+//! What the commands say of themselves.
+
+/// The version of the program.
+pub(crate) const VERSION: &str = "1.0.0";
+
+pub(crate) const USAGE: &str = "broker COMMAND OPTIONS";
+
+pub(crate) const ABOUT: &str =
+    "A broker of consumer contracts (pacts): it keeps them with the results of their verification, and tells whether a version may be deployed";
+
+pub(crate) const AFTER: &str =
+    "Example: broker init --file broker.db --office-token office-token-0001
+
+Each command ends with a status. 0: done, passed, permitted. 1: failed, not permitted.
+2: the words are no command line. 3: it couldn't be done; one line on standard error tells why.
+`broker help COMMAND` tells the lines of a command.";
+
+pub(crate) const USAGE_REPLAY: &str = "broker replay --office-token T";
+
+pub(crate) const REPLAY: &str = "Serves the requests on standard input over tables in memory";
+
+pub(crate) const AFTER_REPLAY: &str =
+    "The requests are HTTP/1.1, one after the other. The answers go to standard output; nothing is kept.
+
+Example: broker replay --office-token office-token-0001 < requests.http
+
+Status 0: the input is answered to its end, or up to an answer that closes it.
+Status 3, and on standard error one of
+  token      the token isn't 16 to 128 ASCII letters, digits and -._~+/=
+  open 4, open 5   the tables couldn't be made: no memory, or the database failed
+  serve 1    the input couldn't be read
+  serve 2    the output couldn't be written
+  serve 3    no memory for a request
+  memory     no memory for anything else";
+
+pub(crate) const USAGE_INIT: &str = "broker init --file F --office-token T";
+
+pub(crate) const INIT: &str = "Makes the file of a new broker";
+
+pub(crate) const AFTER_INIT: &str =
+    "The file is a database of SQLite, with a second file beside it, whose name ends in -wal. Keep the
+office's token: it alone names teams, and can't be changed or read from the file.
+
+Example: broker init --file broker.db --office-token office-token-0001
+
+Status 0: the file is there and holds the tables of a new broker.
+Status 3, and on standard error one of
+  token      the token isn't 16 to 128 ASCII letters, digits and -._~+/=
+  file       the file can't be read or written, or is no database
+  open 1     the file has a table already; nothing is changed
+  open 4     no memory for the tables
+  open 5     the database failed
+  memory     no memory for anything else";
+
+pub(crate) const USAGE_SERVE: &str = "broker serve --file F --listen A --connections N";
+
+pub(crate) const SERVE: &str =
+    "Serves HTTP/1.1 on an address of this computer, over the broker in a file";
+
+pub(crate) const AFTER_SERVE: &str =
+    "The connections are served one after the other, and the program ends behind the last one. The
+address is one of loopback with a port, as 127.0.0.1:9292 or [::1]:9292: put a server with TLS
+before it. While it runs no other program can open the file.
+
+Example: broker serve --file broker.db --listen 127.0.0.1:9292 --connections 1000000
+
+Status 0: the connections are served. A peer that fails ends its own connection alone.
+Status 3, and on standard error one of
+  file       the file isn't there, can't be read or written, is in use, or is no database
+  open 2     the file isn't a broker's
+  open 3.N   the file has another format, of number N
+  open 4     no memory to open the tables
+  open 5     the database failed
+  listen     the address isn't one of loopback, or is taken
+  memory     no memory for anything else";
+
+pub(crate) const USAGE_NORMALISE: &str = "broker normalise";
+
+pub(crate) const NORMALISE: &str = "Writes the normal text of the pact file on standard input";
+
+pub(crate) const AFTER_NORMALISE: &str =
+    "Two pact files are one contract where their normal texts are equal.
+
+Example: broker normalise < pacts/shop-stock.json
+
+Status 0: standard output has the normal text and a newline.
+Status 3, and on standard error one of
+  pact N     the file's first fault: 1 too long, 2 not JSON, 3 another shape at the place that follows,
+             4 not of version 3, 5 messages, 6.1 a fraction, 6.2 nested too deep, 7.N a matching rule,
+             8 two interactions that clash, 9 over 512 interactions, 10 one name on both sides
+  file       the input can't be read, or the output can't be written
+  memory     no memory was left";
+
+pub(crate) const USAGE_CHECK: &str = "broker check --pact F --replies G";
+
+pub(crate) const CHECK: &str = "Tells whether recorded replies of a provider meet a pact file";
+
+pub(crate) const AFTER_CHECK: &str =
+    "Prints `pass`, or `fail` and the places of the interactions that fail, counted from 0 in the order
+of the normal text.
+
+Example: broker check --pact pacts/shop-stock.json --replies replies.json
+
+Status 0: pass. Status 1: fail.
+Status 3, and on standard error one of
+  pact N     the pact file's first fault, as `normalise --help` tells them
+  replies N  the first fault of the replies: 1 not JSON, 2 another shape at the place that follows,
+             3.1 a fraction, 3.2 nested too deep, 4 two replies for one interaction
+  check 1    a reply belongs to no interaction
+  check 2    a pattern of the pact can't be used
+  file       a file can't be read, or the output can't be written
+  memory     no memory was left";
+
+pub(crate) const USAGE_CAN_I_DEPLOY: &str =
+    "broker can-i-deploy --file F --token T --pacticipant P --version V --to-environment E";
+
+pub(crate) const CAN_I_DEPLOY: &str = "Tells whether a version may be deployed to an environment";
+
+pub(crate) const AFTER_CAN_I_DEPLOY: &str =
+    "Prints the answer of the request GET /can-i-deploy. While `serve` runs over the file, ask it by HTTP.
+
+Example: broker can-i-deploy --file broker.db --token red-team-token-01 --pacticipant shop
+  --version 1.4.2 --to-environment live
+
+Status 0: permitted. Status 1: not permitted; the answer names each pair that is missing or failed.
+Status 3, and on standard error the broker's other answer, or one of
+  token      the token isn't 16 to 128 ASCII letters, digits and -._~+/=
+  name       a name isn't 1 to 100 bytes without control characters
+  file       the file isn't there, can't be read or written, is in use, or is no database
+  open 2     the file isn't a broker's
+  open 3.N   the file has another format, of number N
+  open 4     no memory to open the tables
+  open 5     the database failed
+  memory     no memory for anything else";

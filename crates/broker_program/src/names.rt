@@ -1,0 +1,50 @@
+//! The names of the commands.
+ghost use Rattle.std.specs.Prelude.{◌≡◌, MatchOption, false, map, option_map};
+ghost use Rattle.broker_program.specs.Lines.{BeginsWith, command_at, command_named, is_command};
+
+/// A command of the program, without its options.
+#[derive(Clone, Copy, Debug)]
+pub(crate) enum CommandName {
+    Replay,
+    Init,
+    Serve,
+    Normalise,
+    Check,
+    CanIDeploy,
+}
+
+/// The command that a word names.
+fn named_by(word: &str) -> Option<CommandName>
+    ensures { option_map command_named result ≡ command_at word.now }
+{
+    if word == "replay" {
+        return Some(CommandName::Replay);
+    }
+    if word == "init" {
+        return Some(CommandName::Init);
+    }
+    if word == "serve" {
+        return Some(CommandName::Serve);
+    }
+    if word == "normalise" {
+        return Some(CommandName::Normalise);
+    }
+    if word == "check" {
+        return Some(CommandName::Check);
+    }
+    if word == "can-i-deploy" {
+        return Some(CommandName::CanIDeploy);
+    }
+    None
+}
+
+/// The command that the first of the words names.
+pub(crate) fn named(words: &[&str]) -> Option<CommandName>
+    ensures { MatchOption result (is_command (map (λ word. word.now) words.now) ≡ false)
+        (BeginsWith (map (λ word. word.now) words.now)) }
+{
+    match words.split_first() {
+        Some((word, _)) => named_by(word),
+        None => None,
+    }
+}
