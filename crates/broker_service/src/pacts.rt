@@ -36,7 +36,8 @@ pub(crate) fn show<S: Alter>(
     conn: &mut Connection<S>,
     place: Result<u32, Answer>,
 ) -> Result<Answer, StoreFault>
-    ensures { Queries (state S.Store conn.old) (state S.Store conn.new) result (λ answer s. ShowsReached s place answer) }
+    ensures { Queries (state S.Store conn.old) (state S.Store conn.new) result
+        (λ answer s. ShowsReached s place answer) }
 {
     match place {
         Ok(content) => show_text(conn, content),
