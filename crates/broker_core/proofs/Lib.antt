@@ -12,6 +12,7 @@ mod GateExamples
 mod StrictExamples
 mod ListingExamples
 pub mod SessionLemmas
+pub mod DoneLemmas
 pub mod GateLemmas
 pub mod Once
 pub mod Callers

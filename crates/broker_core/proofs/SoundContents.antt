@@ -325,12 +325,14 @@ module _ (parts : Primitives) (again : ReadsAgain parts) (s : State) (sound : Ha
   acts_sound (GetMatrix v) out x = left_same out _ x.2 (same s)
   acts_sound (Malformed fault) out x = absurd x
 
+-- sound contents stay sound, whatever is asked
 pub contents_stay : (parts : Primitives) → ContentsStay parts
 contents_stay parts s token c out again sound x = elim (acts-or-same parts s token c out x) [
   | inl still ↦ subst (HasSoundContents parts) (sym still) sound
   | inr acts ↦ acts_sound parts again s sound c out acts
 ]
 
+-- the contents of the first state are sound
 pub opening_is_sound : (parts : Primitives) → OpeningIsSound parts
 opening_is_sound parts office = record {
   apart = λ m n x a b. absurd (nothing m x a);

@@ -85,6 +85,7 @@ follows_answers parts s caller c out x = by_found x.0 x.2
     by_found None h = refuses parts s c out (first_missing s c) (is_allowed s caller c) h
     by_found (Some fault) h = same out (unchanged_with s (BadForm fault)) h (is (BadForm fault) s refl)
 
+-- what a step answers is never the store, the memory, a pattern or that the broker is stopped
 pub step_answers : (parts : Primitives) (s : State) (token : Option Text) (c : Command) (out : Transition) → Step parts s token c out → is_step out.answer ≡ true
 unfolding IsStep
 step_answers parts s token c out x = by_who x.0 x.2

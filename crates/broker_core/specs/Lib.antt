@@ -14,4 +14,5 @@ pub mod Machine
 pub mod Contents
 pub mod Listed
 pub mod Laws
+pub mod Sessions
 pub mod Headline

@@ -2,6 +2,7 @@
 ghost use Rattle.broker_core.specs.Machine.{Primitives};
 ghost use Rattle.broker_core.specs.Headline.{DeploysExactly, ReleasesExactly, PermitsVerified};
 ghost use Rattle.broker_core.specs.Laws.{OnlyDoneChanges, OpeningIsSound, ContentsStay, GateLocality, GateAnswersOnce, Retry, SessionsCompose, RunsOnce, StepExists, StepOnce};
+ghost use Rattle.broker_core.specs.Sessions.{SessionsRun};
 
 /// What the written machine takes from other crates.
 pub trait Machine {
@@ -49,6 +50,13 @@ pub fn retry<M: Machine>()
 /// most one request that was cut.
 pub fn sessions_compose<M: Machine>()
     ensures { SessionsCompose M.primitives }
+{}
+
+/// The states after a list of sessions are just those of runs over what is done of them: of each
+/// session the requests that were answered by a step, and the one that was cut, or not that one. So
+/// of each session just a prefix is done, which holds every request that was answered.
+pub fn sessions_run<M: Machine>()
+    ensures { SessionsRun M.primitives }
 {}
 
 /// Where each request that was cut comes again, the state is that of a run over all requests, each
