@@ -32,6 +32,7 @@ module _ {X : Type 0} where
       ap (λ b. cond b (Some x) (find int_cmp (pos (m + suc i)) (numbers_from (m + 1) xs))) (differ (m + suc i) m (λ same. omega (arith, same)))
       ∙ ap (λ k. find int_cmp (pos k) (numbers_from (m + 1) xs)) (let e : m + suc i ≡ m + 1 + i = omega arith in e) ∙ at_place (m + 1) xs i
 
+  -- in a list that is numbered from 1, 0 finds nothing, and n finds the n-th member, if there are that many
   pub by_number : (xs : List X) (n : ℕ) → find int_cmp (pos n) (numbered xs) ≡ (if n == 0 then None else slice_get xs (n - 1))
   by_number xs zero = none_below 1 xs 0 (omega arith)
   by_number xs (suc i) = ap (λ k. find int_cmp (pos k) (numbers_from 1 xs)) (let e : suc i ≡ 1 + i = omega arith in e) ∙ at_place 1 xs i

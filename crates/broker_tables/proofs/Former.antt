@@ -25,6 +25,7 @@ use Rattle.broker_tables.proofs.Orders.{exact_texts}
 
 -- ---- the tables of format 1 keep their rows
 
+-- the table has the rows that it had, unless it is the one at tree 0, which is meta
 abbrev pub KeepsOthers : Trees → Trees → Table → Type 0
 KeepsOthers old new t = t.tree ≢ 0 → new t.tree ≡ old t.tree
 
@@ -119,6 +120,7 @@ claims versions m (row ∷ rows) (r ∷ results) e =
     let later : map {B = ℤ × ResultRow} (λ x. (whole_at 0 x, result_in [] x)) rows ≡ map {B = ℤ × ResultRow} (λ x. (pos x.0, x.1)) (enumerate_from (m + 1) (map (result_of versions) results)) = cc in
     (sym (ap (λ (x : ℤ × ResultRow). x.1.checked) pair), claims versions (m + 1) rows results later)
 
+-- a state that is held without the added tables' rows: every result is claimed, and no environment is strict
 pub unmarked : (n : ℕ) (more : List Table) (db : Database) (s : Broker) → HoldsUnmarked n more db s → IsUnmarked s
 unmarked n more db s held = record {
   claimed = claims s.versions 1 (rows_of db (codes "results")) s.results held.results;

@@ -100,6 +100,7 @@ frame_then one two old mid new first second = record {
     go (name ∷ names) a b =
         ((λ other. let both = neither (list_any (same_text name) one) (list_any (same_text name) two) (sym (ap not (any_append name one two)) ∙ other) in b.0 both.1 ∙ a.0 both.0), go names a.1 b.1)
 
+-- a broker's database is one still, after a change of some tables
 pub still_broker : (changed : List (List ℕ)) (old new : Database) → Frame changed old new → IsBroker old → IsBroker new
 still_broker changed old new frame broker = record { schema = frame.schema ∙ broker.schema; kept = frame.kept broker.kept }
 
@@ -145,6 +146,7 @@ module _ (changed : List (List ℕ)) (new : Database) (s : Broker) where
 
 -- ---- one field of the state is another: a lemma for each table that is changed
 
+-- where only the table teams changed, the state is held with the teams that its rows tell now
 pub teams_change : (old new : Database) (s : Broker) (next : Text → Option Text) → Holds old s → Frame (codes "teams" ∷ []) old new → AreTeams next (rows_of new (codes "teams")) → Holds new (record s { teams = next })
 teams_change old new s next held frame is = let k = still (codes "teams" ∷ []) new s old held frame in record {
   broker = k.broker;
@@ -163,6 +165,7 @@ teams_change old new s next held frame is = let k = still (codes "teams" ∷ [])
   released = k.released refl;
 }
 
+-- where only the table pacticipants changed, the state is held with the pacticipants that its rows tell now
 pub pacticipants_change : (old new : Database) (s : Broker) (next : Text → Option Text) → Holds old s → Frame (codes "pacticipants" ∷ []) old new → ArePacticipants next (rows_of new (codes "pacticipants")) → Holds new (record s { pacticipants = next })
 pacticipants_change old new s next held frame is = let k = still (codes "pacticipants" ∷ []) new s old held frame in record {
   broker = k.broker;
@@ -181,6 +184,7 @@ pacticipants_change old new s next held frame is = let k = still (codes "pactici
   released = k.released refl;
 }
 
+-- where only the table branches changed, the state is held with the branches that its rows tell now
 pub branches_change : (old new : Database) (s : Broker) (next : Version × Text → Bool) → Holds old s → Frame (codes "branches" ∷ []) old new → AreBranches s.versions next (rows_of new (codes "branches")) → Holds new (record s { branches = next })
 branches_change old new s next held frame is = let k = still (codes "branches" ∷ []) new s old held frame in record {
   broker = k.broker;
@@ -199,6 +203,7 @@ branches_change old new s next held frame is = let k = still (codes "branches" �
   released = k.released refl;
 }
 
+-- where only environments and strict_environments changed, the state is held with the environments they tell now
 pub environments_change : (old new : Database) (s : Broker) (next : Text → Option Marks) → Holds old s → Frame (codes "environments" ∷ codes "strict_environments" ∷ []) old new → AreEnvironments next (rows_of new (codes "environments")) (rows_of new (codes "strict_environments")) → Holds new (record s { environments = next })
 environments_change old new s next held frame is = let k = still (codes "environments" ∷ codes "strict_environments" ∷ []) new s old held frame in record {
   broker = k.broker;
@@ -217,6 +222,7 @@ environments_change old new s next held frame is = let k = still (codes "environ
   released = k.released refl;
 }
 
+-- where only the table grants changed, the state is held with the grants that its rows tell now
 pub grants_change : (old new : Database) (s : Broker) (next : Text × Text → Bool) → Holds old s → Frame (codes "grants" ∷ []) old new → AreGrants next (rows_of new (codes "grants")) → Holds new (record s { grants = next })
 grants_change old new s next held frame is = let k = still (codes "grants" ∷ []) new s old held frame in record {
   broker = k.broker;
@@ -235,6 +241,7 @@ grants_change old new s next held frame is = let k = still (codes "grants" ∷ [
   released = k.released refl;
 }
 
+-- where only the table contents changed, the state is held with the contents that its rows tell now
 pub contents_change : (old new : Database) (s : Broker) (next : List Text) → Holds old s → Frame (codes "contents" ∷ []) old new → AreContents next (rows_of new (codes "contents")) → Holds new (record s { contents = next })
 contents_change old new s next held frame is = let k = still (codes "contents" ∷ []) new s old held frame in record {
   broker = k.broker;
@@ -253,6 +260,7 @@ contents_change old new s next held frame is = let k = still (codes "contents" �
   released = k.released refl;
 }
 
+-- where only the table contracts changed, the state is held with the contracts that its rows tell now
 pub contracts_change : (old new : Database) (s : Broker) (next : Version × Text → Option ℕ) → Holds old s → Frame (codes "contracts" ∷ []) old new → AreContracts s.versions next (rows_of new (codes "contracts")) → Holds new (record s { contracts = next })
 contracts_change old new s next held frame is = let k = still (codes "contracts" ∷ []) new s old held frame in record {
   broker = k.broker;
@@ -271,6 +279,7 @@ contracts_change old new s next held frame is = let k = still (codes "contracts"
   released = k.released refl;
 }
 
+-- where only results, checked_results and latest changed, the state is held with the results they tell now
 pub results_change : (old new : Database) (s : Broker) (next : List Verification) → Holds old s → Frame (codes "results" ∷ codes "checked_results" ∷ codes "latest" ∷ []) old new → AreResults s.versions next (rows_of new (codes "results")) (rows_of new (codes "checked_results")) → AreLatest (record s { results = next }) (rows_of new (codes "latest")) → Holds new (record s { results = next })
 results_change old new s next held frame are newest = let k = still (codes "results" ∷ codes "checked_results" ∷ codes "latest" ∷ []) new s old held frame in record {
   broker = k.broker;
@@ -289,6 +298,7 @@ results_change old new s next held frame are newest = let k = still (codes "resu
   released = k.released refl;
 }
 
+-- where only the table deployed changed, the state is held with the deployments that its rows tell now
 pub deployed_change : (old new : Database) (s : Broker) (next : Text × Text × Text → Option Text) → Holds old s → Frame (codes "deployed" ∷ []) old new → AreDeployed s.versions next (rows_of new (codes "deployed")) → Holds new (record s { deployed = next })
 deployed_change old new s next held frame is = let k = still (codes "deployed" ∷ []) new s old held frame in record {
   broker = k.broker;
@@ -307,6 +317,7 @@ deployed_change old new s next held frame is = let k = still (codes "deployed" �
   released = k.released refl;
 }
 
+-- where only the table released changed, the state is held with the releases that its rows tell now
 pub released_change : (old new : Database) (s : Broker) (next : Text × Version → Bool) → Holds old s → Frame (codes "released" ∷ []) old new → AreReleased s.versions next (rows_of new (codes "released")) → Holds new (record s { released = next })
 released_change old new s next held frame is = let k = still (codes "released" ∷ []) new s old held frame in record {
   broker = k.broker;

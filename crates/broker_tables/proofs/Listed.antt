@@ -25,6 +25,7 @@ use Rattle.broker_core.proofs.Lists.{contains_none, contains_cases, contains_her
 
 -- ---- what is read of a list, by members
 
+-- where rows are read into items one by one, each item is read of a row of the list
 pub read_has : {A B : Type 0} (reads : A → B → Type 0) (rows : List A) (items : List B) (x : B) → AreRead reads rows items → Contains items x → (row : A) × Has rows row × reads row x
 read_has reads [] [] x read c = absurd (contains_none x c)
 read_has reads [] (y ∷ items) x read c = absurd read
@@ -34,6 +35,7 @@ read_has {A} {B} reads (r ∷ rows) (y ∷ items) x read c = elim (contains_case
   | inr there ↦ let rest = read_has reads rows items x read.1 there in (rest.0, inr rest.1, rest.2)
 ]
 
+-- where rows are read into items one by one, each row is read into an item of the list
 pub has_read : {A B : Type 0} (reads : A → B → Type 0) (rows : List A) (items : List B) (row : A) → AreRead reads rows items → Has rows row → (x : B) × Contains items x × reads row x
 has_read reads [] items row read has = absurd has
 has_read reads (r ∷ rows) [] row read has = absurd read
@@ -78,6 +80,7 @@ module _ {M Y : Type 0} (by : M → M → Ordering) (P : M → Type 0) (reads : 
 
 -- ---- what a query shows in its order
 
+-- how two compare by the terms of an ORDER BY, each term evaluated in the one's rows and in the other's
 abbrev pub sorts : {M : Type 0} → List (Term × Key) → (M → List Row) → M → M → Ordering
 sorts order env a b = sort_cmp order (env a) (env b)
 

@@ -47,6 +47,7 @@ known_from n (w ∷ versions) v = go (eq_by_cmp pair_cmp (key_of v) (key_of w)) 
 pub known_numbered : (s : State) (v : Version) → is_some (number_of s.versions v) ≡ is_known s v
 known_numbered s v = known_from 1 s.versions v
 
+-- a version that isn't in the list has no number
 pub none_numbered : (versions : List Version) (v : Version) → list_any (same_version v) versions ≡ false → number_of versions v ≡ None
 none_numbered versions v free = none (number_of versions v) (known_from 1 versions v ∙ free)
   where
@@ -63,6 +64,7 @@ within_from n (w ∷ versions) v k h = go (eq_by_cmp pair_cmp (key_of v) (key_of
     go true e later = let same : n ≡ k = cc in (omega (arith, same), omega (arith, same))
     go false e later = let it = later e in (omega (arith, it.0), omega (arith, it.1))
 
+-- the number of a version is at least 1 and at most the count of the versions
 pub within : (versions : List Version) (v : Version) (k : ℕ) → number_of versions v ≡ Some k → (1 ≤ k) × (k ≤ length versions)
 within versions v k h = let it = within_from 1 versions v k h in (it.0, omega (arith, it.1))
 
@@ -83,6 +85,7 @@ one_from n (x ∷ versions) v w k h g =
     go false e true f h g later above beyond = absurd (let same : n ≡ k = cc in let far = (above h).0 in omega (arith, same, far))
     go false e false f h g later above beyond = later h g
 
+-- two versions with one number are the same
 pub one_version : (versions : List Version) (v w : Version) (k : ℕ) → number_of versions v ≡ Some k → number_of versions w ≡ Some k → v ≡ w
 one_version versions v w k h g = one_from 1 versions v w k h g
 

@@ -21,6 +21,7 @@ use Rattle.broker_tables.specs.Making.{IsBlank, HasTables, HasAll}
 use Rattle.broker_tables.specs.Holds.{Holds, IsMeta, format, AreTeams, ArePacticipants, AreVersions, AreBranches, AreEnvironments, AreGrants, AreContents, AreContracts, AreResults, AreLatest, AreDeployed, AreReleased}
 use Rattle.broker_tables.proofs.Placed.{meta}
 
+-- a database without tables is kept: it is sound, and there are no rows whose numbers could be amiss
 pub blank_kept : (db : Database) → IsBlank db → IsKept db
 blank_kept db blank = record { sound = blank.sound; numbered = subst (λ (s : Schema). AllByRecursion (λ t. IsNumbered (db.trees t.tree)) s.tables) (sym blank.schema) tt }
 

@@ -7,12 +7,15 @@ use Rattle.std.specs.FinMap.{nat_cmp-IsAntisymmetric, slice_cmp-IsAntisymmetric,
 use Rattle.std.proofs.lemmas.Map.Lookups.{exact_pairs}
 use Rattle.table_access.specs.Columns.{text_cmp, pair_cmp, by_both}
 
+-- texts that tie in their order are the same
 pub exact_texts : IsAntisymmetric text_cmp
 exact_texts = slice_cmp-IsAntisymmetric nat_cmp-IsAntisymmetric
 
+-- the order of pairs of texts is total
 pub pairs_total : IsTotalOrder pair_cmp
 pairs_total = both_total nat_list_cmp_total nat_list_cmp_total
 
+-- pairs of texts that tie in their order are the same
 pub exact_pair : IsAntisymmetric pair_cmp
 exact_pair = exact_pairs text_cmp text_cmp exact_texts exact_texts
 
@@ -20,6 +23,7 @@ exact_pair = exact_pairs text_cmp text_cmp exact_texts exact_texts
 pub marked_total : IsTotalOrder (by_both int_cmp text_cmp)
 marked_total = both_total int_cmp_total nat_list_cmp_total
 
+-- pairs of a number and a text that tie in their order are the same
 pub exact_marked : IsAntisymmetric (by_both int_cmp text_cmp)
 exact_marked = exact_pairs int_cmp text_cmp int_cmp-IsAntisymmetric exact_texts
 
@@ -27,6 +31,7 @@ exact_marked = exact_pairs int_cmp text_cmp int_cmp-IsAntisymmetric exact_texts
 pub numbers_total : IsTotalOrder (by_both int_cmp int_cmp)
 numbers_total = both_total int_cmp_total int_cmp_total
 
+-- pairs of numbers that tie in their order are the same
 pub exact_numbers : IsAntisymmetric (by_both int_cmp int_cmp)
 exact_numbers = exact_pairs int_cmp int_cmp int_cmp-IsAntisymmetric int_cmp-IsAntisymmetric
 
@@ -34,6 +39,7 @@ exact_numbers = exact_pairs int_cmp int_cmp int_cmp-IsAntisymmetric int_cmp-IsAn
 pub placed_total : IsTotalOrder (by_both text_cmp int_cmp)
 placed_total = both_total nat_list_cmp_total int_cmp_total
 
+-- pairs of a text and a number that tie in their order are the same
 pub exact_placed : IsAntisymmetric (by_both text_cmp int_cmp)
 exact_placed = exact_pairs text_cmp int_cmp exact_texts int_cmp-IsAntisymmetric
 
@@ -41,5 +47,6 @@ exact_placed = exact_pairs text_cmp int_cmp exact_texts int_cmp-IsAntisymmetric
 pub triples_total : IsTotalOrder (by_both text_cmp (by_both text_cmp text_cmp))
 triples_total = both_total nat_list_cmp_total pairs_total
 
+-- triples of texts that tie in their order are the same
 pub exact_triple : IsAntisymmetric (by_both text_cmp (by_both text_cmp text_cmp))
 exact_triple = exact_pairs text_cmp pair_cmp exact_texts exact_pair

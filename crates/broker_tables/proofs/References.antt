@@ -45,6 +45,7 @@ or_left : (a b : Bool) → (a || b) ≡ true → a ≡ false → b ≡ true
 or_left true b h e = absurd cc
 or_left false b h e = h
 
+-- where a test holds of any member of a list, there is a member of which it holds
 pub any_has : {X : Type 0} (p : X → Bool) (xs : List X) → list_any p xs ≡ true → (x : X) × Has xs x × (p x ≡ true)
 any_has p [] t = absurd cc
 any_has p (x ∷ xs) t = elim (cases_Bool (p x)) [
@@ -75,6 +76,7 @@ module _ (db : Database) (broker : IsBroker db) where
   environment_names : (x : Row) → Has (db.trees 10) x → column x 1 ≡ Text (text 1 x)
   environment_names x has = text_at db broker.kept.sound environments (has_place _ 5 environments (environments_there db broker)) x has 0 _ refl refl refl refl refl
 
+  -- a text in a column that REFERENCES the names of environments is the name in a row of environments
   pub refers_environment : (t : Table) → Has db.schema.tables t → (p : ℕ) → Has t.references (to p (codes "environments") (codes "name")) → (r : Row) → Has (db.trees t.tree) r → column r p ≡ Text (text p r)
       → (x : Row) × Has (db.trees 10) x × (text 1 x ≡ text p r)
   refers_environment t listed p among r has typed =
@@ -93,6 +95,7 @@ module _ (db : Database) (broker : IsBroker db) where
 
 -- ---- the numbers of the versions
 
+-- where rows have the numbers of a list that is numbered from n on, each is below n plus the length of the list
 pub row_number : {X : Type 0} (f : Row → X) (rows : List Row) (xs : List X) (n : ℕ) → map {B = ℤ × X} (λ r. (whole_at 0 r, f r)) rows ≡ map (λ e. (pos e.0, e.1)) (enumerate_from n xs) → (r : Row) → Has rows r
     → (k : ℕ) × (whole_at 0 r ≡ pos k) × (k < n + length xs)
 row_number f [] xs n is r has = absurd has

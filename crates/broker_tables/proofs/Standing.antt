@@ -59,6 +59,7 @@ cond_some true found = refl
 cond_some false found = refl
 
 module _ {K : Type 0} {R : K → K → Ordering} (o : IsTotalOrder R) (exact : IsAntisymmetric R) (key : Row → K) where
+  -- once the rows of a key are taken out, none stands there, and at another key one stands just where one stood
   pub stands_out : (k : K) (p : Row → Bool) (old new : List Row) → AllByRecursion (λ r. p r ≡ eq_by_cmp R k (key r)) old → new ≡ filter (λ r. not (p r)) old
       → (q : K) → stands_at R key new q ≡ cond (eq_by_cmp R q k) false (stands_at R key old q)
   stands_out k p old new same is q =

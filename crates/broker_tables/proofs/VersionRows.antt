@@ -50,15 +50,18 @@ tests {R = R} code o exact tested x y a b xs ys =
 pub whole_test : (x y : Value) (a b : ℤ) → x ≡ Int a → y ≡ Int b → (is_true (binary (Compare Eq Binary) x y) ≡ true) ↔ (a ≡ b)
 whole_test = tests Int int_cmp_total int_cmp-IsAntisymmetric same_ints
 
+-- two values that are texts are equal by the test = just where the texts are the same
 pub text_test : (x y : Value) (a b : Words) → x ≡ Text a → y ≡ Text b → (is_true (binary (Compare Eq Binary) x y) ≡ true) ↔ (a ≡ b)
 text_test = tests Text nat_list_cmp_total exact_texts same_texts
 
+-- three tests joined by AND hold just where each of them does
 pub all_three : (a b c : Bool) → ((a && (b && (c && true))) ≡ true) ↔ ((a ≡ true) × (b ≡ true) × (c ≡ true))
 all_three true true true = (λ h. (refl, refl, refl), λ h. refl)
 all_three true true false = (λ h. absurd cc, λ h. absurd (true≢false (sym h.2)))
 all_three true false c = (λ h. absurd cc, λ h. absurd (true≢false (sym h.1)))
 all_three false b c = (λ h. absurd cc, λ h. absurd (true≢false (sym h.0)))
 
+-- a truth value that can't be true is false
 pub false_if : (b : Bool) → (b ≡ true → ⊥) → b ≡ false
 false_if true h = absurd (h refl)
 false_if false h = refl
@@ -86,12 +89,15 @@ module _ (db : Database) (broker : IsBroker db) where
   pub versions_numbered : IsNumbered (db.trees 6)
   versions_numbered = at_has _ db.schema.tables versions broker.kept.numbered (has_place _ 3 versions (versions_there db broker))
 
+  -- column 0 of a row of versions is a whole number: the version's number
   pub version_number : (v : Row) → Has (db.trees 6) v → column v 0 ≡ Int (whole_at 0 v)
   version_number v has = int_is (rowid v) (at_has _ (db.trees 6) v versions_numbered.1 has)
 
+  -- column 2 of a row of versions is a text: the pacticipant's name
   pub owners : (v : Row) → Has (db.trees 6) v → column v 2 ≡ Text (text 2 v)
   owners v has = text_at db broker.kept.sound versions (has_place _ 3 versions (versions_there db broker)) v has 1 _ refl refl refl refl refl
 
+  -- column 3 of a row of versions is a text: the version's name
   pub names : (v : Row) → Has (db.trees 6) v → column v 3 ≡ Text (text 3 v)
   names v has = text_at db broker.kept.sound versions (has_place _ 3 versions (versions_there db broker)) v has 2 _ refl refl refl refl refl
 

@@ -12,6 +12,7 @@ use Rattle.content_store.specs.Contents.{is_among, with_text}
 pub same_is : (a b : Text) → same_text a b ≡ true → a ≡ b
 same_is a b e = exact_texts a b ((Equal-is (text_cmp a b)).0 (sym (texts_ties a b) ∙ e))
 
+-- a text is the same as itself by its bytes
 pub same_itself : (a : Text) → same_text a a ≡ true
 same_itself a = texts_ties a a ∙ (eq_by_cmp_equiv nat_list_cmp_total).refl a
 

@@ -217,6 +217,7 @@ if_short_ok p q h = let r = short_case (nat_le (length (normal_text p)) most_byt
 if_short_again : (p : Pact) → nat_le (length (normal_text p)) most_bytes ≡ true → if_short p ≡ Ok p
 if_short_again p h = rw h refl
 
+-- the normal text of a pact that is read of some file is itself a pact file that reads as the same pact
 pub read_again : (bytes : List ℕ) (p : Pact) → Normal bytes (Ok p) → Normal (normal_text p) (Ok p)
 unfolding Normal
 read_again bytes p e =

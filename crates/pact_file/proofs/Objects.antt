@@ -56,6 +56,7 @@ read_sound bytes d t utf8 is tree =
     let parts = whole_case (nat_le (depth d) 100) (whole_tree d) t tree in
     sound 100 d (read_kept bytes d utf8 is) (no_float d t parts.1) (at_most (depth d) 100 parts.0)
 
+-- where a text reads as one object, that is sound data, nesting at most 100
 pub object_sound : (bytes : List ℕ) (d : Data) → object_of bytes ≡ Ok d → IsSound 100 d
 unfolding object_of json_of
 object_sound bytes d e =
@@ -68,6 +69,7 @@ object_sound bytes d e =
 
 -- ---- another fault for each
 
+-- where an answer whose fault was renamed is a success, the answer itself was that success
 pub object_ok : {A F G : Type 0} (convert : F → G) (r : Result A F) (x : A) → with_fault convert r ≡ Ok x → r ≡ Ok x
 object_ok convert (Ok y) x h = ap Ok (ok_same y x h)
 object_ok convert (Err e) x h = absurd cc

@@ -121,6 +121,7 @@ abbrev pub AllSound : List Data → Type 0
 AllSound [] = ⊤
 AllSound (d ∷ ds) = IsSound 98 d × AllSound ds
 
+-- each value that a list of sound items holds is sound, nesting at most 98
 pub listed_sound : (ds : Items) → AreSound 98 ds → AllSound (listed ds)
 listed_sound no_items h = tt
 listed_sound (item d ds) h = (h.0, listed_sound ds h.1)
@@ -160,6 +161,7 @@ value_sound n [] i v lt is h = absurd (omega arith)
 value_sound n (x ∷ vs) zero v lt is h = subst (λ y. IsSound n (view y)) (sym is) h.0
 value_sound n (x ∷ vs) (suc i) v lt is h = value_sound n vs i v (omega arith) is h.1
 
+-- values that are each sound, nesting at most 98, are sound as the items of one array
 pub values_sound : (vs : List Value) → AllSound (map view vs) → AreSound 98 (items_view vs)
 values_sound [] h = tt
 values_sound (v ∷ vs) h = (h.0, values_sound vs h.1)

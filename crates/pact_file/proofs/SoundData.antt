@@ -66,6 +66,7 @@ number_whole (negative z) h = refl
 number_whole (float x) h = absurd h
 
 mutual
+  -- sound data has no fractions, at any depth
   pub whole : (n : ℕ) (d : Data) → IsSound n d → has_float d ≡ false
   whole n null h = refl
   whole n (boolean b) h = refl

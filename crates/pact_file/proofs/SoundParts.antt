@@ -23,6 +23,7 @@ of_member : (n : ℕ) (k : List ℕ) (ms : Members) (d : Data) → MembersAreSou
 of_member n k no_members d h e = absurd cc
 of_member n k (member l x ms) d h e = choice n (slice_cmp nat_cmp k l) (get_member k ms) x d h.1 (λ found. of_member n k ms d h.2 found) e
 
+-- the value found under a key of sound data is sound, nesting one level less
 pub of_get : (n : ℕ) (k : List ℕ) (whole d : Data) → IsSound (suc n) whole → get k whole ≡ Some d → IsSound n d
 of_get n k null d h e = absurd cc
 of_get n k (boolean b) d h e = absurd cc
@@ -53,6 +54,7 @@ object_is (string s) e h = absurd cc
 object_is (array ds) e h = absurd cc
 object_is (object ms) e h = same_Some _ _ h
 
+-- the object found under a key of sound data is sound, nesting one level less
 pub of_object_at : (n : ℕ) (k : List ℕ) (whole d : Data) → IsSound (suc n) whole → object_at k whole ≡ Some d → IsSound n d
 of_object_at n k whole d h e = let p = then_some if_object (get k whole) d e in of_get n k whole d h (p.1 ∙ ap Some (object_is p.0 d p.2))
 
@@ -67,6 +69,7 @@ of_text n (object ms) s h e = absurd cc
 pub of_text_at : (n : ℕ) (k : List ℕ) (whole : Data) (s : List ℕ) → IsSound (suc n) whole → text_at k whole ≡ Some s → IsUtf8 s
 of_text_at n k whole s h e = let p = then_some as_str (get k whole) s e in of_text n p.0 s (of_get n k whole p.0 h p.1) p.2
 
+-- the items of a sound array are sound, nesting one level less
 pub of_array : (n : ℕ) (d : Data) (ds : Items) → IsSound (suc n) d → as_array d ≡ Some ds → AreSound n ds
 of_array n null ds h e = absurd cc
 of_array n (boolean b) ds h e = absurd cc

@@ -14,9 +14,11 @@ token_weights_none : (ts : List Token) → token_weights ts [] ≡ []
 token_weights_none [] = refl
 token_weights_none (t ∷ ts) = refl
 
+-- every path is alive at the root, where no step has been taken
 pub alive_at_root : (ts : List Token) → is_alive ts [] ≡ true
 alive_at_root ts = ap (λ ws. ltb 0 (product ws)) (token_weights_none ts)
 
+-- no token of a path equals a step at the root, where there is none
 pub exact_at_root : (ts : List Token) → exact_tokens ts [] ≡ 0
 exact_at_root ts = ap (λ ws. length (filter (λ w. eqb w 2) ws)) (token_weights_none ts)
 
@@ -37,6 +39,7 @@ token_weights_step (t ∷ ts) (l ∷ at) s w e = ap (λ ws. token_weight t l ∷
 pub alive_past : (ts : List Token) (at : Location) (s : Step) → length ts ≤ length at → is_alive ts (at ++ s ∷ []) ≡ is_alive ts at
 alive_past ts at s h = ap (λ ws. ltb 0 (product ws)) (token_weights_past ts at s h)
 
+-- a step behind the end of a path leaves the number of its exact tokens as it was
 pub exact_past : (ts : List Token) (at : Location) (s : Step) → length ts ≤ length at → exact_tokens ts (at ++ s ∷ []) ≡ exact_tokens ts at
 exact_past ts at s h = ap (λ ws. length (filter (λ w. eqb w 2) ws)) (token_weights_past ts at s h)
 
@@ -63,6 +66,7 @@ counted : (w : ℕ) (b : Bool) → length (cond b (w ∷ []) []) ≡ cond b 1 0
 counted w true = refl
 counted w false = refl
 
+-- a path that reaches to the next step has one exact token more if its token there counts 2, and else as many
 pub exact_step : (ts : List Token) (at : Location) (s : Step) (w : ℕ) → length at < length ts → slice_get (map (λ t. token_weight t s) ts) (length at) ≡ Some w
     → exact_tokens ts (at ++ s ∷ []) ≡ exact_tokens ts at + cond (eqb w 2) 1 0
 exact_step ts at s w h e =
@@ -78,6 +82,7 @@ filtered_few p (w ∷ ws) = one_more (filtered_few p ws) (p w) where
   one_more h true = omega (arith, h)
   one_more h false = omega (arith, h)
 
+-- a path has at most as many exact tokens as it has tokens
 pub exact_few : (ts : List Token) (at : Location) → exact_tokens ts at ≤ length ts
 exact_few ts at = omega (arith, filtered_few (λ w. eqb w 2) (token_weights ts at), length-map (zip ts at) (λ (p : Token × Step). token_weight p.0 p.1), length-zip ts at)
 
@@ -120,6 +125,7 @@ powers (p ∷ ps) = power_more (token_weight p.0 p.1) (map (λ (p : Token × Ste
 pub product_over_power : (ts : List Token) (at : Location) → (product_over ts at ≡ 0) ⊎ (product_over ts at ≡ 2 ^ exact_tokens ts at)
 product_over_power ts at = powers (zip ts at)
 
+-- a path that is alive and no longer than the location weighs 2 to the power of one more than its exact tokens
 pub weight_alive : (ts : List Token) (at : Location) → length ts ≤ length at → is_alive ts at ≡ true → weight ts at ≡ 2 ^ (1 + exact_tokens ts at)
 weight_alive ts at h e = by_power (product_over_power ts at) where
   by_power : (product_over ts at ≡ 0) ⊎ (product_over ts at ≡ 2 ^ exact_tokens ts at) → weight ts at ≡ 2 ^ (1 + exact_tokens ts at)
@@ -128,6 +134,7 @@ weight_alive ts at h e = by_power (product_over_power ts at) where
       let up : suc (exact_tokens ts at) ≡ 1 + exact_tokens ts at = omega arith in
       ap (λ b. cond b (2 * product_over ts at) 0) (le-leb (length ts) (length at) h) ∙ ap (λ n. 2 * n) k ∙ doubles (exact_tokens ts at) ∙ ap (λ n. 2 ^ n) up
 
+-- a path that a step of the location rules out weighs nothing there
 pub weight_dead : (ts : List Token) (at : Location) → is_alive ts at ≡ false → weight ts at ≡ 0
 weight_dead ts at e = nothing (leb (length ts) (length at)) where
   nothing : (b : Bool) → cond b (2 * product_over ts at) 0 ≡ 0

@@ -42,6 +42,7 @@ pact_again file consumer provider text (Ok p) normal is =
       text_same consumer provider text p is = cc
 pact_again file consumer provider text (Err e) normal is = absurd cc
 
+-- with this broker's own reading of files, the normal text of a pact reads as the same pact
 pub reads_again : ReadsAgain broker_primitives
 reads_again file consumer provider text reads = pact_again file consumer provider text reads.0 reads.1 reads.2
 

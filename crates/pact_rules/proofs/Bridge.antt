@@ -60,6 +60,7 @@ number_float (json.negative z) t e = refl
 number_float (json.float x) t e = cc
 
 mutual
+  -- a value that has a tree has no fractions
   pub no_float : (d : json.Data) (t : Node) → whole_tree d ≡ Some t → has_float d ≡ false
   no_float json.null t e = refl
   no_float (json.boolean b) t e = refl
@@ -86,6 +87,7 @@ number_has_tree (json.negative z) h = (whole z, refl)
 number_has_tree (json.float x) h = absurd cc
 
 mutual
+  -- a value without fractions has a tree
   pub has_tree : (d : json.Data) → has_float d ≡ false → (t : Node) × (whole_tree d ≡ Some t)
   has_tree json.null h = (null, refl)
   has_tree (json.boolean b) h = (truth b, refl)

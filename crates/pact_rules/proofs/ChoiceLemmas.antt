@@ -154,6 +154,7 @@ as_choice : (rules : List BodyRule) (at : Location) (o : Option (ℕ × BodyRule
 as_choice rules at None h = h
 as_choice rules at (Some b) h = (b.1, h.0, h.1, h.2)
 
+-- of rules in order of their texts, what is computed is the one that beats each other of positive weight, if any
 pub chosen_is_choice : (rules : List BodyRule) (at : Location) → IsInOrder rules → IsChoice rules at (chosen rules at)
 chosen_is_choice rules at h = as_choice rules at (best rules at) (best_is_best rules at h)
 
@@ -211,6 +212,7 @@ pub rule_at : (xs : List code.BodyRule) (k : ℕ) (x : code.BodyRule) → k < le
 rule_at xs k x lt is =
     drop-map rule_view k xs ∙ ap (map rule_view) (drop_more xs k x lt ∙ ap (λ y. y ∷ drop (k + 1) xs) (sym is)) ∙ ap (λ ys. rule_view x ∷ ys) (sym (drop-map rule_view (k + 1) xs))
 
+-- the element at an index within a list, under a function, is the element at that index of the mapped list
 pub got : {A B : Type 0} (f : A → B) (xs : List A) (i : ℕ) (x : A) → i < length xs → x ≡ get_or xs i x → slice_get (map f xs) i ≡ Some (f x)
 got f xs i x lt is = slice_get-map f xs i ∙ ap (option_map f) (slice_get-get_or xs i x lt ∙ ap (λ y. Some y) (sym is))
 

@@ -26,6 +26,7 @@ use Rattle.std.proofs.lemmas.Str.Pattern.{contains_text}
 use Rattle.std.specs.Str.Pattern.{HasMatch, FindsText}
 use Rattle.pact_rules.specs.declared.tree.Tree.{Tree, List as ListOf, Object, the_lemmas}
 
+-- a member of an object as the code keeps it: its key and its tree
 abbrev pub Entry : Type 0
 Entry = String Global × Tree
 
@@ -88,12 +89,15 @@ contains_decides r part bs h =
 
 -- ---- the arms
 
+-- a tree that is a list stands for the list of what its elements stand for
 pub view-List : (v : Vec Tree Global) → tree_view (ListOf v) ≡ list (list_view v.items)
 view-List v = search (rules, the_lemmas)
 
+-- a tree that is an object stands for the object of what its entries stand for
 pub view-Object : (m : BTreeMap (String Global) Tree) → tree_view (Object m) ≡ object (object_view m.entries)
 view-Object m = search (rules, the_lemmas)
 
+-- the list that a vector of trees stands for has as many nodes as the vector has elements
 pub len_view : (v : Vec Tree Global) → nodes_len (list_view v.items) ≡ vec_len v
 len_view v = nodes_len_view v.items ∙ omega (arith, v.ok)
 

@@ -20,6 +20,7 @@ Goes {A} all few = (x : A) → all ≡ Ok x → (few ≡ Ok x) ⊎ (few ≡ Err 
 goes_same : {A : Type 0} (r : Result A RuleFault) → Goes r r
 goes_same r x e = inl e
 
+-- where two steps of reading rules succeed in a row, the first gave some value and the second succeeds on it
 pub bind_ok : {A B : Type 0} (r : Result A RuleFault) (f : A → Result B RuleFault) (y : B) → (r >>= f) ≡ Ok y → (x : A) × (r ≡ Ok x) × (f x ≡ Ok y)
 bind_ok (Ok x) f y e = (x, refl, e)
 bind_ok (Err d) f y e = cc

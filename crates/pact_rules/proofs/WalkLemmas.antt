@@ -241,6 +241,7 @@ there_pick : (at : Location) (r : BodyRule) (rules : List BodyRule) (o : Option 
 there_pick at r rules None is = there_alone (ltb 0 (weight r.path at)) r rules
 there_pick at r rules (Some b) is = there_by (beats at b.1 r) r rules b is
 
+-- the best rule at a location, if there is one, stands in the list at the index it is given with
 pub best_there : (rules : List BodyRule) (at : Location) → IsThere rules (best rules at)
 best_there [] at = tt
 best_there (r ∷ rules) at = there_pick at r rules (best rules at) (best_there rules at)

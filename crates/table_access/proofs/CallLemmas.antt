@@ -18,6 +18,7 @@ use Rattle.table_access.specs.Calls.{KeepsLastCommit, CallsTables, GoesOn, IsEnd
 use Rattle.table_access.proofs.Refusals.{read_told}
 use Rattle.table_access.proofs.Texts.{IsRefused, caused, no_statement_told, command_told}
 
+-- where nothing changed, or the transaction was rolled back, nothing is committed
 pub left_commit : (a b : State) → IsLeft a b → KeepsLastCommit a b
 left_commit a b (inl same) = record { was_open = λ _. same.0.was_open; committed = λ _. same.0.committed_is }
 left_commit a b (inr back) = record { was_open = back.was_open; committed = λ now. (back.undone now).1 }
@@ -41,6 +42,7 @@ fails_by old new sql c params e None h = inl (h.3, read_told old.step_limit c.co
 fails_by old new sql c params e (Some what) (inl same) = inl (same.1, command_told old c _ params e same.0)
 fails_by old new sql c params e (Some what) (inr fails) = inr (fails.0, fails.1, caused old new _ fails.0 fails.2, fails.3, fails.4)
 
+-- a query that fails is refused: it changed nothing and is told as Store, or the store failed
 pub query_by : (sql : List ℕ) (params : Row) (old new : State) (e : Error) → FailsToQuery sql params old new e → IsRefused old new e
 unfolding FailsToQuery IsNotRun
 query_by sql params old new e (inl (inl h)) = inl (h.1, no_statement_told old sql params e h.0)
@@ -67,6 +69,7 @@ shows_outside sql params old db h = h.3.0
 
 -- ---- calls
 
+-- a call whose answer has P is one whose answer has Q, where P of an answer gives Q
 pub call_with : {A : Type 0} (old new : State) (r : Result A StoreFault) (P Q : A → Type 0) → ((a : A) → P a → Q a) → CallsTables old new r P → CallsTables old new r Q
 call_with old new (Ok a) P Q more it = record { ok = λ clean. more a (it.ok clean); goes_on = it.goes_on; fails = it.fails; commits = it.commits; survives = it.survives }
 call_with old new (Err e) P Q more it = record { ok = it.ok; goes_on = it.goes_on; fails = it.fails; commits = it.commits; survives = it.survives }
@@ -162,6 +165,7 @@ failed_then {A} {B} {C} old mid new a e P Q R one two = then_err old new e Q R (
 
 -- ---- calls that take no memory of their own
 
+-- a call that gives an answer never tells Memory
 pub memory_ok : {A : Type 0} (old new : State) (a : A) → TellsMemory old new (Ok a)
 memory_ok old new a clean inside is = absurd (cc)
 
@@ -169,9 +173,11 @@ memory_ok old new a clean inside is = absurd (cc)
 pub memory_err : {A B : Type 0} (old new : State) (e : StoreFault) → TellsMemory {A = A} old new (Err e) → TellsMemory {A = B} old new (Err e)
 memory_err old new e short clean inside is = short clean inside (let same : e ≡ Memory = (let h = is in cc) in ap Err same)
 
+-- nor does one whose failure is told as Store
 pub memory_store : {A : Type 0} (old new : State) (e : StoreFault) → e ≡ Store → TellsMemory {A = A} old new (Err e)
 memory_store old new e store clean inside is = absurd (let clash : Store ≡ Memory = (let same : e ≡ Memory = (let h = is in cc) in sym store ∙ same) in cc)
 
+-- a statement whose answer has P is one whose answer has Q, where P of an answer gives Q
 pub statement_with : {A : Type 0} (old new : State) (r : Result A StoreFault) (P Q : A → Type 0) → ((a : A) → P a → Q a) → CallsStore old new r P → CallsStore old new r Q
 statement_with old new r P Q more it = record { call = call_with old new r P Q more it.call; memory = it.memory }
 

@@ -51,6 +51,7 @@ indexes_one sql schema at table index means whole there defined old new count is
 pub indexes_then : (front back : List (Table × Index)) (old mid new : Database) → MakesIndexes front old mid → MakesIndexes back mid new → MakesIndexes (front ++ back) old new
 indexes_then = each_then IndexesTable
 
+-- the schema that they leave is the old one with each index added in turn
 pub indexes_schema : (more : List (Table × Index)) (old new : Database) → MakesIndexes more old new → new.schema ≡ indexed_by old.schema more
 indexes_schema = each_schema IndexesTable with_index (λ old new one made. made.schema)
 
@@ -64,6 +65,7 @@ indexes_keep [] old new h = same old.schema.tables
 indexes_keep (one ∷ more) old new h =
     keeps_then old.schema.tables old.trees h.0.trees new.trees h.1.others (subst (λ (s : Schema). KeepsRows s.tables h.0.trees new.trees) h.1.schema (indexes_keep more h.0 new h.2))
 
+-- all tables still obey the schema after them, and their rows are in the order of their numbers
 pub indexes_kept : (more : List (Table × Index)) (old new : Database) → MakesIndexes more old new → IsKept old → IsKept new
 indexes_kept [] old new h kept = subst IsKept (sym h) kept
 indexes_kept (one ∷ more) old new h kept = indexes_kept more h.0 new h.2 (indexed_kept old h.0 one.0 one.1 h.1 kept)

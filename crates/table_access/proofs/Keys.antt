@@ -66,6 +66,7 @@ module _ (db : Database) (kept : IsKept db) (t : Table) (place : ℕ) (there : s
       (λ r has. second_false _ _ (at_has _ db.schema.indexes i (all_from_test _ db.schema.indexes (keeps_at Unique db.schema db.trees t r (kept.sound.obeys.rules Unique) (has_place _ place t there) has)) (has_place _ at i found)) guard)
       (db.trees t.tree) numbered.0 (λ r has. has)
 
+-- where R gives S on the elements, a list that has R of each element and every later one has S of them too
 pub ascending_on : {X : Type 0} (R S : X → X → Type 0) (rows : List X) → ((a b : X) → Has rows a → Has rows b → R a b → S a b) → IsAscending R rows → IsAscending S rows
 ascending_on R S [] each up = tt
 ascending_on R S (a ∷ rows) each up =
@@ -75,9 +76,11 @@ module _ (rows : List Row) where
   abbrev IsText : ℕ → Type 0
   IsText p = (r : Row) → Has rows r → column r p ≡ Text (text p r)
 
+  -- where no two rows agree in a column of texts as SQL compares it, no two have the same text there
   pub text_keys : (p : ℕ) → IsText p → IsAscending (λ a b. agree plain (p ∷ []) a (p ∷ []) b ≡ false) rows → IsAscending (λ a b. eq_by_cmp text_cmp (text p a) (text p b) ≡ false) rows
   text_keys p typed = ascending_on _ _ rows (λ a b ha hb h. sym (agree_text a b p (typed a ha) (typed b hb)) ∙ h)
 
+  -- where no two rows agree in two columns of texts, no two have the same pair of texts there
   pub pair_keys : (p q : ℕ) → IsText p → IsText q → IsAscending (λ a b. agree plain (p ∷ q ∷ []) a (p ∷ q ∷ []) b ≡ false) rows
       → IsAscending (λ a b. eq_by_cmp pair_cmp (text p a, text q a) (text p b, text q b) ≡ false) rows
   pair_keys p q one two = ascending_on _ _ rows (λ a b ha hb h. sym (agree_pair a b p q (one a ha) (one b hb) (two a ha) (two b hb)) ∙ h)

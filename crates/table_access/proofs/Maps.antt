@@ -142,6 +142,7 @@ module _ {K V : Type 0} {R : K → K → Ordering} (o : IsTotalOrder R) (exact :
 
   -- ---- a table as the function that finds the value of a key
 
+  -- where the query is by the whole key, the first row of the answer reads as the value that the key has
   pub looks_up_at : {S : Type 0} (show : Row → S) (read : S → V) → ((r : Row) → read (show r) ≡ value r) → (k : K) (p : Row → Bool) (rows : List Row) (out : List S) → AllByRecursion (λ r. p r ≡ eq_by_cmp R k (key r)) rows → AreKeys rows → IsPermutation (map show (filter p rows)) out
       → option_map read (slice_get out 0) ≡ find R k (entries rows)
   looks_up_at show read reads k p rows out same apart some = looks_up show read reads k p rows out same apart some ∙ get-from_entries o (entries rows) k
@@ -163,6 +164,7 @@ module _ {K V : Type 0} {R : K → K → Ordering} (o : IsTotalOrder R) (exact :
       go true e h more = (r, inl refl, exact k (key r) (tied_cmp (R k (key r)) e), cc)
       go false e h more = let it = more h in (it.0, inr it.1, it.2, it.3)
 
+  -- a key that isn't found is the key of no row
   pub none_has : (k : K) (rows : List Row) (r : Row) → find R k (entries rows) ≡ None → Has rows r → eq_by_cmp R k (key r) ≡ false
   none_has k [] r h has = absurd has
   none_has k (x ∷ rows) r h has = go (eq_by_cmp R k (key x)) refl h (λ e later. none_has k rows r e later) has
@@ -183,11 +185,13 @@ module _ {K V : Type 0} {R : K → K → Ordering} (o : IsTotalOrder R) (exact :
 -- ---- a table with two keys
 
 module _ {K V : Type 0} {R : K → K → Ordering} {S : V → V → Ordering} (o : IsTotalOrder R) (exact : IsAntisymmetric R) (p : IsTotalOrder S) (exact_too : IsAntisymmetric S) (key : Row → K) (value : Row → V) (rows : List Row) where
+  -- where no key stands twice, the key that a value finds finds that value
   pub other_way : (k : K) (v : V) → AreKeys o exact key value rows → find S v (map (λ r. (value r, key r)) rows) ≡ Some k → find R k (map (λ r. (key r, value r)) rows) ≡ Some v
   other_way k v keys h =
       let it = find_has p exact_too value key v k rows h in
       ap (λ x. find R x (map (λ r. (key r, value r)) rows)) (sym it.3) ∙ has_find o exact key value rows it.0 keys it.1 ∙ ap Some (sym it.2)
 
+  -- a value that finds no key is found by no key
   pub no_other_way : (k : K) (v : V) → find S v (map (λ r. (value r, key r)) rows) ≡ None → find R k (map (λ r. (key r, value r)) rows) ≡ Some v → ⊥
   no_other_way k v none h =
       let it = find_has o exact key value k v rows h in

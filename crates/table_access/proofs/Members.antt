@@ -12,11 +12,13 @@ use Rattle.table_access.proofs.SoundLemmas.{at_has, all_of}
 
 -- ---- the two words for an element of a list
 
+-- what stands at some place of a list is one of its elements
 pub contains_has : {X : Type 0} (xs : List X) (x : X) → Contains xs x → Has xs x
 contains_has [] x h = absurd (let low : h.0 < 0 = h.1 in omega arith)
 contains_has (y ∷ xs) x (zero, low, is) = inl (sym is)
 contains_has (y ∷ xs) x (suc k, low, is) = inr (contains_has xs x (k, omega arith, is))
 
+-- an element of a list stands at some place of it
 pub has_contains : {X : Type 0} (xs : List X) (x : X) → Has xs x → Contains xs x
 has_contains [] x h = absurd h
 has_contains (y ∷ xs) x (inl same) = (0, omega arith, sym same)
@@ -38,21 +40,25 @@ has_either [] ys x h = inr h
 has_either (z ∷ xs) ys x (inl same) = inl (inl same)
 has_either (z ∷ xs) ys x (inr later) = elim (has_either xs ys x later) [ inl left ↦ inl (inr left) | inr right ↦ inr right ]
 
+-- what f makes of an element is an element of the mapped list
 pub has_map : {X Y : Type 0} (f : X → Y) (xs : List X) (x : X) → Has xs x → Has (map f xs) (f x)
 has_map f [] x h = absurd h
 has_map f (z ∷ xs) x (inl same) = inl (ap f same)
 has_map f (z ∷ xs) x (inr later) = inr (has_map f xs x later)
 
+-- an element of the mapped list is what f makes of some element
 pub map_has : {X Y : Type 0} (f : X → Y) (xs : List X) (y : Y) → Has (map f xs) y → (x : X) × Has xs x × (y ≡ f x)
 map_has f [] y h = absurd h
 map_has f (z ∷ xs) y (inl same) = (z, inl refl, same)
 map_has f (z ∷ xs) y (inr later) = let it = map_has f xs y later in (it.0, inr it.1, it.2)
 
+-- an element that passes the test is kept by the filter
 pub has_filter : {X : Type 0} (p : X → Bool) (xs : List X) (x : X) → Has xs x → p x ≡ true → Has (filter p xs) x
 has_filter p [] x h kept = absurd h
 has_filter p (z ∷ xs) x (inl same) kept = subst (λ b. Has (cond b (z ∷ filter p xs) (filter p xs)) x) (sym (ap p (sym same) ∙ kept)) (inl same)
 has_filter p (z ∷ xs) x (inr later) kept = elim (p z) as (λ b. Has (cond b (z ∷ filter p xs) (filter p xs)) x) [ true ↦ inr (has_filter p xs x later kept) | false ↦ has_filter p xs x later kept ]
 
+-- what the filter keeps is an element that passes the test
 pub filter_has : {X : Type 0} (p : X → Bool) (xs : List X) (x : X) → Has (filter p xs) x → Has xs x × (p x ≡ true)
 filter_has p [] x h = absurd h
 filter_has {X} p (z ∷ xs) x h = go (p z) refl h (λ later. filter_has p xs x later)
@@ -62,6 +68,7 @@ filter_has {X} p (z ∷ xs) x h = go (p z) refl h (λ later. filter_has p xs x l
     go true e (inr later) more = let it = more later in (inr it.0, it.1)
     go false e later more = let it = more later in (inr it.0, it.1)
 
+-- where the test over a list tells that some element passes, there is such an element
 pub any_has : {X : Type 0} (p : X → Bool) (xs : List X) → list_any p xs ≡ true → (x : X) × Has xs x × (p x ≡ true)
 any_has p [] h = absurd cc
 any_has {X} p (z ∷ xs) h = go (p z) refl h (λ later. any_has p xs later)
@@ -83,14 +90,17 @@ rises_map {X} {Y} R S f less (x ∷ xs) up = (go xs up.0, rises_map R S f less x
 -- ---- the pairs of elements of two lists that a test keeps
 
 module _ {X Y : Type 0} (p : X → Y → Bool) (ys : List Y) where
+  -- each element of the first list, paired with those of the second that the test keeps beside it
   abbrev pub pairs : List X → List (X × Y)
   pairs xs = flat_map (λ x. map (λ y. (x, y)) (filter (p x) ys)) xs
 
+  -- an element of each list, where the test keeps them together, are one of the pairs
   pub has_pair : (xs : List X) (x : X) (y : Y) → Has xs x → Has ys y → p x y ≡ true → Has (pairs xs) (x, y)
   has_pair [] x y hx hy kept = absurd hx
   has_pair (z ∷ xs) x y (inl same) hy kept = subst (λ w. Has (pairs (w ∷ xs)) (x, y)) same (has_left (map (λ y. (x, y)) (filter (p x) ys)) (pairs xs) (x, y) (has_map (λ y. (x, y)) (filter (p x) ys) y (has_filter (p x) ys y hy kept)))
   has_pair (z ∷ xs) x y (inr later) hy kept = has_right (map (λ y. (z, y)) (filter (p z) ys)) (pairs xs) (x, y) (has_pair xs x y later hy kept)
 
+  -- the parts of a pair are an element of each list, and the test keeps them together
   pub pair_has : (xs : List X) (q : X × Y) → Has (pairs xs) q → Has xs q.0 × Has ys q.1 × (p q.0 q.1 ≡ true)
   pair_has [] q h = absurd h
   pair_has (z ∷ xs) q h = elim (has_either (map (λ y. (z, y)) (filter (p z) ys)) (pairs xs) q h) [

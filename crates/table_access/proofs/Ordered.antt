@@ -56,6 +56,7 @@ module _ {X : Type 0} (cmp : X → X → Ordering) (total : IsTotalOrder cmp) wh
   pub sorted_has : (xs : List X) (x : X) → Contains (sort_by cmp xs) x → Contains xs x
   sorted_has xs x = Contains-permutation (sort_by cmp xs) xs x (IsPermutation-sort_by cmp total xs)
 
+  -- an element of the list is one of the sorted list too
   pub has_sorted : (xs : List X) (x : X) → Contains xs x → Contains (sort_by cmp xs) x
   has_sorted xs x = Contains-permutation xs (sort_by cmp xs) x (IsPermutation-sym _ _ (IsPermutation-sort_by cmp total xs))
 
@@ -73,6 +74,7 @@ module _ {X : Type 0} (R S : X → X → Ordering) where
       into new [] h rest = (h, tt)
       into new (y ∷ ys) h rest = elim (is_gt (S new y)) as (λ b. AllByRecursion P (cond b (y ∷ insert_sorted S new ys) (new ∷ y ∷ ys))) [ true ↦ (rest.0, into new ys h rest.1) | false ↦ (h, rest) ]
 
+  -- two orders that agree on the elements of a list sort it alike
   pub same_sort : (xs : List X) → ((a b : X) → Has xs a → Has xs b → R a b ≡ S a b) → sort_by R xs ≡ sort_by S xs
   same_sort [] same = refl
   same_sort (x ∷ xs) same =

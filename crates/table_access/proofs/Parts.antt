@@ -33,9 +33,11 @@ pub record Part {K : Type 0} (order : K → K → Ordering) (code : K → Value)
   pub tested : (a b : K) → is_true (binary (Compare Eq Binary) (code a) (code b)) ≡ eq_by_cmp order a b
   pub ordered : (a b : K) → value_cmp (code a) (code b) ≡ order a b
 
+-- a column that has a text in each row is a part of a key, in the order of texts
 pub text_part : (rows : List Row) (place : ℕ) → ((r : Row) → Has rows r → column r place ≡ Text (text place r)) → Part text_cmp Text rows place (text place)
 text_part rows place typed = record { typed = typed; tested = same_texts; ordered = value_cmp-Text }
 
+-- a column that has a whole number in each row is a part of a key, in the order of whole numbers
 pub whole_part : (rows : List Row) (place : ℕ) → ((r : Row) → Has rows r → column r place ≡ Int (whole_at place r)) → Part int_cmp Int rows place (whole_at place)
 whole_part rows place typed = record { typed = typed; tested = same_ints; ordered = value_cmp-Int }
 
@@ -47,6 +49,7 @@ and_true : (b : Bool) → (b && true) ≡ b
 and_true true = refl
 and_true false = refl
 
+-- two total orders give one of pairs, by the first parts and, where these tie, by the second
 pub both_total : {A B : Type 0} {R : A → A → Ordering} {S : B → B → Ordering} → IsTotalOrder R → IsTotalOrder S → IsTotalOrder (by_both R S)
 both_total {A} {B} o p = then_total (on_total (λ (x : A × B). x.0) o) (on_total (λ (x : A × B). x.1) p)
 

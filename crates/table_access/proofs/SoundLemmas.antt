@@ -24,15 +24,18 @@ use Rattle.sqlite_rules.proofs.RuleLemmas.{keeps_at}
 use Rattle.sqlite_keyed.proofs.RuleLemmas.{first_of_both, second_of_both}
 use Rattle.table_access.specs.Sound.{text_in}
 
+-- what holds of all of a list holds of each element
 pub at_has : {X : Type 0} (P : X → Type 0) (xs : List X) (x : X) → AllByRecursion P xs → Has xs x → P x
 at_has P [] x all has = absurd has
 at_has P (y ∷ ys) x all (inl same) = subst P (sym same) all.0
 at_has P (y ∷ ys) x all (inr later) = at_has P ys x all.1 later
 
+-- what holds of each element holds of all of the list
 pub all_of : {X : Type 0} (P : X → Type 0) (xs : List X) → ((x : X) → Has xs x → P x) → AllByRecursion P xs
 all_of P [] each = tt
 all_of P (y ∷ ys) each = (each y (inl refl), all_of P ys (λ x has. each x (inr has)))
 
+-- what is found at a place of a list is one of its elements
 pub has_place : {X : Type 0} (xs : List X) (at : ℕ) (x : X) → slice_get xs at ≡ Some x → Has xs x
 has_place [] at x e = absurd cc
 has_place (y ∷ ys) zero x e = inl (let same : y ≡ x = cc in sym same)
@@ -111,14 +114,17 @@ module _ (db : Database) (sound : IsDatabase db) (t : Table) (listed : Has db.sc
         subst (λ n. is_null (column row n) ≡ false) (omega arith) (present_at t.key 0 t.columns row at c present there open_at needed),
       )
 
+  -- a strict NOT NULL column of type TEXT, other than the rowid, has a text in each row
   pub text_at : c.kind ≡ kind.Text → column row (at + 1) ≡ Text (text_in (column row (at + 1)))
   text_at is = text_is _ (subst (λ k. is_of k (column row (at + 1)) ≡ true) is of_kind.0) of_kind.1
 
+  -- a strict NOT NULL column of type INTEGER, other than the rowid, has a whole number in each row
   pub whole_in : c.kind ≡ kind.Integer → column row (at + 1) ≡ Int (id_in (column row (at + 1)))
   whole_in is = integer_is _ (subst (λ k. is_of k (column row (at + 1)) ≡ true) is of_kind.0) of_kind.1
 
 -- ---- a UNIQUE key stands once
 
+-- where an element passes the test, the test over the list tells that some element does
 pub any_of : {X : Type 0} (p : X → Bool) (xs : List X) (x : X) → Has xs x → p x ≡ true → list_any p xs ≡ true
 any_of p [] x has t = absurd has
 any_of p (y ∷ ys) x (inl same) t = rw (← same, t)

@@ -63,6 +63,7 @@ pub record Means (schema : Schema) (sql : List ℕ) (command : Command) : Type 0
   pub plain : IsPlain (understood schema sql)
   pub unlisted : reads_listing schema sql ≡ false
 
+-- a plain text, which has no RETURNING, leaves all as it was where it shows rows
 pub shown_unchanged : (sql : List ℕ) (params : Row) (old new : State) (rows : List Row) → IsPlain (understood old.now.schema sql) → Shown sql params old new rows → IsUnchanged old new
 unfolding Shown
 shown_unchanged sql params old new rows plain h =
@@ -103,6 +104,7 @@ module _ (db : Database) (params : Row) (t : ℕ) (terms project : List Term) (o
 
 module _ (sql : List ℕ) (params : Row) (old new : State) (t : ℕ) (terms project : List Term) (order : List (Term × Key)) (names : List (List ℕ))
     (means : Means old.now.schema sql (Select (record { lets = []; body = from_table t terms project order }) names)) (rows : List Row) (h : Shown sql params old new rows) where
+  -- SELECT project FROM a table WHERE terms shows the rows that WHERE keeps, in some order
   pub selects : IsPermutation (map (shows project params) (filter (keeps terms params) (old.now.trees t))) rows
   selects = answered old.now params t terms project order rows (reads_as sql params old new old.now.schema refl _ means.is means.plain means.unlisted rows h)
 
@@ -220,6 +222,7 @@ module _ (name : List ℕ) (tree : ℕ) (columns : List Column) (key : Option �
     on_table command tally h =
         subst (λ o. AtPlace (λ table. OnRows (record task { table = table }) (mode_of old) None command old.now.trees) o (Ok (tally, new.now))) found h
 
+    -- an INSERT of one row adds it, as its table stores it and with a number, and changes no other table
     pub inserts : (terms : List Term) (width : ℕ) (row made : Row) → value_rows params width (length terms / width) terms ≡ row ∷ [] → with_rowid Chosen (old.now.trees tree) (cast_row here row) ≡ made
         → Means old.now.schema sql (Insert at (Values terms width)) → (count : ℕ) → Executes sql params old new (Ok count)
         → ChangesOnly tree old new × IsAdded (old.now.trees tree) (new.now.trees tree) made
@@ -235,6 +238,7 @@ module _ (name : List ℕ) (tree : ℕ) (columns : List Column) (key : Option �
           subst (λ (next : Trees). IsAdded (old.now.trees tree) (next tree) made) now edit.0,
         )
 
+    -- where no foreign key acts, a DELETE takes out the rows that WHERE keeps, and changes no other table
     pub deletes : (terms : List Term) → Means old.now.schema sql (Delete at (record { lets = []; body = from_table tree terms (col 1 0 ∷ []) [] })) → IsCalm old.now.schema.tables → IsNumbered (old.now.trees tree) → (count : ℕ) → Executes sql params old new (Ok count)
         → ChangesOnly tree old new × (new.now.trees tree ≡ filter (λ r. not (keeps terms params r)) (old.now.trees tree))
     deletes terms means calm numbered count h =

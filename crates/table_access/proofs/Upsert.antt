@@ -176,6 +176,7 @@ module _ (name : List ℕ) (tree : ℕ) (columns : List Column) (key : Option �
       ⊎ ((r : Row) × Has (old.now.trees tree) r × (conflicts (Some target) old.now.schema.indexes row_table it r ≡ true)
       × IsAdded (filter (λ x. not (is_eq (value_cmp (rowid x) (rowid r)))) (old.now.trees tree)) (new.now.trees tree) (cast_row row_table (shows project (params ++ rowid r ∷ shown row_table it) r)))
 
+  -- where no foreign key acts, INSERT .. ON CONFLICT DO UPDATE puts one row in or updates the one in its way
   pub upsert_leaves : (terms : List Term) (width : ℕ) (row : Row) → slice_get old.now.schema.tables at ≡ Some row_table → value_rows params width (length terms / width) terms ≡ row ∷ []
       → ((v : Value) (more : Row) → column (params ++ v ∷ more) n ≡ v) → Means old.now.schema sql (InsertOr at Abort (Values terms width) (record { target = Some target; update = Some update } ∷ []))
       → IsCalm old.now.schema.tables → IsNumbered (old.now.trees tree) → (count : ℕ) → Executes sql params old new (Ok count)
