@@ -1,7 +1,7 @@
 -- What is told of a database by the format that is found in it.
 use Rattle.std.proofs.Common.{◌≡◌, ℕ, ℤ, Bool, pos, List, [], ◌∷◌, map, length, refl, sym, ap, subst, ◌∙◌, slice_get, Some, None, Option, Ok, Err, true, false, ◌==◌}
 use Rattle.std.specs.Prelude.{if◌then◌else◌}
-use Rattle.std.proofs.lemmas.Bool.{eqb-true}
+use Rattle.std.proofs.lemmas.Bool.{eqb-true, eqb-false}
 use Rattle.std.proofs.lemmas.List.{length-map}
 use Rattle.sqlite.specs.Schema.{Schema}
 use Rattle.sqlite.specs.Effect.{Database}
@@ -12,18 +12,19 @@ use Rattle.table_access.specs.Columns.{whole_at}
 use Rattle.broker_core.specs.Text.{Text}
 use Rattle.broker_tables.specs.Schema.{meta, no_schema}
 use Rattle.broker_tables.specs.Making.{IsMarked}
-use Rattle.broker_tables.specs.Holds.{IsMeta, format}
+use Rattle.broker_tables.specs.Holds.{IsMeta}
 use Rattle.registry_tables.specs.Format.{IsOfFormat, Finds}
 use Rattle.broker_service.specs.declared.opening.OpenFault.TheVariants.{Format}
 use Rattle.broker_service.specs.Opening.{IsJudged, judgement}
 
-pub judged : (db : Database) (found : Option ℕ) → Finds db found → IsJudged db (judgement found)
-judged db None it = it
-judged db (Some n) it = go (n == format) refl
+-- the judgement by the format that is found is right, whichever format is wanted
+pub judged : (wanted : ℕ) (db : Database) (found : Option ℕ) → Finds db found → IsJudged wanted db (judgement wanted found)
+judged wanted db None it = it
+judged wanted db (Some n) it = go (n == wanted) refl
   where
-    go : (b : Bool) → (n == format) ≡ b → IsJudged db (if b then Ok tt else Err (Format n))
-    go true e = subst (λ k. IsOfFormat k db) (let same : n ≡ format = eqb-true n format e in same) it
-    go false e = (it, λ same. absurd (let clash : (format == format) ≡ false = subst (λ k. (k == format) ≡ false) same e in cc))
+    go : (b : Bool) → (n == wanted) ≡ b → IsJudged wanted db (if b then Ok tt else Err (Format n))
+    go true e = subst (λ k. IsOfFormat k db) (let same : n ≡ wanted = eqb-true n wanted e in same) it
+    go false e = (it, eqb-false n wanted e)
 
 pub blank_none : (db : Database) (found : Option ℕ) → db.schema ≡ no_schema → Finds db found → found ≡ None
 blank_none db None blank it = refl

@@ -6,6 +6,7 @@ pub mod EndLemmas
 pub mod LeavingLemmas
 pub mod SchemaLemmas
 pub mod SessionLemmas
+pub mod FileLemmas
 pub mod CallerSteps
 pub mod PlaceLemmas
 pub mod GateJudgement

@@ -2,7 +2,6 @@
 use Rattle.std.proofs.Common.{◌≡◌, ◌≢◌, ◌==◌, ◌⊎◌, ◌++◌, ◌∷◌, [], inl, inr, ℕ, List, Bool, true, false, not, ◌&&◌, refl, sym, ap, subst, ◌∙◌, drop, Option, Some, None, Result, Ok, Err}
 use Rattle.std.specs.Prelude.{if◌then◌else◌, option_map, IsTrue, ◌↔◌, IsSomeAnd}
 use Rattle.std.specs.Option.{option_map_or}
-use Rattle.std.proofs.lemmas.Bool.{eqb-true}
 use Rattle.sqlite.specs.Effect.{Database}
 use Rattle.sqlite.specs.State.{State}
 use Rattle.table_access.specs.Durability.{HoldsDurably}
@@ -26,10 +25,9 @@ use Rattle.broker_tables.specs.Schema.{schema_of}
 use Rattle.broker_tables.specs.Making.{IsMarked}
 use Rattle.broker_tables.specs.Former.{HoldsFormer, IsUnmarked, former_tables, former_format}
 use Rattle.broker_tables.proofs.Former.{unmarked}
-use Rattle.registry_tables.specs.Format.{IsOfFormat, Finds}
+use Rattle.registry_tables.specs.Format.{Finds}
 use Rattle.broker_service.specs.Primitives.{broker_primitives}
-use Rattle.broker_service.specs.declared.opening.OpenFault.TheVariants.{Format}
-use Rattle.broker_service.specs.Migration.{IsJudgedFormer, former_judgement, WasGood, WasPermitted, WasFault, WasJudged, Showed, JudgesAsBefore, former_kind, former_fault, former_marks}
+use Rattle.broker_service.specs.Migration.{WasGood, WasPermitted, WasFault, WasJudged, Showed, JudgesAsBefore, former_kind, former_fault, former_marks}
 use Rattle.broker_service.proofs.Judgements.{marked_some}
 
 -- what is held durably is seen, while the connection is open
@@ -37,14 +35,6 @@ pub held_now : (P : Database → Type 0) (c : State) → HoldsDurably P c → Is
 held_now P c keeps now = let was = keeps.held now in subst P (sym was.same) was.has
 
 -- ---- the format that is found
-
-pub judged_former : (db : Database) (found : Option ℕ) → Finds db found → IsJudgedFormer db (former_judgement found)
-judged_former db None it = it
-judged_former db (Some n) it = go (n == former_format) refl
-  where
-    go : (b : Bool) → (n == former_format) ≡ b → IsJudgedFormer db (if b then Ok tt else Err (Format n))
-    go true e = subst (λ k. IsOfFormat k db) (let same : n ≡ former_format = eqb-true n former_format e in same) it
-    go false e = (it, λ same. absurd (let clash : (former_format == former_format) ≡ false = subst (λ k. (k == former_format) ≡ false) same e in cc))
 
 -- a database of format 1 has meta as its first table, with its one row
 pub former_marked : (db : Database) (s : Broker) → HoldsFormer db s → IsMarked former_format s.office db

@@ -68,11 +68,13 @@ unsure_on P Q old new it left keeps = record {
 
 -- ---- what calls in turn leave of the connection, whatever they commit
 
+-- a connection that is left alone survives
 pub outlives_itself : (c : State) → Survives c c (λ _. ⊤)
 outlives_itself c = record { clean = omega arith; shield = λ h. h; counts = omega arith; limit = refl; closes = λ _ h. inl h; crash = λ _ db h. inl h }
 
 pub outlives_one : {P : Trees → Type 0} (a b : State) → Survives a b P → Survives a b (λ _. ⊤)
 outlives_one a b one = record { clean = one.clean; shield = one.shield; counts = one.counts; limit = one.limit; closes = one.closes; crash = λ _ db h. inr tt }
 
+-- calls in turn that each survive survive together
 pub outlives : {P Q : Trees → Type 0} (a b c : State) → Survives a b P → Survives b c Q → Survives a c (λ _. ⊤)
 outlives a b c one two = survives_then a b c _ _ _ (λ _ db h. tt) (λ _ db h. tt) one two

@@ -14,3 +14,4 @@ pub mod Opening
 pub mod Migration
 pub mod Handed
 pub mod Sessions
+pub mod SessionFiles

@@ -1,5 +1,5 @@
 -- how a broker's database of format 1 becomes one of today's, and what was said of a version before
-use Rattle.std.specs.Prelude.{◌≡◌, ◌≢◌, ◌⊎◌, ◌==◌, ◌↔◌, ℕ, List, Bool, false, if◌then◌else◌, IsTrue, IsFalse, IsSome, IsSomeAnd, Option, Some, None, option_map, Result, Ok, Err}
+use Rattle.std.specs.Prelude.{◌≡◌, ◌≢◌, ◌⊎◌, ◌↔◌, ℕ, List, Bool, false, if◌then◌else◌, IsTrue, IsFalse, IsSome, IsSomeAnd, Option, Some, None, option_map, Result, Ok, Err}
 use Rattle.sqlite.specs.Effect.{Database}
 use Rattle.sqlite.specs.State.{State}
 use Rattle.table_access.specs.declared.StoreFault.{StoreFault}
@@ -25,12 +25,9 @@ use Rattle.broker_core.specs.Machine.{TakesEffect}
 use Rattle.broker_core.specs.State.{State as Broker, is_gated}
 use Rattle.broker_core.specs.Text.{Text}
 use Rattle.broker_tables.specs.Former.{HoldsFormer, IsUnmarked, former_format}
-use Rattle.registry_tables.specs.Format.{IsOfFormat, IsForeign}
 use Rattle.broker_service.specs.Primitives.{broker_primitives}
 use Rattle.broker_service.specs.Ends.{IsAsBefore}
 use Rattle.broker_service.specs.Stored.{Stores, HoldsState}
-use Rattle.broker_service.specs.declared.opening.OpenFault.{OpenFault}
-use Rattle.broker_service.specs.declared.opening.OpenFault.TheVariants.{NotEmpty, NotABroker, Format, Memory, Store}
 
 -- the tables are of format 1 and hold the state, and each stored pact can be read again
 pub record StoresFormer (db : Database) (s : Broker) : Type 0 where
@@ -40,26 +37,6 @@ pub record StoresFormer (db : Database) (s : Broker) : Type 0 where
 -- the connection holds the state durably, in format 1
 abbrev pub HoldsFormerState : Broker → State → Type 0
 HoldsFormerState s = HoldsDurably (λ db. StoresFormer db s)
-
--- ---- what is told of a database that is to be migrated
-
--- a failure aside
-abbrev pub IsJudgedFormer : Database → Result (Unit {0}) OpenFault → Type 0
-IsJudgedFormer db (Ok u) = IsOfFormat former_format db
-IsJudgedFormer db (Err NotABroker) = IsForeign db
-IsJudgedFormer db (Err (Format n)) = IsOfFormat n db × (n ≢ former_format)
-IsJudgedFormer db (Err NotEmpty) = ⊥
-IsJudgedFormer db (Err Memory) = Unit {0}
-IsJudgedFormer db (Err Store) = Unit {0}
-
--- by the format that is found in it: every other than 1 is refused, today's too
-abbrev pub former_judgement : Option ℕ → Result (Unit {0}) OpenFault
-former_judgement None = Err NotABroker
-former_judgement (Some n) = if n == former_format then Ok tt else Err (Format n)
-
--- the judgement, or a failure
-abbrev pub JudgedFormer : Option ℕ → Result (Unit {0}) OpenFault → Type 0
-JudgedFormer found r = (r ≡ former_judgement found) ⊎ ((r ≡ Err Memory) ⊎ (r ≡ Err Store))
 
 -- ---- the gate of format 1, which knew no evidence and no strict environment
 

@@ -6,7 +6,6 @@ use Rattle.table_access.specs.declared.StoreFault.{StoreFault}
 use Rattle.table_access.specs.declared.StoreFault.TheVariants as fault
 use Rattle.table_access.specs.Calls.{KeepsLastCommit}
 use Rattle.table_access.specs.Durability.{HoldsDurably, HoldsEither}
-use Rattle.broker_tables.specs.Holds.{format}
 use Rattle.registry_tables.specs.Format.{IsOfFormat, IsForeign}
 use Rattle.broker_service.specs.Ends.{IsAsBefore}
 use Rattle.broker_service.specs.declared.opening.OpenFault.{OpenFault}
@@ -45,20 +44,22 @@ IsUnchangedUnless old new _ = IsAsBefore old new
 
 -- ---- what is told of a database
 
--- a failure aside
-abbrev pub IsJudged : Database → Result (Unit {0}) OpenFault → Type 0
-IsJudged db (Ok u) = IsOfFormat format db
-IsJudged db (Err NotABroker) = IsForeign db
-IsJudged db (Err (Format n)) = IsOfFormat n db × (n ≢ format)
-IsJudged db (Err NotEmpty) = ⊥
-IsJudged db (Err Memory) = Unit {0}
-IsJudged db (Err Store) = Unit {0}
+-- of this format it is to be
+module _ (wanted : ℕ) where
+  -- a failure aside
+  abbrev pub IsJudged : Database → Result (Unit {0}) OpenFault → Type 0
+  IsJudged db (Ok u) = IsOfFormat wanted db
+  IsJudged db (Err NotABroker) = IsForeign db
+  IsJudged db (Err (Format n)) = IsOfFormat n db × (n ≢ wanted)
+  IsJudged db (Err NotEmpty) = ⊥
+  IsJudged db (Err Memory) = Unit {0}
+  IsJudged db (Err Store) = Unit {0}
 
--- what is told of a database by the format that is found in it
-abbrev pub judgement : Option ℕ → Result (Unit {0}) OpenFault
-judgement None = Err NotABroker
-judgement (Some n) = if n == format then Ok tt else Err (Format n)
+  -- what is told of a database by the format that is found in it
+  abbrev pub judgement : Option ℕ → Result (Unit {0}) OpenFault
+  judgement None = Err NotABroker
+  judgement (Some n) = if n == wanted then Ok tt else Err (Format n)
 
--- the judgement, or a failure
-abbrev pub Judged : Option ℕ → Result (Unit {0}) OpenFault → Type 0
-Judged found r = (r ≡ judgement found) ⊎ ((r ≡ Err Memory) ⊎ (r ≡ Err Store))
+  -- the judgement, or a failure
+  abbrev pub Judged : Option ℕ → Result (Unit {0}) OpenFault → Type 0
+  Judged found r = (r ≡ judgement found) ⊎ ((r ≡ Err Memory) ⊎ (r ≡ Err Store))

@@ -1,6 +1,7 @@
--- What is found when a broker's files are opened again, call by call, and what sessions of calls lead to (this project's
--- own). A program may be stopped at any call on the disk, from which on no call on the disk does anything. So a call in
--- which the program is stopped leaves what it leaves at its end over a disk that fails, and its answer is seen by nobody.
+-- What is found when a broker's files are opened again, call by call, and what sessions of calls lead to (this
+-- project's own). A program may be stopped at any call on the disk, from which on no call on the disk does anything.
+-- So a call in which the program is stopped leaves what it leaves at its end over a disk that fails, and its answer is
+-- seen by nobody.
 use Rattle.std.specs.Prelude.{◌≡◌, ◌≤◌, ◌⊎◌, ◌↔◌, List, [], ◌∷◌, false, IsTrue, Result, Ok, Err}
 use Rattle.sqlite.specs.Tree.{Trees}
 use Rattle.sqlite.specs.Effect.{Database}

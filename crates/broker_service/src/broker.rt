@@ -12,6 +12,7 @@ ghost use Rattle.broker_core.specs.declared.command.Command.TheVariants.{Deploy,
 ghost use Rattle.broker_core.specs.declared.command.Version.{Version as VersionModel};
 ghost use Rattle.broker_core.specs.declared.answer.Answer.TheVariants as outcome;
 ghost use Rattle.broker_tables.specs.Schema.{no_schema};
+ghost use Rattle.broker_tables.specs.Holds.{format};
 ghost use Rattle.broker_tables.specs.Making.{IsBlank, IsMarked};
 ghost use Rattle.broker_service.specs.Primitives.{broker_primitives};
 ghost use Rattle.broker_service.specs.Opening.{Refuses, IsUnchangedUnless, Judged, IsJudged};
@@ -108,12 +109,12 @@ impl<S: Alter> Broker<S> {
     /// 2^32 - 1.
     pub fn open(conn: Connection<S>) -> Result<Broker<S>, Refused<S>>
         ensures judges { HasCleanDisk (state S.Store (left_by result))
-            → IsJudged (state S.Store conn).now (verdict result) }
+            → IsJudged format (state S.Store conn).now (verdict result) }
         ensures blank { HasCleanDisk (state S.Store (left_by result))
-            → HoldsDurably IsBlank (state S.Store conn) → Judged None (verdict result) }
+            → HoldsDurably IsBlank (state S.Store conn) → Judged format None (verdict result) }
         ensures marked { HasCleanDisk (state S.Store (left_by result)) → (n : ℕ) (office : List ℕ)
             → HoldsDurably (IsMarked n office) (state S.Store conn)
-            → Judged (Some n) (verdict result) }
+            → Judged format (Some n) (verdict result) }
         ensures kept { IfOk result (λ b. HasCleanDisk (state S.Store b.connection)
             → IsAsBefore (state S.Store conn) (state S.Store b.connection)) }
         ensures holds { IfOk result (λ b. HasCleanDisk (state S.Store b.connection) → (s : BrokerState)

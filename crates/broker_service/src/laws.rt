@@ -1,12 +1,15 @@
 //! The laws of the machine as this broker runs it. The program calls none of these.
 ghost use Rattle.broker_core.specs.Headline.{DeploysExactly, ReleasesExactly, PermitsVerified};
 ghost use Rattle.broker_core.specs.Laws.{OnlyDoneChanges, OpeningIsSound, ContentsStay, GateLocality, GateAnswersOnce, Retry, SessionsCompose, RunsOnce, StepExists, StepOnce};
+ghost use Rattle.broker_core.specs.Sessions.{SessionsRun};
 ghost use Rattle.sqlite.specs.Held.{state};
 ghost use Rattle.broker_service.specs.Primitives.{broker_primitives};
+ghost use Rattle.broker_service.specs.SessionFiles.{FilesFromFound, FilesFromNew};
 ghost use Rattle.broker_service.specs.Sessions.{SessionsFromFound, SessionsFromNew, SessionsRetried};
 
 use broker_core::laws::{self, Machine};
 use sqlite::Alter;
+use sqlite_disk::Disk;
 
 /// The machine with SHA-256 and the readers of this broker.
 struct BrokerMachine;
@@ -63,9 +66,9 @@ pub fn retry<S: Alter>()
 /// the state that is found in the files is one that the machine reaches by taking, session after
 /// session, a step for each command that was answered by a step, with that answer, and then the step
 /// of the command that was cut or answered `Store`, or nothing. So of each session just a prefix is
-/// done, which holds every acknowledged command (`runs`). Sessions begin from files in which a state
-/// is found, as `open` finds it, or with the making of a broker. The disk is one that returns what
-/// was written and that nobody else writes.
+/// done, which holds every acknowledged command ([`sessions_run`]). Sessions begin from files in
+/// which a state is found, as `open` finds it, or with the making of a broker. The disk is one that
+/// returns what was written and that nobody else writes.
 ///
 /// [`Broker`]: crate::Broker
 pub fn sessions<S: Alter>()
@@ -73,11 +76,26 @@ pub fn sessions<S: Alter>()
     ensures new { SessionsFromNew (state S.Store) }
 {}
 
+/// The same down to the files of a disk: each session opens files like those that a crash may leave
+/// behind the one before, and the files that are left at the end hold a state to which the sessions
+/// lead.
+pub fn sessions_on_files<D: Disk>()
+    ensures found { FilesFromFound D.Disk }
+    ensures new { FilesFromNew D.Disk }
+{}
+
 /// See [`laws::sessions_compose`].
 pub fn sessions_compose()
     ensures { SessionsCompose broker_primitives }
 {
     laws::sessions_compose::<BrokerMachine>()
+}
+
+/// See [`laws::sessions_run`].
+pub fn sessions_run()
+    ensures { SessionsRun broker_primitives }
+{
+    laws::sessions_run::<BrokerMachine>()
 }
 
 /// See [`laws::runs_once`].

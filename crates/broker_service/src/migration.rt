@@ -9,11 +9,11 @@ ghost use Rattle.broker_tables.specs.Holds.{Holds, format};
 ghost use Rattle.broker_tables.specs.Making.{IsBlank, IsMarked};
 ghost use Rattle.broker_tables.specs.Former.{HoldsFormer, HoldsUnmarked, former_format, added_tables};
 ghost use Rattle.registry_tables.specs.Format.{Finds};
-ghost use Rattle.broker_service.specs.Opening.{Refuses, IsUnchangedUnless};
-ghost use Rattle.broker_service.specs.Migration.{StoresFormer, HoldsFormerState, IsJudgedFormer, JudgedFormer, JudgesAsBefore, MigratesOrFails, IsUnchangedUnlessFormer, former_judgement};
+ghost use Rattle.broker_service.specs.Opening.{Refuses, IsUnchangedUnless, IsJudged, Judged};
+ghost use Rattle.broker_service.specs.Migration.{StoresFormer, HoldsFormerState, JudgesAsBefore, MigratesOrFails, IsUnchangedUnlessFormer};
 ghost use Rattle.broker_service.specs.Stored.{Stores, HoldsState};
 
-use crate::opening::{OpenFault, make_indexes, open_fault};
+use crate::opening::{OpenFault, judge, make_indexes, open_fault};
 use crate::undo::undo;
 use registry_tables::format_of;
 use sqlite::{Alter, Connection};
@@ -57,17 +57,6 @@ fn bring_up<S: Alter>(conn: &mut Connection<S>) -> Result<Option<u32>, StoreFaul
         },
         Ok(found) => Ok(found),
         Err(fault) => Err(fault),
-    }
-}
-
-/// The judgement of a database by the format that was found.
-fn judge(found: Option<u32>) -> Result<(), OpenFault>
-    ensures { result ≡ former_judgement found }
-{
-    match found {
-        None => Err(OpenFault::NotABroker),
-        Some(1) => Ok(()),
-        Some(number) => Err(OpenFault::Format(number)),
     }
 }
 
@@ -130,17 +119,17 @@ pub fn migrate<S: Alter>(conn: &mut Connection<S>) -> Result<(), OpenFault>
         → HoldsFormerState s (state S.Store conn.old)
         → IfErr result (Refuses (λ db. StoresFormer db s) (λ db. Stores db s) (state S.Store conn.new)) }
     ensures judges { HasCleanDisk (state S.Store conn.new)
-        → IsJudgedFormer (state S.Store conn.old).now result }
+        → IsJudged former_format (state S.Store conn.old).now result }
     ensures blank { HasCleanDisk (state S.Store conn.new) → HoldsDurably IsBlank (state S.Store conn.old)
-        → JudgedFormer None result }
+        → Judged former_format None result }
     ensures marked { HasCleanDisk (state S.Store conn.new) → (n : ℕ) (office : List ℕ)
-        → HoldsDurably (IsMarked n office) (state S.Store conn.old) → JudgedFormer (Some n) result }
+        → HoldsDurably (IsMarked n office) (state S.Store conn.old) → Judged former_format (Some n) result }
     ensures unchanged { HasCleanDisk (state S.Store conn.new)
         → IfErr result (IsUnchangedUnless (state S.Store conn.old) (state S.Store conn.new)) }
     ensures survives { Survives (state S.Store conn.old) (state S.Store conn.new) (λ _. ⊤) }
 {
     match run(conn) {
-        Ok(found) => judge(found),
+        Ok(found) => judge(1, found),
         Err(fault) => Err(open_fault(fault)),
     }
 }

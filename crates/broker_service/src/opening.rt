@@ -171,25 +171,28 @@ pub(crate) fn create<S: Alter>(
     }
 }
 
-/// The judgement of a database by the format that was found.
-fn judge(found: Option<u32>) -> Result<(), OpenFault>
-    ensures { result ≡ judgement found }
+/// The judgement of a database that is to be of this format, by the format that was found.
+pub(crate) fn judge(wanted: u32, found: Option<u32>) -> Result<(), OpenFault>
+    ensures { result ≡ judgement wanted found }
 {
     match found {
         None => Err(OpenFault::NotABroker),
-        Some(2) => Ok(()),
-        Some(number) => Err(OpenFault::Format(number)),
+        Some(number) => if number == wanted {
+            Ok(())
+        } else {
+            Err(OpenFault::Format(number))
+        },
     }
 }
 
 /// Looks for a broker's tables of this format, and changes nothing. A broker makes `meta` before
 /// each other table.
 pub(crate) fn open<S: Alter>(conn: &mut Connection<S>) -> Result<(), OpenFault>
-    ensures judges { HasCleanDisk (state S.Store conn.new) → IsJudged (state S.Store conn.old).now result }
+    ensures judges { HasCleanDisk (state S.Store conn.new) → IsJudged format (state S.Store conn.old).now result }
     ensures blank { HasCleanDisk (state S.Store conn.new) → HoldsDurably IsBlank (state S.Store conn.old)
-        → Judged None result }
+        → Judged format None result }
     ensures marked { HasCleanDisk (state S.Store conn.new) → (n : ℕ) (office : List ℕ)
-        → HoldsDurably (IsMarked n office) (state S.Store conn.old) → Judged (Some n) result }
+        → HoldsDurably (IsMarked n office) (state S.Store conn.old) → Judged format (Some n) result }
     ensures kept { HasCleanDisk (state S.Store conn.new)
         → OnOk result (IsAsBefore (state S.Store conn.old) (state S.Store conn.new)) }
     ensures unchanged { HasCleanDisk (state S.Store conn.new)
@@ -201,7 +204,7 @@ pub(crate) fn open<S: Alter>(conn: &mut Connection<S>) -> Result<(), OpenFault>
     match begin(conn) {
         Ok(()) => match format_of(conn) {
             Ok(found) => if rollback(conn) {
-                judge(found)
+                judge(2, found)
             } else {
                 Err(OpenFault::Store)
             },
