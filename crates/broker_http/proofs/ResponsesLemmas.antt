@@ -18,7 +18,7 @@ use Rattle.broker_http.specs.declared.served.Ended.{Ended}
 use Rattle.broker_http.specs.declared.served.Ended.TheVariants.{AtEnd, Rest, Closed}
 use Rattle.http_messages.specs.Messages.{Begins, HasNoMessage, message_of}
 use Rattle.std.specs.Io.KnownBytes.{Appends, Consumes}
-use Rattle.std.proofs.KnownBytes.{Appends-nil, Appends-trans, Consumes-nil, Consumes-trans}
+use Rattle.std.proofs.KnownBytes.{Appends-trans, Consumes-trans}
 use Rattle.http_messages.proofs.MessagesLemmas.{Begins-more}
 
 module _ {S : Type 0} (Exchange : S → Message → Response → S → Type 0) where
@@ -69,12 +69,6 @@ AllOpen-then (first ∷ responses) response p q = (p.0, AllOpen-then responses r
 pub texts-then : (responses : List Response) (response : Response) → texts (responses ++ response ∷ []) ≡ texts responses ++ response.text
 texts-then [] response = append-nil response.text
 texts-then (first ∷ responses) response = ap (λ l. first.text ++ l) (texts-then responses response) ∙ sym (append_assoc first.text (texts responses) response.text)
-
--- a fault before anything is read
-StreamCut-nothing : (fault : ServeFault) → fault ≡ faults.Memory → StreamCut fault [] []
-StreamCut-nothing faults.Read e = absurd cc
-StreamCut-nothing faults.Memory e = (tt, refl)
-StreamCut-nothing faults.Write e = absurd cc
 
 -- a fault of the reader leaves all responses out
 pub StreamCut-read : (fault : ReadFault) (responses : List Response) → AllOpen responses → StreamCut (fault_of_read fault) responses (texts responses)
@@ -143,9 +137,3 @@ module _ {S : Type 0} (Exchange : S → Message → Response → S → Type 0) w
         StreamCut-read fault responses opened,
         out,
       )
-
-  -- a fault before anything is read
-  pub ServesUntil-nothing : (s : S) (before old : Option (List ℕ)) (fault : ServeFault) → fault ≡ faults.Memory
-      → ServesUntil Exchange s s before before old old fault
-  ServesUntil-nothing s before old fault is =
-      ([], [], [], [], Consumes-nil before, (refl, refl), StreamCut-nothing fault is, Appends-nil old)

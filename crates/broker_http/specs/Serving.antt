@@ -54,6 +54,7 @@ module _ {X : Type 0} (shown : Held X → State) where
   pub record Applied (old : BrokerView X) (token : Option Text) (command : Command) (answer : Answer)
       (new : BrokerView X) : Type 0 where
     pub stopped : IsTrue old.is_stopped → (answer ≡ answers.Stopped) × (new ≡ old)
+    pub runs : old.is_stopped ≡ false → answer ≢ answers.Stopped
     pub applies : HasCleanDisk (shown new.connection) → old.is_stopped ≡ false
         → (s : Broker) → HoldsState s (shown old.connection)
         → Applies s token command (shown new.connection) answer

@@ -5,5 +5,6 @@ mod exchange;
 mod served;
 mod serving;
 
+pub use http_routes::RouteTable;
 pub use served::{Ended, ServeFault, Served};
 pub use serving::serve;

@@ -16,16 +16,6 @@ use sqlite::Alter;
 use std::alloc::Global;
 use std::io::{Read, Write};
 
-/// The table of routes.
-fn route_table(alloc: Global) -> Result<RouteTable, ServeFault>
-    ensures { IfErr result (λ fault. fault ≡ ServeFault.Memory) }
-{
-    match RouteTable::new(alloc) {
-        Ok(routes) => Ok(routes),
-        Err(_) => Err(ServeFault::Memory),
-    }
-}
-
 /// The head and the body of the message at the front.
 fn message_parts(bytes: &[u8], head_len: usize, body_len: usize) -> (&[u8], &[u8])
     requires { head_len + body_len ≤ length bytes.now }
@@ -93,11 +83,12 @@ fn serve_all<R: Read, W: Write, S: Alter>(
 /// `ServeFault::Read`: the reader failed, or 2^64-1 messages were answered; all answers are out.
 /// `ServeFault::Write`: the writer failed, or took none of the bytes that were left; the last answer is
 /// out in part.
-/// `ServeFault::Memory`: there was no memory for the table of routes, before anything was read, or for
-/// a message or its answer; nothing was done for it, and all answers before are out.
-/// The writer is not flushed.
+/// `ServeFault::Memory`: there was no memory for a message or its answer; nothing was done for it, and
+/// all answers before are out.
+/// The writer is not flushed. The table of routes can be made once for all streams.
 pub fn serve<R: Read, W: Write, S: Alter>(
     alloc: Global,
+    routes: &RouteTable,
     broker: &mut Broker<S>,
     reader: &mut R,
     writer: &mut W,
@@ -133,6 +124,5 @@ pub fn serve<R: Read, W: Write, S: Alter>(
         (R.remaining reader.old) (R.remaining reader.new)
         (W.contents writer.old) (W.contents writer.new) fault) }
 {
-    let routes = route_table(alloc)?;
-    serve_all(alloc, &routes, broker, reader, writer)
+    serve_all(alloc, routes, broker, reader, writer)
 }

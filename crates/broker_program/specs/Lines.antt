@@ -1,6 +1,7 @@
 -- the program's command lines: a word that names a command, and the command's options, each with a value and
 -- each required (this project's own choice)
-use Rattle.std.specs.Prelude.{◌≡◌, ◌≤◌, ℕ, List, [], ◌∷◌, Bool, false, Option, Some, codes, bytes_eq, find, pos, true, ⊤}
+use Rattle.std.specs.Prelude.{◌≡◌, ◌≤◌, ⊤, ℕ, List, [], ◌∷◌, Bool, true, false, Option, Some}
+use Rattle.std.specs.Prelude.{codes, bytes_eq, find, pos}
 use Rattle.std.specs.Option.{option_map_or}
 use Rattle.std.specs.Str.Parse.{digits_value, without_leading_plus}
 use Rattle.clap.specs.Words.{App, Row, Rule, Text, first_of, matches_of, new_app, new_rule, one_of, takes, with_rule}
@@ -8,7 +9,8 @@ use Rattle.clap.specs.declared.builder.value_parser.ValueParser.TheVariants.{Sig
 use Rattle.broker_program.specs.declared.line.Line.{Line}
 use Rattle.broker_program.specs.declared.names.CommandName.{CommandName}
 use Rattle.broker_program.specs.declared.names.CommandName.TheVariants as names
-use Rattle.broker_program.specs.declared.line.Line.TheVariants.{CanIDeploy, Check, Init, Normalise, Replay, Serve}
+use Rattle.broker_program.specs.declared.line.Line.TheVariants.{CanIDeploy, Check, Init, Migrate, Normalise}
+use Rattle.broker_program.specs.declared.line.Line.TheVariants.{Replay, Serve}
 
 -- `--name VALUE`
 abbrev pub option : Text → Rule
@@ -25,6 +27,10 @@ replay = with_rule (new_app (codes "replay")) (option (codes "office-token"))
 -- `init --file F --office-token T`
 abbrev pub init : App
 init = with_rule (with_rule (new_app (codes "init")) (option (codes "file"))) (option (codes "office-token"))
+
+-- `migrate --file F`
+abbrev pub migrate : App
+migrate = with_rule (new_app (codes "migrate")) (option (codes "file"))
 
 -- `serve --file F --listen A --connections N`
 abbrev pub serve : App
@@ -48,12 +54,13 @@ can_i_deploy =
     (option (codes "version"))) (option (codes "to-environment"))
 
 abbrev pub commands : List App
-commands = replay ∷ init ∷ serve ∷ normalise ∷ check ∷ can_i_deploy ∷ []
+commands = replay ∷ init ∷ migrate ∷ serve ∷ normalise ∷ check ∷ can_i_deploy ∷ []
 
 -- the command of a line
 abbrev pub command_of : Line → App
 command_of (Replay token) = replay
 command_of (Init file token) = init
+command_of (Migrate file) = migrate
 command_of (Serve file listen connections) = serve
 command_of Normalise = normalise
 command_of (Check pact replies) = check
@@ -76,6 +83,7 @@ HasNumber rows name n =
 abbrev pub HasValues : List Row → Line → Type 0
 HasValues rows (Replay token) = HasText rows (codes "office-token") token.now
 HasValues rows (Init file token) = HasText rows (codes "file") file.now × HasText rows (codes "office-token") token.now
+HasValues rows (Migrate file) = HasText rows (codes "file") file.now
 HasValues rows (Serve file listen connections) =
     HasText rows (codes "file") file.now × HasText rows (codes "listen") listen.now
     × HasNumber rows (codes "connections") connections
@@ -118,6 +126,7 @@ is_line (program ∷ rest) = is_command rest
 abbrev pub command_named : CommandName → App
 command_named names.Replay = replay
 command_named names.Init = init
+command_named names.Migrate = migrate
 command_named names.Serve = serve
 command_named names.Normalise = normalise
 command_named names.Check = check

@@ -1,6 +1,7 @@
 -- what the commands on pact files and the question of can-i-deploy write: one line on standard output (this project's
 -- own choice)
-use Rattle.std.specs.Prelude.{◌≡◌, ◌<◌, ℕ, List, [], ◌∷◌, ◌++◌, length, Bool, true, false, Ok, codes, decimal, take, Option}
+use Rattle.std.specs.Prelude.{◌≡◌, ◌<◌, ℕ, List, [], ◌∷◌, ◌++◌, length, Bool, true, false, Option, Ok}
+use Rattle.std.specs.Prelude.{codes, decimal, take}
 use Rattle.std.specs.List.{flat_map}
 use Rattle.std.specs.Io.KnownBytes.{Appends, Consumes, IsAtEnd}
 use Rattle.answer_texts.specs.AnswerText.{answer_text}
@@ -60,7 +61,8 @@ AreFailingBy places =
 module _ (old new : Option (List ℕ)) where
   abbrev pub Checks : Bool → Type 0
   Checks passes =
-      (places : List ℕ) × AreFailingBy places × (passes ≡ is_pass places) × Appends old new (verdict_text places ++ newline)
+      (places : List ℕ) × AreFailingBy places × (passes ≡ is_pass places)
+      × Appends old new (verdict_text places ++ newline)
 
   abbrev pub ChecksUntil : Type 0
   ChecksUntil = (places : List ℕ) × AreFailingBy places × IsBegun (verdict_text places ++ newline) old new
@@ -77,4 +79,6 @@ module _ (old new : Option (List ℕ)) where
   Asks permitted = (answer : Answer) × IsGate permitted answer × Appends old new (answer_text answer ++ newline)
 
   abbrev pub AsksUntil : Type 0
-  AsksUntil = (permitted : Bool) × (answer : Answer) × IsGate permitted answer × IsBegun (answer_text answer ++ newline) old new
+  AsksUntil =
+      (permitted : Bool) × (answer : Answer) × IsGate permitted answer
+      × IsBegun (answer_text answer ++ newline) old new

@@ -4,7 +4,8 @@ ghost use Rattle.std.specs.Io.KnownBytes.{Appends};
 ghost use Rattle.std.specs.List.{flat_map};
 ghost use Rattle.pact_file.specs.Normal.{Normal};
 ghost use Rattle.reply_check.specs.Replies.{RepliesRead};
-ghost use Rattle.broker_program.specs.Told.{AreFailingBy, Checks, ChecksUntil, IsBegun, newline, place_text, verdict_text};
+ghost use Rattle.broker_program.specs.Told.{AreFailingBy, Checks, ChecksUntil, IsBegun};
+ghost use Rattle.broker_program.specs.Told.{newline, place_text, verdict_text};
 
 use crate::fault::RunFault;
 use crate::normalise::pact_of;

@@ -2,7 +2,8 @@
 ghost use Rattle.std.specs.Prelude.{◌≡◌, IfOk, codes};
 ghost use Rattle.clap.specs.Words.{app_of, new_app, with_rule};
 ghost use Rattle.broker_program.specs.Lines.{can_i_deploy as can_i_deploy_of, check as check_of, init as init_of};
-ghost use Rattle.broker_program.specs.Lines.{normalise as normalise_of, replay as replay_of, serve as serve_of};
+ghost use Rattle.broker_program.specs.Lines.{migrate as migrate_of, normalise as normalise_of};
+ghost use Rattle.broker_program.specs.Lines.{replay as replay_of, serve as serve_of};
 ghost use Rattle.broker_program.specs.Lines.{number_option, option as option_of};
 
 use crate::help;
@@ -89,6 +90,19 @@ pub(crate) fn init_command<'a>(alloc: Global) -> Result<Command<'a>, AllocError>
     )
 }
 
+pub(crate) fn migrate_command<'a>(alloc: Global) -> Result<Command<'a>, AllocError>
+    ensures { IfOk result (λ command. app_of command ≡ migrate_of) }
+{
+    let command = bare(
+        alloc,
+        "migrate",
+        help::USAGE_MIGRATE,
+        help::MIGRATE,
+        help::AFTER_MIGRATE,
+    );
+    with_option(alloc, command, "file", "The broker's file")
+}
+
 pub(crate) fn serve_command<'a>(alloc: Global) -> Result<Command<'a>, AllocError>
     ensures { IfOk result (λ command. app_of command ≡ serve_of) }
 {
@@ -166,11 +180,18 @@ pub(crate) fn can_i_deploy_command<'a>(alloc: Global) -> Result<Command<'a>, All
     with_option(alloc, command, "to-environment", "The environment's name")
 }
 
-/// The commands over tables and files of brokers.
-fn with_brokers<'a>(alloc: Global, program: Command<'a>) -> Result<Command<'a>, AllocError> {
+/// The commands that make the file of a broker.
+fn with_files<'a>(alloc: Global, program: Command<'a>) -> Result<Command<'a>, AllocError> {
     program
         .subcommand(init_command(alloc)?)?
-        .subcommand(serve_command(alloc)?)
+        .subcommand(migrate_command(alloc)?)
+}
+
+/// The commands over the broker in a file.
+fn with_brokers<'a>(alloc: Global, program: Command<'a>) -> Result<Command<'a>, AllocError> {
+    program
+        .subcommand(serve_command(alloc)?)?
+        .subcommand(can_i_deploy_command(alloc)?)
 }
 
 /// The commands over pact files.
@@ -180,19 +201,13 @@ fn with_pacts<'a>(alloc: Global, program: Command<'a>) -> Result<Command<'a>, Al
         .subcommand(check_command(alloc)?)
 }
 
-/// The commands that answer a question or a stream.
-fn with_answers<'a>(alloc: Global, program: Command<'a>) -> Result<Command<'a>, AllocError> {
-    program
-        .subcommand(can_i_deploy_command(alloc)?)?
-        .subcommand(replay_command(alloc)?)
-}
-
 /// The whole program, which tells its commands and what is wrong with words that name none.
 pub(crate) fn program<'a>(alloc: Global) -> Result<Command<'a>, AllocError> {
     let program = bare(alloc, "broker", help::USAGE, help::ABOUT, help::AFTER)
         .version(help::VERSION)
         .subcommand_required(true);
+    let program = with_files(alloc, program)?;
     let program = with_brokers(alloc, program)?;
     let program = with_pacts(alloc, program)?;
-    with_answers(alloc, program)
+    program.subcommand(replay_command(alloc)?)
 }

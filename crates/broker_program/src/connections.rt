@@ -1,7 +1,8 @@
 //! Serving connections over the broker in a file.
 use crate::fault::RunFault;
 use crate::files::{FileBroker, close, open_broker};
-use broker_http::serve;
+use crate::routes::route_table;
+use broker_http::{RouteTable, serve};
 use std::alloc::Global;
 use std::net::{SocketAddr, TcpListener};
 
@@ -20,11 +21,11 @@ fn listen_on(rt: &HostRuntime, listen: &str) -> Result<TcpListener, RunFault> {
 }
 
 /// Serves the next connection. Where it fails it ends, and nothing is told of it.
-fn serve_next(alloc: Global, broker: &mut FileBroker, listener: &TcpListener) {
+fn serve_next(alloc: Global, routes: &RouteTable, broker: &mut FileBroker, listener: &TcpListener) {
     if let Ok((stream, _)) = listener.accept() {
         // Else the body of an answer would wait for the peer to acknowledge its head.
         let _ = stream.set_nodelay(true);
-        let _ = serve(alloc, broker, &mut &stream, &mut &stream);
+        let _ = serve(alloc, routes, broker, &mut &stream, &mut &stream);
     }
 }
 
@@ -44,11 +45,12 @@ pub(crate) fn serve_file(
     listen: &str,
     connections: u32,
 ) -> Result<(), RunFault> {
+    let routes = route_table(rt.alloc())?;
     let mut broker = open_broker(rt, file)?;
     let listener = listen_on(rt, listen)?;
     for _ in 0..connections {
         broker = running(rt, broker, file)?;
-        serve_next(rt.alloc(), &mut broker, &listener);
+        serve_next(rt.alloc(), &routes, &mut broker, &listener);
     }
     close(broker)
 }

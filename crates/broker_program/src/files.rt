@@ -4,15 +4,15 @@ use broker_service::Broker;
 use sqlite::{Connection, Error, ErrorCode, File, FileStore};
 use std::fs;
 
+/// A connection over a file.
+pub(crate) type FileConnection = Connection<FileStore<File>>;
+
 /// A broker over a file.
 pub(crate) type FileBroker = Broker<FileStore<File>>;
 
 /// A connection over the file of this path, which is made where it isn't there. `File`: it can't be read or written,
 /// another program has it open, or it is no database.
-pub(crate) fn connect(
-    rt: &HostRuntime,
-    path: &str,
-) -> Result<Connection<FileStore<File>>, RunFault> {
+pub(crate) fn connect(rt: &HostRuntime, path: &str) -> Result<FileConnection, RunFault> {
     match Connection::open(rt, path) {
         Ok(connection) => Ok(connection),
         Err(Error::SqliteFailure(ErrorCode::OutOfMemory)) => Err(RunFault::Memory),
@@ -20,27 +20,31 @@ pub(crate) fn connect(
     }
 }
 
-/// `File` where there is no file of this path.
-fn find(rt: &HostRuntime, path: &str) -> Result<(), RunFault> {
+/// The same over a file that has to be there. `File` where it isn't.
+pub(crate) fn connect_existing(rt: &HostRuntime, path: &str) -> Result<FileConnection, RunFault> {
     match fs::exists(rt, path) {
-        Ok(true) => Ok(()),
+        Ok(true) => connect(rt, path),
         _ => Err(RunFault::File),
     }
 }
 
 /// The broker in the file of this path, which has to be there.
 pub(crate) fn open_broker(rt: &HostRuntime, path: &str) -> Result<FileBroker, RunFault> {
-    find(rt, path)?;
-    match Broker::open(connect(rt, path)?) {
+    match Broker::open(connect_existing(rt, path)?) {
         Ok(broker) => Ok(broker),
         Err(refused) => Err(RunFault::Open(refused.fault)),
     }
 }
 
-/// Closes the broker's file, so that all of it stands in the file alone.
-pub(crate) fn close(broker: FileBroker) -> Result<(), RunFault> {
-    match broker.close().close() {
+/// Closes the file, so that all of it stands in the file alone.
+pub(crate) fn disconnect(connection: FileConnection) -> Result<(), RunFault> {
+    match connection.close() {
         Ok(()) => Ok(()),
         Err(_) => Err(RunFault::File),
     }
+}
+
+/// Closes the broker's file, as `disconnect` does.
+pub(crate) fn close(broker: FileBroker) -> Result<(), RunFault> {
+    disconnect(broker.close())
 }

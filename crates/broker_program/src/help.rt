@@ -6,7 +6,8 @@ pub(crate) const VERSION: &str = "1.0.0";
 pub(crate) const USAGE: &str = "broker COMMAND OPTIONS";
 
 pub(crate) const ABOUT: &str =
-    "A broker of consumer contracts (pacts): it keeps them with the results of their verification, and tells whether a version may be deployed";
+    "A broker of consumer contracts (pacts): it keeps them with the results of their verification, and
+tells whether a version may be deployed";
 
 pub(crate) const AFTER: &str =
     "Example: broker init --file broker.db --office-token office-token-0001
@@ -52,6 +53,25 @@ Status 3, and on standard error one of
   open 5     the database failed
   memory     no memory for anything else";
 
+pub(crate) const USAGE_MIGRATE: &str = "broker migrate --file F";
+
+pub(crate) const MIGRATE: &str = "Makes today's file, of format 2, of a broker's file of format 1";
+
+pub(crate) const AFTER_MIGRATE: &str =
+    "Every row stays: each result is a claim of its sender, no environment is strict, and can-i-deploy answers
+as before. There is no way back, so copy the file first.
+
+Example: broker migrate --file broker.db
+
+Status 0: the file is of format 2.
+Status 3, and on standard error one of
+  file       the file isn't there, can't be read or written, is in use, or is no database
+  open 2     the file isn't a broker's; nothing is changed
+  open 3.N   the file has another format than 1, of number N, as 2 behind a migration; nothing is changed
+  open 4     no memory for the tables; nothing is changed
+  open 5     the database failed: try it again
+  memory     no memory for anything else";
+
 pub(crate) const USAGE_SERVE: &str = "broker serve --file F --listen A --connections N";
 
 pub(crate) const SERVE: &str =
@@ -68,7 +88,7 @@ Status 0: the connections are served. A peer that fails ends its own connection 
 Status 3, and on standard error one of
   file       the file isn't there, can't be read or written, is in use, or is no database
   open 2     the file isn't a broker's
-  open 3.N   the file has another format, of number N
+  open 3.N   the file has another format, of number N; `broker migrate` takes one of format 1
   open 4     no memory to open the tables
   open 5     the database failed
   listen     the address isn't one of loopback, or is taken
@@ -128,7 +148,7 @@ Status 3, and on standard error the broker's other answer, or one of
   name       a name isn't 1 to 100 bytes without control characters
   file       the file isn't there, can't be read or written, is in use, or is no database
   open 2     the file isn't a broker's
-  open 3.N   the file has another format, of number N
+  open 3.N   the file has another format, of number N; `broker migrate` takes one of format 1
   open 4     no memory to open the tables
   open 5     the database failed
   memory     no memory for anything else";

@@ -11,12 +11,14 @@ mod forms;
 mod help;
 mod init;
 mod line;
+mod migrate;
 mod names;
 mod normalise;
 mod options;
 mod output;
 mod process;
 mod replay;
+mod routes;
 mod running;
 
 pub use line::{Line, read_line};

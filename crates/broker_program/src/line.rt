@@ -2,14 +2,14 @@
 ghost use Rattle.std.specs.Prelude.{◌≡◌, IfErr, IfOk, map, true};
 ghost use Rattle.clap.specs.Words.{kind_of};
 ghost use Rattle.broker_program.specs.Lines.{HasOptions, Says, command_named, command_of, is_line, is_taken};
-ghost use Rattle.broker_program.specs.Lines.{can_i_deploy, check, init, normalise, replay, serve};
+ghost use Rattle.broker_program.specs.Lines.{can_i_deploy, check, init, migrate, normalise, replay, serve};
 
 use crate::commands::{
-    can_i_deploy_command, check_command, init_command, normalise_command, program, replay_command,
-    serve_command,
+    can_i_deploy_command, check_command, init_command, migrate_command, normalise_command, program,
+    replay_command, serve_command,
 };
 use crate::names::{CommandName, named};
-use crate::options::{can_i_deploy_in, check_in, init_in, replay_in, serve_in};
+use crate::options::{can_i_deploy_in, check_in, init_in, migrate_in, replay_in, serve_in};
 use clap::Error;
 use clap::error::ErrorKind;
 use std::alloc::{AllocError, Global};
@@ -28,6 +28,11 @@ pub enum Line<'a> {
         file: &'a str,
         /// The token of the office of the new broker.
         office_token: &'a str,
+    },
+    /// Makes today's database of a broker's file of format 1.
+    Migrate {
+        /// The file's path.
+        file: &'a str,
     },
     /// Serves connections over the broker in a file, one after the other.
     Serve {
@@ -93,6 +98,7 @@ fn read_command<'a>(
     match name {
         CommandName::Replay => read_replay(alloc, words),
         CommandName::Init => read_init(alloc, words),
+        CommandName::Migrate => read_migrate(alloc, words),
         CommandName::Serve => read_serve(alloc, words),
         CommandName::Normalise => read_normalise(alloc, words),
         CommandName::Check => read_check(alloc, words),
@@ -122,6 +128,19 @@ fn read_init<'a>(alloc: Global, words: &'a [&'a str]) -> Result<Line<'a>, Error>
 {
     match init_command(alloc)?.try_get_matches_from(words) {
         Ok(matches) => init_in(&matches),
+        Err(error) => Err(error),
+    }
+}
+
+/// `migrate` and its option.
+fn read_migrate<'a>(alloc: Global, words: &'a [&'a str]) -> Result<Line<'a>, Error>
+    ensures ok { IfOk result (λ line. (command_of line ≡ migrate)
+        × HasOptions (map (λ word. word.now) words.entry.now) line) }
+    ensures err { IfErr result (λ e. is_taken migrate (map (λ word. word.now) words.entry.now) ≡ true
+        → kind_of e ≡ ErrorKind.OutOfMemory) }
+{
+    match migrate_command(alloc)?.try_get_matches_from(words) {
+        Ok(matches) => migrate_in(&matches),
         Err(error) => Err(error),
     }
 }

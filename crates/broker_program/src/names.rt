@@ -7,6 +7,7 @@ ghost use Rattle.broker_program.specs.Lines.{BeginsWith, command_at, command_nam
 pub(crate) enum CommandName {
     Replay,
     Init,
+    Migrate,
     Serve,
     Normalise,
     Check,
@@ -22,6 +23,9 @@ fn named_by(word: &str) -> Option<CommandName>
     }
     if word == "init" {
         return Some(CommandName::Init);
+    }
+    if word == "migrate" {
+        return Some(CommandName::Migrate);
     }
     if word == "serve" {
         return Some(CommandName::Serve);

@@ -2,7 +2,7 @@
 ghost use Rattle.std.specs.Prelude.{◌≡◌, IfErr, IfOk, IfSome, codes, option_map};
 ghost use Rattle.clap.specs.Words.{first_of, found_of, kind_of, rows_of};
 ghost use Rattle.broker_program.specs.Lines.{HasNumber, HasValues, command_of};
-ghost use Rattle.broker_program.specs.Lines.{can_i_deploy, check, init, normalise, replay, serve};
+ghost use Rattle.broker_program.specs.Lines.{can_i_deploy, check, init, migrate, normalise, replay, serve};
 
 use crate::line::Line;
 use clap::error::ErrorKind;
@@ -43,6 +43,16 @@ pub(crate) fn init_in<'a>(matches: &ArgMatches<'a>) -> Result<Line<'a>, Error>
     match (text_of(matches, "file"), text_of(matches, "office-token")) {
         (Some(file), Some(office_token)) => Ok(Line::Init { file, office_token }),
         _ => Err(Error::from(AllocError)),
+    }
+}
+
+pub(crate) fn migrate_in<'a>(matches: &ArgMatches<'a>) -> Result<Line<'a>, Error>
+    ensures ok { IfOk result (λ line. (command_of line ≡ migrate) × HasValues (rows_of (found_of matches.now)) line) }
+    ensures err { IfErr result (λ e. kind_of e ≡ ErrorKind.OutOfMemory) }
+{
+    match text_of(matches, "file") {
+        Some(file) => Ok(Line::Migrate { file }),
+        None => Err(Error::from(AllocError)),
     }
 }
 

@@ -8,6 +8,7 @@ ghost use Rattle.broker_program.specs.Replays.{Replays, ReplaysUntil, new_broker
 
 use crate::fault::RunFault;
 use crate::forms::token_of;
+use crate::routes::route_table;
 use broker_core::name::Token;
 use broker_http::serve;
 use broker_service::Broker;
@@ -49,7 +50,8 @@ pub(crate) fn replay<R: Read, W: Write>(
 {
     let office = token_of(alloc, office_token)?;
     let mut broker = new_broker(alloc, &office)?;
-    match serve(alloc, &mut broker, input, output) {
+    let routes = route_table(alloc)?;
+    match serve(alloc, &routes, &mut broker, input, output) {
         Ok(_) => Ok(()),
         Err(fault) => Err(RunFault::Serve(fault)),
     }

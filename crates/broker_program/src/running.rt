@@ -11,6 +11,7 @@ use crate::connections::serve_file;
 use crate::fault::RunFault;
 use crate::init::init;
 use crate::line::{Line, read_line};
+use crate::migrate::migrate;
 use crate::normalise::normalise;
 use crate::replay::replay;
 use clap::Error;
@@ -70,6 +71,10 @@ fn carry_out<R: Read, W: Write>(
             init(rt, file, office_token)?;
             Ok(true)
         }
+        Line::Migrate { file } => {
+            migrate(rt, file)?;
+            Ok(true)
+        }
         Line::Serve {
             file,
             listen,
@@ -111,7 +116,8 @@ fn carry_out<R: Read, W: Write>(
 /// 3: the command failed, and one line on `errors` tells why.
 /// `token`, `name`: the text of an option isn't a token or a name. `file`: a file, `input` or `output`
 /// can't be read or written, or the file isn't there, is in use or is no database. `open n`: the broker
-/// couldn't be made or opened, by the number of the fault of `Broker::create` and `Broker::open`.
+/// couldn't be made, opened or migrated, by the number of the fault of `Broker::create`, `Broker::open`
+/// and `migrate`.
 /// `listen`: the address isn't one of loopback, or can't be listened on.
 /// `serve 1`, `serve 2` and `serve 3`, of `replay` alone: the input failed, the output failed, or there
 /// was no memory for a message; the answers before are out.

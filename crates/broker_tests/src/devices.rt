@@ -1,7 +1,7 @@
 //! Readers and writers that fail.
 use crate::first_run::*;
-use crate::fixture::new_broker;
-use broker_http::{Ended, ServeFault, Served, serve};
+use crate::fixture::{new_broker, replay, serve_stream};
+use broker_http::{Ended, ServeFault, Served};
 use broker_service::Broker;
 use sqlite::MemStore;
 use std::alloc::Global;
@@ -68,7 +68,7 @@ fn cut_reading(
         error,
     };
     let mut out = Vec::new(alloc);
-    let served = serve(alloc, broker, &mut reader, &mut out);
+    let served = serve_stream(alloc, broker, &mut reader, &mut out);
     Ok((served, out))
 }
 
@@ -86,8 +86,29 @@ fn cut_writing(
         left: count,
         fails,
     };
-    let served = serve(alloc, broker, &mut reader, &mut writer);
+    let served = serve_stream(alloc, broker, &mut reader, &mut writer);
     Ok((served, writer.bytes))
+}
+
+/// How many bytes the first so many texts have together.
+fn length_of(texts: &[&[u8]], first: usize) -> usize {
+    let mut length: usize = 0;
+    for text in texts.iter().take(first) {
+        length = length.saturating_add(text.len());
+    }
+    length
+}
+
+/// How many of the texts, one behind the other, are whole within so many bytes.
+fn whole_within(texts: &[&[u8]], count: usize) -> usize {
+    let mut left = count;
+    for (place, text) in texts.iter().enumerate() {
+        if left < text.len() {
+            return place;
+        }
+        left -= text.len();
+    }
+    texts.len()
 }
 
 /// Whether these are the first so many bytes of the first run's answers.
@@ -96,56 +117,54 @@ fn is_front(alloc: Global, out: &[u8], length: usize) -> Result<bool, Fail> {
     Ok(wanted.starts_with(out) && out.len() == length)
 }
 
-/// After how many bytes the reader fails and by which error, how many requests are whole by then, and how long their
-/// answers are.
-type Cut = (usize, ErrorKind, usize, usize);
-
-const CUTS: [Cut; 5] = [
-    (0, ErrorKind::Interrupted, 0, 0),
-    (125, ErrorKind::Other, 0, 0),
-    (126, ErrorKind::Interrupted, 1, 88),
-    (833, ErrorKind::Interrupted, 6, 528),
-    (834, ErrorKind::Other, 7, 730),
-];
+/// Whether the first so many requests are done and no further one: those behind them, the listing in any case, get the
+/// answers of the first run.
+fn are_done(alloc: Global, broker: &mut Broker<MemStore>, count: usize) -> Result<bool, Fail> {
+    goes_on(alloc, broker, count.min(6))
+}
 
 /// Whether the requests that are whole are done and answered, and nothing else, where the reader fails.
-fn is_cut_reading(alloc: Global, cut: Cut) -> Result<bool, Fail> {
-    let (count, error, done, length) = cut;
+fn is_cut_reading(alloc: Global, count: usize, error: ErrorKind) -> Result<bool, Fail> {
     let mut broker = new_broker(alloc)?;
     let (served, out) = cut_reading(alloc, &mut broker, count, error)?;
+    let done = whole_within(REQUESTS.as_slice(), count);
+    let length = length_of(ANSWERS.as_slice(), done);
     Ok(
         served == Err(ServeFault::Read)
             && is_front(alloc, out.as_slice(), length)?
-            && goes_on(alloc, &mut broker, done)?,
+            && are_done(alloc, &mut broker, done)?,
     )
 }
 
 #[test]
-fn a_reader_fails(rt: HostRuntime) -> Result<(), Fail> {
-    for cut in CUTS {
-        assert!(rt; is_cut_reading(rt.alloc(), cut)?);
+fn a_reader_fails_at_each_read(rt: HostRuntime) -> Result<(), Fail> {
+    for count in 0..=length_of(REQUESTS.as_slice(), 7) {
+        for error in [ErrorKind::Interrupted, ErrorKind::Other] {
+            assert!(rt; is_cut_reading(rt.alloc(), count, error)?, "after {count}");
+        }
     }
     Ok(())
 }
 
-/// Whether so many requests are done, the last of them with its answer cut, where the writer takes so many bytes.
-fn is_cut_writing(alloc: Global, count: usize, fails: bool, done: usize) -> Result<bool, Fail> {
+/// Whether the answers are out as far as the writer takes them, where it fails, and the requests with whole answers are
+/// done, and the next one.
+fn is_cut_writing(alloc: Global, count: usize, fails: bool) -> Result<bool, Fail> {
     let mut broker = new_broker(alloc)?;
     let (served, out) = cut_writing(alloc, &mut broker, count, fails)?;
+    let answered = whole_within(ANSWERS.as_slice(), count);
     Ok(
         served == Err(ServeFault::Write)
             && is_front(alloc, out.as_slice(), count)?
-            && goes_on(alloc, &mut broker, done)?,
+            && are_done(alloc, &mut broker, answered.saturating_add(1))?,
     )
 }
 
 #[test]
-fn a_writer_fails(rt: HostRuntime) -> Result<(), Fail> {
-    for (count, fails, done) in [(0, true, 1), (87, false, 1), (88, true, 2), (700, false, 7)] {
-        assert!(rt;
-            is_cut_writing(rt.alloc(), count, fails, done)?,
-            "at {count}"
-        );
+fn a_writer_fails_at_each_write(rt: HostRuntime) -> Result<(), Fail> {
+    for count in 0..length_of(ANSWERS.as_slice(), 7) {
+        for fails in [true, false] {
+            assert!(rt; is_cut_writing(rt.alloc(), count, fails)?, "after {count}");
+        }
     }
     Ok(())
 }
@@ -153,7 +172,7 @@ fn a_writer_fails(rt: HostRuntime) -> Result<(), Fail> {
 #[test]
 fn a_writer_takes_one_byte_at_a_time(rt: HostRuntime) -> Result<(), Fail> {
     let mut broker = new_broker(rt.alloc())?;
-    let (served, out) = cut_writing(rt.alloc(), &mut broker, 100000, true)?;
+    let (served, out) = cut_writing(rt.alloc(), &mut broker, 730, true)?;
     let seven = Served {
         answered: 7,
         ended: Ended::AtEnd,
@@ -161,6 +180,30 @@ fn a_writer_takes_one_byte_at_a_time(rt: HostRuntime) -> Result<(), Fail> {
     assert_eq!(rt; served, Ok(seven));
     let wanted = joined(rt.alloc(), ANSWERS.as_slice(), 0)?;
     assert_eq!(rt; out.as_slice(), wanted.as_slice());
+    Ok(())
+}
+
+/// Whether a stream gets no answer, nothing is done for it, and it ends so.
+fn gets_no_answer(alloc: Global, stream: &[u8], ended: Ended) -> Result<bool, Fail> {
+    let mut broker = new_broker(alloc)?;
+    let (served, out) = replay(alloc, &mut broker, stream)?;
+    let none = Served { answered: 0, ended };
+    Ok(served == none && out.is_empty() && are_done(alloc, &mut broker, 0)?)
+}
+
+#[test]
+fn the_first_request_is_cut_before_each_byte(rt: HostRuntime) -> Result<(), Fail> {
+    let mut sent = Vec::new(rt.alloc());
+    for (place, byte) in REQUESTS[0].iter().enumerate() {
+        let ended = if place == 0 {
+            Ended::AtEnd
+        } else {
+            Ended::Rest
+        };
+        let is_left = gets_no_answer(rt.alloc(), sent.as_slice(), ended)?;
+        assert!(rt; is_left, "before {place}");
+        sent.push(*byte)?;
+    }
     Ok(())
 }
 
@@ -183,7 +226,7 @@ fn asked_behind(alloc: Global, bytes: &[u8]) -> Result<usize, Fail> {
     let mut broker = new_broker(alloc)?;
     let mut reader = Noting { bytes, asked: 0 };
     let mut out = Vec::new(alloc);
-    let served = serve(alloc, &mut broker, &mut reader, &mut out)?;
+    let served = serve_stream(alloc, &mut broker, &mut reader, &mut out)?;
     if served.answered == 0 && served.ended == Ended::Rest {
         Ok(reader.asked)
     } else {

@@ -1,6 +1,6 @@
 //! Brokers over files in memory.
+use crate::fixture::serve_stream;
 use broker_core::name::Token;
-use broker_http::serve;
 use broker_service::Broker;
 use sqlite::{Alter, Connection, FileStore, Files, Options};
 use sqlite_disk::{Disk, Memory};
@@ -51,7 +51,7 @@ fn open<D: Disk + Drop>(alloc: Global, files: Files<D>) -> Result<Broker<FileSto
 fn answers<S: Alter>(alloc: Global, broker: &mut Broker<S>, stream: &[u8]) -> Vec<u8> {
     let mut reader = stream;
     let mut out = Vec::new(alloc);
-    let _ = serve(alloc, broker, &mut reader, &mut out);
+    let _ = serve_stream(alloc, broker, &mut reader, &mut out);
     out
 }
 

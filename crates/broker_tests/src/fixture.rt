@@ -1,9 +1,10 @@
 //! A broker in memory, and requests with their answers.
 use broker_core::name::Token;
-use broker_http::{Served, serve};
+use broker_http::{RouteTable, ServeFault, Served, serve};
 use broker_service::Broker;
 use sqlite::{Alter, Connection, MemStore};
 use std::alloc::{AllocError, Global};
+use std::io::{Read, Write};
 use std::test::Fail;
 
 /// The token of the office.
@@ -29,6 +30,19 @@ pub(crate) fn new_broker(alloc: Global) -> Result<Broker<MemStore>, Fail> {
     }
 }
 
+/// Serves a stream, with a table of routes made for it.
+pub(crate) fn serve_stream<R: Read, W: Write, S: Alter>(
+    alloc: Global,
+    broker: &mut Broker<S>,
+    reader: &mut R,
+    writer: &mut W,
+) -> Result<Served, ServeFault> {
+    match RouteTable::new(alloc) {
+        Ok(routes) => serve(alloc, &routes, broker, reader, writer),
+        Err(_) => Err(ServeFault::Memory),
+    }
+}
+
 /// What a stream is answered, and how it ended.
 pub(crate) fn replay<S: Alter>(
     alloc: Global,
@@ -37,7 +51,7 @@ pub(crate) fn replay<S: Alter>(
 ) -> Result<(Served, Vec<u8>), Fail> {
     let mut reader = stream;
     let mut out = Vec::new(alloc);
-    let served = serve(alloc, broker, &mut reader, &mut out)?;
+    let served = serve_stream(alloc, broker, &mut reader, &mut out)?;
     Ok((served, out))
 }
 

@@ -1,7 +1,7 @@
 //! A broker behind a socket.
 use crate::first_run::{ANSWERS, REQUESTS, joined};
-use crate::fixture::new_broker;
-use broker_http::{Ended, Served, serve};
+use crate::fixture::{new_broker, serve_stream};
+use broker_http::{Ended, Served};
 use std::io::{Read, Write};
 use std::net::{Shutdown, TcpListener, TcpStream};
 use std::test::Fail;
@@ -16,7 +16,7 @@ fn the_first_run_over_a_socket(rt: HostRuntime) -> Result<(), Fail> {
     client.write_all(joined(alloc, REQUESTS.as_slice(), 0)?.as_slice())?;
     client.shutdown(Shutdown::Write)?;
     let (server, _) = listener.accept()?;
-    let served = serve(alloc, &mut broker, &mut &server, &mut &server)?;
+    let served = serve_stream(alloc, &mut broker, &mut &server, &mut &server)?;
     let seven = Served {
         answered: 7,
         ended: Ended::AtEnd,

@@ -1,10 +1,12 @@
-//! Why a story couldn't be played.
+//! Why a file couldn't be played, or what a stop took.
+use crate::flaw::Flaw;
 use broker_http::ServeFault;
+use broker_service::OpenFault;
 use std::alloc::{AllocError, AllocFailed};
 use std::io;
 use thiserror::Error;
 
-/// Why a story couldn't be played.
+/// Why a file couldn't be played, or what a stop took.
 #[derive(Debug, Drop, Error)]
 pub(crate) enum Fault {
     /// A line has none of the forms.
@@ -16,6 +18,15 @@ pub(crate) enum Fault {
     /// No broker could be made.
     #[error("no new broker")]
     Broker,
+    /// A statement was refused.
+    #[error("a statement: {0}")]
+    Statement(sqlite::Error),
+    /// The broker isn't opened again.
+    #[error("no broker: {0}")]
+    Opening(OpenFault),
+    /// What is stopped isn't as written, or a stop took something.
+    #[error("{0}")]
+    Flaw(Flaw),
     /// Serving failed.
     #[error("serving failed: {0}")]
     Serve(ServeFault),
@@ -42,6 +53,12 @@ impl<T: Drop> From<AllocFailed<T>> for Fault {
 impl From<io::Error> for Fault {
     fn from(error: io::Error) -> Fault {
         Fault::File(error)
+    }
+}
+
+impl From<sqlite::Error> for Fault {
+    fn from(error: sqlite::Error) -> Fault {
+        Fault::Statement(error)
     }
 }
 

@@ -2,7 +2,7 @@
 use crate::fault::Fault;
 use crate::story::{Story, Stream};
 use broker_core::name::Token;
-use broker_http::{Served, serve};
+use broker_http::{RouteTable, Served, serve};
 use broker_service::Broker;
 use sqlite::{Connection, MemStore};
 use std::alloc::{AllocError, Global};
@@ -11,6 +11,9 @@ use std::io::Read;
 
 /// About how many answers are asked for at most, where a story is played again and again with its streams cut in two.
 const MOST_ANSWERS: usize = 4000;
+
+/// About how many bytes are sent at most then.
+const MOST_BYTES: usize = 5_000_000;
 
 /// How a stream is read.
 #[derive(Clone, Copy)]
@@ -100,24 +103,39 @@ impl Read for OneByOne<'_> {
 }
 
 /// A new broker in memory, whose office has this token.
-fn new_broker(alloc: Global, office: Option<&str>) -> Result<Broker<MemStore>, Fault> {
-    let Some(office) = office else {
-        return Err(Fault::Office);
-    };
-    let Ok(office) = Token::new(alloc, office) else {
-        return Err(Fault::Office);
-    };
+fn new_broker(alloc: Global, office: &Token) -> Result<Broker<MemStore>, Fault> {
     let Ok(connection) = Connection::open_in_memory(alloc) else {
         return Err(Fault::Broker);
     };
-    match Broker::create(alloc, connection, &office) {
+    match Broker::create(alloc, connection, office) {
         Ok(broker) => Ok(broker),
         Err(_) => Err(Fault::Broker),
     }
 }
 
+/// The broker, opened again once the statements are executed on its tables, if there are some. An empty one does
+/// nothing.
+fn opened_behind(
+    broker: Broker<MemStore>,
+    statements: &[String],
+) -> Result<Broker<MemStore>, Fault> {
+    if statements.is_empty() {
+        return Ok(broker);
+    }
+    let mut connection = broker.close();
+    for statement in statements {
+        if !statement.is_empty() {
+            connection.execute(statement.as_str(), &[])?;
+        }
+    }
+    match Broker::open(connection) {
+        Ok(broker) => Ok(broker),
+        Err(refused) => Err(Fault::Opening(refused.fault)),
+    }
+}
+
 /// The first of the answers that differs, from 1, and what was got from there on.
-fn first_other<'a>(answers: &[Vec<u8>], got: &'a [u8]) -> Option<(u64, &'a [u8])> {
+pub(crate) fn first_other<'a>(answers: &[Vec<u8>], got: &'a [u8]) -> Option<(u64, &'a [u8])> {
     let mut rest = got;
     let mut number = 1u64;
     for answer in answers {
@@ -135,7 +153,7 @@ fn first_other<'a>(answers: &[Vec<u8>], got: &'a [u8]) -> Option<(u64, &'a [u8])
 }
 
 /// The first bytes, on one line.
-fn shown(alloc: Global, bytes: &[u8]) -> Result<String, AllocError> {
+pub(crate) fn shown(alloc: Global, bytes: &[u8]) -> Result<String, AllocError> {
     let first = String::from_utf8_lossy(alloc, bytes.get(..500).unwrap_or(bytes))?;
     let mut text = String::new(alloc);
     for line in first.as_str().lines() {
@@ -148,12 +166,13 @@ fn shown(alloc: Global, bytes: &[u8]) -> Result<String, AllocError> {
 /// Serves the reader, which gives the bytes of the stream, and compares.
 fn compare<R: Read>(
     alloc: Global,
+    routes: &RouteTable,
     broker: &mut Broker<MemStore>,
     stream: &Stream,
     reader: &mut R,
 ) -> Result<Option<Difference>, Fault> {
     let mut got = Vec::new(alloc);
-    let served = serve(alloc, broker, reader, &mut got)?;
+    let served = serve(alloc, routes, broker, reader, &mut got)?;
     let wanted = Served {
         answered: stream.answers.len() as u64,
         ended: stream.ended,
@@ -171,17 +190,18 @@ fn compare<R: Read>(
 /// Plays a stream that is read so.
 fn play_stream(
     alloc: Global,
+    routes: &RouteTable,
     broker: &mut Broker<MemStore>,
     stream: &Stream,
     reading: Reading,
 ) -> Result<Option<Difference>, Fault> {
     let mut bytes = stream.sent.as_slice();
     match reading {
-        Reading::Whole => compare(alloc, broker, stream, &mut bytes),
-        Reading::ByteByByte => compare(alloc, broker, stream, &mut OneByOne(bytes)),
+        Reading::Whole => compare(alloc, routes, broker, stream, &mut bytes),
+        Reading::ByteByByte => compare(alloc, routes, broker, stream, &mut OneByOne(bytes)),
         Reading::Cut(place) => {
             let (front, back) = bytes.split_at(place.min(bytes.len()));
-            compare(alloc, broker, stream, &mut front.chain(back))
+            compare(alloc, routes, broker, stream, &mut front.chain(back))
         }
     }
 }
@@ -190,18 +210,21 @@ fn play_stream(
 /// its stream, from 1.
 fn play_all(
     alloc: Global,
+    routes: &RouteTable,
     story: &Story,
     reading: Reading,
 ) -> Result<Option<(u64, Difference)>, Fault> {
-    let mut broker = new_broker(alloc, story.office())?;
+    let office = story.office(alloc)?;
+    let mut broker = new_broker(alloc, &office)?;
     let mut number = 1u64;
     for stream in &story.streams {
+        broker = opened_behind(broker, stream.statements.as_slice())?;
         let reading = if stream.is_own {
             reading
         } else {
             Reading::Whole
         };
-        if let Some(difference) = play_stream(alloc, &mut broker, stream, reading)? {
+        if let Some(difference) = play_stream(alloc, routes, &mut broker, stream, reading)? {
             return Ok(Some((number, difference)));
         }
         number = number.saturating_add(1);
@@ -230,8 +253,13 @@ fn answer_count(streams: &[Stream]) -> usize {
 }
 
 /// The outcome of a story that is read so, where something differs.
-fn differs(alloc: Global, story: &Story, reading: Reading) -> Result<Option<Outcome>, Fault> {
-    match play_all(alloc, story, reading)? {
+fn differs(
+    alloc: Global,
+    routes: &RouteTable,
+    story: &Story,
+    reading: Reading,
+) -> Result<Option<Outcome>, Fault> {
+    match play_all(alloc, routes, story, reading)? {
         Some((stream, difference)) => Ok(Some(Outcome::Differs {
             reading,
             stream,
@@ -241,18 +269,26 @@ fn differs(alloc: Global, story: &Story, reading: Reading) -> Result<Option<Outc
     }
 }
 
+/// How many bytes apart the places are where a story's streams of this length are cut, with so many answers.
+fn step_between(length: usize, answers: usize) -> usize {
+    let by_answers = length.saturating_mul(answers) / MOST_ANSWERS;
+    let by_bytes = length.saturating_mul(length) / MOST_BYTES;
+    by_answers.max(by_bytes).saturating_add(1)
+}
+
 /// Plays a story with its streams whole, byte by byte, and cut in two.
 pub(crate) fn play(alloc: Global, story: &Story) -> Result<Outcome, Fault> {
+    let routes = RouteTable::new(alloc)?;
     for reading in [Reading::Whole, Reading::ByteByByte] {
-        if let Some(outcome) = differs(alloc, story, reading)? {
+        if let Some(outcome) = differs(alloc, &routes, story, reading)? {
             return Ok(outcome);
         }
     }
     let length = longest(story.streams.as_slice());
     let answers = answer_count(story.streams.as_slice());
-    let step = length.saturating_mul(answers) / MOST_ANSWERS + 1;
-    for place in (0..length).step_by(step) {
-        if let Some(outcome) = differs(alloc, story, Reading::Cut(place))? {
+    let step = step_between(length, answers);
+    for place in (0..length).step_by(step.max(1)) {
+        if let Some(outcome) = differs(alloc, &routes, story, Reading::Cut(place))? {
             return Ok(outcome);
         }
     }

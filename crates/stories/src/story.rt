@@ -2,7 +2,8 @@
 use crate::escapes::unescaped;
 use crate::fault::Fault;
 use crate::lines::split_word;
-use crate::messages::{answer, request};
+use crate::messages::{answer, request, requests_cut};
+use broker_core::name::Token;
 use broker_http::Ended;
 use std::alloc::{AllocError, Global};
 use std::mem;
@@ -17,6 +18,8 @@ struct Caller {
 /// What is sent in one stream, and what must come back.
 #[derive(Drop)]
 pub(crate) struct Stream {
+    /// What is executed on the broker's tables before it.
+    pub(crate) statements: Vec<String>,
     pub(crate) sent: Vec<u8>,
     /// The bytes of each answer.
     pub(crate) answers: Vec<Vec<u8>>,
@@ -29,11 +32,17 @@ pub(crate) struct Stream {
 impl Stream {
     fn new(alloc: Global, is_own: bool) -> Stream {
         Stream {
+            statements: Vec::new(alloc),
             sent: Vec::new(alloc),
             answers: Vec::new(alloc),
             ended: Ended::AtEnd,
             is_own,
         }
+    }
+
+    /// Whether nothing is sent, and nothing wanted.
+    fn is_idle(&self) -> bool {
+        self.sent.is_empty() && self.answers.is_empty()
     }
 }
 
@@ -45,10 +54,12 @@ pub(crate) struct Story {
     pub(crate) streams: Vec<Stream>,
     /// The stream that is told now.
     current: Stream,
+    /// How many requests the last line `>/` sent.
+    cut: usize,
 }
 
 /// The fault of a line.
-fn line_fault(alloc: Global, line: &str) -> Fault {
+pub(crate) fn line_fault(alloc: Global, line: &str) -> Fault {
     match String::from_str(alloc, line) {
         Ok(line) => Fault::Line(line),
         Err(_) => Fault::Memory,
@@ -88,12 +99,19 @@ impl Story {
             callers: Vec::new(alloc),
             streams: Vec::new(alloc),
             current: Stream::new(alloc, true),
+            cut: 0,
         }
     }
 
     /// The token of the office, whose line is the first of all callers.
-    pub(crate) fn office(&self) -> Option<&str> {
-        self.callers.first().map(|caller| caller.token.as_str())
+    pub(crate) fn office(&self, alloc: Global) -> Result<Token, Fault> {
+        let Some(caller) = self.callers.first() else {
+            return Err(Fault::Office);
+        };
+        match Token::new(alloc, caller.token.as_str()) {
+            Ok(token) => Ok(token),
+            Err(_) => Err(Fault::Office),
+        }
     }
 
     /// The token of the caller of this name.
@@ -106,14 +124,31 @@ impl Story {
         None
     }
 
-    /// The bytes of a request: a caller, or `-` for none, and the request. `None` where there is no such caller.
-    fn request(&self, alloc: Global, text: &str) -> Result<Option<Vec<u8>>, AllocError> {
-        let (name, text) = split_word(text);
+    /// The token of the caller whom a text names first, if it isn't `-`, and the rest of the text. `None` where there
+    /// is no such caller.
+    fn split_caller<'a>(&'a self, text: &'a str) -> Option<(Option<&'a str>, &'a str)> {
+        let (name, rest) = split_word(text);
         if name == "-" {
-            return Ok(Some(request(alloc, None, text)?));
+            return Some((None, rest));
         }
         match self.token(name) {
-            Some(token) => Ok(Some(request(alloc, Some(token), text)?)),
+            Some(token) => Some((Some(token), rest)),
+            None => None,
+        }
+    }
+
+    /// The bytes of a request: a caller, or `-` for none, and the request. `None` where there is no such caller.
+    pub(crate) fn request(&self, alloc: Global, text: &str) -> Result<Option<Vec<u8>>, AllocError> {
+        match self.split_caller(text) {
+            Some((token, rest)) => Ok(Some(request(alloc, token, rest)?)),
+            None => Ok(None),
+        }
+    }
+
+    /// The bytes of such a request with each beginning of its body in place of it.
+    fn requests_cut(&self, alloc: Global, text: &str) -> Result<Option<Vec<Vec<u8>>>, AllocError> {
+        match self.split_caller(text) {
+            Some((token, rest)) => Ok(Some(requests_cut(alloc, token, rest)?)),
             None => Ok(None),
         }
     }
@@ -145,6 +180,29 @@ impl Story {
         Ok(true)
     }
 
+    /// Sends each of the requests, if there are some.
+    fn send_each(&mut self, requests: Option<Vec<Vec<u8>>>) -> Result<bool, Fault> {
+        let Some(requests) = requests else {
+            return Ok(false);
+        };
+        self.cut = requests.len();
+        for request in &requests {
+            self.current.sent.extend_from_slice(request.as_slice())?;
+        }
+        Ok(true)
+    }
+
+    /// Wants the answer that is written so from each of the requests that were sent so.
+    fn want_each(&mut self, alloc: Global, text: &str) -> Result<bool, Fault> {
+        for _ in 0..self.cut {
+            let bytes = answer(alloc, text)?;
+            if !self.want(bytes)? {
+                return Ok(false);
+            }
+        }
+        Ok(self.cut > 0)
+    }
+
     /// Ends the current stream so, and begins another.
     fn end_stream(&mut self, alloc: Global, ended: Option<Ended>) -> Result<bool, Fault> {
         let Some(ended) = ended else {
@@ -154,6 +212,19 @@ impl Story {
         let mut stream = mem::replace(&mut self.current, next);
         stream.ended = ended;
         self.streams.push(stream)?;
+        Ok(true)
+    }
+
+    /// Takes a statement, which is executed once the current stream has ended.
+    fn add_statement(&mut self, alloc: Global, text: &str) -> Result<bool, Fault> {
+        let Some(bytes) = unescaped(alloc, text)? else {
+            return Ok(false);
+        };
+        if !self.current.is_idle() {
+            self.end_stream(alloc, Some(Ended::AtEnd))?;
+        }
+        let statement = String::from_utf8_lossy(alloc, bytes.as_slice())?;
+        self.current.statements.push(statement)?;
         Ok(true)
     }
 
@@ -170,8 +241,14 @@ impl Story {
             }
             ">>" => self.send(unescaped(alloc, text)?),
             ">+" => self.send(repeated(alloc, text)?),
+            ">/" => {
+                let requests = self.requests_cut(alloc, text)?;
+                self.send_each(requests)
+            }
             "<" => self.want(answer(alloc, text)?),
+            "</" => self.want_each(alloc, text),
             "<<" => self.want(unescaped(alloc, text)?),
+            "!" => self.add_statement(alloc, text),
             "=" => self.end_stream(alloc, ended_by(text)),
             _ => Ok(mark.is_empty() || mark.starts_with('#')),
         }
@@ -195,7 +272,7 @@ impl Story {
 
     /// Ends the last stream, where no line did.
     pub(crate) fn finish(&mut self, alloc: Global) -> Result<(), Fault> {
-        let is_blank = self.current.sent.is_empty() && self.current.answers.is_empty();
+        let is_blank = self.current.is_idle() && self.current.statements.is_empty();
         if !is_blank || self.streams.is_empty() {
             self.end_stream(alloc, Some(Ended::AtEnd))?;
         }

@@ -1,12 +1,10 @@
-use Rattle.std.proofs.Common.{Result, Ok, Err, IfOk, IfErr, [], refl}
+use Rattle.std.proofs.Common.{Result, Ok, Err, IfOk, IfErr, []}
 use Rattle.broker_http.specs.Exchange.{Exchange}
 use Rattle.broker_http.specs.Serving.{Applied}
 use Rattle.broker_http.specs.Journal.{Journal, JournalStep, blank}
 use Rattle.broker_http.proofs.JournalLemmas.{journaled, runs}
-use Rattle.broker_http.proofs.ResponsesLemmas.{ServesUntil-nothing}
-use Rattle.std.proofs.lemmas.Result.{IfOk-weaker, err_from_is_err_and}
+use Rattle.std.proofs.lemmas.Result.{IfOk-weaker}
 use Rattle.sqlite.specs.Held.{state}
-use Rattle.broker_service.proofs.Transaction.{outlives_itself}
 use Rattle.broker_http.proofs.ModeLemmas.{machine, all_survive}
 use Rattle.broker_http.proofs.serving.serve.Goals as goal
 
@@ -38,22 +36,8 @@ returns-clause-machine_until g c =
     (last, m.2, runs mode last p.0 p.1 p.2 j.1, (p.0, p.1, p.2, p.3, p.4, j.1, p.6, p.7)))
     c.serve_all.ensures.fault
 
-pub returns-in_err-routes-clause-fault : goal.returns-in_err-routes-clause-fault
-returns-in_err-routes-clause-fault g c =
-    let p = err_from_is_err_and c.from_residual.result c.from_residual.ensures.1 in
-    rw (p.1, p.2) (ServesUntil-nothing (Exchange (Applied (state g.S.Store))) _ _ _ _ c.in_err-routes.ensures)
-
-pub returns-in_err-routes-clause-machine_until : goal.returns-in_err-routes-clause-machine_until
-returns-in_err-routes-clause-machine_until g c =
-    let p = err_from_is_err_and c.from_residual.result c.from_residual.ensures.1 in
-    rw (p.1, p.2) (λ clean mode held.
-    (blank mode, held, refl, ServesUntil-nothing (Exchange JournalStep) (blank mode) _ _ _ c.in_err-routes.ensures))
-
 pub returns-clause-survives : goal.returns-clause-survives
 returns-clause-survives g c =
     of_either c.serve_all.result _ _ c.serve_all.ensures.ok c.serve_all.ensures.fault
     (λ served p. all_survive (state g.S.Store) _ p.0 p.1 _ p.2 p.4)
     (λ fault p. all_survive (state g.S.Store) _ p.0 p.1 _ p.2 p.5)
-
-pub returns-in_err-routes-clause-survives : goal.returns-in_err-routes-clause-survives
-returns-in_err-routes-clause-survives g c = outlives_itself _
