@@ -1,0 +1,1 @@
+CREATE TABLE notes (line TEXT NOT NULL) STRICT;

@@ -1,0 +1,72 @@
+//! Runs the command lines of each file in the folder that it is run in, and tells whether they end as written.
+//!
+//! A file is `NAME.lines`. The command lines of a file run one after the other, so that one finds the files that an
+//! earlier one made. The lines of such a file are:
+//!
+//! - `# TEXT`, or nothing: no part of it.
+//! - `$ WORD WORD`: the words behind the program's name. The word `""` is the empty one.
+//! - `< FILE`: what stands on standard input is what the file holds. Else there is nothing.
+//! - `| TEXT`: a line that is wanted on standard output.
+//! - `! TEXT`: a line that is wanted on standard error.
+//! - `|..` and `!..`: on standard output, or on standard error, something is wanted, whatever it is.
+//! - `= STATUS`: the status that is wanted, which ends a command line.
+//! - `& DATABASE FILE`: the requests that the file holds are served over the broker in the database.
+//! - `% DATABASE FILE`: the statements that the file holds are run over the database, which is made where it isn't
+//!   there.
+//!
+//! Then it does as `broker` does with the words that it was given itself, and ends with that status.
+#![tactic(auto)]
+
+mod case;
+mod fault;
+mod play;
+mod requests;
+mod sheet;
+mod statements;
+
+use crate::fault::Fault;
+use crate::sheet::Sheet;
+use broker_program::run_process;
+use std::process::ExitCode;
+use std::{fs, io};
+
+/// The names of the files of command lines in this folder, sorted.
+fn names(rt: &HostRuntime) -> io::Result<Vec<String>> {
+    let mut names = Vec::new(rt.alloc());
+    for entry in fs::read_dir(rt, ".")? {
+        if let Some(name) = entry?.file_name().strip_suffix(".lines") {
+            names.push(String::from_str(rt.alloc(), name)?)?;
+        }
+    }
+    names.sort()?;
+    Ok(names)
+}
+
+/// Runs the command lines of the file of this name, and tells how many there are.
+fn run_file(rt: &HostRuntime, name: &str) -> Result<u64, Fault> {
+    let path = format!(in rt.alloc(); "{name}.lines")?;
+    let text = fs::read_to_string(rt, path.as_str())?;
+    let mut sheet = Sheet::new();
+    for line in text.as_str().lines() {
+        sheet.take_line(rt, line)?;
+    }
+    sheet.finish(rt.alloc())
+}
+
+/// Runs the files of command lines, and prints a line for each.
+fn run_files(rt: &HostRuntime) -> io::Result<()> {
+    for name in names(rt)? {
+        match run_file(rt, name.as_str()) {
+            Ok(count) => println!(rt; "{name}: {count} command lines as written")?,
+            Err(fault) => println!(rt; "{name}: {fault}")?,
+        }
+    }
+    Ok(())
+}
+
+fn main(rt: HostRuntime) -> ExitCode {
+    match run_files(&rt) {
+        Ok(()) => ExitCode::from(run_process(&rt)),
+        Err(_) => ExitCode::from(3),
+    }
+}
