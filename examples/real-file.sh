@@ -1,7 +1,8 @@
 #!/usr/bin/env bash
 # Shows that the file of a broker is real: makes it, serves requests of curl over it, stops the program, reads the file by sqlite3,
 # copies it, serves the copy and compares answers. Then kills the program by signal 9 in the middle of a stream of commands, twenty
-# times in a row, and looks for every command that was acknowledged.
+# times in a row, and looks for every command that was acknowledged. Then lets the disk refuse a write (a limit on the size of files):
+# the command is answered 500, the next connection finds the file opened again, and nothing that was acknowledged is lost.
 # Usage: examples/real-file.sh PATH_OF_THE_PROGRAM
 # Needs curl and sqlite3 (the Debian packages). Ends with 0 where all is as it should be, and with 77 where one of the two isn't there.
 set -u
@@ -33,9 +34,13 @@ fail() {
 # same WHAT GOT WANTED
 same() { [ "$2" = "$3" ] || fail "$1: $2 and not $3"; }
 
-# start FILE: serves the file, until it listens
+# start FILE [KIB]: serves the file, until it listens; no file may grow beyond so many KiB
 start() {
-  "$program" serve --file "$1" --listen "127.0.0.1:$port" --connections 1000000 2> "$work/errors" &
+  (
+    trap '' XFSZ
+    ulimit -f "${2:-unlimited}"
+    exec "$program" serve --file "$1" --listen "127.0.0.1:$port" --connections 1000000 2> "$work/errors"
+  ) &
   server=$!
   for _ in $(seq 1 600); do
     curl -s -o /dev/null "$url/" && return
@@ -131,4 +136,32 @@ same foreign_key_check "$(sqlite3 "$work/a.db" 'PRAGMA foreign_key_check')" ""
 sqlite3 "$work/a.db" "SELECT version FROM versions WHERE version LIKE 'kill-%'" | sort > "$work/there"
 lost=$(sort "$work/acknowledged" | comm -23 - "$work/there" | wc -l)
 same "lost of $(wc -l < "$work/acknowledged") acknowledged" "$lost" 0
+
+echo "6. A disk that takes no more"
+"$program" init --file "$work/b.db" --office-token $office || fail "init ended with $?"
+start "$work/b.db" 300
+: > "$work/teams"
+stores=0
+behind=0
+for number in $(seq 1 400); do
+  answer=$(ask $office PUT "/teams/team-$number" "{\"token\":\"team-token-number-$number\"}") || break
+  case $answer in
+    '{"answer":"done"}')
+      echo "team-$number" >> "$work/teams"
+      [ $stores = 0 ] || behind=$((behind + 1))
+      ;;
+    '{"answer":"store"}') stores=$((stores + 1)) ;;
+    *) fail "team-$number: $answer" ;;
+  esac
+  [ $behind -lt 5 ] || break
+done
+[ $stores -gt 0 ] || fail "the disk took all"
+[ $behind -gt 0 ] || fail "nothing is done behind a write that was refused"
+stop TERM
+start "$work/b.db"
+same "a team behind it" "$(ask $office PUT /teams/last '{"token":"team-token-of-the-last"}')" '{"answer":"done"}'
+stop TERM
+same integrity_check "$(sqlite3 "$work/b.db" 'PRAGMA integrity_check')" ok
+sqlite3 "$work/b.db" "SELECT name FROM teams" | sort > "$work/there"
+same "teams lost" "$(sort "$work/teams" | comm -23 - "$work/there" | wc -l)" 0
 echo "All is as it should be: $(wc -l < "$work/acknowledged") acknowledged commands in twenty streams, and none lost."
