@@ -12,13 +12,7 @@ use clap::{Arg, Command};
 use std::alloc::{AllocError, Global};
 
 /// A command without options, with what it says of itself.
-fn bare<'a>(
-    alloc: Global,
-    name: &'a str,
-    usage: &'a str,
-    about: &'a str,
-    after: &'a str,
-) -> Command<'a>
+fn bare<'a>(alloc: Global, name: &'a str, about: &'a str, after: &'a str) -> Command<'a>
     ensures { app_of result ≡ new_app name.entry.now }
 {
     Command::new(alloc, name).about(about).after_help(after)
@@ -56,13 +50,7 @@ fn with_number<'a>(
 pub(crate) fn replay_command<'a>(alloc: Global) -> Result<Command<'a>, AllocError>
     ensures { IfOk result (λ command. app_of command ≡ replay_of) }
 {
-    let command = bare(
-        alloc,
-        "replay",
-        help::USAGE_REPLAY,
-        help::REPLAY,
-        help::AFTER_REPLAY,
-    );
+    let command = bare(alloc, "replay", help::REPLAY, help::AFTER_REPLAY);
     with_option(
         alloc,
         command,
@@ -74,13 +62,7 @@ pub(crate) fn replay_command<'a>(alloc: Global) -> Result<Command<'a>, AllocErro
 pub(crate) fn init_command<'a>(alloc: Global) -> Result<Command<'a>, AllocError>
     ensures { IfOk result (λ command. app_of command ≡ init_of) }
 {
-    let command = bare(
-        alloc,
-        "init",
-        help::USAGE_INIT,
-        help::INIT,
-        help::AFTER_INIT,
-    );
+    let command = bare(alloc, "init", help::INIT, help::AFTER_INIT);
     let command = with_option(alloc, command, "file", "The file to make")?;
     with_option(
         alloc,
@@ -93,26 +75,14 @@ pub(crate) fn init_command<'a>(alloc: Global) -> Result<Command<'a>, AllocError>
 pub(crate) fn migrate_command<'a>(alloc: Global) -> Result<Command<'a>, AllocError>
     ensures { IfOk result (λ command. app_of command ≡ migrate_of) }
 {
-    let command = bare(
-        alloc,
-        "migrate",
-        help::USAGE_MIGRATE,
-        help::MIGRATE,
-        help::AFTER_MIGRATE,
-    );
+    let command = bare(alloc, "migrate", help::MIGRATE, help::AFTER_MIGRATE);
     with_option(alloc, command, "file", "The broker's file")
 }
 
 pub(crate) fn serve_command<'a>(alloc: Global) -> Result<Command<'a>, AllocError>
     ensures { IfOk result (λ command. app_of command ≡ serve_of) }
 {
-    let command = bare(
-        alloc,
-        "serve",
-        help::USAGE_SERVE,
-        help::SERVE,
-        help::AFTER_SERVE,
-    );
+    let command = bare(alloc, "serve", help::SERVE, help::AFTER_SERVE);
     let command = with_option(alloc, command, "file", "The broker's file")?;
     let command = with_option(alloc, command, "listen", "The address, as 127.0.0.1:9292")?;
     with_number(
@@ -126,25 +96,13 @@ pub(crate) fn serve_command<'a>(alloc: Global) -> Result<Command<'a>, AllocError
 pub(crate) fn normalise_command<'a>(alloc: Global) -> Command<'a>
     ensures { app_of result ≡ normalise_of }
 {
-    bare(
-        alloc,
-        "normalise",
-        help::USAGE_NORMALISE,
-        help::NORMALISE,
-        help::AFTER_NORMALISE,
-    )
+    bare(alloc, "normalise", help::NORMALISE, help::AFTER_NORMALISE)
 }
 
 pub(crate) fn check_command<'a>(alloc: Global) -> Result<Command<'a>, AllocError>
     ensures { IfOk result (λ command. app_of command ≡ check_of) }
 {
-    let command = bare(
-        alloc,
-        "check",
-        help::USAGE_CHECK,
-        help::CHECK,
-        help::AFTER_CHECK,
-    );
+    let command = bare(alloc, "check", help::CHECK, help::AFTER_CHECK);
     let command = with_option(alloc, command, "pact", "The pact file")?;
     with_option(alloc, command, "replies", "The file of recorded replies")
 }
@@ -158,7 +116,6 @@ fn asking_command<'a>(alloc: Global) -> Result<Command<'a>, AllocError>
     let command = bare(
         alloc,
         "can-i-deploy",
-        help::USAGE_CAN_I_DEPLOY,
         help::CAN_I_DEPLOY,
         help::AFTER_CAN_I_DEPLOY,
     );
@@ -203,7 +160,7 @@ fn with_pacts<'a>(alloc: Global, program: Command<'a>) -> Result<Command<'a>, Al
 
 /// The whole program, which tells its commands and what is wrong with words that name none.
 pub(crate) fn program<'a>(alloc: Global) -> Result<Command<'a>, AllocError> {
-    let program = bare(alloc, "broker", help::USAGE, help::ABOUT, help::AFTER)
+    let program = bare(alloc, "broker", help::ABOUT, help::AFTER)
         .version(help::VERSION)
         .subcommand_required(true);
     let program = with_files(alloc, program)?;

@@ -3,8 +3,6 @@
 /// The version of the program.
 pub(crate) const VERSION: &str = "1.0.0";
 
-pub(crate) const USAGE: &str = "broker COMMAND OPTIONS";
-
 pub(crate) const ABOUT: &str =
     "A broker of consumer contracts (pacts): it keeps them with the results of their verification, and
 tells whether a version may be deployed";
@@ -15,8 +13,6 @@ pub(crate) const AFTER: &str =
 Each command ends with a status. 0: done, passed, permitted. 1: failed, not permitted.
 2: the words are no command line. 3: it couldn't be done; one line on standard error tells why.
 `broker help COMMAND` tells the lines of a command.";
-
-pub(crate) const USAGE_REPLAY: &str = "broker replay --office-token T";
 
 pub(crate) const REPLAY: &str = "Serves the requests on standard input over tables in memory";
 
@@ -33,8 +29,6 @@ Status 3, and on standard error one of
   serve 2    the output couldn't be written
   serve 3    no memory for a request
   memory     no memory for anything else";
-
-pub(crate) const USAGE_INIT: &str = "broker init --file F --office-token T";
 
 pub(crate) const INIT: &str = "Makes the file of a new broker";
 
@@ -53,8 +47,6 @@ Status 3, and on standard error one of
   open 5     the database failed
   memory     no memory for anything else";
 
-pub(crate) const USAGE_MIGRATE: &str = "broker migrate --file F";
-
 pub(crate) const MIGRATE: &str = "Makes today's file, of format 2, of a broker's file of format 1";
 
 pub(crate) const AFTER_MIGRATE: &str =
@@ -71,8 +63,6 @@ Status 3, and on standard error one of
   open 4     no memory for the tables; nothing is changed
   open 5     the database failed: try it again
   memory     no memory for anything else";
-
-pub(crate) const USAGE_SERVE: &str = "broker serve --file F --listen A --connections N";
 
 pub(crate) const SERVE: &str =
     "Serves HTTP/1.1 on an address of this computer, over the broker in a file";
@@ -94,8 +84,6 @@ Status 3, and on standard error one of
   listen     the address isn't one of loopback, or is taken
   memory     no memory for anything else";
 
-pub(crate) const USAGE_NORMALISE: &str = "broker normalise";
-
 pub(crate) const NORMALISE: &str = "Writes the normal text of the pact file on standard input";
 
 pub(crate) const AFTER_NORMALISE: &str =
@@ -110,8 +98,6 @@ Status 3, and on standard error one of
              8 two interactions that clash, 9 over 512 interactions, 10 one name on both sides
   file       the input can't be read, or the output can't be written
   memory     no memory was left";
-
-pub(crate) const USAGE_CHECK: &str = "broker check --pact F --replies G";
 
 pub(crate) const CHECK: &str = "Tells whether recorded replies of a provider meet a pact file";
 
@@ -130,9 +116,6 @@ Status 3, and on standard error one of
   check 2    a pattern of the pact can't be used
   file       a file can't be read, or the output can't be written
   memory     no memory was left";
-
-pub(crate) const USAGE_CAN_I_DEPLOY: &str =
-    "broker can-i-deploy --file F --token T --pacticipant P --version V --to-environment E";
 
 pub(crate) const CAN_I_DEPLOY: &str = "Tells whether a version may be deployed to an environment";
 
