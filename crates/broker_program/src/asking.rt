@@ -3,7 +3,7 @@ ghost use Rattle.std.specs.Prelude.{◌≡◌, ◌⊎◌, IfOk, IfSome, OnErr};
 ghost use Rattle.broker_program.specs.Told.{Asks, AsksUntil, IsGate};
 
 use crate::fault::RunFault;
-use crate::files::open_broker;
+use crate::files::{close, open_broker};
 use crate::forms::{name_of, token_of};
 use crate::output::write_line;
 use broker_core::answer::{Answer as Outcome, Shown};
@@ -59,7 +59,9 @@ fn answer_at(
         version,
         environment,
     };
-    Ok(broker.apply(rt.alloc(), Some(token.as_str()), &command))
+    let answer = broker.apply(rt.alloc(), Some(token.as_str()), &command);
+    let _ = close(broker);
+    Ok(answer)
 }
 
 /// Whether the answer permits the deployment, where it says so.

@@ -38,7 +38,24 @@ fn running(rt: &HostRuntime, broker: FileBroker, file: &str) -> Result<FileBroke
     open_broker(rt, file)
 }
 
-/// Serves so many connections, one after the other, over the broker in the file.
+/// Serves so many connections, one after the other, over the broker of the file.
+fn serve_each(
+    rt: &HostRuntime,
+    routes: &RouteTable,
+    broker: FileBroker,
+    file: &str,
+    listener: &TcpListener,
+    connections: u32,
+) -> Result<(), RunFault> {
+    let mut broker = broker;
+    for _ in 0..connections {
+        broker = running(rt, broker, file)?;
+        serve_next(rt.alloc(), routes, &mut broker, listener);
+    }
+    close(broker)
+}
+
+/// Serves so many connections over the broker in the file.
 pub(crate) fn serve_file(
     rt: &HostRuntime,
     file: &str,
@@ -46,11 +63,12 @@ pub(crate) fn serve_file(
     connections: u32,
 ) -> Result<(), RunFault> {
     let routes = route_table(rt.alloc())?;
-    let mut broker = open_broker(rt, file)?;
-    let listener = listen_on(rt, listen)?;
-    for _ in 0..connections {
-        broker = running(rt, broker, file)?;
-        serve_next(rt.alloc(), &routes, &mut broker, &listener);
+    let broker = open_broker(rt, file)?;
+    match listen_on(rt, listen) {
+        Ok(listener) => serve_each(rt, &routes, broker, file, &listener, connections),
+        Err(fault) => {
+            let _ = close(broker);
+            Err(fault)
+        }
     }
-    close(broker)
 }

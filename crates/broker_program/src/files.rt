@@ -1,13 +1,14 @@
 //! A broker in a file.
 use crate::fault::RunFault;
-use broker_service::Broker;
+use broker_service::{Broker, Refused};
 use sqlite::{Connection, Error, ErrorCode, File, FileStore};
 use std::fs;
 
 /// A connection over a file.
 pub(crate) type FileConnection = Connection<FileStore<File>>;
 
-/// A broker over a file.
+/// A broker over a file. It ends by `close`, and is nowhere dropped: its drop is proved anew in each function that has
+/// one.
 pub(crate) type FileBroker = Broker<FileStore<File>>;
 
 /// A connection over the file of this path, which is made where it isn't there. `File`: it can't be read or written,
@@ -28,19 +29,25 @@ pub(crate) fn connect_existing(rt: &HostRuntime, path: &str) -> Result<FileConne
     }
 }
 
-/// The broker in the file of this path, which has to be there.
-pub(crate) fn open_broker(rt: &HostRuntime, path: &str) -> Result<FileBroker, RunFault> {
-    match Broker::open(connect_existing(rt, path)?) {
-        Ok(broker) => Ok(broker),
-        Err(refused) => Err(RunFault::Open(refused.fault)),
-    }
-}
-
 /// Closes the file, so that all of it stands in the file alone.
 pub(crate) fn disconnect(connection: FileConnection) -> Result<(), RunFault> {
     match connection.close() {
         Ok(()) => Ok(()),
         Err(_) => Err(RunFault::File),
+    }
+}
+
+/// Closes the file in which no broker is made or opened, and tells why.
+pub(crate) fn refusal(refused: Refused<FileStore<File>>) -> RunFault {
+    let _ = disconnect(refused.connection);
+    RunFault::Open(refused.fault)
+}
+
+/// The broker in the file of this path, which has to be there.
+pub(crate) fn open_broker(rt: &HostRuntime, path: &str) -> Result<FileBroker, RunFault> {
+    match Broker::open(connect_existing(rt, path)?) {
+        Ok(broker) => Ok(broker),
+        Err(refused) => Err(refusal(refused)),
     }
 }
 

@@ -1,6 +1,6 @@
 //! Making the file of a new broker.
 use crate::fault::RunFault;
-use crate::files::{close, connect};
+use crate::files::{close, connect, refusal};
 use crate::forms::token_of;
 use broker_service::Broker;
 
@@ -10,6 +10,6 @@ pub(crate) fn init(rt: &HostRuntime, file: &str, office_token: &str) -> Result<(
     let connection = connect(rt, file)?;
     match Broker::create(rt.alloc(), connection, &office) {
         Ok(broker) => close(broker),
-        Err(refused) => Err(RunFault::Open(refused.fault)),
+        Err(refused) => Err(refusal(refused)),
     }
 }
