@@ -4,7 +4,7 @@ use crate::files::{Side, Stop, copies, crashed, session, stopping};
 use crate::flaw::{Flaw, Lapse};
 use crate::play::shown;
 use crate::setting::Setting;
-use crate::stopping::{MOST_CALLS, STORE};
+use crate::stopping::{MOST_CALLS, STORE, end_of, endless};
 use crate::stops::{Act, Step};
 use sqlite::Files;
 use sqlite_disk::Memory;
@@ -173,19 +173,13 @@ impl Setting<'_> {
             if !is_among(&stopped, runs) {
                 return Ok(Some((stop, Lapse::Taken)));
             }
-            let is_acknowledged = answers_as_last(&stopped, runs);
+            let is_cut = !answers_as_last(&stopped, runs);
             if is_whole {
-                let is_tried = was_cut && is_acknowledged;
-                return Ok(if is_tried {
-                    None
-                } else {
-                    Some((stop, Lapse::Nothing))
-                });
+                return Ok(end_of(stop, was_cut, is_cut));
             }
-            was_cut = was_cut || !is_acknowledged;
+            was_cut = was_cut || is_cut;
         }
-        let calls = MOST_CALLS;
-        Ok(Some((Stop { side, calls }, Lapse::Endless)))
+        Ok(endless(side))
     }
 
     /// Stops the sessions at every call of both files.

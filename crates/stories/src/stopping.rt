@@ -57,6 +57,22 @@ fn lapse_of(trial: &Trial<'_>, out: &[u8], left: &Left) -> Option<Lapse> {
     }
 }
 
+/// What the first stop tells at which no call was refused: nothing was tried, unless an earlier one cut something and
+/// this one doesn't.
+pub(crate) fn end_of(stop: Stop, was_cut: bool, is_cut: bool) -> Option<(Stop, Lapse)> {
+    if was_cut && !is_cut {
+        None
+    } else {
+        Some((stop, Lapse::Nothing))
+    }
+}
+
+/// What is told where each stop refused a call.
+pub(crate) fn endless(side: Side) -> Option<(Stop, Lapse)> {
+    let calls = MOST_CALLS;
+    Some((Stop { side, calls }, Lapse::Endless))
+}
+
 impl Setting<'_> {
     /// Whether a step that may be repeated leaves what it must when it is done again on copies of these files.
     fn is_repeated(&self, trial: &Trial<'_>, files: &Files<Memory>) -> Result<bool, AllocError> {
@@ -118,17 +134,11 @@ impl Setting<'_> {
             last = Some(left);
             let is_cut = out.as_slice() != trial.step.answer.as_slice();
             if is_whole {
-                let is_tried = was_cut && !is_cut;
-                return Ok(if is_tried {
-                    None
-                } else {
-                    Some((stop, Lapse::Nothing))
-                });
+                return Ok(end_of(stop, was_cut, is_cut));
             }
             was_cut = was_cut || is_cut;
         }
-        let calls = MOST_CALLS;
-        Ok(Some((Stop { side, calls }, Lapse::Endless)))
+        Ok(endless(side))
     }
 
     /// Stops the step of this number at every call of both files.
