@@ -1,11 +1,7 @@
 //! Contracts, and the results of their verification.
 use crate::fixture::{fail_of, filled};
-use broker_core::need::Latest;
 use content_store::{Sha256Digester, put};
-use contract_tables::{
-    ResultRow, add_contract, contract_of, latest_number, latest_of, record_result, result_count,
-    result_of_run, result_said,
-};
+use contract_tables::{add_contract, contract_of, latest_number, record_result, result_of_run};
 use registry_tables::add_version;
 use std::test::Fail;
 use table_access::StoreFault;
@@ -61,68 +57,6 @@ fn keeps_contracts_and_results(rt: HostRuntime) -> Result<(), Fail> {
         assert!(rt;
             latest_number(&mut conn, 1, version) == Ok(Some(number)),
             "{version}"
-        );
-    }
-    Ok(())
-}
-
-fn said(pass: bool, checked: bool) -> Option<Latest> {
-    Some(Latest { pass, checked })
-}
-
-/// What the results say: each by its number, the latest one for a content and a version, and the one of a run.
-#[test]
-fn tells_results(rt: HostRuntime) -> Result<(), Fail> {
-    let mut conn = filled(rt.alloc())?;
-    for version in ["1", "2"] {
-        let _ = add_version(&mut conn, "stock", version).map_err(fail_of)?;
-    }
-    assert!(rt; put(&mut conn, &Sha256Digester, "pact") == Ok(1));
-    assert!(rt; result_count(&mut conn) == Ok(0));
-    for (number, version, pass, checked, run) in [
-        (1, 1, true, false, Some("run 1")),
-        (2, 2, true, true, None),
-        (3, 1, false, true, Some("run 2")),
-    ] {
-        record_result(&mut conn, number, 1, "stock", version, pass, checked, run).map_err(fail_of)?;
-        assert!(rt; result_count(&mut conn) == Ok(u64::from(number)));
-    }
-    for (number, told) in [
-        (0, None),
-        (1, said(true, false)),
-        (2, said(true, true)),
-        (3, said(false, true)),
-        (4, None),
-    ] {
-        assert!(rt; result_said(&mut conn, number) == Ok(told), "{number}");
-    }
-    for (content, version, told) in [
-        (1, 1, said(false, true)),
-        (1, 2, said(true, true)),
-        (1, 3, None),
-        (2, 1, None),
-    ] {
-        assert!(rt;
-            latest_of(&mut conn, content, version) == Ok(told),
-            "{content}, {version}"
-        );
-    }
-    let first = ResultRow {
-        number: 1,
-        content: 1,
-        provider_version: 1,
-        pass: true,
-        checked: false,
-    };
-    for (provider, run, found) in [
-        ("stock", "run 1", Some(first)),
-        ("stock", "run 3", None),
-        ("shop", "run 1", None),
-        ("stock", "", None),
-    ] {
-        assert!(rt;
-            result_of_run(&mut conn, provider, run) == Ok(found),
-            "{provider}, {run}"
         );
     }
     Ok(())

@@ -1,7 +1,8 @@
 //! Tests of the calls on the tables.
 //!
-//! The crate has no code of its own. Its tests try what no contract says, with values that were worked out by hand: that the calls
-//! succeed where there is ample memory, that rows which break a rule are refused, and disks that fail.
+//! The crate has no code of its own. Its tests try what no contract says and no story tells (`crates/stories`), with
+//! values that were worked out by hand: the indexes, rows that the tables refuse, names that no request has, texts of
+//! one digest, and two hundred versions that stand.
 #![tactic(auto)]
 
 #[cfg(test)]
