@@ -3,7 +3,7 @@ ghost use Rattle.std.specs.Prelude.{◌≡◌, ◌⊎◌, IfOk, IfSome, OnErr};
 ghost use Rattle.broker_program.specs.Told.{Asks, AsksUntil, IsGate};
 
 use crate::fault::RunFault;
-use crate::files::{close, open_broker};
+use crate::files::{open_broker, release};
 use crate::forms::{name_of, token_of};
 use crate::output::write_line;
 use broker_core::answer::{Answer as Outcome, Shown};
@@ -60,7 +60,7 @@ fn answer_at(
         environment,
     };
     let answer = broker.apply(rt.alloc(), Some(token.as_str()), &command);
-    let _ = close(broker);
+    release(broker);
     Ok(answer)
 }
 

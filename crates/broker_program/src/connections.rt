@@ -1,6 +1,6 @@
 //! Serving connections over the broker in a file.
 use crate::fault::RunFault;
-use crate::files::{FileBroker, close, open_broker};
+use crate::files::{FileBroker, close, open_broker, release};
 use crate::routes::route_table;
 use broker_http::{RouteTable, serve};
 use std::alloc::Global;
@@ -67,7 +67,7 @@ pub(crate) fn serve_file(
     match listen_on(rt, listen) {
         Ok(listener) => serve_each(rt, &routes, broker, file, &listener, connections),
         Err(fault) => {
-            let _ = close(broker);
+            release(broker);
             Err(fault)
         }
     }

@@ -7,8 +7,8 @@ use std::fs;
 /// A connection over a file.
 pub(crate) type FileConnection = Connection<FileStore<File>>;
 
-/// A broker over a file. It ends by `close`, and is nowhere dropped: its drop is proved anew in each function that has
-/// one.
+/// A broker over a file. It ends by `close` or `release`, and is nowhere dropped: its drop is proved anew in each
+/// function that has one.
 pub(crate) type FileBroker = Broker<FileStore<File>>;
 
 /// A connection over the file of this path, which is made where it isn't there. `File`: it can't be read or written,
@@ -37,9 +37,14 @@ pub(crate) fn disconnect(connection: FileConnection) -> Result<(), RunFault> {
     }
 }
 
-/// Closes the file in which no broker is made or opened, and tells why.
+/// Gives the file up as it is: what stands in its log stays there.
+fn leave(connection: FileConnection) {
+    let _ = connection.into_store().close();
+}
+
+/// Gives the file up in which no broker is made or opened, and tells why.
 pub(crate) fn refusal(refused: Refused<FileStore<File>>) -> RunFault {
-    let _ = disconnect(refused.connection);
+    leave(refused.connection);
     RunFault::Open(refused.fault)
 }
 
@@ -49,6 +54,11 @@ pub(crate) fn open_broker(rt: &HostRuntime, path: &str) -> Result<FileBroker, Ru
         Ok(broker) => Ok(broker),
         Err(refused) => Err(refusal(refused)),
     }
+}
+
+/// Gives the broker's file up, as it is.
+pub(crate) fn release(broker: FileBroker) {
+    leave(broker.close());
 }
 
 /// Closes the broker's file, as `disconnect` does.
