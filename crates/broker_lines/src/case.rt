@@ -46,6 +46,10 @@ pub(crate) struct Case {
     pub words: Vec<String>,
     /// What stands on standard input.
     pub input: Vec<u8>,
+    /// Whether standard input fails behind that.
+    pub is_input_failing: bool,
+    /// How many bytes standard output takes.
+    pub room: usize,
     pub output: Wanted,
     pub errors: Wanted,
 }
@@ -65,6 +69,8 @@ impl Case {
         Ok(Case {
             words,
             input: Vec::new(alloc),
+            is_input_failing: false,
+            room: usize::MAX,
             output: Wanted::new(alloc),
             errors: Wanted::new(alloc),
         })

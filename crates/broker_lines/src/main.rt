@@ -6,13 +6,15 @@
 //! - `# TEXT`, or nothing: no part of it.
 //! - `$ WORD WORD`: the words behind the program's name. The word `""` is the empty one.
 //! - `< FILE`: what stands on standard input is what the file holds. Else there is nothing.
+//! - `<!`: standard input fails behind that, where else it ends.
 //! - `| TEXT`: a line that is wanted on standard output.
 //! - `! TEXT`: a line that is wanted on standard error.
 //! - `|..` and `!..`: on standard output, or on standard error, something is wanted, whatever it is.
+//! - `|# COUNT`: standard output takes so many bytes, and no more.
 //! - `= STATUS`: the status that is wanted, which ends a command line.
 //! - `& DATABASE FILE`: the requests that the file holds are served over the broker in the database.
-//! - `% DATABASE FILE`: the statements that the file holds are run over the database, which is made where it isn't
-//!   there.
+//! - `% DATABASE STATEMENTS`: they are run over the database, which is made where it isn't there.
+//! - `%< DATABASE FILE`: the same, with the statements that the file holds.
 //!
 //! Then it does as `broker` does with the words that it was given itself, and ends with that status.
 #![tactic(auto)]
@@ -23,6 +25,7 @@ mod play;
 mod requests;
 mod sheet;
 mod statements;
+mod streams;
 
 use crate::fault::Fault;
 use crate::sheet::Sheet;

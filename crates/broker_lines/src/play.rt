@@ -1,6 +1,7 @@
 //! Running a command line.
 use crate::case::Case;
 use crate::fault::Fault;
+use crate::streams::{Input, Output};
 use broker_program::run;
 use std::alloc::{AllocError, Global};
 
@@ -45,13 +46,19 @@ fn shown(alloc: Global, bytes: &[u8]) -> Result<String, AllocError> {
 /// Runs the command line.
 fn run_case(rt: &HostRuntime, case: &Case) -> Result<Ended, AllocError> {
     let words = words_of(rt.alloc(), case.words.as_slice())?;
-    let mut input = case.input.as_slice();
-    let mut output = Vec::new(rt.alloc());
+    let mut input = Input {
+        bytes: case.input.as_slice(),
+        fails: case.is_input_failing,
+    };
+    let mut output = Output {
+        bytes: Vec::new(rt.alloc()),
+        room: case.room,
+    };
     let mut errors = Vec::new(rt.alloc());
     let status = run(rt, words.as_slice(), &mut input, &mut output, &mut errors);
     Ok(Ended {
         status,
-        output,
+        output: output.bytes,
         errors,
     })
 }

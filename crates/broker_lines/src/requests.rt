@@ -6,12 +6,16 @@ use sqlite::{Connection, File, FileStore};
 use std::alloc::Global;
 use std::fs;
 
-/// The broker in the database.
+/// The broker in the database. The connection of a refusal is closed, and not dropped: its drop is proved anew in each
+/// function that has one.
 fn open(rt: &HostRuntime, database: &str) -> Option<Broker<FileStore<File>>> {
     match Connection::open(rt, database) {
         Ok(connection) => match Broker::open(connection) {
             Ok(broker) => Some(broker),
-            Err(_) => None,
+            Err(refused) => {
+                let _ = refused.connection.close();
+                None
+            }
         },
         Err(_) => None,
     }
@@ -35,9 +39,9 @@ pub(crate) fn serve_requests(rt: &HostRuntime, database: &str, file: &str) -> Re
     let text = fs::read(rt, file)?;
     match open(rt, database) {
         Some(mut broker) => {
-            serve_text(rt.alloc(), &mut broker, text.as_slice())?;
+            let served = serve_text(rt.alloc(), &mut broker, text.as_slice());
             broker.close().close()?;
-            Ok(())
+            served
         }
         None => Err(Fault::Broker(String::from_str(rt.alloc(), database)?)),
     }

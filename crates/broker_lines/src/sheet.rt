@@ -57,8 +57,13 @@ impl Sheet {
                 serve_requests(rt, database, file)
             }
             "%" => {
+                let (database, statements) = parted(rest);
+                run_statements(rt, database, statements)
+            }
+            "%<" => {
                 let (database, file) = parted(rest);
-                run_statements(rt, database, file)
+                let statements = fs::read_to_string(rt, file)?;
+                run_statements(rt, database, statements.as_str())
             }
             _ => Err(odd(rt.alloc(), rest)),
         }
@@ -75,6 +80,11 @@ impl Sheet {
         let mut case = case;
         match mark {
             "<" => case.input = fs::read(rt, rest)?,
+            "<!" => case.is_input_failing = true,
+            "|#" => match rest.parse::<usize>() {
+                Ok(room) => case.room = room,
+                Err(_) => return Err(odd(rt.alloc(), rest)),
+            },
             "|" => case.output.add_line(rest)?,
             "!" => case.errors.add_line(rest)?,
             "|.." => case.output.take_any(),

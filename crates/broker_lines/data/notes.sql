@@ -1,1 +1,0 @@
-CREATE TABLE notes (line TEXT NOT NULL) STRICT;
