@@ -10,10 +10,10 @@ use std::test::Fail;
 
 /// A reader of one byte at a time that fails after so many, by this error.
 #[derive(Drop)]
-pub(crate) struct Failing<'a> {
-    pub(crate) bytes: &'a [u8],
-    pub(crate) left: usize,
-    pub(crate) error: ErrorKind,
+struct Failing<'a> {
+    bytes: &'a [u8],
+    left: usize,
+    error: ErrorKind,
 }
 
 impl Read for Failing<'_> {
@@ -29,10 +29,10 @@ impl Read for Failing<'_> {
 
 /// A writer that takes one byte at a time, and after so many fails or takes none.
 #[derive(Drop)]
-pub(crate) struct Full {
-    pub(crate) bytes: Vec<u8>,
-    pub(crate) left: usize,
-    pub(crate) fails: bool,
+struct Full {
+    bytes: Vec<u8>,
+    left: usize,
+    fails: bool,
 }
 
 impl Write for Full {
@@ -146,14 +146,26 @@ fn a_reader_fails_at_each_read(rt: HostRuntime) -> Result<(), Fail> {
     Ok(())
 }
 
-/// Whether the answers are out as far as the writer takes them, where it fails, and the requests with whole answers are
-/// done, and the next one.
+/// How serving the first run ends where its writer takes so many bytes.
+fn ended_at(count: usize) -> Result<Served, ServeFault> {
+    if count < length_of(ANSWERS.as_slice(), 7) {
+        Err(ServeFault::Write)
+    } else {
+        Ok(Served {
+            answered: 7,
+            ended: Ended::AtEnd,
+        })
+    }
+}
+
+/// Whether the answers are out as far as the writer takes them, and the requests with whole answers are done, and where
+/// the writer fails the next one.
 fn is_cut_writing(alloc: Global, count: usize, fails: bool) -> Result<bool, Fail> {
     let mut broker = new_broker(alloc)?;
     let (served, out) = cut_writing(alloc, &mut broker, count, fails)?;
     let answered = whole_within(ANSWERS.as_slice(), count);
     Ok(
-        served == Err(ServeFault::Write)
+        served == ended_at(count)
             && is_front(alloc, out.as_slice(), count)?
             && are_done(alloc, &mut broker, answered.saturating_add(1))?,
     )
@@ -161,25 +173,11 @@ fn is_cut_writing(alloc: Global, count: usize, fails: bool) -> Result<bool, Fail
 
 #[test]
 fn a_writer_fails_at_each_write(rt: HostRuntime) -> Result<(), Fail> {
-    for count in 0..length_of(ANSWERS.as_slice(), 7) {
+    for count in 0..=length_of(ANSWERS.as_slice(), 7) {
         for fails in [true, false] {
             assert!(rt; is_cut_writing(rt.alloc(), count, fails)?, "after {count}");
         }
     }
-    Ok(())
-}
-
-#[test]
-fn a_writer_takes_one_byte_at_a_time(rt: HostRuntime) -> Result<(), Fail> {
-    let mut broker = new_broker(rt.alloc())?;
-    let (served, out) = cut_writing(rt.alloc(), &mut broker, 730, true)?;
-    let seven = Served {
-        answered: 7,
-        ended: Ended::AtEnd,
-    };
-    assert_eq!(rt; served, Ok(seven));
-    let wanted = joined(rt.alloc(), ANSWERS.as_slice(), 0)?;
-    assert_eq!(rt; out.as_slice(), wanted.as_slice());
     Ok(())
 }
 

@@ -17,11 +17,11 @@ pub(crate) const REQUESTS: [&[u8]; 7] = [
 ];
 
 /// The answer to each of the first six.
-pub(crate) const DONE_ANSWER: &[u8] =
+const DONE_ANSWER: &[u8] =
     b"HTTP/1.1 200 OK\r\ncontent-type: application/json\r\ncontent-length: 17\r\n\r\n{\"answer\":\"done\"}";
 
 /// The answer to the seventh.
-pub(crate) const LISTING: &[u8] =
+const LISTING: &[u8] =
     b"HTTP/1.1 200 OK\r\ncontent-type: application/json\r\ncontent-length: 130\r\n\r\n{\"answer\":\"shown\",\"deployed\":[{\"instance\":\"\",\"pacticipant\":\"shop\",\"version\":\"1\"}],\"environment\":\"dev\",\"gated\":false,\"released\":[]}";
 
 /// The answers to the seven requests.

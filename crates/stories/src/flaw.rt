@@ -38,6 +38,9 @@ pub(crate) enum Flaw {
     /// The questions are answered alike before the step of this number, from 1, and after it.
     #[error("no question tells step {0}")]
     Untold(u64),
+    /// The step of this number, from 1, is to write nothing, and writes.
+    #[error("step {0} writes to a file")]
+    Written(u64),
     /// The step of this number, from 1, didn't survive a stop.
     #[error("step {0}, stopped {1}: {2}")]
     Stopped(u64, Stop, Lapse),

@@ -34,6 +34,8 @@
 //! - `> CALLER METHOD PATH BODY`, and under it `< STATUS FIELD | FIELD BODY`: a step, a request and its answer.
 //! - `>* CALLER METHOD PATH BODY`: such a step, which is also done again on what each stop left. Then the questions are
 //!   answered as after it.
+//! - `>= CALLER METHOD PATH BODY`: such a step, also done again, that writes nothing: the files have the bytes that a
+//!   session without a request leaves.
 //! - `* create`: a step, also done again, that makes the broker. It is the first.
 //! - `* migrate`: a step, also done again, that migrates the tables.
 //! - `! STATEMENT`: the statements make the tables, in place of a broker.

@@ -1,10 +1,10 @@
 //! Steps that are stopped at every call on the store.
 use crate::fault::Fault;
-use crate::files::{Side, Stop, copies, crashed, stopping};
+use crate::files::{Side, Stop, copies, crashed, session, stopping};
 use crate::flaw::{Flaw, Lapse};
 use crate::play::shown;
 use crate::setting::Setting;
-use crate::stops::{Act, Step};
+use crate::stops::{Kind, Step};
 use sqlite::Files;
 use sqlite_disk::Memory;
 use std::alloc::AllocError;
@@ -76,7 +76,7 @@ pub(crate) fn endless(side: Side) -> Option<(Stop, Lapse)> {
 impl Setting<'_> {
     /// Whether a step that may be repeated leaves what it must when it is done again on copies of these files.
     fn is_repeated(&self, trial: &Trial<'_>, files: &Files<Memory>) -> Result<bool, AllocError> {
-        if !trial.step.is_repeated {
+        if trial.step.kind == Kind::Once {
             return Ok(true);
         }
         let (_, again) = self.act_on(copies(self.alloc, files), &trial.step.act)?;
@@ -151,6 +151,12 @@ impl Setting<'_> {
         Ok(())
     }
 
+    /// Whether the files are left as by a session without a request.
+    fn is_untouched(&self, base: &Files<Memory>, left: &Files<Memory>) -> bool {
+        let (_, idle) = session(self.alloc, self.routes, copies(self.alloc, base), &[]);
+        are_same(&idle, left)
+    }
+
     /// Does a step, unstopped and then stopped at every call, and gives the files that it leaves unstopped.
     fn try_step(
         &self,
@@ -162,9 +168,13 @@ impl Setting<'_> {
         if out.as_slice() != step.answer.as_slice() {
             return Err(Fault::Flaw(Flaw::Step(number, shown(self.alloc, out.as_slice())?)));
         }
+        let is_idle = step.kind == Kind::Idle;
+        if is_idle && !self.is_untouched(base, &left) {
+            return Err(Fault::Flaw(Flaw::Written(number)));
+        }
         let before = self.asked(base);
         let after = self.asked(&left);
-        if before.as_slice() == after.as_slice() && !is_listing(step) {
+        if before.as_slice() == after.as_slice() && !is_idle {
             return Err(Fault::Flaw(Flaw::Untold(number)));
         }
         let trial = Trial {
@@ -190,13 +200,5 @@ impl Setting<'_> {
             number = number.saturating_add(1);
         }
         Ok(base)
-    }
-}
-
-/// Whether the step is a request that changes nothing.
-fn is_listing(step: &Step) -> bool {
-    match &step.act {
-        Act::Serve(bytes) => bytes.as_slice().starts_with(b"GET "),
-        _ => false,
     }
 }

@@ -17,14 +17,24 @@ pub(crate) enum Act {
     Serve(Vec<u8>),
 }
 
+/// What is known of a step.
+#[derive(Clone, Copy, Debug, PartialEq, Eq)]
+pub(crate) enum Kind {
+    /// It is done once.
+    Once,
+    /// It may be done again, and then leaves what it leaves when it is done once.
+    Repeated,
+    /// The same, and it writes nothing.
+    Idle,
+}
+
 /// A step that is stopped at every call.
 #[derive(Drop)]
 pub(crate) struct Step {
     pub(crate) act: Act,
     /// What is answered when it is done: the bytes of an answer, or `DONE`.
     pub(crate) answer: Vec<u8>,
-    /// Whether it may be done again, and then leaves what it leaves when it is done once.
-    pub(crate) is_repeated: bool,
+    pub(crate) kind: Kind,
 }
 
 /// What a making or a migration answers when it is done.
@@ -74,18 +84,13 @@ impl Stops {
         self.steps.push(Step {
             act,
             answer,
-            is_repeated: true,
+            kind: Kind::Repeated,
         })?;
         Ok(true)
     }
 
     /// Adds a request.
-    fn add_request(
-        &mut self,
-        alloc: Global,
-        text: &str,
-        is_repeated: bool,
-    ) -> Result<bool, AllocError> {
+    fn add_request(&mut self, alloc: Global, text: &str, kind: Kind) -> Result<bool, AllocError> {
         let Some(bytes) = self.first.request(alloc, text)? else {
             return Ok(false);
         };
@@ -93,7 +98,7 @@ impl Stops {
         self.steps.push(Step {
             act: Act::Serve(bytes),
             answer: Vec::new(alloc),
-            is_repeated,
+            kind,
         })?;
         Ok(true)
     }
@@ -137,8 +142,9 @@ impl Stops {
     fn take_marked(&mut self, alloc: Global, mark: &str, text: &str) -> Result<bool, AllocError> {
         match mark {
             "*" => self.add_making(alloc, text),
-            ">" => self.add_request(alloc, text, false),
-            ">*" => self.add_request(alloc, text, true),
+            ">" => self.add_request(alloc, text, Kind::Once),
+            ">*" => self.add_request(alloc, text, Kind::Repeated),
+            ">=" => self.add_request(alloc, text, Kind::Idle),
             "<" => self.add_answer(alloc, text),
             "?" => self.ask(alloc, text),
             "!" => self.add_statement(alloc, text),
