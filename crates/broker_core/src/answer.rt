@@ -64,14 +64,6 @@ impl<T> Items<T> {
     {
         self.items.as_slice()
     }
-
-    /// The items as a vector. Takes no memory.
-    pub fn into_vec(self) -> Vec<T>
-        ensures { result.items ≡ self }
-    {
-        let Items { items } = self;
-        items
-    }
 }
 
 /// Faults in their order.

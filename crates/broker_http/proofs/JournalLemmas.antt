@@ -5,7 +5,7 @@ use Rattle.broker_core.specs.State.{State as Broker}
 use Rattle.broker_core.specs.Text.{Text}
 use Rattle.broker_core.specs.declared.answer.Answer.{Answer}
 use Rattle.broker_core.specs.declared.command.Command.{Command}
-use Rattle.broker_service.specs.Primitives.{broker_primitives}
+use Rattle.command_facts.specs.Primitives.{broker_primitives}
 use Rattle.http_responses.specs.Responses.{Response}
 use Rattle.http_requests.specs.declared.requests.Request.{Request}
 use Rattle.http_requests.specs.declared.requests.Request.TheVariants.{Refused, NoRoute, NoMethod, Asks}

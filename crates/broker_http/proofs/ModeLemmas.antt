@@ -10,6 +10,7 @@ use Rattle.broker_core.specs.declared.answer.Answer.{Answer}
 use Rattle.broker_core.specs.declared.answer.Answer.TheVariants as answers
 use Rattle.broker_core.specs.declared.command.Command.{Command}
 use Rattle.broker_service.specs.BrokerView.{BrokerView}
+use Rattle.broker_service.specs.Calls.{Applied}
 use Rattle.broker_service.specs.Ends.{Applies}
 use Rattle.broker_service.proofs.Transaction.{outlives_itself, outlives}
 use Rattle.http_responses.specs.Responses.{Response}
@@ -17,7 +18,7 @@ use Rattle.broker_http.specs.Stream.{Responses}
 use Rattle.http_requests.specs.declared.requests.Request.{Request}
 use Rattle.http_requests.specs.declared.requests.Request.TheVariants.{Refused, NoRoute, NoMethod, Asks}
 use Rattle.broker_http.specs.Exchange as exchange
-use Rattle.broker_http.specs.Serving.{Mode, ModeStep, IsInMode, Applied}
+use Rattle.broker_http.specs.Serving.{Mode, ModeStep, IsInMode}
 use Rattle.broker_http.specs.Serving.Mode.{Running, IsStopped}
 
 not_true : (b : Bool) → ¬ (b ≡ true) → b ≡ false

@@ -5,7 +5,7 @@ use Rattle.broker_core.specs.State.{State as Broker}
 use Rattle.broker_core.specs.Text.{Text}
 use Rattle.broker_core.specs.declared.answer.Answer.{Answer}
 use Rattle.broker_core.specs.declared.command.Command.{Command}
-use Rattle.broker_service.specs.Primitives.{broker_primitives}
+use Rattle.command_facts.specs.Primitives.{broker_primitives}
 use Rattle.broker_http.specs.Serving.{Mode, ModeStep}
 use Rattle.broker_http.specs.Serving.Mode.{Running, IsStopped}
 

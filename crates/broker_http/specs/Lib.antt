@@ -3,3 +3,5 @@ pub mod Stream
 pub mod Exchange
 pub mod Serving
 pub mod Journal
+pub mod Calls
+pub mod Laws

@@ -1,11 +1,9 @@
 -- A broker that serves, as the machine or stopped.
-use Rattle.std.specs.Prelude.{◌≡◌, ◌≢◌, ◌⊎◌, ◌↔◌, ⊤, ℕ, true, false, List, length, IsTrue, Option}
-use Rattle.std.specs.Io.KnownBytes.{Appends, Consumes}
+use Rattle.std.specs.Prelude.{◌≡◌, ◌≢◌, ◌⊎◌, ℕ, true, false, List, length, Option, Result, IfOk, IfErr}
+use Rattle.std.specs.Io.KnownBytes.{Appends, Consumes, IsAtEnd}
 use Rattle.sqlite.specs.Held.{Held}
-use Rattle.sqlite.specs.State.{State, HasCleanDisk, Survives}
-use Rattle.table_access.specs.Calls.{KeepsLastCommit}
+use Rattle.sqlite.specs.State.{State}
 use Rattle.table_access.specs.Durability.{HoldsEither}
-use Rattle.broker_core.specs.Laws.{IsDone}
 use Rattle.broker_core.specs.Machine.{Step, is_step}
 use Rattle.broker_core.specs.State.{State as Broker}
 use Rattle.broker_core.specs.Text.{Text}
@@ -13,13 +11,14 @@ use Rattle.broker_core.specs.declared.answer.Answer.{Answer}
 use Rattle.broker_core.specs.declared.answer.Answer.TheVariants as answers
 use Rattle.broker_core.specs.declared.command.Command.{Command}
 use Rattle.broker_service.specs.BrokerView.{BrokerView}
-use Rattle.broker_service.specs.Ends.{Applies, HoldsNext, IsAsBefore}
-use Rattle.broker_service.specs.Patterns.{AsksPattern}
-use Rattle.broker_service.specs.Primitives.{broker_primitives}
+use Rattle.broker_service.specs.Ends.{HoldsNext}
+use Rattle.command_facts.specs.Patterns.{AsksPattern}
+use Rattle.command_facts.specs.Primitives.{broker_primitives}
 use Rattle.broker_service.specs.Stored.{Stores, HoldsState}
 use Rattle.http_messages.specs.Message.{Message}
 use Rattle.http_responses.specs.Responses.{Response}
 use Rattle.broker_http.specs.Stream.{texts, Responses, StreamEnds, StreamCut}
+use Rattle.broker_http.specs.declared.served.Ended.TheVariants.{Closed}
 use Rattle.broker_http.specs.declared.served.ServeFault.{ServeFault}
 use Rattle.broker_http.specs.declared.served.Served.{Served}
 
@@ -50,21 +49,6 @@ module _ {X : Type 0} (shown : Held X → State) where
   IsInMode (IsStopped s token command) b =
       (b.is_stopped ≡ true) × HoldsEither (λ db. Stores db s) (HoldsNext s token command) (shown b.connection)
 
-  -- how a broker runs a command, on any disk and any database
-  pub record Applied (old : BrokerView X) (token : Option Text) (command : Command) (answer : Answer)
-      (new : BrokerView X) : Type 0 where
-    pub stopped : IsTrue old.is_stopped → (answer ≡ answers.Stopped) × (new ≡ old)
-    pub runs : old.is_stopped ≡ false → answer ≢ answers.Stopped
-    pub applies : HasCleanDisk (shown new.connection) → old.is_stopped ≡ false
-        → (s : Broker) → HoldsState s (shown old.connection)
-        → Applies s token command (shown new.connection) answer
-    pub unchanged : HasCleanDisk (shown new.connection) → old.is_stopped ≡ false
-        → answer ≢ answers.Store → ¬ (IsDone answer) → IsAsBefore (shown old.connection) (shown new.connection)
-    pub fails : HasCleanDisk (shown new.connection) → answer ≡ answers.Store
-        → KeepsLastCommit (shown old.connection) (shown new.connection)
-    pub stops : old.is_stopped ≡ false → (IsTrue new.is_stopped ↔ (answer ≡ answers.Store))
-    pub survives : Survives (shown old.connection) (shown new.connection) (λ _. ⊤)
-
 module _ {S : Type 0} (Exchange : S → Message → Response → S → Type 0) (s t : S)
     (before after old new : Option (List ℕ)) where
   -- what was read is answered message by message, and nothing else is written
@@ -85,3 +69,10 @@ module _ {S : Type 0} (Exchange : S → Message → Response → S → Type 0) (
       × Responses Exchange s stream responses t rest
       × StreamCut fault responses out
       × Appends old new out
+
+  -- what serving a stream comes to
+  pub record ServesStream (result : Result Served ServeFault) : Type 0 where
+    pub ok : IfOk result Serves
+    -- it ends by itself only at the reader's end
+    pub end : IfOk result (λ served. served.ended ≢ Closed → IsAtEnd after)
+    pub fault : IfErr result ServesUntil

@@ -1,5 +1,5 @@
 -- The responses to a stream.
-use Rattle.std.specs.Prelude.{◌≡◌, ℕ, ◌<◌, true, false, List, [], ◌∷◌, ◌++◌, length, take, Option}
+use Rattle.std.specs.Prelude.{◌≡◌, ℕ, ◌<◌, Bool, true, false, List, [], ◌∷◌, ◌++◌, length, take, Option}
 use Rattle.std.specs.List.{flat_map}
 use Rattle.std.specs.Io.KnownBytes.{Appends}
 use Rattle.http_messages.specs.Message.{Message}
@@ -49,6 +49,12 @@ module _ {S : Type 0} (Exchange : S → Message → Response → S → Type 0) w
   Responses s stream (response ∷ responses) t rest =
       (m : Message) × (u : S) × (after : List ℕ)
       × Begins stream m after × Exchange s m response u × Responses u after responses t rest
+
+  -- one message is answered, and its response is out: it closes the stream, or it doesn't
+  abbrev pub ExchangeDone : S → Message → S → Option (List ℕ) → Option (List ℕ) → Bool → Type 0
+  ExchangeDone s m t old new closes =
+      (response : Response) × Exchange s m response t
+      × (response.closes ≡ closes) × Appends old new response.text
 
   -- What a fault leaves of one message: with Memory nothing was done, with Write it is answered and a
   -- beginning of its response is out, but not the whole.

@@ -1,12 +1,11 @@
 //! One message and its response.
 ghost use Rattle.std.specs.Prelude.{◌≡◌, ◌≤◌, [], vec_capacity, IfOk, IfErr};
-ghost use Rattle.std.specs.Io.KnownBytes.{Appends};
 ghost use Rattle.sqlite.specs.Held.{state};
+ghost use Rattle.broker_service.specs.Calls.{Applied};
+ghost use Rattle.http_messages.specs.Message.{message};
 ghost use Rattle.http_messages.specs.Views.{IsHeadRead};
-ghost use Rattle.http_responses.specs.Responses.{Response, Writes};
-ghost use Rattle.broker_http.specs.Exchange.{Exchange, Responds};
-ghost use Rattle.broker_http.specs.Serving.{Applied};
-ghost use Rattle.broker_http.specs.Stream.{ExchangeCut};
+ghost use Rattle.broker_http.specs.Calls.{ByBroker, IsResponded};
+ghost use Rattle.broker_http.specs.Stream.{ExchangeCut, ExchangeDone};
 
 use crate::served::ServeFault;
 use broker_core::command::Command;
@@ -49,9 +48,8 @@ fn respond<S: Alter, W: Write>(
 ) -> Result<bool, WriteFault>
     requires empty { head_buffer.items ≡ [] }
     requires capacity { HEAD_CAPACITY ≤ vec_capacity head_buffer }
-    ensures { (response : Response)
-        × Responds (Applied (state S.Store)) broker.old request response broker.new
-        × Writes (W.contents writer.old) (W.contents writer.new) response result }
+    ensures { IsResponded (state S.Store) broker.old broker.new
+        (W.contents writer.old) (W.contents writer.new) request result }
 {
     match request {
         Request::Refused {
@@ -90,15 +88,10 @@ pub(crate) fn answer<S: Alter, W: Write>(
     writer: &mut W,
 ) -> Result<bool, ServeFault>
     requires { IsHeadRead text.now head }
-    ensures ok { IfOk result (λ closes. (response : Response)
-        × Exchange (Applied (state S.Store)) broker.old
-        (record { head = text.now; body = body.now }) response broker.new
-        × (response.closes ≡ closes)
-        × Appends (W.contents writer.old) (W.contents writer.new) response.text) }
-    ensures fault { IfErr result
-        (ExchangeCut (Exchange (Applied (state S.Store))) broker.old
-        (record { head = text.now; body = body.now }) broker.new
+    ensures ok { IfOk result (ExchangeDone (ByBroker (state S.Store)) broker.old (message text.now body.now) broker.new
         (W.contents writer.old) (W.contents writer.new)) }
+    ensures fault { IfErr result (ExchangeCut (ByBroker (state S.Store)) broker.old (message text.now body.now)
+        broker.new (W.contents writer.old) (W.contents writer.new)) }
 {
     let Ok(head_buffer) = Vec::with_capacity(alloc, HEAD_CAPACITY) else {
         return Err(ServeFault::Memory);

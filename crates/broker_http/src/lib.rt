@@ -2,6 +2,7 @@
 #![tactic(auto)]
 
 mod exchange;
+pub mod laws;
 mod served;
 mod serving;
 

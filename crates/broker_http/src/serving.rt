@@ -1,11 +1,7 @@
 //! Serving a stream.
-ghost use Rattle.std.specs.Prelude.{◌≡◌, ◌≢◌, ◌+◌, ◌≤◌, ⊤, length, take, drop, IfOk, IfErr};
-ghost use Rattle.std.specs.Io.KnownBytes.{IsAtEnd};
+ghost use Rattle.std.specs.Prelude.{◌≡◌, ◌+◌, ◌≤◌, length, take, drop};
 ghost use Rattle.sqlite.specs.Held.{state};
-ghost use Rattle.sqlite.specs.State.{HasCleanDisk, Survives};
-ghost use Rattle.broker_http.specs.Exchange.{Exchange};
-ghost use Rattle.broker_http.specs.Serving.{Applied, Mode, IsInMode, Serves, ServesUntil};
-ghost use Rattle.broker_http.specs.Journal.{Journal, JournalStep, IsRunFrom, blank};
+ghost use Rattle.broker_http.specs.Calls.{IsAnswered, IsServed};
 
 use crate::exchange::answer;
 use crate::served::{Ended, ServeFault, Served};
@@ -28,7 +24,7 @@ fn message_parts(bytes: &[u8], head_len: usize, body_len: usize) -> (&[u8], &[u8
 
 /// Answers the messages of a stream in turn, by what the broker promises of each command on any disk.
 ///
-/// It stands apart from `serve`, whose clauses on the machine follow from these at once.
+/// It stands apart from `serve`, whose clause on the machine follows from this one at once.
 fn serve_all<R: Read, W: Write, S: Alter>(
     alloc: Global,
     routes: &RouteTable,
@@ -36,13 +32,9 @@ fn serve_all<R: Read, W: Write, S: Alter>(
     reader: &mut R,
     writer: &mut W,
 ) -> Result<Served, ServeFault>
-    ensures ok { IfOk result (Serves (Exchange (Applied (state S.Store))) broker.old broker.new
+    ensures { IsAnswered (state S.Store) broker.old broker.new
         (R.remaining reader.old) (R.remaining reader.new)
-        (W.contents writer.old) (W.contents writer.new)) }
-    ensures end { IfOk result (λ served. served.ended ≢ Ended.Closed → IsAtEnd (R.remaining reader.new)) }
-    ensures fault { IfErr result (ServesUntil (Exchange (Applied (state S.Store))) broker.old broker.new
-        (R.remaining reader.old) (R.remaining reader.new)
-        (W.contents writer.old) (W.contents writer.new)) }
+        (W.contents writer.old) (W.contents writer.new) result }
 {
     let mut buffer = Vec::new(alloc);
     for answered in 0..u64::MAX {
@@ -93,36 +85,9 @@ pub fn serve<R: Read, W: Write, S: Alter>(
     reader: &mut R,
     writer: &mut W,
 ) -> Result<Served, ServeFault>
-    // On any disk and any database, what was read is answered message by message by what the broker does with
-    // each command.
-    ensures ok { IfOk result (Serves (Exchange (Applied (state S.Store))) broker.old broker.new
+    ensures { IsServed (state S.Store) broker.old broker.new
         (R.remaining reader.old) (R.remaining reader.new)
-        (W.contents writer.old) (W.contents writer.new)) }
-    // It ends by itself only at the reader's end.
-    ensures end { IfOk result (λ served. served.ended ≢ Ended.Closed → IsAtEnd (R.remaining reader.new)) }
-    // A fault leaves some messages answered.
-    ensures fault { IfErr result (ServesUntil (Exchange (Applied (state S.Store))) broker.old broker.new
-        (R.remaining reader.old) (R.remaining reader.new)
-        (W.contents writer.old) (W.contents writer.new)) }
-    // What the store promises of the connection: it is shut by a fault of the disk alone, and its step limit
-    // stays.
-    ensures survives { Survives (state S.Store broker.old.connection) (state S.Store broker.new.connection)
-        (λ _. ⊤) }
-    // On a clean disk, from a database that holds a state of the machine, the answers are the machine's: those
-    // that are steps run it, in order, from that state to the last, which the database holds.
-    ensures machine { IfOk result (λ served. HasCleanDisk (state S.Store broker.new.connection)
-        → (mode : Mode) → IsInMode (state S.Store) mode broker.old
-        → (last : Journal) × IsInMode (state S.Store) last.mode broker.new × IsRunFrom mode last
-        × Serves (Exchange JournalStep) (blank mode) last
-        (R.remaining reader.old) (R.remaining reader.new)
-        (W.contents writer.old) (W.contents writer.new) served) }
-    // The same of the messages that are answered before a fault.
-    ensures machine_until { IfErr result (λ fault. HasCleanDisk (state S.Store broker.new.connection)
-        → (mode : Mode) → IsInMode (state S.Store) mode broker.old
-        → (last : Journal) × IsInMode (state S.Store) last.mode broker.new × IsRunFrom mode last
-        × ServesUntil (Exchange JournalStep) (blank mode) last
-        (R.remaining reader.old) (R.remaining reader.new)
-        (W.contents writer.old) (W.contents writer.new) fault) }
+        (W.contents writer.old) (W.contents writer.new) result }
 {
     serve_all(alloc, routes, broker, reader, writer)
 }

@@ -8,6 +8,7 @@ use Rattle.clap.specs.declared.parser.matches.ArgMatches.{ArgMatches}
 use Rattle.broker_program.specs.Lines.{BeginsWith, HasOptions, HasValues, command_at, command_named, command_of, commands, is_command, is_line, is_taken}
 use Rattle.broker_program.specs.declared.line.Line.{Line}
 use Rattle.broker_program.specs.declared.names.CommandName.{CommandName}
+use Rattle.broker_program.specs.declared.names.CommandName.TheVariants as names
 
 pub has_options : (a c : App) (words : List Text) (m : ArgMatches) (line : Line) → c ≡ a → is_simple a ≡ true → HasMatchesOf c words m
     → (command_of line ≡ a) × HasValues (rows_of (found_of m)) line → (command_of line ≡ a) × HasOptions words line
@@ -15,6 +16,16 @@ has_options a c words m line is simple matches read =
     let rows : rows_of (found_of m) ≡ matches_of (command_of line) words =
     (matches (ap is_simple is ∙ simple)).0 ∙ ap (λ (k : App). matches_of k words) (is ∙ sym read.0) in
     (read.0, subst (λ (rs : List Row). HasValues rs line) rows read.1)
+
+-- the commands are of options with values alone
+pub named_is_simple : (name : CommandName) → is_simple (command_named name) ≡ true
+named_is_simple names.Replay = refl
+named_is_simple names.Init = refl
+named_is_simple names.Migrate = refl
+named_is_simple names.Serve = refl
+named_is_simple names.Normalise = refl
+named_is_simple names.Check = refl
+named_is_simple names.CanIDeploy = refl
 
 -- what is found passes the test
 found : {X : Type 0} (p : X → Bool) (xs : List X) (x : X) → Some x ≡ find p xs → p x ≡ true

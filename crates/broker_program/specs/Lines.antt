@@ -1,7 +1,8 @@
 -- the program's command lines: a word that names a command, and the command's options, each with a value and
 -- each required (this project's own choice)
 use Rattle.std.specs.Prelude.{◌≡◌, ◌≤◌, ⊤, ℕ, List, [], ◌∷◌, Bool, true, false, Option, Some}
-use Rattle.std.specs.Prelude.{codes, bytes_eq, find, pos}
+use Rattle.std.specs.Prelude.{codes, bytes_eq, find, map, pos}
+use Rattle.std.specs.Borrow.{Bor}
 use Rattle.std.specs.Option.{option_map_or}
 use Rattle.std.specs.Str.Parse.{digits_value, without_leading_plus}
 use Rattle.clap.specs.Words.{App, Row, Rule, Text, first_of, matches_of, new_app, new_rule, one_of, takes, with_rule}
@@ -11,6 +12,10 @@ use Rattle.broker_program.specs.declared.names.CommandName.{CommandName}
 use Rattle.broker_program.specs.declared.names.CommandName.TheVariants as names
 use Rattle.broker_program.specs.declared.line.Line.TheVariants.{CanIDeploy, Check, Init, Migrate, Normalise}
 use Rattle.broker_program.specs.declared.line.Line.TheVariants.{Replay, Serve}
+
+-- the texts of the words
+abbrev pub texts_of : List (Bor Text) → List Text
+texts_of words = map (λ word. word.now) words
 
 -- `--name VALUE`
 abbrev pub option : Text → Rule
@@ -46,12 +51,15 @@ normalise = new_app (codes "normalise")
 abbrev pub check : App
 check = with_rule (with_rule (new_app (codes "check")) (option (codes "pact"))) (option (codes "replies"))
 
+-- `can-i-deploy --file F --token T --pacticipant P`
+abbrev pub asking : App
+asking =
+    with_rule (with_rule (with_rule (new_app (codes "can-i-deploy"))
+    (option (codes "file"))) (option (codes "token"))) (option (codes "pacticipant"))
+
 -- `can-i-deploy --file F --token T --pacticipant P --version V --to-environment E`
 abbrev pub can_i_deploy : App
-can_i_deploy =
-    with_rule (with_rule (with_rule (with_rule (with_rule (new_app (codes "can-i-deploy"))
-    (option (codes "file"))) (option (codes "token"))) (option (codes "pacticipant")))
-    (option (codes "version"))) (option (codes "to-environment"))
+can_i_deploy = with_rule (with_rule asking (option (codes "version"))) (option (codes "to-environment"))
 
 abbrev pub commands : List App
 commands = replay ∷ init ∷ migrate ∷ serve ∷ normalise ∷ check ∷ can_i_deploy ∷ []

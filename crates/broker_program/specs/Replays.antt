@@ -1,14 +1,12 @@
 -- a replay: the requests of a stream are answered as a new broker answers them (this project's own choice)
-use Rattle.std.specs.Prelude.{◌≢◌, ℕ, List, Option}
-use Rattle.std.specs.Io.KnownBytes.{IsAtEnd}
+use Rattle.std.specs.Prelude.{◌≡◌, ◌⊎◌, ℕ, List, Option, Ok, Err}
 use Rattle.broker_core.specs.State.{opening}
 use Rattle.broker_core.specs.Text.{Text}
-use Rattle.broker_service.specs.Primitives.{broker_primitives}
-use Rattle.broker_http.specs.Exchange.{Exchange}
-use Rattle.broker_http.specs.Journal.{Journal, JournalStep, IsRunFrom, blank}
-use Rattle.broker_http.specs.Serving.{Mode, Serves, ServesUntil}
+use Rattle.command_facts.specs.Primitives.{broker_primitives}
+use Rattle.broker_http.specs.Calls.{ByMachine}
+use Rattle.broker_http.specs.Journal.{Journal, IsRunFrom, blank}
+use Rattle.broker_http.specs.Serving.{Mode, ServesStream}
 use Rattle.broker_http.specs.Serving.Mode.{Running}
-use Rattle.broker_http.specs.declared.served.Ended.TheVariants as ends
 use Rattle.broker_http.specs.declared.served.ServeFault.{ServeFault}
 use Rattle.broker_http.specs.declared.served.Served.{Served}
 
@@ -24,12 +22,18 @@ module _ (office : Text) (before after old new : Option (List ℕ)) where
   Replays =
       (last : Journal) × (served : Served)
       × IsRunFrom (new_broker office) last
-      × Serves (Exchange JournalStep) (blank (new_broker office)) last before after old new served
-      × (served.ended ≢ ends.Closed → IsAtEnd after)
+      × ServesStream ByMachine (blank (new_broker office)) last before after old new (Ok served)
 
   -- The same of the messages before a fault of serving.
   unfoldable pub ReplaysUntil : Type 0
   ReplaysUntil =
       (last : Journal) × (fault : ServeFault)
       × IsRunFrom (new_broker office) last
-      × ServesUntil (Exchange JournalStep) (blank (new_broker office)) last before after old new fault
+      × ServesStream ByMachine (blank (new_broker office)) last before after old new (Err fault)
+
+-- nothing was read or written, or some requests were answered before the fault
+abbrev pub FailsToReplay : {I O : Type 0} → (I → Option (List ℕ)) → (O → Option (List ℕ)) → Text
+    → (before after : I) (old new : O) → Type 0
+FailsToReplay remaining contents office before after old new =
+    ((after ≡ before) × (new ≡ old))
+    ⊎ ReplaysUntil office (remaining before) (remaining after) (contents old) (contents new)

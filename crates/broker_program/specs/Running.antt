@@ -1,6 +1,8 @@
 -- what a command line has read and written when the program ends (this project's own choice)
-use Rattle.std.specs.Prelude.{◌≡◌, ◌⊎◌, ℕ, List, Bool, true, Option}
+use Rattle.std.specs.Prelude.{◌≡◌, ◌≢◌, ◌⊎◌, ℕ, List, Bool, true, false, Option}
 use Rattle.broker_core.specs.Name.{IsToken}
+use Rattle.clap.specs.Words.{Text}
+use Rattle.broker_program.specs.Lines.{Says, is_line}
 use Rattle.broker_program.specs.Replays.{Replays, ReplaysUntil}
 use Rattle.broker_program.specs.Told.{Asks, AsksUntil, Checks, ChecksUntil, Normalises, NormalisesUntil}
 use Rattle.broker_program.specs.declared.line.Line.{Line}
@@ -32,3 +34,28 @@ module _ (before after old new : Option (List ℕ)) where
   Fails Normalise = (new ≡ old) ⊎ NormalisesUntil before after old new
   Fails (Check pact replies) = (after ≡ before) × ((new ≡ old) ⊎ ChecksUntil old new)
   Fails (CanIDeploy file token pacticipant version environment) = (after ≡ before) × ((new ≡ old) ⊎ AsksUntil old new)
+
+-- Remaining is what a reader still gives, contents what a writer has taken. The texts are the words; the reader was
+-- before and is after, standard output was old and is new, standard error was untold and is told.
+module _ {I O E : Type 0} (remaining : I → Option (List ℕ)) (contents : O → Option (List ℕ)) where
+  -- what running the words promises of the status that the program ends with
+  pub record Ran (words : List Text) (before after : I) (old new : O) (untold told : E) (status : ℕ) : Type 0 where
+    pub statuses : (status ≡ 0) ⊎ ((status ≡ 1) ⊎ ((status ≡ 2) ⊎ (status ≡ 3)))
+    -- what the command was to do is done, and standard output has what it tells
+    pub done : status ≡ 0 → is_line words ≡ true
+        → (line : Line) × Says words line
+        × Ends (remaining before) (remaining after) (contents old) (contents new) line true
+    -- the check failed or the version isn't permitted, and standard output says so
+    pub refused : status ≡ 1
+        → (line : Line) × Says words line
+        × Ends (remaining before) (remaining after) (contents old) (contents new) line false
+    -- in both nothing is on standard error
+    pub quiet : status ≡ 0 → is_line words ≡ true → told ≡ untold
+    pub quiet_refused : status ≡ 1 → told ≡ untold
+    -- a mistake in the words is told on standard error alone, and nothing is read
+    pub usage : status ≡ 2 → (is_line words ≢ true) × (after ≡ before) × (new ≡ old)
+    -- a command that failed has written no more than a beginning of what it would have told
+    pub fails : status ≡ 3 → is_line words ≡ true
+        → ((after ≡ before) × (new ≡ old))
+        ⊎ ((line : Line) × Says words line
+        × Fails (remaining before) (remaining after) (contents old) (contents new) line)

@@ -76,7 +76,7 @@ fn failing_text(alloc: Global, places: &[usize]) -> Result<String, AllocError>
 
 /// `pass`, or `fail` and the places.
 #[tactic(auto, using(crate::proofs::VerdictLemmas::pass_text, crate::proofs::VerdictLemmas::fail_text))]
-fn text_of(alloc: Global, verdict: &Verdict) -> Result<String, AllocError>
+fn verdict_text(alloc: Global, verdict: &Verdict) -> Result<String, AllocError>
     ensures { IfOk result (λ text. string_bytes text ≡ verdict_text verdict.now) }
 {
     if verdict.passes() {
@@ -87,13 +87,13 @@ fn text_of(alloc: Global, verdict: &Verdict) -> Result<String, AllocError>
 }
 
 /// Writes the verdict and a newline.
-fn tell<W: Write>(alloc: Global, verdict: &Verdict, output: &mut W) -> Result<(), RunFault>
+fn write_verdict<W: Write>(alloc: Global, verdict: &Verdict, output: &mut W) -> Result<(), RunFault>
     ensures ok { OnOk result (Appends (W.contents output.old) (W.contents output.new)
         (verdict_text verdict.now ++ newline)) }
     ensures err { OnErr result ((output.new ≡ output.old)
         ⊎ IsBegun (verdict_text verdict.now ++ newline) (W.contents output.old) (W.contents output.new)) }
 {
-    match text_of(alloc, verdict) {
+    match verdict_text(alloc, verdict) {
         Ok(text) => write_line(output, text.as_str()),
         Err(_) => Err(RunFault::Memory),
     }
@@ -114,6 +114,6 @@ pub(crate) fn check<W: Write>(
         ⊎ ChecksUntil (W.contents output.old) (W.contents output.new)) }
 {
     let verdict = verdict_at(rt, pact, replies)?;
-    tell(rt.alloc(), &verdict, output)?;
+    write_verdict(rt.alloc(), &verdict, output)?;
     Ok(verdict.passes())
 }

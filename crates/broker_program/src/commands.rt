@@ -1,12 +1,14 @@
 //! The commands of the program, as `clap` reads them.
-ghost use Rattle.std.specs.Prelude.{◌≡◌, IfOk, codes};
+ghost use Rattle.std.specs.Prelude.{◌≡◌, IfOk};
 ghost use Rattle.clap.specs.Words.{app_of, new_app, with_rule};
-ghost use Rattle.broker_program.specs.Lines.{can_i_deploy as can_i_deploy_of, check as check_of, init as init_of};
+ghost use Rattle.broker_program.specs.Lines.{asking as asking_of, can_i_deploy as can_i_deploy_of, check as check_of};
+ghost use Rattle.broker_program.specs.Lines.{command_named, init as init_of};
 ghost use Rattle.broker_program.specs.Lines.{migrate as migrate_of, normalise as normalise_of};
 ghost use Rattle.broker_program.specs.Lines.{replay as replay_of, serve as serve_of};
 ghost use Rattle.broker_program.specs.Lines.{number_option, option as option_of};
 
 use crate::help;
+use crate::names::CommandName;
 use clap::builder::ValueParser;
 use clap::{Arg, Command};
 use std::alloc::{AllocError, Global};
@@ -47,7 +49,7 @@ fn with_number<'a>(
     command.arg(number)
 }
 
-pub(crate) fn replay_command<'a>(alloc: Global) -> Result<Command<'a>, AllocError>
+fn replay_command<'a>(alloc: Global) -> Result<Command<'a>, AllocError>
     ensures { IfOk result (λ command. app_of command ≡ replay_of) }
 {
     let command = bare(alloc, "replay", help::REPLAY, help::AFTER_REPLAY);
@@ -59,7 +61,7 @@ pub(crate) fn replay_command<'a>(alloc: Global) -> Result<Command<'a>, AllocErro
     )
 }
 
-pub(crate) fn init_command<'a>(alloc: Global) -> Result<Command<'a>, AllocError>
+fn init_command<'a>(alloc: Global) -> Result<Command<'a>, AllocError>
     ensures { IfOk result (λ command. app_of command ≡ init_of) }
 {
     let command = bare(alloc, "init", help::INIT, help::AFTER_INIT);
@@ -72,14 +74,14 @@ pub(crate) fn init_command<'a>(alloc: Global) -> Result<Command<'a>, AllocError>
     )
 }
 
-pub(crate) fn migrate_command<'a>(alloc: Global) -> Result<Command<'a>, AllocError>
+fn migrate_command<'a>(alloc: Global) -> Result<Command<'a>, AllocError>
     ensures { IfOk result (λ command. app_of command ≡ migrate_of) }
 {
     let command = bare(alloc, "migrate", help::MIGRATE, help::AFTER_MIGRATE);
     with_option(alloc, command, "file", "The broker's file")
 }
 
-pub(crate) fn serve_command<'a>(alloc: Global) -> Result<Command<'a>, AllocError>
+fn serve_command<'a>(alloc: Global) -> Result<Command<'a>, AllocError>
     ensures { IfOk result (λ command. app_of command ≡ serve_of) }
 {
     let command = bare(alloc, "serve", help::SERVE, help::AFTER_SERVE);
@@ -93,13 +95,13 @@ pub(crate) fn serve_command<'a>(alloc: Global) -> Result<Command<'a>, AllocError
     )
 }
 
-pub(crate) fn normalise_command<'a>(alloc: Global) -> Command<'a>
+fn normalise_command<'a>(alloc: Global) -> Command<'a>
     ensures { app_of result ≡ normalise_of }
 {
     bare(alloc, "normalise", help::NORMALISE, help::AFTER_NORMALISE)
 }
 
-pub(crate) fn check_command<'a>(alloc: Global) -> Result<Command<'a>, AllocError>
+fn check_command<'a>(alloc: Global) -> Result<Command<'a>, AllocError>
     ensures { IfOk result (λ command. app_of command ≡ check_of) }
 {
     let command = bare(alloc, "check", help::CHECK, help::AFTER_CHECK);
@@ -109,9 +111,7 @@ pub(crate) fn check_command<'a>(alloc: Global) -> Result<Command<'a>, AllocError
 
 /// `can-i-deploy` with its first three options.
 fn asking_command<'a>(alloc: Global) -> Result<Command<'a>, AllocError>
-    ensures { IfOk result (λ command. app_of command
-        ≡ with_rule (with_rule (with_rule (new_app (codes "can-i-deploy"))
-        (option_of (codes "file"))) (option_of (codes "token"))) (option_of (codes "pacticipant"))) }
+    ensures { IfOk result (λ command. app_of command ≡ asking_of) }
 {
     let command = bare(
         alloc,
@@ -129,12 +129,27 @@ fn asking_command<'a>(alloc: Global) -> Result<Command<'a>, AllocError>
     with_option(alloc, command, "pacticipant", "The pacticipant's name")
 }
 
-pub(crate) fn can_i_deploy_command<'a>(alloc: Global) -> Result<Command<'a>, AllocError>
+fn can_i_deploy_command<'a>(alloc: Global) -> Result<Command<'a>, AllocError>
     ensures { IfOk result (λ command. app_of command ≡ can_i_deploy_of) }
 {
     let command = asking_command(alloc)?;
     let command = with_option(alloc, command, "version", "The version's name")?;
     with_option(alloc, command, "to-environment", "The environment's name")
+}
+
+/// The command of this name.
+pub(crate) fn command_named<'a>(alloc: Global, name: CommandName) -> Result<Command<'a>, AllocError>
+    ensures { IfOk result (λ command. app_of command ≡ command_named name) }
+{
+    match name {
+        CommandName::Replay => replay_command(alloc),
+        CommandName::Init => init_command(alloc),
+        CommandName::Migrate => migrate_command(alloc),
+        CommandName::Serve => serve_command(alloc),
+        CommandName::Normalise => Ok(normalise_command(alloc)),
+        CommandName::Check => check_command(alloc),
+        CommandName::CanIDeploy => can_i_deploy_command(alloc),
+    }
 }
 
 /// The commands that make the file of a broker.

@@ -1,10 +1,9 @@
 //! The command line of the broker, and its commands over any reader and writers.
 #![tactic(auto)]
 
-mod asking;
+mod can_i_deploy;
 mod check;
 mod commands;
-mod connections;
 mod fault;
 mod files;
 mod forms;
@@ -20,6 +19,7 @@ mod process;
 mod replay;
 mod routes;
 mod running;
+mod serve;
 
 pub use line::{Line, read_line};
 pub use process::run_process;

@@ -1,15 +1,11 @@
 //! Reading the words of the command line.
-ghost use Rattle.std.specs.Prelude.{◌≡◌, IfErr, IfOk, map, true};
+ghost use Rattle.std.specs.Prelude.{◌≡◌, IfErr, IfOk, true};
 ghost use Rattle.clap.specs.Words.{kind_of};
-ghost use Rattle.broker_program.specs.Lines.{HasOptions, Says, command_named, command_of, is_line, is_taken};
-ghost use Rattle.broker_program.specs.Lines.{can_i_deploy, check, init, migrate, normalise, replay, serve};
+ghost use Rattle.broker_program.specs.Lines.{HasOptions, Says, command_named, command_of, is_line, is_taken, texts_of};
 
-use crate::commands::{
-    can_i_deploy_command, check_command, init_command, migrate_command, normalise_command, program,
-    replay_command, serve_command,
-};
+use crate::commands::{command_named, program};
 use crate::names::{CommandName, named};
-use crate::options::{can_i_deploy_in, check_in, init_in, migrate_in, replay_in, serve_in};
+use crate::options::line_in;
 use clap::Error;
 use clap::error::ErrorKind;
 use std::alloc::{AllocError, Global};
@@ -71,8 +67,8 @@ pub enum Line<'a> {
 /// of `clap`, with its text and its exit status; where the words are a command line of the program, it
 /// comes only for want of memory.
 pub fn read_line<'a>(alloc: Global, words: &'a [&'a str]) -> Result<Line<'a>, Error>
-    ensures ok { IfOk result (Says (map (λ word. word.now) words.entry.now)) }
-    ensures err { IfErr result (λ e. is_line (map (λ word. word.now) words.entry.now) ≡ true
+    ensures ok { IfOk result (Says (texts_of words.entry.now)) }
+    ensures err { IfErr result (λ e. is_line (texts_of words.entry.now) ≡ true
         → kind_of e ≡ ErrorKind.OutOfMemory) }
 {
     match words.split_first() {
@@ -91,108 +87,12 @@ fn read_command<'a>(
     words: &'a [&'a str],
 ) -> Result<Line<'a>, Error>
     ensures ok { IfOk result (λ line. (command_of line ≡ command_named name)
-        × HasOptions (map (λ word. word.now) words.entry.now) line) }
-    ensures err { IfErr result (λ e. is_taken (command_named name) (map (λ word. word.now) words.entry.now) ≡ true
+        × HasOptions (texts_of words.entry.now) line) }
+    ensures err { IfErr result (λ e. is_taken (command_named name) (texts_of words.entry.now) ≡ true
         → kind_of e ≡ ErrorKind.OutOfMemory) }
 {
-    match name {
-        CommandName::Replay => read_replay(alloc, words),
-        CommandName::Init => read_init(alloc, words),
-        CommandName::Migrate => read_migrate(alloc, words),
-        CommandName::Serve => read_serve(alloc, words),
-        CommandName::Normalise => read_normalise(alloc, words),
-        CommandName::Check => read_check(alloc, words),
-        CommandName::CanIDeploy => read_can_i_deploy(alloc, words),
-    }
-}
-
-/// `replay` and its options.
-fn read_replay<'a>(alloc: Global, words: &'a [&'a str]) -> Result<Line<'a>, Error>
-    ensures ok { IfOk result (λ line. (command_of line ≡ replay)
-        × HasOptions (map (λ word. word.now) words.entry.now) line) }
-    ensures err { IfErr result (λ e. is_taken replay (map (λ word. word.now) words.entry.now) ≡ true
-        → kind_of e ≡ ErrorKind.OutOfMemory) }
-{
-    match replay_command(alloc)?.try_get_matches_from(words) {
-        Ok(matches) => replay_in(&matches),
-        Err(error) => Err(error),
-    }
-}
-
-/// `init` and its options.
-fn read_init<'a>(alloc: Global, words: &'a [&'a str]) -> Result<Line<'a>, Error>
-    ensures ok { IfOk result (λ line. (command_of line ≡ init)
-        × HasOptions (map (λ word. word.now) words.entry.now) line) }
-    ensures err { IfErr result (λ e. is_taken init (map (λ word. word.now) words.entry.now) ≡ true
-        → kind_of e ≡ ErrorKind.OutOfMemory) }
-{
-    match init_command(alloc)?.try_get_matches_from(words) {
-        Ok(matches) => init_in(&matches),
-        Err(error) => Err(error),
-    }
-}
-
-/// `migrate` and its option.
-fn read_migrate<'a>(alloc: Global, words: &'a [&'a str]) -> Result<Line<'a>, Error>
-    ensures ok { IfOk result (λ line. (command_of line ≡ migrate)
-        × HasOptions (map (λ word. word.now) words.entry.now) line) }
-    ensures err { IfErr result (λ e. is_taken migrate (map (λ word. word.now) words.entry.now) ≡ true
-        → kind_of e ≡ ErrorKind.OutOfMemory) }
-{
-    match migrate_command(alloc)?.try_get_matches_from(words) {
-        Ok(matches) => migrate_in(&matches),
-        Err(error) => Err(error),
-    }
-}
-
-/// `serve` and its options.
-fn read_serve<'a>(alloc: Global, words: &'a [&'a str]) -> Result<Line<'a>, Error>
-    ensures ok { IfOk result (λ line. (command_of line ≡ serve)
-        × HasOptions (map (λ word. word.now) words.entry.now) line) }
-    ensures err { IfErr result (λ e. is_taken serve (map (λ word. word.now) words.entry.now) ≡ true
-        → kind_of e ≡ ErrorKind.OutOfMemory) }
-{
-    match serve_command(alloc)?.try_get_matches_from(words) {
-        Ok(matches) => serve_in(&matches),
-        Err(error) => Err(error),
-    }
-}
-
-/// `normalise`, which has no options.
-fn read_normalise<'a>(alloc: Global, words: &'a [&'a str]) -> Result<Line<'a>, Error>
-    ensures ok { IfOk result (λ line. (command_of line ≡ normalise)
-        × HasOptions (map (λ word. word.now) words.entry.now) line) }
-    ensures err { IfErr result (λ e. is_taken normalise (map (λ word. word.now) words.entry.now) ≡ true
-        → kind_of e ≡ ErrorKind.OutOfMemory) }
-{
-    match normalise_command(alloc).try_get_matches_from(words) {
-        Ok(_) => Ok(Line::Normalise),
-        Err(error) => Err(error),
-    }
-}
-
-/// `check` and its options.
-fn read_check<'a>(alloc: Global, words: &'a [&'a str]) -> Result<Line<'a>, Error>
-    ensures ok { IfOk result (λ line. (command_of line ≡ check)
-        × HasOptions (map (λ word. word.now) words.entry.now) line) }
-    ensures err { IfErr result (λ e. is_taken check (map (λ word. word.now) words.entry.now) ≡ true
-        → kind_of e ≡ ErrorKind.OutOfMemory) }
-{
-    match check_command(alloc)?.try_get_matches_from(words) {
-        Ok(matches) => check_in(&matches),
-        Err(error) => Err(error),
-    }
-}
-
-/// `can-i-deploy` and its options.
-fn read_can_i_deploy<'a>(alloc: Global, words: &'a [&'a str]) -> Result<Line<'a>, Error>
-    ensures ok { IfOk result (λ line. (command_of line ≡ can_i_deploy)
-        × HasOptions (map (λ word. word.now) words.entry.now) line) }
-    ensures err { IfErr result (λ e. is_taken can_i_deploy (map (λ word. word.now) words.entry.now) ≡ true
-        → kind_of e ≡ ErrorKind.OutOfMemory) }
-{
-    match can_i_deploy_command(alloc)?.try_get_matches_from(words) {
-        Ok(matches) => can_i_deploy_in(&matches),
+    match command_named(alloc, name)?.try_get_matches_from(words) {
+        Ok(matches) => line_in(name, &matches),
         Err(error) => Err(error),
     }
 }

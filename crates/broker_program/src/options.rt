@@ -1,10 +1,11 @@
 //! The values of a command's options, as `clap` found them.
 ghost use Rattle.std.specs.Prelude.{◌≡◌, IfErr, IfOk, IfSome, codes, option_map};
 ghost use Rattle.clap.specs.Words.{first_of, found_of, kind_of, rows_of};
-ghost use Rattle.broker_program.specs.Lines.{HasNumber, HasValues, command_of};
+ghost use Rattle.broker_program.specs.Lines.{HasNumber, HasValues, command_named, command_of};
 ghost use Rattle.broker_program.specs.Lines.{can_i_deploy, check, init, migrate, normalise, replay, serve};
 
 use crate::line::Line;
+use crate::names::CommandName;
 use clap::error::ErrorKind;
 use clap::{ArgMatches, Error};
 use std::alloc::AllocError;
@@ -26,7 +27,7 @@ fn number_of(matches: &ArgMatches<'_>, name: &str) -> Option<u32>
     }
 }
 
-pub(crate) fn replay_in<'a>(matches: &ArgMatches<'a>) -> Result<Line<'a>, Error>
+fn replay_in<'a>(matches: &ArgMatches<'a>) -> Result<Line<'a>, Error>
     ensures ok { IfOk result (λ line. (command_of line ≡ replay) × HasValues (rows_of (found_of matches.now)) line) }
     ensures err { IfErr result (λ e. kind_of e ≡ ErrorKind.OutOfMemory) }
 {
@@ -36,7 +37,7 @@ pub(crate) fn replay_in<'a>(matches: &ArgMatches<'a>) -> Result<Line<'a>, Error>
     }
 }
 
-pub(crate) fn init_in<'a>(matches: &ArgMatches<'a>) -> Result<Line<'a>, Error>
+fn init_in<'a>(matches: &ArgMatches<'a>) -> Result<Line<'a>, Error>
     ensures ok { IfOk result (λ line. (command_of line ≡ init) × HasValues (rows_of (found_of matches.now)) line) }
     ensures err { IfErr result (λ e. kind_of e ≡ ErrorKind.OutOfMemory) }
 {
@@ -46,7 +47,7 @@ pub(crate) fn init_in<'a>(matches: &ArgMatches<'a>) -> Result<Line<'a>, Error>
     }
 }
 
-pub(crate) fn migrate_in<'a>(matches: &ArgMatches<'a>) -> Result<Line<'a>, Error>
+fn migrate_in<'a>(matches: &ArgMatches<'a>) -> Result<Line<'a>, Error>
     ensures ok { IfOk result (λ line. (command_of line ≡ migrate) × HasValues (rows_of (found_of matches.now)) line) }
     ensures err { IfErr result (λ e. kind_of e ≡ ErrorKind.OutOfMemory) }
 {
@@ -56,7 +57,7 @@ pub(crate) fn migrate_in<'a>(matches: &ArgMatches<'a>) -> Result<Line<'a>, Error
     }
 }
 
-pub(crate) fn serve_in<'a>(matches: &ArgMatches<'a>) -> Result<Line<'a>, Error>
+fn serve_in<'a>(matches: &ArgMatches<'a>) -> Result<Line<'a>, Error>
     ensures ok { IfOk result (λ line. (command_of line ≡ serve) × HasValues (rows_of (found_of matches.now)) line) }
     ensures err { IfErr result (λ e. kind_of e ≡ ErrorKind.OutOfMemory) }
 {
@@ -74,7 +75,7 @@ pub(crate) fn serve_in<'a>(matches: &ArgMatches<'a>) -> Result<Line<'a>, Error>
     }
 }
 
-pub(crate) fn check_in<'a>(matches: &ArgMatches<'a>) -> Result<Line<'a>, Error>
+fn check_in<'a>(matches: &ArgMatches<'a>) -> Result<Line<'a>, Error>
     ensures ok { IfOk result (λ line. (command_of line ≡ check) × HasValues (rows_of (found_of matches.now)) line) }
     ensures err { IfErr result (λ e. kind_of e ≡ ErrorKind.OutOfMemory) }
 {
@@ -84,7 +85,7 @@ pub(crate) fn check_in<'a>(matches: &ArgMatches<'a>) -> Result<Line<'a>, Error>
     }
 }
 
-pub(crate) fn can_i_deploy_in<'a>(matches: &ArgMatches<'a>) -> Result<Line<'a>, Error>
+fn can_i_deploy_in<'a>(matches: &ArgMatches<'a>) -> Result<Line<'a>, Error>
     ensures ok { IfOk result (λ line. (command_of line ≡ can_i_deploy)
         × HasValues (rows_of (found_of matches.now)) line) }
     ensures err { IfErr result (λ e. kind_of e ≡ ErrorKind.OutOfMemory) }
@@ -106,5 +107,22 @@ pub(crate) fn can_i_deploy_in<'a>(matches: &ArgMatches<'a>) -> Result<Line<'a>, 
             })
         }
         _ => Err(Error::from(AllocError)),
+    }
+}
+
+/// The line of the command of this name, with the values of its options. An error is want of memory.
+pub(crate) fn line_in<'a>(name: CommandName, matches: &ArgMatches<'a>) -> Result<Line<'a>, Error>
+    ensures ok { IfOk result (λ line. (command_of line ≡ command_named name)
+        × HasValues (rows_of (found_of matches.now)) line) }
+    ensures err { IfErr result (λ e. kind_of e ≡ ErrorKind.OutOfMemory) }
+{
+    match name {
+        CommandName::Replay => replay_in(matches),
+        CommandName::Init => init_in(matches),
+        CommandName::Migrate => migrate_in(matches),
+        CommandName::Serve => serve_in(matches),
+        CommandName::Normalise => Ok(Line::Normalise),
+        CommandName::Check => check_in(matches),
+        CommandName::CanIDeploy => can_i_deploy_in(matches),
     }
 }

@@ -1,10 +1,10 @@
 //! Serving standard input over tables in memory.
-ghost use Rattle.std.specs.Prelude.{◌≡◌, ◌≢◌, ◌⊎◌, ◌↔◌, IfOk, OnOk, OnErr, Err};
+ghost use Rattle.std.specs.Prelude.{◌≡◌, ◌≢◌, ◌↔◌, IfOk, OnOk, OnErr, Err};
 ghost use Rattle.sqlite.specs.Held.{state};
 ghost use Rattle.sqlite.specs.Steps.{over_memory};
 ghost use Rattle.broker_core.specs.Name.{IsToken};
 ghost use Rattle.broker_http.specs.Serving.{IsInMode};
-ghost use Rattle.broker_program.specs.Replays.{Replays, ReplaysUntil, new_broker};
+ghost use Rattle.broker_program.specs.Replays.{FailsToReplay, Replays, new_broker};
 
 use crate::fault::RunFault;
 use crate::forms::token_of;
@@ -43,10 +43,8 @@ pub(crate) fn replay<R: Read, W: Write>(
         (R.remaining input.old) (R.remaining input.new)
         (W.contents output.old) (W.contents output.new)) }
     // Nothing was read or written, or some requests were answered.
-    ensures fails { OnErr result (((input.new ≡ input.old) × (output.new ≡ output.old))
-        ⊎ ReplaysUntil office_token.now
-        (R.remaining input.old) (R.remaining input.new)
-        (W.contents output.old) (W.contents output.new)) }
+    ensures fails { OnErr result (FailsToReplay R.remaining W.contents office_token.now input.old input.new
+        output.old output.new) }
 {
     let office = token_of(alloc, office_token)?;
     let mut broker = new_broker(alloc, &office)?;

@@ -1,19 +1,18 @@
 //! Running a command over any reader and writers.
-ghost use Rattle.std.specs.Prelude.{◌≡◌, ◌≢◌, ◌⊎◌, IfOk, OnErr, map, true, false};
+ghost use Rattle.std.specs.Prelude.{◌≡◌, ◌≢◌, ◌⊎◌, IfOk, OnErr};
 ghost use Rattle.clap.specs.Values.{kind_of};
-ghost use Rattle.broker_program.specs.Lines.{Says, is_line};
-ghost use Rattle.broker_program.specs.Running.{Ends, Fails};
-ghost use Rattle.broker_program.specs.declared.line.Line.{Line as LineModel};
+ghost use Rattle.broker_program.specs.Lines.{texts_of};
+ghost use Rattle.broker_program.specs.Running.{Ends, Fails, Ran};
 
-use crate::asking::{Question, ask};
+use crate::can_i_deploy::{Question, ask};
 use crate::check::check;
-use crate::connections::serve_file;
 use crate::fault::RunFault;
 use crate::init::init;
 use crate::line::{Line, read_line};
 use crate::migrate::migrate;
 use crate::normalise::normalise;
 use crate::replay::replay;
+use crate::serve::serve_file;
 use clap::Error;
 use clap::error::ErrorKind;
 use std::io::{Read, Write};
@@ -132,29 +131,8 @@ pub fn run<R: Read, W: Write, E: Write>(
     output: &mut W,
     errors: &mut E,
 ) -> u8
-    ensures statuses { (result ≡ 0) ⊎ ((result ≡ 1) ⊎ ((result ≡ 2) ⊎ (result ≡ 3))) }
-    // What the command was to do is done, and `output` has what it tells.
-    ensures done { result ≡ 0 → is_line (map (λ word. word.now) words.now) ≡ true
-        → (line : LineModel) × Says (map (λ word. word.now) words.now) line
-        × Ends (R.remaining input.old) (R.remaining input.new)
-        (W.contents output.old) (W.contents output.new) line true }
-    // The check failed or the version isn't permitted, and `output` says so.
-    ensures refused { result ≡ 1
-        → (line : LineModel) × Says (map (λ word. word.now) words.now) line
-        × Ends (R.remaining input.old) (R.remaining input.new)
-        (W.contents output.old) (W.contents output.new) line false }
-    ensures quiet { result ≡ 0 → is_line (map (λ word. word.now) words.now) ≡ true
-        → errors.new ≡ errors.old }
-    ensures quiet_refused { result ≡ 1 → errors.new ≡ errors.old }
-    // A mistake in the words is told on standard error alone, and nothing is read.
-    ensures usage { result ≡ 2 → (is_line (map (λ word. word.now) words.now) ≢ true)
-        × (input.new ≡ input.old) × (output.new ≡ output.old) }
-    // A command that failed has written no more than a beginning of what it would have told.
-    ensures fails { result ≡ 3 → is_line (map (λ word. word.now) words.now) ≡ true
-        → ((input.new ≡ input.old) × (output.new ≡ output.old))
-        ⊎ ((line : LineModel) × Says (map (λ word. word.now) words.now) line
-        × Fails (R.remaining input.old) (R.remaining input.new)
-        (W.contents output.old) (W.contents output.new) line) }
+    ensures { Ran R.remaining W.contents (texts_of words.now) input.old input.new
+        output.old output.new errors.old errors.new result }
 {
     match read_line(rt.alloc(), words) {
         Ok(line) => match carry_out(rt, line, input, output) {

@@ -16,8 +16,8 @@ use Rattle.broker_core.proofs.Headline as headline
 use Rattle.broker_core.proofs.StepLemmas.{step_answers}
 use Rattle.broker_core.proofs.Quiet.{only_done_changes}
 use Rattle.broker_tables.specs.Holds.{Holds}
-use Rattle.broker_service.specs.Primitives.{broker_primitives}
-use Rattle.broker_service.specs.Patterns.{RefusesPattern, AsksPattern}
+use Rattle.command_facts.specs.Primitives.{broker_primitives}
+use Rattle.command_facts.specs.Patterns.{RefusesPattern, AsksPattern}
 use Rattle.broker_service.specs.Ends.{Steps, KeepsAtPattern, Applies}
 use Rattle.broker_service.specs.Headline.{RecordsExactly}
 use Rattle.broker_service.specs.Stored.{Stores, HoldsState}

@@ -18,7 +18,7 @@ use Rattle.broker_tables.specs.Schema.{no_schema}
 use Rattle.broker_service.specs.BrokerView.{BrokerView}
 use Rattle.broker_service.specs.Ends.{Applies, HoldsNext, AddsNoCrashState, IsAsBefore}
 use Rattle.broker_service.specs.Opening.{Refuses}
-use Rattle.broker_service.specs.Primitives.{broker_primitives}
+use Rattle.command_facts.specs.Primitives.{broker_primitives}
 use Rattle.broker_service.specs.Stored.{Stores, HoldsState}
 use Rattle.broker_service.specs.Sessions.{FindsOnly, HoldsOne, Only, exit_of, IsBlankOrNew, LeavesBlank, LeavesOne, CommandLeaves, OpensOne, OpeningLeaves, MakingLeaves}
 use Rattle.broker_service.specs.declared.broker.Refused.{Refused}

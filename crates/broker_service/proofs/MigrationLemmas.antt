@@ -1,9 +1,12 @@
 -- What a migration finds, and what it leaves of a state.
 use Rattle.std.proofs.Common.{◌≡◌, ◌≢◌, ◌==◌, ◌⊎◌, ◌++◌, ◌∷◌, [], inl, inr, ℕ, List, Bool, true, false, not, ◌&&◌, refl, sym, ap, subst, ◌∙◌, drop, Option, Some, None, Result, Ok, Err}
-use Rattle.std.specs.Prelude.{if◌then◌else◌, option_map, IsTrue, ◌↔◌, IsSomeAnd}
+use Rattle.std.specs.Prelude.{if◌then◌else◌, option_map, IsTrue, ◌↔◌, IsSomeAnd, Result, Ok, Err, OnOk, IfErr, ⊤}
+use Rattle.std.proofs.lemmas.Bool.{eqb-false}
 use Rattle.std.specs.Option.{option_map_or}
 use Rattle.sqlite.specs.Effect.{Database}
-use Rattle.sqlite.specs.State.{State}
+use Rattle.sqlite.specs.State.{State, HasCleanDisk, Survives}
+use Rattle.table_access.specs.declared.StoreFault.{StoreFault}
+use Rattle.table_access.specs.declared.StoreFault.TheVariants as store_fault
 use Rattle.table_access.specs.Durability.{HoldsDurably}
 use Rattle.broker_core.specs.declared.answer.Answer.TheVariants.{Shown}
 use Rattle.broker_core.specs.declared.answer.Shown.TheVariants.{Gate}
@@ -22,13 +25,18 @@ use Rattle.broker_core.specs.Machine.{TakesEffect}
 use Rattle.broker_core.specs.State.{State as Broker, is_strict}
 use Rattle.broker_core.specs.Text.{Text}
 use Rattle.broker_tables.specs.Schema.{schema_of}
-use Rattle.broker_tables.specs.Making.{IsMarked}
+use Rattle.broker_tables.specs.Making.{IsBlank, IsMarked}
 use Rattle.broker_tables.specs.Former.{HoldsFormer, IsUnmarked, former_tables, former_format}
 use Rattle.broker_tables.proofs.Former.{unmarked}
 use Rattle.registry_tables.specs.Format.{Finds}
-use Rattle.broker_service.specs.Primitives.{broker_primitives}
-use Rattle.broker_service.specs.Migration.{WasGood, WasPermitted, WasFault, WasJudged, Showed, JudgesAsBefore, former_kind, former_fault, former_marks}
-use Rattle.broker_service.proofs.Judgements.{marked_some}
+use Rattle.command_facts.specs.Primitives.{broker_primitives}
+use Rattle.broker_service.specs.Calls.{Migrated}
+use Rattle.broker_service.specs.Migration.{StoresFormer, HoldsFormerState, MigratesOrFails, IsUnchangedUnlessFormer, WasGood, WasPermitted, WasFault, WasJudged, Showed, JudgesAsBefore, former_kind, former_fault, former_marks}
+use Rattle.broker_service.specs.Opening.{Refuses, IsUnchangedUnlessStore, judgement, open_fault}
+use Rattle.broker_service.specs.Stored.{Stores, HoldsState}
+use Rattle.broker_service.specs.declared.opening.OpenFault.{OpenFault}
+use Rattle.broker_service.specs.declared.opening.OpenFault.TheVariants.{Format}
+use Rattle.broker_service.proofs.Judgements.{judged, blank_none, marked_some}
 
 -- what is held durably is seen, while the connection is open
 pub held_now : (P : Database → Type 0) (c : State) → HoldsDurably P c → IsTrue c.is_open → P c.now
@@ -150,3 +158,66 @@ module _ (s : Broker) (are : IsUnmarked s) where
 -- of each state that a database of format 1 holds
 pub judges_former : (db : Database) (s : Broker) → HoldsFormer db s → JudgesAsBefore s
 judges_former db s held = judges_as_before s (unmarked former_format [] db s held)
+
+-- ---- the record of a migration, from what its transaction leaves
+
+always : (r : Result (Unit {0}) OpenFault) (P : Type 0) → P → OnOk r P
+always (Ok u) P it = it
+always (Err fault) P it = tt
+
+-- where the judgement refuses, no database of format 1 was found
+refused_other : (old new : State) (found : Option ℕ) → IsUnchangedUnlessFormer old new (Ok found) → IfErr (judgement former_format found) (IsUnchangedUnlessStore old new)
+refused_other old new None it = it (λ is. cc)
+refused_other old new (Some n) it = go (n == former_format) refl
+  where
+    go : (b : Bool) → (n == former_format) ≡ b → IfErr {T = Unit {0}} (if b then Ok tt else Err (Format n)) (IsUnchangedUnlessStore old new)
+    go true e = tt
+    go false e = it (λ is. eqb-false n former_format e (let same : n ≡ former_format = cc in same))
+
+-- a format was found
+pub migrated : (old new : State) (found : Option ℕ) → (HasCleanDisk new → IsTrue old.is_open × Finds old.now found)
+    → (HasCleanDisk new → (s : Broker) → HoldsFormerState s old → MigratesOrFails s new (Ok found))
+    → (HasCleanDisk new → IsUnchangedUnlessFormer old new (Ok found))
+    → Survives old new (λ _. ⊤) → Migrated old new (judgement former_format found)
+migrated old new found is_found ends unchanged survives = record {
+  migrates = λ clean s keeps. always (judgement former_format found) (HoldsState s new) (ends clean s keeps).1;
+  permits = λ clean s keeps. always (judgement former_format found) (JudgesAsBefore s) (judges_former old.now s (held_now (λ db. StoresFormer db s) old keeps (is_found clean).0).tables);
+  refuses = λ clean s keeps.
+      let is : Ok tt ≡ judgement former_format found = sym (ap (judgement former_format) (ends clean s keeps).0) in
+      subst (λ (r : Result (Unit {0}) OpenFault). IfErr r (Refuses (λ db. StoresFormer db s) (λ db. Stores db s) new)) is tt;
+  judges = λ clean. judged former_format old.now found (is_found clean).1;
+  blank = λ clean keeps.
+      let it = is_found clean in
+      inl (ap (judgement former_format) (blank_none old.now found (held_now IsBlank old keeps it.0).schema it.1));
+  marked = λ clean n office keeps.
+      let it = is_found clean in
+      inl (ap (judgement former_format) (marked_some n office old.now found (held_now (IsMarked n office) old keeps it.0) it.1));
+  unchanged = λ clean. refused_other old new found (unchanged clean);
+  survives = survives;
+}
+
+-- the database failed
+pub unmigrated : (old new : State) (fault : StoreFault)
+    → (HasCleanDisk new → (s : Broker) → HoldsFormerState s old → MigratesOrFails s new (Err fault))
+    → (HasCleanDisk new → IsUnchangedUnlessFormer old new (Err fault))
+    → Survives old new (λ _. ⊤) → Migrated old new (Err (open_fault fault))
+unmigrated old new store_fault.Memory ends unchanged survives = record {
+  migrates = λ _ _ _. tt;
+  permits = λ _ _ _. tt;
+  refuses = ends;
+  judges = λ _. tt;
+  blank = λ _ _. inr (inl refl);
+  marked = λ _ _ _ _. inr (inl refl);
+  unchanged = unchanged;
+  survives = survives;
+}
+unmigrated old new store_fault.Store ends unchanged survives = record {
+  migrates = λ _ _ _. tt;
+  permits = λ _ _ _. tt;
+  refuses = ends;
+  judges = λ _. tt;
+  blank = λ _ _. inr (inr refl);
+  marked = λ _ _ _ _. inr (inr refl);
+  unchanged = unchanged;
+  survives = survives;
+}

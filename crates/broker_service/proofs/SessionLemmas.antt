@@ -17,7 +17,7 @@ use Rattle.broker_core.specs.declared.answer.Answer.{Answer}
 use Rattle.broker_core.specs.declared.answer.Answer.TheVariants as answer
 use Rattle.broker_service.specs.BrokerView.{BrokerView}
 use Rattle.broker_service.specs.Handed.{left_by}
-use Rattle.broker_service.specs.Primitives.{broker_primitives}
+use Rattle.command_facts.specs.Primitives.{broker_primitives}
 use Rattle.broker_service.specs.Stored.{Stores, HoldsState}
 use Rattle.broker_service.specs.Sessions.{FindsOnly, HoldsOne, Only, exit_of, LeavesOne, OpensOne, RunsCalls, GivenLeaves, IsOpenedOn, SessionLeaves, SessionsLeave, LedTo, SessionsFromFound, SessionsFromNew, SessionsRetried}
 use Rattle.broker_service.specs.declared.broker.Refused.{Refused}

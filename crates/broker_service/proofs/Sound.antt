@@ -8,7 +8,7 @@ use Rattle.broker_core.specs.Machine.{Step}
 use Rattle.broker_core.specs.declared.command.Command.{Command}
 use Rattle.broker_core.proofs.SoundContents.{contents_stay, opening_is_sound}
 use Rattle.pact_reading.proofs.Again.{reads_again}
-use Rattle.broker_service.specs.Primitives.{broker_primitives}
+use Rattle.command_facts.specs.Primitives.{broker_primitives}
 
 pub stays_sound : (s : State) (token : Option Text) (command : Command) (out : Transition) → HasSoundContents broker_primitives s → Step broker_primitives s token command out → HasSoundContents broker_primitives out.state
 stays_sound s token command out sound step = contents_stay broker_primitives s token command out reads_again sound step

@@ -1,5 +1,5 @@
 -- What a transaction leaves of the connection that it began on.
-use Rattle.std.proofs.Common.{◌≡◌, inl, inr, false, refl, IsTrue, Result, sym, subst, ◌∙◌, arith}
+use Rattle.std.proofs.Common.{◌≡◌, inl, inr, Bool, false, refl, IsTrue, Result, Ok, Err, sym, subst, ◌∙◌, arith}
 use Rattle.sqlite.specs.Effect.{Database, IsDatabase}
 use Rattle.std.specs.Prelude.{⊤}
 use Rattle.sqlite.specs.Tree.{Trees}
@@ -7,10 +7,12 @@ use Rattle.sqlite.proofs.StateLemmas.{survives_then}
 use Rattle.sqlite.specs.State.{State, HasCleanDisk, Survives}
 use Rattle.table_access.specs.Unit.{Begins, IsLeft}
 use Rattle.table_access.specs.declared.StoreFault.{StoreFault}
-use Rattle.table_access.specs.Calls.{CallsTables, KeepsLastCommit}
+use Rattle.table_access.specs.Calls.{CallsTablesBetween, CallsStoreBetween, KeepsLastCommit, GoesOn}
 use Rattle.table_access.specs.Durability.{HoldsDurably, HoldsEither}
-use Rattle.table_access.proofs.CallLemmas.{left_commit}
+use Rattle.table_access.proofs.CallLemmas.{left_commit, statement_err, statement_seq}
+use Rattle.table_access.proofs.EndLemmas.{begins, commits, refused}
 use Rattle.broker_service.specs.Ends.{IsAsBefore, AddsNoCrashState}
+use Rattle.broker_service.specs.Transaction.{Finishes}
 
 ended_left : (old new : State) → IsLeft old new → old.in_transaction ≡ false → old.now ≡ old.committed → IsTrue new.is_open → (new.in_transaction ≡ false) × (new.now ≡ new.committed)
 ended_left old new (inl same) outside settled now = (same.0.mode ∙ outside, same.0.now_is ∙ settled ∙ sym same.0.committed_is)
@@ -24,7 +26,7 @@ not_begun old new it s clean = record {
   ended = ended_left old new it;
 }
 
-module _ {A : Type 0} (old mid done : State) (r : Result A StoreFault) (X : A → Type 0) (begun : Begins old mid) (s : Survives old mid (λ _. ⊥)) (work : CallsTables mid done r X) (clean : HasCleanDisk done) where
+module _ {A : Type 0} (old mid done : State) (r : Result A StoreFault) (X : A → Type 0) (begun : Begins old mid) (s : Survives old mid (λ _. ⊥)) (work : CallsTablesBetween mid done r X) (clean : HasCleanDisk done) where
   -- nothing is committed in the transaction
   before : KeepsLastCommit old done
   before = let it = work.commits clean begun.1.mode in record { was_open = λ _. begun.1.was_open; committed = λ now. it.committed now ∙ begun.1.committed_is }
@@ -58,14 +60,6 @@ keeps_on P old new it keeps = record {
   left = λ trees may. keeps.left trees (it.left trees may);
 }
 
--- the rollback is refused
-pub unsure_on : (P Q : Database → Type 0) (old new : State) → KeepsLastCommit old new → AddsNoCrashState old new → HoldsDurably P old → HoldsEither P Q new
-unsure_on P Q old new it left keeps = record {
-  committed = λ now. subst P (sym (it.committed now)) (keeps.held (it.was_open now)).has;
-  left_open = λ _ trees may. keeps.left trees (left trees may);
-  left = λ trees may. inl (keeps.left trees (left trees may));
-}
-
 -- ---- what calls in turn leave of the connection, whatever they commit
 
 -- a connection that is left alone survives
@@ -78,3 +72,70 @@ outlives_one a b one = record { clean = one.clean; shield = one.shield; counts =
 -- calls in turn that each survive survive together
 pub outlives : {P Q : Trees → Type 0} (a b c : State) → Survives a b P → Survives b c Q → Survives a c (λ _. ⊤)
 outlives a b c one two = survives_then a b c _ _ _ (λ _ db h. tt) (λ _ db h. tt) one two
+
+-- ---- calls in turn within a transaction
+
+-- the second fails
+pub second_fails : {A B C : Type 0} (old mid new : State) (a : A) (fault : StoreFault) (P : A → Type 0) (Q : B → Type 0) (R : C → Type 0)
+    → CallsStoreBetween old mid (Ok a) P → CallsStoreBetween mid new (Err fault) Q → CallsStoreBetween old new (Err fault) R
+second_fails old mid new a fault P Q R one two = statement_err old new fault (λ _. ⊤) R (statement_seq old mid new a (Err fault) P Q (λ _. ⊤) (λ _ _ _. tt) one two)
+
+-- a crash leaves what it left, or more
+pub outlives_as : {P Q : Trees → Type 0} (a b : State) → ((trees : Trees) → P trees → Q trees) → Survives a b P → Survives a b Q
+outlives_as a b f s = record {
+  clean = s.clean;
+  shield = s.shield;
+  counts = s.counts;
+  limit = s.limit;
+  closes = s.closes;
+  crash = λ clean trees may. elim (s.crash clean trees may) [ inl was ↦ inl was | inr is ↦ inr (f trees is) ];
+}
+
+-- ---- a whole transaction: begun, worked in, and committed or rolled back
+
+pub record IsTransaction {A : Type 0} (old mid done new : State) (r : Result A StoreFault) (X : A → Type 0) (keeps did : Bool) : Type 0 where
+  pub begun : HasCleanDisk mid → Begins old mid
+  pub begins : Survives old mid (λ _. ⊥)
+  pub works : CallsTablesBetween mid done r X
+  pub ends : Finishes done new keeps did
+
+module _ {A : Type 0} (old mid done new : State) (r : Result A StoreFault) (X : A → Type 0) (keeps did : Bool) (t : IsTransaction old mid done new r X keeps did) where
+  pub survives_all : Survives old new (λ _. ⊤)
+  survives_all = outlives old done new (outlives old mid done t.begins t.works.survives) t.ends.survives
+
+  pub done_clean : HasCleanDisk new → HasCleanDisk done
+  done_clean clean = omega (arith, t.ends.survives.clean, clean)
+
+  begun_on : HasCleanDisk new → Begins old mid
+  begun_on clean =
+      let worked : HasCleanDisk done = done_clean clean in
+      let mid_clean : HasCleanDisk mid = omega (arith, t.works.survives.clean, worked) in
+      t.begun mid_clean
+
+  -- what was held is seen by the work
+  pub seen : HasCleanDisk new → (P : Database → Type 0) → HoldsDurably P old → P mid.now
+  seen clean P holds = begins P old mid (begun_on clean) holds
+
+  pub opened : HasCleanDisk new → IsTrue old.is_open × (mid.now ≡ old.now)
+  opened clean = let begun = begun_on clean in (begun.1.was_open, begun.1.now_is)
+
+  -- it is committed
+  pub kept : HasCleanDisk new → (Q : Database → Type 0) → IsTrue keeps → IsTrue did → Q done.now → HoldsDurably Q new
+  kept clean Q is_kept is has = commits Q done new (t.ends.committed clean is_kept is) (t.ends.live is_kept) t.ends.settled has
+
+  -- it is rolled back
+  pub as_before : HasCleanDisk new → keeps ≡ false → IsAsBefore old new
+  as_before clean unkept =
+      let over = t.ends.over clean (inl unkept) in
+      rolled_back old mid done r X (begun_on clean) t.begins t.works (done_clean clean) new over.1 over.0 clean (outlives_as done new (λ trees is. absurd (let kept = is.0 in cc)) t.ends.survives)
+
+  -- the commit is refused, behind work that went well
+  pub unsure : HasCleanDisk new → (P Q : Database → Type 0) → HoldsDurably P old → IsTrue keeps → did ≡ false → (HasCleanDisk done → IsTrue mid.in_transaction → GoesOn mid done) → Q done.now → HoldsEither P Q new
+  unsure clean P Q holds is_kept undone on has =
+      let begun = begun_on clean in
+      refused P old mid done r X holds begun t.begins t.works (done_clean clean) new Q ((on (done_clean clean) begun.1.mode).1 begun.1.is_open) (t.ends.live is_kept) t.ends.settled (t.ends.over clean (inr undone)).0 clean
+      (outlives_as done new (λ trees is. is.1) t.ends.survives) has
+
+  -- whatever was refused, the last commit is the old one
+  pub last_commit : HasCleanDisk new → did ≡ false → KeepsLastCommit old new
+  last_commit clean undone = commit_left old mid done r X (begun_on clean) t.begins t.works (done_clean clean) new (t.ends.over clean (inr undone)).0

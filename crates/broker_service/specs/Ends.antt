@@ -14,8 +14,8 @@ use Rattle.broker_core.specs.Laws.{IsDone, TeamsDiffer}
 use Rattle.broker_core.specs.declared.command.Command.{Command}
 use Rattle.broker_core.specs.declared.answer.Answer.{Answer}
 use Rattle.broker_core.specs.declared.answer.Answer.TheVariants.{Pattern, Memory, Store}
-use Rattle.broker_service.specs.Primitives.{broker_primitives}
-use Rattle.broker_service.specs.Patterns.{AsksPattern}
+use Rattle.command_facts.specs.Primitives.{broker_primitives}
+use Rattle.command_facts.specs.Patterns.{AsksPattern}
 use Rattle.broker_service.specs.Stored.{Stores, HoldsState}
 
 -- what a crash leaves, it left before
@@ -67,7 +67,7 @@ module _ (s : Broker) (token : Option Text) (command : Command) where
 
 -- Whatever the database is: only Done and a failure of the database leave it otherwise than it was, and after that
 -- failure the last commit is the old one while the connection is open.
-abbrev pub IsUnchangedUnless : State → State → Result Answer StoreFault → Type 0
-IsUnchangedUnless old new (Ok answer) = ¬ (IsDone answer) → IsAsBefore old new
-IsUnchangedUnless old new (Err fault.Memory) = IsAsBefore old new
-IsUnchangedUnless old new (Err fault.Store) = KeepsLastCommit old new
+abbrev pub IsUnchangedUnlessDone : State → State → Result Answer StoreFault → Type 0
+IsUnchangedUnlessDone old new (Ok answer) = ¬ (IsDone answer) → IsAsBefore old new
+IsUnchangedUnlessDone old new (Err fault.Memory) = IsAsBefore old new
+IsUnchangedUnlessDone old new (Err fault.Store) = KeepsLastCommit old new

@@ -6,7 +6,7 @@ use Rattle.broker_core.specs.Text.{Text}
 use Rattle.broker_core.specs.State.{State as Broker}
 use Rattle.broker_core.specs.declared.answer.Answer.{Answer}
 use Rattle.broker_core.specs.declared.command.Version.{Version}
-use Rattle.broker_service.specs.Primitives.{broker_primitives}
+use Rattle.command_facts.specs.Primitives.{broker_primitives}
 use Rattle.broker_service.specs.Stored.{HoldsState}
 
 -- the connection keeps a state in which v is recorded in e exactly where it may be; otherwise the answer refuses, and

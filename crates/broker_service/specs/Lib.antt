@@ -1,13 +1,5 @@
-pub mod Primitives
 pub mod Stored
-pub mod Patterns
 pub mod BrokerView
-pub mod Performs
-pub mod Facts
-pub mod Pacts
-pub mod BranchPact
-pub mod Results
-pub mod Checks
 pub mod Ends
 pub mod Headline
 pub mod Opening
@@ -15,3 +7,5 @@ pub mod Migration
 pub mod Handed
 pub mod Sessions
 pub mod SessionFiles
+pub mod Calls
+pub mod Transaction

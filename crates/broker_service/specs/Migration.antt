@@ -24,8 +24,9 @@ use Rattle.broker_core.specs.Listing.{Lists}
 use Rattle.broker_core.specs.Machine.{TakesEffect}
 use Rattle.broker_core.specs.State.{State as Broker, is_gated}
 use Rattle.broker_core.specs.Text.{Text}
+use Rattle.broker_tables.specs.Holds.{Holds}
 use Rattle.broker_tables.specs.Former.{HoldsFormer, IsUnmarked, former_format}
-use Rattle.broker_service.specs.Primitives.{broker_primitives}
+use Rattle.command_facts.specs.Primitives.{broker_primitives}
 use Rattle.broker_service.specs.Ends.{IsAsBefore}
 use Rattle.broker_service.specs.Stored.{Stores, HoldsState}
 
@@ -91,6 +92,10 @@ pub record JudgesAsBefore (s : Broker) : Type 0 where
   pub faults : (v : Version) (e : Text) (fault : PairFault) → IsFault s v e fault ↔ WasFault s v e fault
   pub shows : (v : Version) (e : Text) (out : Transition)
       → TakesEffect broker_primitives s (CanIDeploy v e) out ↔ Showed s v e out
+
+-- a database of format 1 becomes one of today's with the same state
+abbrev pub BringsUp : Database → Database → Type 0
+BringsUp old new = (s : Broker) → HoldsFormer old s → Holds new s
 
 -- ---- the transaction of a migration, for the clauses of private functions: no public clause cites it
 

@@ -1,13 +1,20 @@
 -- how a broker is made on a database, or opened
-use Rattle.std.specs.Prelude.{◌≡◌, ◌≢◌, ◌⊎◌, ◌==◌, ℕ, if◌then◌else◌, Option, Some, None, Result, Ok, Err}
+use Rattle.std.specs.Prelude.{◌≡◌, ◌≢◌, ◌⊎◌, ◌==◌, ◌++◌, ◌∷◌, ℕ, List, if◌then◌else◌, Option, Some, None, Result, Ok, Err}
 use Rattle.sqlite.specs.Effect.{Database}
-use Rattle.sqlite.specs.State.{State}
+use Rattle.sqlite.specs.Table.{Table}
+use Rattle.sqlite.specs.State.{State, HasCleanDisk}
 use Rattle.table_access.specs.declared.StoreFault.{StoreFault}
 use Rattle.table_access.specs.declared.StoreFault.TheVariants as fault
 use Rattle.table_access.specs.Calls.{KeepsLastCommit}
 use Rattle.table_access.specs.Durability.{HoldsDurably, HoldsEither}
+use Rattle.broker_core.specs.State.{opening}
+use Rattle.broker_core.specs.Text.{Text}
+use Rattle.broker_tables.specs.Holds.{format}
+use Rattle.broker_tables.specs.Making.{IsBlank, HasTables}
+use Rattle.broker_tables.specs.Schema.{no_schema, registry_part, contents, contract_part, all_tables}
 use Rattle.registry_tables.specs.Format.{IsOfFormat, IsForeign}
 use Rattle.broker_service.specs.Ends.{IsAsBefore}
+use Rattle.broker_service.specs.Stored.{Stores, HoldsState}
 use Rattle.broker_service.specs.declared.opening.OpenFault.{OpenFault}
 use Rattle.broker_service.specs.declared.opening.OpenFault.TheVariants.{NotEmpty, NotABroker, Format, Memory, Store}
 
@@ -15,6 +22,14 @@ use Rattle.broker_service.specs.declared.opening.OpenFault.TheVariants.{NotEmpty
 abbrev pub open_fault : StoreFault → OpenFault
 open_fault fault.Memory = Memory
 open_fault fault.Store = Store
+
+-- the tables that are made first: of the registry, of contents and of contracts
+abbrev pub first_tables : List Table
+first_tables = registry_part ++ contents ∷ contract_part
+
+-- the rest of them is made, whatever the office
+abbrev pub MakesRest : Database → Database → Type 0
+MakesRest old new = (office : Text) → HasTables first_tables format office old → HasTables all_tables format office new
 
 -- A transaction that leads from a database of the first kind to one of the second, or fails.
 abbrev pub CreatesOrFails : (Database → Type 0) → (Database → Type 0) → State → Result (Unit {0}) StoreFault
@@ -38,9 +53,19 @@ Refuses P Q new _ = ⊥
 
 -- whatever the database is: where it is refused, it is as it was, or after a failure of the database the last
 -- commit is the old one
-abbrev pub IsUnchangedUnless : State → State → OpenFault → Type 0
-IsUnchangedUnless old new Store = KeepsLastCommit old new
-IsUnchangedUnless old new _ = IsAsBefore old new
+abbrev pub IsUnchangedUnlessStore : State → State → OpenFault → Type 0
+IsUnchangedUnlessStore old new Store = KeepsLastCommit old new
+IsUnchangedUnlessStore old new _ = IsAsBefore old new
+
+-- on a database without tables: a new broker's database, whose office's token has this digest
+abbrev pub MakesNew : Text → State → State → Type 0
+MakesNew office old new = HasCleanDisk new → HoldsDurably IsBlank old → HoldsState (opening office) new
+
+-- or a failure: there are no tables, and after Store a crash may leave the new broker's
+abbrev pub RefusesNew : Text → State → State → OpenFault → Type 0
+RefusesNew office old new fault =
+    HasCleanDisk new → HoldsDurably IsBlank old → old.now.schema ≡ no_schema
+    → Refuses IsBlank (λ db. Stores db (opening office)) new fault
 
 -- ---- what is told of a database
 

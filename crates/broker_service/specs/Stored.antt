@@ -5,7 +5,7 @@ use Rattle.table_access.specs.Durability.{HoldsDurably}
 use Rattle.broker_core.specs.Contents.{HasSoundContents}
 use Rattle.broker_core.specs.State.{State as Broker}
 use Rattle.broker_tables.specs.Holds.{Holds}
-use Rattle.broker_service.specs.Primitives.{broker_primitives}
+use Rattle.command_facts.specs.Primitives.{broker_primitives}
 
 -- the tables hold the state, and each stored pact can be read again
 pub record Stores (db : Database) (s : Broker) : Type 0 where

@@ -3,7 +3,7 @@ ghost use Rattle.broker_core.specs.Headline.{DeploysExactly, ReleasesExactly, Pe
 ghost use Rattle.broker_core.specs.Laws.{OnlyDoneChanges, OpeningIsSound, ContentsStay, GateLocality, GateAnswersOnce, Retry, SessionsCompose, RunsOnce, StepExists, StepOnce};
 ghost use Rattle.broker_core.specs.Sessions.{SessionsRun};
 ghost use Rattle.sqlite.specs.Held.{state};
-ghost use Rattle.broker_service.specs.Primitives.{broker_primitives};
+ghost use Rattle.command_facts.specs.Primitives.{broker_primitives};
 ghost use Rattle.broker_service.specs.SessionFiles.{FilesFromFound, FilesFromNew};
 ghost use Rattle.broker_service.specs.Sessions.{SessionsFromFound, SessionsFromNew, SessionsRetried};
 

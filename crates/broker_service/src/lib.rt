@@ -1,33 +1,22 @@
 //! The broker: one command at a time, each in one transaction.
 #![tactic(auto)]
 
-mod branch_pact;
+/// Gives what a call on the tables answers. Its failure is the failure of the function in which this stands, and
+/// nothing more is done there. A proof knows behind it what it knows in the arms of the match that stands here.
+macro_rules! done {
+    ($call:expr) => {
+        match $call {
+            Ok(value) => value,
+            Err(fault) => return Err(fault),
+        }
+    };
+}
+
 mod broker;
-mod callers;
-mod can_i_deploy;
-mod deploy;
-mod end_support;
-mod environments;
-mod gate;
-mod grants;
+mod ending;
 pub mod laws;
-mod listing;
-mod matrix;
 mod migration;
 mod opening;
-mod pacts;
-mod places;
-mod publish;
-mod put_pacticipant;
-mod put_team;
-mod release;
-mod replies;
-mod results;
-mod rules;
-mod sides;
-mod undeploy;
-mod undo;
-mod versions;
 mod work;
 
 pub use answer_texts::Answer;

@@ -1,29 +1,26 @@
 //! Making today's database of one that a broker of format 1 left.
-ghost use Rattle.std.specs.Prelude.{◌≡◌, ◌↔◌, ⊤, ℕ, List, Some, None, IsTrue, OnOk, IfErr, IfOk};
+ghost use Rattle.std.specs.Prelude.{◌≡◌, ◌↔◌, ⊤, Some, IsTrue, IfOk, IsOkAnd};
 ghost use Rattle.sqlite.specs.State.{HasCleanDisk, Survives};
 ghost use Rattle.sqlite.specs.Held.{state};
 ghost use Rattle.table_access.specs.Calls.{CallsStore};
-ghost use Rattle.table_access.specs.Durability.{HoldsDurably};
 ghost use Rattle.broker_core.specs.State.{State as BrokerState};
-ghost use Rattle.broker_tables.specs.Holds.{Holds, format};
-ghost use Rattle.broker_tables.specs.Making.{IsBlank, IsMarked};
+ghost use Rattle.broker_tables.specs.Holds.{format};
 ghost use Rattle.broker_tables.specs.Former.{HoldsFormer, HoldsUnmarked, former_format, added_tables};
 ghost use Rattle.registry_tables.specs.Format.{Finds};
-ghost use Rattle.broker_service.specs.Opening.{Refuses, IsUnchangedUnless, IsJudged, Judged};
-ghost use Rattle.broker_service.specs.Migration.{StoresFormer, HoldsFormerState, JudgesAsBefore, MigratesOrFails, IsUnchangedUnlessFormer};
-ghost use Rattle.broker_service.specs.Stored.{Stores, HoldsState};
+ghost use Rattle.broker_service.specs.Calls.{Migrated};
+ghost use Rattle.broker_service.specs.Migration.{BringsUp, HoldsFormerState, MigratesOrFails, IsUnchangedUnlessFormer};
 
+use crate::ending::finish;
 use crate::opening::{OpenFault, judge, make_indexes, open_fault};
-use crate::undo::undo;
 use registry_tables::format_of;
 use sqlite::{Alter, Connection};
-use table_access::{StoreFault, begin, commit, rollback};
+use table_access::{StoreFault, begin};
 
 /// Makes the tables that format 1 has not, and sets the format.
 fn add_tables<S: Alter>(conn: &mut Connection<S>) -> Result<(), StoreFault>
-    ensures { CallsStore (state S.Store conn.old) (state S.Store conn.new) result
-        (λ _. (s : BrokerState) → HoldsFormer (state S.Store conn.old).now s
-        → HoldsUnmarked format added_tables (state S.Store conn.new).now s) }
+    ensures { CallsStore S.Store conn.old conn.new result
+        (λ _ old new. (s : BrokerState) → HoldsFormer old.now s
+        → HoldsUnmarked format added_tables new.now s) }
 {
     match contract_tables::to_format_2(conn) {
         Ok(()) => registry_tables::to_format_2(conn),
@@ -33,9 +30,8 @@ fn add_tables<S: Alter>(conn: &mut Connection<S>) -> Result<(), StoreFault>
 
 /// Makes the tables and the indexes that format 1 has not, and sets the format.
 fn add_all<S: Alter>(conn: &mut Connection<S>) -> Result<(), StoreFault>
-    ensures { CallsStore (state S.Store conn.old) (state S.Store conn.new) result
-        (λ _. (s : BrokerState) → HoldsFormer (state S.Store conn.old).now s
-        → Holds (state S.Store conn.new).now s) }
+    ensures { CallsStore S.Store conn.old conn.new result
+        (λ _ old new. BringsUp old.now new.now) }
 {
     match add_tables(conn) {
         Ok(()) => make_indexes(conn),
@@ -45,10 +41,8 @@ fn add_all<S: Alter>(conn: &mut Connection<S>) -> Result<(), StoreFault>
 
 /// Looks for the format, and where it is 1, makes the database one of today's. The answer is the format that was found.
 fn bring_up<S: Alter>(conn: &mut Connection<S>) -> Result<Option<u32>, StoreFault>
-    ensures { CallsStore (state S.Store conn.old) (state S.Store conn.new) result
-        (λ found. Finds (state S.Store conn.old).now found
-        × (found ≡ Some former_format → (s : BrokerState) → HoldsFormer (state S.Store conn.old).now s
-        → Holds (state S.Store conn.new).now s)) }
+    ensures { CallsStore S.Store conn.old conn.new result
+        (λ found old new. Finds old.now found × (found ≡ Some former_format → BringsUp old.now new.now)) }
 {
     match format_of(conn) {
         Ok(Some(1)) => match add_all(conn) {
@@ -60,11 +54,11 @@ fn bring_up<S: Alter>(conn: &mut Connection<S>) -> Result<Option<u32>, StoreFaul
     }
 }
 
-/// Whether the format that was found is 1.
-fn is_former(found: Option<u32>) -> bool
-    ensures { IsTrue result ↔ (found ≡ Some former_format) }
+/// Whether the format that was found is 1, so that there is something to commit.
+fn is_former(found: &Result<Option<u32>, StoreFault>) -> bool
+    ensures { IsTrue result ↔ IsOkAnd found.now (λ format. format ≡ Some former_format) }
 {
-    matches!(found, Some(1))
+    matches!(found, Ok(Some(1)))
 }
 
 /// Brings a database up in one transaction, which is committed where its format was 1, and else rolled back. The
@@ -78,24 +72,12 @@ fn run<S: Alter>(conn: &mut Connection<S>) -> Result<Option<u32>, StoreFault>
         → IsUnchangedUnlessFormer (state S.Store conn.old) (state S.Store conn.new) result }
     ensures survives { Survives (state S.Store conn.old) (state S.Store conn.new) (λ _. ⊤) }
 {
-    match begin(conn) {
-        Ok(()) => match bring_up(conn) {
-            Ok(found) => if is_former(found) {
-                if commit(conn) {
-                    Ok(found)
-                } else {
-                    Err(StoreFault::Store)
-                }
-            } else {
-                if rollback(conn) {
-                    Ok(found)
-                } else {
-                    Err(StoreFault::Store)
-                }
-            },
-            Err(fault) => Err(undo(conn, fault)),
-        },
-        Err(fault) => Err(fault),
+    done!(begin(conn));
+    let found = bring_up(conn);
+    if finish(conn, is_former(&found)) {
+        found
+    } else {
+        Err(StoreFault::Store)
     }
 }
 
@@ -110,23 +92,7 @@ fn run<S: Alter>(conn: &mut Connection<S>) -> Result<Option<u32>, StoreFault>
 /// `Store`: the database refused a call, the commit or a rollback, or the format isn't a number from 0 to 2^32 - 1; the
 /// last commit is the old one, and after a refused commit a crash may leave today's database, whole.
 pub fn migrate<S: Alter>(conn: &mut Connection<S>) -> Result<(), OpenFault>
-    ensures migrates { HasCleanDisk (state S.Store conn.new) → (s : BrokerState)
-        → HoldsFormerState s (state S.Store conn.old)
-        → OnOk result (HoldsState s (state S.Store conn.new)) }
-    ensures permits { HasCleanDisk (state S.Store conn.new) → (s : BrokerState)
-        → HoldsFormerState s (state S.Store conn.old) → OnOk result (JudgesAsBefore s) }
-    ensures refuses { HasCleanDisk (state S.Store conn.new) → (s : BrokerState)
-        → HoldsFormerState s (state S.Store conn.old)
-        → IfErr result (Refuses (λ db. StoresFormer db s) (λ db. Stores db s) (state S.Store conn.new)) }
-    ensures judges { HasCleanDisk (state S.Store conn.new)
-        → IsJudged former_format (state S.Store conn.old).now result }
-    ensures blank { HasCleanDisk (state S.Store conn.new) → HoldsDurably IsBlank (state S.Store conn.old)
-        → Judged former_format None result }
-    ensures marked { HasCleanDisk (state S.Store conn.new) → (n : ℕ) (office : List ℕ)
-        → HoldsDurably (IsMarked n office) (state S.Store conn.old) → Judged former_format (Some n) result }
-    ensures unchanged { HasCleanDisk (state S.Store conn.new)
-        → IfErr result (IsUnchangedUnless (state S.Store conn.old) (state S.Store conn.new)) }
-    ensures survives { Survives (state S.Store conn.old) (state S.Store conn.new) (λ _. ⊤) }
+    ensures { Migrated (state S.Store conn.old) (state S.Store conn.new) result }
 {
     match run(conn) {
         Ok(found) => judge(1, found),

@@ -1,5 +1,5 @@
 //! Making a broker's tables, and opening a database that a broker left.
-ghost use Rattle.std.specs.Prelude.{◌≡◌, ◌↔◌, ⊤, ◌++◌, ◌∷◌, [], ℕ, List, Err, IfErr, OnOk, OnErr, IsTrue, Some, None, IfOk};
+ghost use Rattle.std.specs.Prelude.{◌≡◌, ◌↔◌, ◌++◌, ◌∷◌, ⊤, ℕ, List, Err, IfErr, OnOk, OnErr, IsTrue, Some, None, IfOk};
 ghost use Rattle.sqlite.specs.State.{HasCleanDisk, Survives};
 ghost use Rattle.sqlite.specs.Held.{state};
 ghost use Rattle.table_access.specs.Calls.{CallsStore};
@@ -9,19 +9,20 @@ ghost use Rattle.broker_core.specs.State.{opening};
 ghost use Rattle.broker_tables.specs.Schema.{no_schema, registry_part, contents, contract_part, all_tables, all_indexes, schema_of};
 ghost use Rattle.broker_tables.specs.Holds.{Holds, format};
 ghost use Rattle.broker_tables.specs.Making.{IsBlank, HasTables, IsMarked};
-ghost use Rattle.broker_service.specs.Primitives.{broker_primitives};
+ghost use Rattle.registry_tables.specs.Format.{Finds};
+ghost use Rattle.command_facts.specs.Primitives.{broker_primitives};
 ghost use Rattle.broker_service.specs.Ends.{IsAsBefore, AddsNoCrashState};
-ghost use Rattle.broker_service.specs.Stored.{Stores, HoldsState};
+ghost use Rattle.broker_service.specs.Stored.{Stores};
 ghost use Rattle.broker_service.specs.Opening as spec;
-ghost use Rattle.broker_service.specs.Opening.{CreatesOrFails, FailsUnchanged, Refuses, IsUnchangedUnless, Judged, IsJudged, judgement};
+ghost use Rattle.broker_service.specs.Opening.{MakesRest, CreatesOrFails, FailsUnchanged, MakesNew, RefusesNew, IsUnchangedUnlessStore, Judged, IsJudged, judgement};
 
-use crate::callers::digest_of;
-use crate::undo::undo;
+use crate::ending::finish;
 use broker_core::name::Token;
+use command_facts::callers::digest_of;
 use registry_tables::{format_of, is_blank, make_strict_environments};
 use sqlite::{Alter, Connection};
 use std::alloc::Global;
-use table_access::{StoreFault, begin, commit, rollback};
+use table_access::{StoreFault, begin};
 use thiserror::Error;
 
 /// Why a database isn't made or opened as a broker's.
@@ -55,10 +56,9 @@ pub(crate) fn open_fault(fault: StoreFault) -> OpenFault
 
 /// Makes the tables of the registry, of contents and of contracts.
 fn make_first<S: Alter>(conn: &mut Connection<S>, digest: &str) -> Result<(), StoreFault>
-    ensures { CallsStore (state S.Store conn.old) (state S.Store conn.new) result
-        (λ _. IsBlank (state S.Store conn.old).now
-        → HasTables (registry_part ++ contents ∷ contract_part) format digest.now
-        (state S.Store conn.new).now) }
+    ensures { CallsStore S.Store conn.old conn.new result
+        (λ _ old new. IsBlank old.now
+        → HasTables (registry_part ++ contents ∷ contract_part) format digest.now new.now) }
 {
     match registry_tables::make_tables(conn, 2, digest) {
         Ok(()) => match content_store::make_tables(conn) {
@@ -71,11 +71,8 @@ fn make_first<S: Alter>(conn: &mut Connection<S>, digest: &str) -> Result<(), St
 
 /// Makes the tables of what stands where, of evidence and of strict environments.
 fn make_rest<S: Alter>(conn: &mut Connection<S>) -> Result<(), StoreFault>
-    ensures { CallsStore (state S.Store conn.old) (state S.Store conn.new) result
-        (λ _. (office : List ℕ)
-        → HasTables (registry_part ++ contents ∷ contract_part) format office
-        (state S.Store conn.old).now
-        → HasTables all_tables format office (state S.Store conn.new).now) }
+    ensures { CallsStore S.Store conn.old conn.new result
+        (λ _ old new. MakesRest old.now new.now) }
 {
     match deploy_tables::make_tables(conn) {
         Ok(()) => match contract_tables::make_checked_results(conn) {
@@ -88,9 +85,9 @@ fn make_rest<S: Alter>(conn: &mut Connection<S>) -> Result<(), StoreFault>
 
 /// Makes the indexes, once all tables are made.
 pub(crate) fn make_indexes<S: Alter>(conn: &mut Connection<S>) -> Result<(), StoreFault>
-    ensures { CallsStore (state S.Store conn.old) (state S.Store conn.new) result
-        (λ _. (state S.Store conn.old).now.schema ≡ schema_of all_tables
-        → MakesIndexes all_indexes (state S.Store conn.old).now (state S.Store conn.new).now) }
+    ensures { CallsStore S.Store conn.old conn.new result
+        (λ _ old new. old.now.schema ≡ schema_of all_tables
+        → MakesIndexes all_indexes old.now new.now) }
 {
     match content_store::make_index(conn) {
         Ok(()) => match contract_tables::make_indexes(conn) {
@@ -103,9 +100,8 @@ pub(crate) fn make_indexes<S: Alter>(conn: &mut Connection<S>) -> Result<(), Sto
 
 /// Makes all tables, and then the indexes.
 fn make_all<S: Alter>(conn: &mut Connection<S>, digest: &str) -> Result<(), StoreFault>
-    ensures { CallsStore (state S.Store conn.old) (state S.Store conn.new) result
-        (λ _. IsBlank (state S.Store conn.old).now
-        → Holds (state S.Store conn.new).now (opening digest.now)) }
+    ensures { CallsStore S.Store conn.old conn.new result
+        (λ _ old new. IsBlank old.now → Holds new.now (opening digest.now)) }
 {
     match make_first(conn, digest) {
         Ok(()) => match make_rest(conn) {
@@ -119,22 +115,17 @@ fn make_all<S: Alter>(conn: &mut Connection<S>, digest: &str) -> Result<(), Stor
 /// Makes all tables in one transaction.
 fn make<S: Alter>(conn: &mut Connection<S>, digest: &str) -> Result<(), StoreFault>
     ensures ends { HasCleanDisk (state S.Store conn.new) → HoldsDurably IsBlank (state S.Store conn.old)
-        → CreatesOrFails IsBlank
-        (λ db. Stores db (opening digest.now)) (state S.Store conn.new) result }
+        → CreatesOrFails IsBlank (λ db. Stores db (opening digest.now)) (state S.Store conn.new) result }
     ensures unchanged { HasCleanDisk (state S.Store conn.new)
         → FailsUnchanged (state S.Store conn.old) (state S.Store conn.new) result }
     ensures survives { Survives (state S.Store conn.old) (state S.Store conn.new) (λ _. ⊤) }
 {
-    match begin(conn) {
-        Ok(()) => match make_all(conn, digest) {
-            Ok(()) => if commit(conn) {
-                Ok(())
-            } else {
-                Err(StoreFault::Store)
-            },
-            Err(fault) => Err(undo(conn, fault)),
-        },
-        Err(fault) => Err(fault),
+    done!(begin(conn));
+    let made = make_all(conn, digest);
+    if finish(conn, made.is_ok()) {
+        made
+    } else {
+        Err(StoreFault::Store)
     }
 }
 
@@ -144,19 +135,15 @@ pub(crate) fn create<S: Alter>(
     conn: &mut Connection<S>,
     office: &Token,
 ) -> Result<(), OpenFault>
-    ensures made { HasCleanDisk (state S.Store conn.new) → HoldsDurably IsBlank (state S.Store conn.old)
-        → OnOk result (HoldsState (opening (broker_primitives.digest_of office.now))
-        (state S.Store conn.new)) }
-    ensures refuses { HasCleanDisk (state S.Store conn.new) → HoldsDurably IsBlank (state S.Store conn.old)
-        → (state S.Store conn.old).now.schema ≡ no_schema
-        → IfErr result (Refuses IsBlank
-        (λ db. Stores db (opening (broker_primitives.digest_of office.now)))
-        (state S.Store conn.new)) }
+    ensures made { OnOk result (MakesNew (broker_primitives.digest_of office.now)
+        (state S.Store conn.old) (state S.Store conn.new)) }
+    ensures refuses { IfErr result (RefusesNew (broker_primitives.digest_of office.now)
+        (state S.Store conn.old) (state S.Store conn.new)) }
     ensures not_empty { (result ≡ Err OpenFault.NotEmpty)
         ↔ (¬ ((state S.Store conn.old).now.schema ≡ no_schema)) }
     ensures same { result ≡ Err OpenFault.NotEmpty → conn.new ≡ conn.old }
     ensures unchanged { HasCleanDisk (state S.Store conn.new)
-        → IfErr result (IsUnchangedUnless (state S.Store conn.old) (state S.Store conn.new)) }
+        → IfErr result (IsUnchangedUnlessStore (state S.Store conn.old) (state S.Store conn.new)) }
     ensures survives { Survives (state S.Store conn.old) (state S.Store conn.new) (λ _. ⊤) }
 {
     if !is_blank(conn) {
@@ -185,6 +172,22 @@ pub(crate) fn judge(wanted: u32, found: Option<u32>) -> Result<(), OpenFault>
     }
 }
 
+/// The format that the database is of, if a broker's tables are there; nothing is changed.
+fn find_format<S: Alter>(conn: &mut Connection<S>) -> Result<Option<u32>, StoreFault>
+    ensures found { HasCleanDisk (state S.Store conn.new)
+        → IfOk result (λ found. IsTrue (state S.Store conn.old).is_open × Finds (state S.Store conn.old).now found) }
+    ensures same { HasCleanDisk (state S.Store conn.new) → IsAsBefore (state S.Store conn.old) (state S.Store conn.new) }
+    ensures survives { Survives (state S.Store conn.old) (state S.Store conn.new) (λ _. ⊤) }
+{
+    done!(begin(conn));
+    let found = format_of(conn);
+    if finish(conn, false) {
+        found
+    } else {
+        Err(StoreFault::Store)
+    }
+}
+
 /// Looks for a broker's tables of this format, and changes nothing. A broker makes `meta` before
 /// each other table.
 pub(crate) fn open<S: Alter>(conn: &mut Connection<S>) -> Result<(), OpenFault>
@@ -196,20 +199,13 @@ pub(crate) fn open<S: Alter>(conn: &mut Connection<S>) -> Result<(), OpenFault>
     ensures kept { HasCleanDisk (state S.Store conn.new)
         → OnOk result (IsAsBefore (state S.Store conn.old) (state S.Store conn.new)) }
     ensures unchanged { HasCleanDisk (state S.Store conn.new)
-        → IfErr result (IsUnchangedUnless (state S.Store conn.old) (state S.Store conn.new)) }
+        → IfErr result (IsUnchangedUnlessStore (state S.Store conn.old) (state S.Store conn.new)) }
     ensures crash { HasCleanDisk (state S.Store conn.new)
         → AddsNoCrashState (state S.Store conn.old) (state S.Store conn.new) }
     ensures survives { Survives (state S.Store conn.old) (state S.Store conn.new) (λ _. ⊤) }
 {
-    match begin(conn) {
-        Ok(()) => match format_of(conn) {
-            Ok(found) => if rollback(conn) {
-                judge(2, found)
-            } else {
-                Err(OpenFault::Store)
-            },
-            Err(fault) => Err(open_fault(undo(conn, fault))),
-        },
+    match find_format(conn) {
+        Ok(found) => judge(2, found),
         Err(fault) => Err(open_fault(fault)),
     }
 }

@@ -1,40 +1,41 @@
 //! A command inside its transaction, and the transaction round it.
-ghost use Rattle.std.specs.Prelude.{◌≡◌, ◌≢◌, ◌↔◌, ⊤, IsTrue, IfOk, IfErr, option_map};
+ghost use Rattle.std.specs.Prelude.{◌≡◌, ◌≢◌, ◌↔◌, ⊤, IsTrue, IfOk, IfErr, IsOkAnd};
 ghost use Rattle.sqlite.specs.State.{HasCleanDisk, Survives};
 ghost use Rattle.sqlite.specs.Held.{state};
 ghost use Rattle.broker_core.specs.State.{State as BrokerState};
 ghost use Rattle.broker_core.specs.Laws.{IsDone};
 ghost use Rattle.broker_core.specs.declared.answer.Answer.TheVariants.{BadForm, Stopped};
-ghost use Rattle.broker_service.specs.Performs.{Performs, CallersStep, TokensStep};
-ghost use Rattle.broker_service.specs.Ends.{Ends, IsUnchangedUnless};
+ghost use Rattle.command_facts.specs.Callers.{token_of};
+ghost use Rattle.command_facts.specs.Performs.{Performs, CallersStep, TokensStep};
+ghost use Rattle.broker_service.specs.Ends.{Ends, IsUnchangedUnlessDone};
 ghost use Rattle.broker_service.specs.Stored.{HoldsState};
 
-use crate::branch_pact::get_branch_pact;
-use crate::callers::caller_of;
-use crate::can_i_deploy::can_i_deploy;
-use crate::deploy::deploy;
-use crate::end_support::end_support;
-use crate::environments::put_environment;
-use crate::grants::{delete_grant, put_grant};
-use crate::listing::get_environment;
-use crate::matrix::get_matrix;
-use crate::pacts::get_pact;
-use crate::publish::put_pact;
-use crate::put_pacticipant::put_pacticipant;
-use crate::put_team::put_team;
-use crate::release::release;
-use crate::replies::post_replies;
-use crate::results::post_result;
-use crate::undeploy::undeploy;
-use crate::undo::undo;
-use crate::versions::put_version;
+use crate::ending::finish;
 use answer_texts::Answer;
 use broker_core::answer::Answer as Outcome;
 use broker_core::command::{Command, FormFault};
 use broker_core::policy::{Caller, Rule};
+use command_facts::callers::caller_of;
+use contract_commands::branch_pact::get_branch_pact;
+use contract_commands::pacts::get_pact;
+use contract_commands::publish::put_pact;
+use contract_commands::replies::post_replies;
+use contract_commands::results::post_result;
+use environment_commands::can_i_deploy::can_i_deploy;
+use environment_commands::deploy::deploy;
+use environment_commands::end_support::end_support;
+use environment_commands::listing::get_environment;
+use environment_commands::matrix::get_matrix;
+use environment_commands::release::release;
+use environment_commands::undeploy::undeploy;
+use registry_commands::environments::put_environment;
+use registry_commands::grants::{delete_grant, put_grant};
+use registry_commands::put_pacticipant::put_pacticipant;
+use registry_commands::put_team::put_team;
+use registry_commands::versions::put_version;
 use sqlite::{Alter, Connection};
 use std::alloc::Global;
-use table_access::{StoreFault, begin, commit, rollback};
+use table_access::{StoreFault, begin};
 
 /// The answer to a command whose form is at fault.
 fn bad_form(fault: &FormFault) -> Result<Outcome, StoreFault>
@@ -54,8 +55,7 @@ fn follow<S: Alter>(
     caller: &Caller,
     command: &Command,
 ) -> Result<Outcome, StoreFault>
-    ensures { Performs (state S.Store conn.old) (state S.Store conn.new)
-        (CallersStep caller.now command.now) result }
+    ensures { Performs S.Store conn.old conn.new result (CallersStep caller.now command.now) }
 {
     match command {
         Command::PutTeam { team, token } => put_team(alloc, conn, caller, team, token),
@@ -150,8 +150,7 @@ fn step_of<S: Alter>(
     token: Option<&str>,
     command: &Command,
 ) -> Result<Outcome, StoreFault>
-    ensures { Performs (state S.Store conn.old) (state S.Store conn.new) (TokensStep (option_map
-        (λ text. text.now) token.entry) command.now) result }
+    ensures { Performs S.Store conn.old conn.new result (TokensStep (token_of token.entry) command.now) }
 {
     match caller_of(alloc, conn, token) {
         Ok(Some(caller)) => follow(alloc, conn, &caller, command),
@@ -181,8 +180,7 @@ fn work<S: Alter>(
     token: Option<&str>,
     command: &Command,
 ) -> Result<Answer, StoreFault>
-    ensures performs { Performs (state S.Store conn.old) (state S.Store conn.new) (TokensStep (option_map
-        (λ text. text.now) token.entry) command.now) result }
+    ensures performs { Performs S.Store conn.old conn.new result (TokensStep (token_of token.entry) command.now) }
     ensures runs { IfOk result (λ answer. answer ≢ Stopped) }
 {
     match step_of(alloc, conn, token, command) {
@@ -194,11 +192,14 @@ fn work<S: Alter>(
     }
 }
 
-/// Whether the answer is `Done`, so that there is something to commit.
-fn is_done(answer: &Answer) -> bool
-    ensures { IsTrue result ↔ IsDone answer.now }
+/// Whether something was done, so that there is something to commit.
+fn is_done(worked: &Result<Answer, StoreFault>) -> bool
+    ensures { IsTrue result ↔ IsOkAnd worked.now (λ answer. IsDone answer) }
 {
-    matches!(answer.outcome(), Outcome::Done(_))
+    match worked {
+        Ok(answer) => matches!(answer.outcome(), Outcome::Done(_)),
+        Err(_) => false,
+    }
 }
 
 /// One command in one transaction. It is committed where something was done, else it is rolled
@@ -210,30 +211,17 @@ pub(crate) fn transact<S: Alter>(
     command: &Command,
 ) -> Result<Answer, StoreFault>
     ensures ends { HasCleanDisk (state S.Store conn.new) → (s : BrokerState) → HoldsState s (state S.Store conn.old)
-        → Ends s (option_map (λ text.
-        text.now) token.entry) command.now (state S.Store conn.new) result }
+        → Ends s (token_of token.entry) command.now (state S.Store conn.new) result }
     ensures unchanged { HasCleanDisk (state S.Store conn.new)
-        → IsUnchangedUnless (state S.Store conn.old) (state S.Store conn.new) result }
+        → IsUnchangedUnlessDone (state S.Store conn.old) (state S.Store conn.new) result }
     ensures survives { Survives (state S.Store conn.old) (state S.Store conn.new) (λ _. ⊤) }
     ensures runs { IfOk result (λ answer. answer ≢ Stopped) }
 {
-    match begin(conn) {
-        Ok(()) => match work(alloc, conn, token, command) {
-            Ok(answer) => if is_done(&answer) {
-                if commit(conn) {
-                    Ok(answer)
-                } else {
-                    Err(StoreFault::Store)
-                }
-            } else {
-                if rollback(conn) {
-                    Ok(answer)
-                } else {
-                    Err(StoreFault::Store)
-                }
-            },
-            Err(fault) => Err(undo(conn, fault)),
-        },
-        Err(fault) => Err(fault),
+    done!(begin(conn));
+    let worked = work(alloc, conn, token, command);
+    if finish(conn, is_done(&worked)) {
+        worked
+    } else {
+        Err(StoreFault::Store)
     }
 }

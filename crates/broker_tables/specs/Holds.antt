@@ -4,11 +4,13 @@ use Rattle.std.specs.Option.{option_map_or}
 use Rattle.std.specs.Ordering.{int_cmp}
 use Rattle.sqlite.specs.Order.{Row}
 use Rattle.sqlite.specs.Effect.{Database}
+use Rattle.sqlite.specs.Held.{Held, state}
 use Rattle.sqlite.specs.State.{State}
+use Rattle.sqlite_trees.specs.declared.store.Store.{Ghosts}
 use Rattle.sha2.specs.Sha256.{sha256}
 use Rattle.hex.specs.Hex.{encode_lower}
 use Rattle.table_access.specs.declared.StoreFault.{StoreFault}
-use Rattle.table_access.specs.Calls.{CallsTables, CallsStore}
+use Rattle.table_access.specs.Calls.{CallsTablesBetween, CallsStoreBetween}
 use Rattle.table_access.specs.Columns.{text, text_cmp, whole_at, by_both}
 use Rattle.table_access.specs.Sound.{IsKept}
 use Rattle.broker_core.specs.declared.command.Version.{Version}
@@ -174,21 +176,37 @@ abbrev pub IsRead : {A : Type 0} → State → State → (A → Broker → Type 
 IsRead old new P a = (s : Broker) → Holds old.now s → P a s × Holds new.now s
 
 -- a query, where there may be no room for its answer
-abbrev pub Queries : {A : Type 0} → State → State → Result A StoreFault → (A → Broker → Type 0) → Type 0
-Queries old new r P = CallsTables old new r (IsRead old new P)
+abbrev pub QueriesBetween : {A : Type 0} → State → State → Result A StoreFault → (A → Broker → Type 0) → Type 0
+QueriesBetween old new r P = CallsTablesBetween old new r (IsRead old new P)
 
 -- a query whose answer takes no memory
-abbrev pub QueriesInPlace : {A : Type 0} → State → State → Result A StoreFault → (A → Broker → Type 0) → Type 0
-QueriesInPlace old new r P = CallsStore old new r (IsRead old new P)
+abbrev pub QueriesInPlaceBetween : {A : Type 0} → State → State → Result A StoreFault → (A → Broker → Type 0) → Type 0
+QueriesInPlaceBetween old new r P = CallsStoreBetween old new r (IsRead old new P)
 
 -- the state that the database holds leads to another, which it holds now
-abbrev pub Changes : State → State → Result (Unit {0}) StoreFault → (Broker → Broker → Type 0) → Type 0
-Changes old new r Next =
-    CallsStore old new r (λ _. (s : Broker) → Holds old.now s → (t : Broker) → Next s t → Holds new.now t)
+abbrev pub ChangesBetween : State → State → Result (Unit {0}) StoreFault → (Broker → Broker → Type 0) → Type 0
+ChangesBetween old new r Next =
+    CallsStoreBetween old new r (λ _. (s : Broker) → Holds old.now s → (t : Broker) → Next s t → Holds new.now t)
 
 -- where the state that the database holds allows it, an answer, and another state that the database holds now
-abbrev pub ChangesAndAnswers : {A : Type 0} → State → State → Result A StoreFault → (Broker → Type 0)
+abbrev pub ChangesAndAnswersBetween : {A : Type 0} → State → State → Result A StoreFault → (Broker → Type 0)
     → (A → Broker → Broker → Type 0) → Type 0
-ChangesAndAnswers old new r Allows Next =
-    CallsStore old new r
+ChangesAndAnswersBetween old new r Allows Next =
+    CallsStoreBetween old new r
     (λ a. (s : Broker) → Holds old.now s → Allows s → (t : Broker) × Next a s t × Holds new.now t)
+
+-- ---- the same of a connection over this store
+
+module _ {X : Type 0} (store : Ghosts X) (old new : Held X) where
+  abbrev pub Queries : {A : Type 0} → Result A StoreFault → (A → Broker → Type 0) → Type 0
+  Queries r P = QueriesBetween (state store old) (state store new) r P
+
+  abbrev pub QueriesInPlace : {A : Type 0} → Result A StoreFault → (A → Broker → Type 0) → Type 0
+  QueriesInPlace r P = QueriesInPlaceBetween (state store old) (state store new) r P
+
+  abbrev pub Changes : Result (Unit {0}) StoreFault → (Broker → Broker → Type 0) → Type 0
+  Changes r Next = ChangesBetween (state store old) (state store new) r Next
+
+  abbrev pub ChangesAndAnswers : {A : Type 0} → Result A StoreFault → (Broker → Type 0)
+      → (A → Broker → Broker → Type 0) → Type 0
+  ChangesAndAnswers r Allows Next = ChangesAndAnswersBetween (state store old) (state store new) r Allows Next

@@ -65,8 +65,8 @@ table name columns primary uniques references checks =
     plain_table name 0 columns None primary uniques (map (λ _. plain) uniques) checks references
 
 -- the first column is the row's number
-abbrev pub numbered : List ℕ → List Column → List (List ℕ) → List Reference → List Term → Table
-numbered name columns uniques references checks =
+abbrev pub numbered_table : List ℕ → List Column → List (List ℕ) → List Reference → List Term → Table
+numbered_table name columns uniques references checks =
     record (table name columns (0 ∷ []) uniques references checks) { key = Some 0 }
 
 -- the PRIMARY KEY is the one key
@@ -76,7 +76,7 @@ keyed name columns primary references checks = table name columns primary (prima
 -- ---- the tables
 
 abbrev pub meta : Table
-meta = numbered (codes "meta") (numbers (codes "one") ∷ numbers (codes "format") ∷ texts (codes "office_digest") ∷ [])
+meta = numbered_table (codes "meta") (numbers (codes "one") ∷ numbers (codes "format") ∷ texts (codes "office_digest") ∷ [])
     [] [] (is_number 0 1 ∷ [])
 
 abbrev pub teams : Table
@@ -88,7 +88,7 @@ pacticipants = keyed (codes "pacticipants") (texts (codes "name") ∷ texts (cod
     (1 ∷ []) (to 2 (codes "teams") (codes "name") ∷ []) []
 
 abbrev pub versions : Table
-versions = numbered (codes "versions")
+versions = numbered_table (codes "versions")
     (numbers (codes "number") ∷ texts (codes "pacticipant") ∷ texts (codes "version") ∷ [])
     ((2 ∷ 3 ∷ []) ∷ []) (to 2 (codes "pacticipants") (codes "name") ∷ []) []
 
@@ -105,7 +105,7 @@ grants = keyed (codes "grants") (texts (codes "team") ∷ texts (codes "environm
     (1 ∷ 2 ∷ []) (to 1 (codes "teams") (codes "name") ∷ to 2 (codes "environments") (codes "name") ∷ []) []
 
 abbrev pub contents : Table
-contents = numbered (codes "contents") (numbers (codes "number") ∷ texts (codes "digest") ∷ texts (codes "body") ∷ [])
+contents = numbered_table (codes "contents") (numbers (codes "number") ∷ texts (codes "digest") ∷ texts (codes "body") ∷ [])
     [] [] []
 
 abbrev pub contracts : Table
@@ -118,7 +118,7 @@ contracts = keyed (codes "contracts")
 
 -- SQLite's UNIQUE takes no two NULLs for equal, so a run stands once with its provider where there is one
 abbrev pub results : Table
-results = numbered (codes "results")
+results = numbered_table (codes "results")
     (numbers (codes "number") ∷ numbers (codes "content") ∷ texts (codes "provider")
     ∷ numbers (codes "provider_version") ∷ numbers (codes "pass") ∷ optional (texts (codes "run")) ∷ [])
     ((3 ∷ 6 ∷ []) ∷ [])
@@ -148,7 +148,7 @@ released = keyed (codes "released") (texts (codes "environment") ∷ numbers (co
     (1 ∷ 2 ∷ []) (to 1 (codes "environments") (codes "name") ∷ to 2 (codes "versions") (codes "number") ∷ []) []
 
 abbrev pub checked_results : Table
-checked_results = numbered (codes "checked_results") (numbers (codes "result") ∷ [])
+checked_results = numbered_table (codes "checked_results") (numbers (codes "result") ∷ [])
     [] (to 0 (codes "results") (codes "number") ∷ []) []
 
 abbrev pub strict_environments : Table

@@ -1,7 +1,6 @@
 //! Making tables and indexes by their texts.
 ghost use Rattle.std.specs.Prelude.{map};
 ghost use Rattle.std.specs.List.{AllByRecursion};
-ghost use Rattle.sqlite.specs.Held.{state};
 ghost use Rattle.sqlite_resolve.specs.Compile.{first};
 ghost use Rattle.table_access.specs.Calls.{CallsStore};
 ghost use Rattle.table_access.specs.Writes.{IsWriteText};
@@ -16,8 +15,8 @@ use table_access::{StoreFault, change};
 /// `StoreFault::Memory` where the database is out of memory; `StoreFault::Store` where it refused a text.
 pub fn make_each<S: Alter>(conn: &mut Connection<S>, texts: &[&str]) -> Result<(), StoreFault>
     requires { AllByRecursion (λ text. IsWriteText (first text.now)) texts.now }
-    ensures { CallsStore (state S.Store conn.old) (state S.Store conn.new) result
-        (λ _. MakesTexts (map (λ text. text.now) texts.now) (state S.Store conn.old).now (state S.Store conn.new).now) }
+    ensures { CallsStore S.Store conn.old conn.new result
+        (λ _ old new. MakesTexts (map (λ text. text.now) texts.now) old.now new.now) }
 {
     for text in texts {
         match change(conn, text, &[]) {

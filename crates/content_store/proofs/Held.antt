@@ -7,7 +7,7 @@ use Rattle.sqlite.specs.Effect.{Database}
 use Rattle.sqlite.specs.State.{State}
 use Rattle.sha2.specs.Sha256.{sha256}
 use Rattle.table_access.specs.declared.StoreFault.{StoreFault}
-use Rattle.table_access.specs.Calls.{CallsTables, CallsStore}
+use Rattle.table_access.specs.Calls.{CallsTablesBetween, CallsStoreBetween}
 use Rattle.table_access.proofs.CallLemmas.{call_with, statement_with}
 use Rattle.broker_core.specs.Text.{Text, same_text}
 use Rattle.broker_core.specs.State.{State as Broker}
@@ -15,7 +15,7 @@ use Rattle.broker_core.specs.Change.{is_stored, number_of, stored}
 use Rattle.broker_tables.specs.Schema.{broker_schema}
 use Rattle.broker_tables.specs.Rows.{rows_of}
 use Rattle.broker_tables.specs.Numbers.{numbered}
-use Rattle.broker_tables.specs.Holds.{Holds, with_digest, IsRead, Queries, QueriesInPlace, ChangesAndAnswers}
+use Rattle.broker_tables.specs.Holds.{Holds, with_digest, IsRead, QueriesBetween, QueriesInPlaceBetween, ChangesAndAnswersBetween}
 use Rattle.broker_tables.proofs.Frames.{Frame, is_other, contents_change}
 use Rattle.content_store.specs.Contents.{hex_of, ContentsBy, IsReadBy, IsReadByAny, IsPut, IsPutBy}
 
@@ -33,15 +33,15 @@ pub read_held : {A : Type 0} (old new : State) (P : A → List Text → Type 0) 
 read_held old new P a read s held = let it = read s.contents (contents_held old.now s held) in (it.0, subst (λ d. Holds d s) (sym it.1) held)
 
 -- a query about the contents, by whatever digest, answers of those of the state that the database holds
-pub reads_held : {A : Type 0} (old new : State) (r : Result A StoreFault) (P : A → List Text → Type 0) → CallsTables old new r (IsReadByAny old new P) → Queries old new r (λ a s. P a s.contents)
+pub reads_held : {A : Type 0} (old new : State) (r : Result A StoreFault) (P : A → List Text → Type 0) → CallsTablesBetween old new r (IsReadByAny old new P) → QueriesBetween old new r (λ a s. P a s.contents)
 reads_held old new r P = call_with old new r _ _ (λ a read. read_held old new P a (read (hex_of sha256)))
 
 -- the same of a query whose answer takes no memory
-pub counts_held : {A : Type 0} (old new : State) (r : Result A StoreFault) (P : A → List Text → Type 0) → CallsStore old new r (IsReadByAny old new P) → QueriesInPlace old new r (λ a s. P a s.contents)
+pub counts_held : {A : Type 0} (old new : State) (r : Result A StoreFault) (P : A → List Text → Type 0) → CallsStoreBetween old new r (IsReadByAny old new P) → QueriesInPlaceBetween old new r (λ a s. P a s.contents)
 counts_held old new r P = statement_with old new r _ _ (λ a read. read_held old new P a (read (hex_of sha256)))
 
 -- the same of one that needs the contents to be stored by SHA-256
-pub finds_held : {A : Type 0} (old new : State) (r : Result A StoreFault) (P : A → List Text → Type 0) → CallsStore old new r (IsReadBy (hex_of sha256) old new P) → QueriesInPlace old new r (λ a s. P a s.contents)
+pub finds_held : {A : Type 0} (old new : State) (r : Result A StoreFault) (P : A → List Text → Type 0) → CallsStoreBetween old new r (IsReadBy (hex_of sha256) old new P) → QueriesInPlaceBetween old new r (λ a s. P a s.contents)
 finds_held old new r P = statement_with old new r _ _ (λ a read. read_held old new P a read)
 
 -- ---- a text is put
@@ -73,5 +73,5 @@ put_held old new s body number held put = (put.number_is, go (is_stored s body) 
     go false e are = contents_change old new s (s.contents ++ body ∷ []) held (put_frame (hex_of sha256) body s.contents number old new (contents_held old s held) put) are.are
 
 -- a text that is put gets its number in the state, and the state with this text stored is held afterwards
-pub puts_held : (old new : State) (r : Result ℕ StoreFault) (body : Text) → CallsStore old new r (IsPutBy (hex_of sha256) body old new) → ChangesAndAnswers old new r (λ s. ⊤) (λ number s t. (number ≡ number_of s body) × (t ≡ stored s body))
+pub puts_held : (old new : State) (r : Result ℕ StoreFault) (body : Text) → CallsStoreBetween old new r (IsPutBy (hex_of sha256) body old new) → ChangesAndAnswersBetween old new r (λ s. ⊤) (λ number s t. (number ≡ number_of s body) × (t ≡ stored s body))
 puts_held old new r body = statement_with old new r _ _ (λ number puts s held free. let it = put_held old.now new.now s body number held (puts s.contents (contents_held old.now s held)) in (stored s body, (it.0, refl), it.1))

@@ -1,7 +1,6 @@
 //! The normal texts of pacts, each once under its number, beside its digest.
 ghost use Rattle.std.specs.Prelude.{◌≡◌, pos, List, ℕ, IfOk, IfErr, length, option_map, string_bytes};
 ghost use Rattle.std.specs.List.{find as first};
-ghost use Rattle.sqlite.specs.Held.{state};
 ghost use Rattle.sqlite.specs.Order.{column};
 ghost use Rattle.sqlite.specs.declared.types.Value.TheVariants.{Int};
 ghost use Rattle.hex.specs.Hex.{encode_lower};
@@ -21,9 +20,8 @@ use table_access::{StoreFault, change, number_in, number_of, select, text_at, te
 /// # Errors
 /// `StoreFault::Memory` where the database is out of memory, or there is none for the answer; `StoreFault::Store` where it refused the query, or for a number above 2^63 - 1, which no row can have.
 pub fn get<S: Alter>(conn: &mut Connection<S>, number: u64) -> Result<Option<String>, StoreFault>
-    ensures { CallsTables (state S.Store conn.old) (state S.Store conn.new) result
-        (IsReadByAny (state S.Store conn.old) (state S.Store conn.new)
-        (λ found texts. option_map string_bytes found ≡ text_in texts number)) }
+    ensures { CallsTables S.Store conn.old conn.new result
+        (λ found old new. IsReadByAny old new (λ found texts. option_map string_bytes found ≡ text_in texts number) found) }
 {
     match i64::try_from(number) {
         Ok(number) => text_of(
@@ -40,9 +38,8 @@ pub fn get<S: Alter>(conn: &mut Connection<S>, number: u64) -> Result<Option<Str
 /// # Errors
 /// `StoreFault::Memory` where the database is out of memory; `StoreFault::Store` where it refused the query or holds no number there.
 pub fn content_count<S: Alter>(conn: &mut Connection<S>) -> Result<u64, StoreFault>
-    ensures { CallsStore (state S.Store conn.old) (state S.Store conn.new) result
-        (IsReadByAny (state S.Store conn.old) (state S.Store conn.new)
-        (λ count texts. count ≡ length texts)) }
+    ensures { CallsStore S.Store conn.old conn.new result
+        (λ count old new. IsReadByAny old new (λ count texts. count ≡ length texts) count) }
 {
     match number_of(
         conn,
@@ -91,9 +88,9 @@ fn find_beside<S: Alter>(
     digest: &[u8],
     body: &str,
 ) -> Result<Option<u32>, StoreFault>
-    ensures { CallsStore (state S.Store conn.old) (state S.Store conn.new) result
-        (λ found. (by : Text → Text) → by body.now ≡ digest.now →
-        IsReadBy by (state S.Store conn.old) (state S.Store conn.new)
+    ensures { CallsStore S.Store conn.old conn.new result
+        (λ found old new. (by : Text → Text) → by body.now ≡ digest.now →
+        IsReadBy by old new
         (λ found texts. found ≡ found_in texts body.now) found) }
 {
     match select(
@@ -115,9 +112,8 @@ pub fn find<S: Alter, D: Digester>(
     digester: &D,
     body: &str,
 ) -> Result<Option<u64>, StoreFault>
-    ensures { CallsStore (state S.Store conn.old) (state S.Store conn.new) result
-        (IsReadBy (hex_of D.digest_of) (state S.Store conn.old) (state S.Store conn.new)
-        (λ found texts. found ≡ found_in texts body.now)) }
+    ensures { CallsStore S.Store conn.old conn.new result
+        (λ found old new. IsReadBy (hex_of D.digest_of) old new (λ found texts. found ≡ found_in texts body.now) found) }
 {
     let digest = digest_digits(digester, body.as_bytes());
     match find_beside(conn, &digest, body) {
@@ -134,9 +130,9 @@ fn put_under<'a, S: Alter>(
     digest: &'a [u8],
     body: &'a str,
 ) -> Result<(), StoreFault>
-    ensures { CallsStore (state S.Store conn.old) (state S.Store conn.new) result
-        (λ _. (by : Text → Text) → by body.now ≡ digest.now →
-        IsPutUnder by body.now (state S.Store conn.old) (state S.Store conn.new) number) }
+    ensures { CallsStore S.Store conn.old conn.new result
+        (λ _ old new. (by : Text → Text) → by body.now ≡ digest.now →
+        IsPutUnder by body.now old new number) }
 {
     change(
         conn,
@@ -147,9 +143,9 @@ fn put_under<'a, S: Alter>(
 
 /// Adds a text that isn't there, with this digest, and answers its number, which is the next one.
 fn add<S: Alter>(conn: &mut Connection<S>, digest: &[u8], body: &str) -> Result<u32, StoreFault>
-    ensures { CallsStore (state S.Store conn.old) (state S.Store conn.new) result
-        (λ number. (by : Text → Text) → by body.now ≡ digest.now →
-        IsNewBy by body.now (state S.Store conn.old) (state S.Store conn.new) number) }
+    ensures { CallsStore S.Store conn.old conn.new result
+        (λ number old new. (by : Text → Text) → by body.now ≡ digest.now →
+        IsNewBy by body.now old new number) }
 {
     match content_count(conn) {
         Ok(count) => match next_number(count) {
@@ -172,8 +168,8 @@ pub fn put<S: Alter, D: Digester>(
     digester: &D,
     body: &str,
 ) -> Result<u64, StoreFault>
-    ensures { CallsStore (state S.Store conn.old) (state S.Store conn.new) result
-        (IsPutBy (hex_of D.digest_of) body.now (state S.Store conn.old) (state S.Store conn.new)) }
+    ensures { CallsStore S.Store conn.old conn.new result
+        (λ number old new. IsPutBy (hex_of D.digest_of) body.now old new number) }
 {
     let digest = digest_digits(digester, body.as_bytes());
     match find_beside(conn, &digest, body) {

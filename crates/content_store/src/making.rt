@@ -1,6 +1,5 @@
 //! The table as a new broker makes it.
 ghost use Rattle.std.specs.Prelude.{◌≡◌, ◌∷◌, []};
-ghost use Rattle.sqlite.specs.Held.{state};
 ghost use Rattle.table_access.specs.Calls.{CallsStore};
 ghost use Rattle.table_access.specs.Statements.{Makes, Indexes};
 ghost use Rattle.broker_tables.specs.Schema.{registry_part, contents, schema_of, all_tables, contents_by_digest};
@@ -15,9 +14,9 @@ use table_access::StoreFault;
 /// # Errors
 /// `StoreFault::Memory` where the database is out of memory; `StoreFault::Store` where it refused the table.
 pub fn make_tables<S: Alter>(conn: &mut Connection<S>) -> Result<(), StoreFault>
-    ensures { CallsStore (state S.Store conn.old) (state S.Store conn.new) result
-        (λ _. (state S.Store conn.old).now.schema ≡ schema_of registry_part →
-        Makes (contents ∷ []) (state S.Store conn.old).now (state S.Store conn.new).now) }
+    ensures { CallsStore S.Store conn.old conn.new result
+        (λ _ old new. old.now.schema ≡ schema_of registry_part →
+        Makes (contents ∷ []) old.now new.now) }
 {
     make_each(conn, &[CONTENTS])
 }
@@ -27,9 +26,9 @@ pub fn make_tables<S: Alter>(conn: &mut Connection<S>) -> Result<(), StoreFault>
 /// # Errors
 /// `StoreFault::Memory` where the database is out of memory; `StoreFault::Store` where it refused the index.
 pub fn make_index<S: Alter>(conn: &mut Connection<S>) -> Result<(), StoreFault>
-    ensures { CallsStore (state S.Store conn.old) (state S.Store conn.new) result
-        (λ _. (state S.Store conn.old).now.schema ≡ schema_of all_tables →
-        Indexes (state S.Store conn.old).now (state S.Store conn.new).now
+    ensures { CallsStore S.Store conn.old conn.new result
+        (λ _ old new. old.now.schema ≡ schema_of all_tables →
+        Indexes old.now new.now
         contents_by_digest.0 contents_by_digest.1) }
 {
     make_each(conn, &[CONTENTS_BY_DIGEST])

@@ -1,6 +1,5 @@
 //! The contracts of consumers' versions with providers.
 ghost use Rattle.std.specs.Prelude.{◌≡◌, Some};
-ghost use Rattle.sqlite.specs.Held.{state};
 ghost use Rattle.broker_core.specs.declared.command.Version.{Version as VersionModel};
 ghost use Rattle.broker_tables.specs.Numbers.{number_of as number_in};
 ghost use Rattle.broker_tables.specs.Holds.{QueriesInPlace, Changes};
@@ -18,7 +17,7 @@ pub fn contract_of<S: Alter>(
     version_number: u32,
     provider: &str,
 ) -> Result<Option<u32>, StoreFault>
-    ensures { QueriesInPlace (state S.Store conn.old) (state S.Store conn.new) result
+    ensures { QueriesInPlace S.Store conn.old conn.new result
         (λ found s. (v : VersionModel) → number_in s.versions v ≡ Some version_number →
         found ≡ s.contracts (v, provider.now)) }
 {
@@ -39,8 +38,7 @@ pub fn add_contract<S: Alter>(
     provider: &str,
     content: u32,
 ) -> Result<(), StoreFault>
-    ensures { Changes (state S.Store conn.old) (state S.Store conn.new) result
-        (AddsContract version_number provider.now content) }
+    ensures { Changes S.Store conn.old conn.new result (AddsContract version_number provider.now content) }
 {
     change(
         conn,

@@ -1,6 +1,5 @@
 //! Contracts and their verification, listed.
 ghost use Rattle.std.specs.Prelude.{◌≡◌, Some, option_map};
-ghost use Rattle.sqlite.specs.Held.{state};
 ghost use Rattle.broker_core.specs.declared.command.Version.{Version as VersionModel};
 ghost use Rattle.broker_core.specs.Listing.{Lists};
 ghost use Rattle.broker_core.specs.Machine.{version_cmp};
@@ -115,7 +114,7 @@ pub fn contracts_of<S: Alter>(
     conn: &mut Connection<S>,
     version_number: u32,
 ) -> Result<Vec<Contract>, StoreFault>
-    ensures { Queries (state S.Store conn.old) (state S.Store conn.new) result
+    ensures { Queries S.Store conn.old conn.new result
         (λ found s. (v : VersionModel) → number_known s.versions v ≡ Some version_number →
         Lists contract_cmp (λ c. s.contracts (v, c.provider) ≡ Some c.content) found.items) }
 {
@@ -137,7 +136,7 @@ pub fn consumers_of<S: Alter>(
     provider: &str,
     content: u32,
 ) -> Result<Vec<Version>, StoreFault>
-    ensures { Queries (state S.Store conn.old) (state S.Store conn.new) result
+    ensures { Queries S.Store conn.old conn.new result
         (λ found s. Lists version_cmp (λ w. s.contracts (w, provider.now) ≡ Some content) found.items) }
 {
     list_of::<ConsumerRow, S>(
@@ -158,7 +157,7 @@ pub fn verified_versions<S: Alter>(
     provider: &str,
     content: u32,
 ) -> Result<Vec<VerifiedVersion>, StoreFault>
-    ensures { Queries (state S.Store conn.old) (state S.Store conn.new) result
+    ensures { Queries S.Store conn.old conn.new result
         (λ found s. Lists verified_cmp
         (λ x. option_map (λ e. e.0) (latest_result s content (version_named provider.now x.name)) ≡ Some x.result)
         found.items) }
@@ -180,7 +179,7 @@ pub fn verified_contents<S: Alter>(
     conn: &mut Connection<S>,
     version_number: u32,
 ) -> Result<Vec<VerifiedContent>, StoreFault>
-    ensures { Queries (state S.Store conn.old) (state S.Store conn.new) result
+    ensures { Queries S.Store conn.old conn.new result
         (λ found s. (v : VersionModel) → number_known s.versions v ≡ Some version_number →
         Lists content_cmp
         (λ x. option_map (λ e. e.0) (latest_result s x.content v) ≡ Some x.result) found.items) }

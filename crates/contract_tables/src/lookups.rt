@@ -1,6 +1,5 @@
 //! What the results say: the latest one for a content and a version of its provider, and each by its number.
 ghost use Rattle.std.specs.Prelude.{◌≡◌, option_map, Some, length, IfOk, IfErr, slice_get};
-ghost use Rattle.sqlite.specs.Held.{state};
 ghost use Rattle.broker_core.specs.declared.command.Version.{Version as VersionModel};
 ghost use Rattle.broker_core.specs.State.{Verification, said_by, latest_result, latest};
 ghost use Rattle.broker_core.specs.Change.{result_of_run as run_result};
@@ -19,8 +18,7 @@ use table_access::{StoreFault, has_row, number_at, number_of, select};
 /// # Errors
 /// `StoreFault::Memory` where the database is out of memory; `StoreFault::Store` where it refused the query or holds no number there.
 pub fn result_count<S: Alter>(conn: &mut Connection<S>) -> Result<u64, StoreFault>
-    ensures { QueriesInPlace (state S.Store conn.old) (state S.Store conn.new) result
-        (λ count s. count ≡ length s.results) }
+    ensures { QueriesInPlace S.Store conn.old conn.new result (λ count s. count ≡ length s.results) }
 {
     match number_of(
         conn,
@@ -41,7 +39,7 @@ pub fn latest_number<S: Alter>(
     content: u32,
     version_number: u32,
 ) -> Result<Option<u32>, StoreFault>
-    ensures { QueriesInPlace (state S.Store conn.old) (state S.Store conn.new) result
+    ensures { QueriesInPlace S.Store conn.old conn.new result
         (λ found s. (v : VersionModel) → number_in s.versions v ≡ Some version_number →
         found ≡ option_map (λ e. e.0) (latest_result s content v)) }
 {
@@ -54,7 +52,7 @@ pub fn latest_number<S: Alter>(
 
 /// Whether the result with this number is a pass, or `None` where there is no such result.
 fn passed<S: Alter>(conn: &mut Connection<S>, number: u32) -> Result<Option<bool>, StoreFault>
-    ensures { QueriesInPlace (state S.Store conn.old) (state S.Store conn.new) result
+    ensures { QueriesInPlace S.Store conn.old conn.new result
         (λ found s. found ≡ option_map (λ r. r.pass) (result_with s number)) }
 {
     match number_of(
@@ -69,7 +67,7 @@ fn passed<S: Alter>(conn: &mut Connection<S>, number: u32) -> Result<Option<bool
 
 /// Whether the broker checked the result with this number, which is there.
 fn is_checked<S: Alter>(conn: &mut Connection<S>, number: u32) -> Result<bool, StoreFault>
-    ensures { QueriesInPlace (state S.Store conn.old) (state S.Store conn.new) result
+    ensures { QueriesInPlace S.Store conn.old conn.new result
         (λ checked s. (r : Verification) → result_with s number ≡ Some r → checked ≡ r.checked) }
 {
     has_row(
@@ -87,7 +85,7 @@ pub fn result_said<S: Alter>(
     conn: &mut Connection<S>,
     number: u32,
 ) -> Result<Option<Latest>, StoreFault>
-    ensures { QueriesInPlace (state S.Store conn.old) (state S.Store conn.new) result
+    ensures { QueriesInPlace S.Store conn.old conn.new result
         (λ found s. found ≡ option_map said_by (result_with s number)) }
 {
     match passed(conn, number) {
@@ -109,7 +107,7 @@ pub fn latest_of<S: Alter>(
     content: u32,
     version_number: u32,
 ) -> Result<Option<Latest>, StoreFault>
-    ensures { QueriesInPlace (state S.Store conn.old) (state S.Store conn.new) result
+    ensures { QueriesInPlace S.Store conn.old conn.new result
         (λ found s. (v : VersionModel) → number_in s.versions v ≡ Some version_number →
         found ≡ latest s content v) }
 {
@@ -181,7 +179,7 @@ fn stored_of_run<S: Alter>(
     provider: &str,
     run: &str,
 ) -> Result<Option<StoredResult>, StoreFault>
-    ensures { QueriesInPlace (state S.Store conn.old) (state S.Store conn.new) result
+    ensures { QueriesInPlace S.Store conn.old conn.new result
         (λ found s. option_map (λ r. numbers_are r.number r.content r.provider_version r.pass) found
         ≡ option_map (by_numbers s.versions) (run_result s provider.now (Some run.now))) }
 {
@@ -204,7 +202,7 @@ pub fn result_of_run<S: Alter>(
     provider: &str,
     run: &str,
 ) -> Result<Option<ResultRow>, StoreFault>
-    ensures { QueriesInPlace (state S.Store conn.old) (state S.Store conn.new) result
+    ensures { QueriesInPlace S.Store conn.old conn.new result
         (λ found s. option_map (λ r. told r.number r.content r.provider_version r.pass r.checked) found
         ≡ option_map (told_of s.versions) (run_result s provider.now (Some run.now))) }
 {

@@ -1,6 +1,5 @@
 //! The tables as a new broker makes them.
 ghost use Rattle.std.specs.Prelude.{◌≡◌, ◌++◌, ◌∷◌, []};
-ghost use Rattle.sqlite.specs.Held.{state};
 ghost use Rattle.table_access.specs.Calls.{CallsStore};
 ghost use Rattle.table_access.specs.Statements.{Creates, Makes, MakesIndexes, indexed_by};
 ghost use Rattle.broker_tables.specs.Schema.{registry_part, contents, contract_part, deploy_part, checked_results, schema_of, all_tables, contents_by_digest, contract_indexes};
@@ -17,9 +16,9 @@ use table_access::StoreFault;
 /// # Errors
 /// `StoreFault::Memory` where the database is out of memory; `StoreFault::Store` where it refused a table.
 pub fn make_tables<S: Alter>(conn: &mut Connection<S>) -> Result<(), StoreFault>
-    ensures { CallsStore (state S.Store conn.old) (state S.Store conn.new) result
-        (λ _. (state S.Store conn.old).now.schema ≡ schema_of (registry_part ++ contents ∷ []) →
-        Makes contract_part (state S.Store conn.old).now (state S.Store conn.new).now) }
+    ensures { CallsStore S.Store conn.old conn.new result
+        (λ _ old new. old.now.schema ≡ schema_of (registry_part ++ contents ∷ []) →
+        Makes contract_part old.now new.now) }
 {
     make_each(conn, &[CONTRACTS, RESULTS, LATEST])
 }
@@ -29,10 +28,10 @@ pub fn make_tables<S: Alter>(conn: &mut Connection<S>) -> Result<(), StoreFault>
 /// # Errors
 /// `StoreFault::Memory` where the database is out of memory; `StoreFault::Store` where it refused the table.
 pub fn make_checked_results<S: Alter>(conn: &mut Connection<S>) -> Result<(), StoreFault>
-    ensures { CallsStore (state S.Store conn.old) (state S.Store conn.new) result
-        (λ _. (state S.Store conn.old).now.schema
+    ensures { CallsStore S.Store conn.old conn.new result
+        (λ _ old new. old.now.schema
         ≡ schema_of (registry_part ++ contents ∷ contract_part ++ deploy_part) →
-        Creates (state S.Store conn.old).now (state S.Store conn.new).now checked_results) }
+        Creates old.now new.now checked_results) }
 {
     make_each(conn, &[CHECKED_RESULTS])
 }
@@ -42,9 +41,9 @@ pub fn make_checked_results<S: Alter>(conn: &mut Connection<S>) -> Result<(), St
 /// # Errors
 /// `StoreFault::Memory` where the database is out of memory; `StoreFault::Store` where it refused an index.
 pub fn make_indexes<S: Alter>(conn: &mut Connection<S>) -> Result<(), StoreFault>
-    ensures { CallsStore (state S.Store conn.old) (state S.Store conn.new) result
-        (λ _. (state S.Store conn.old).now.schema ≡ indexed_by (schema_of all_tables) (contents_by_digest ∷ []) →
-        MakesIndexes contract_indexes (state S.Store conn.old).now (state S.Store conn.new).now) }
+    ensures { CallsStore S.Store conn.old conn.new result
+        (λ _ old new. old.now.schema ≡ indexed_by (schema_of all_tables) (contents_by_digest ∷ []) →
+        MakesIndexes contract_indexes old.now new.now) }
 {
     make_each(conn, &[CONTRACTS_BY_CONTENT, LATEST_BY_PROVIDER_VERSION])
 }

@@ -1,6 +1,5 @@
 //! The tables of a broker of format 1, as they become today's.
 ghost use Rattle.std.specs.Prelude.{◌∷◌, []};
-ghost use Rattle.sqlite.specs.Held.{state};
 ghost use Rattle.table_access.specs.Calls.{CallsStore};
 ghost use Rattle.broker_core.specs.State.{State as Broker};
 ghost use Rattle.broker_tables.specs.Schema.{checked_results};
@@ -15,9 +14,9 @@ use table_access::StoreFault;
 /// # Errors
 /// `StoreFault::Memory` where the database is out of memory; `StoreFault::Store` where it refused the table.
 pub fn to_format_2<S: Alter>(conn: &mut Connection<S>) -> Result<(), StoreFault>
-    ensures { CallsStore (state S.Store conn.old) (state S.Store conn.new) result
-        (λ _. (s : Broker) → HoldsFormer (state S.Store conn.old).now s →
-        HoldsUnmarked former_format (checked_results ∷ []) (state S.Store conn.new).now s) }
+    ensures { CallsStore S.Store conn.old conn.new result
+        (λ _ old new. (s : Broker) → HoldsFormer old.now s →
+        HoldsUnmarked former_format (checked_results ∷ []) new.now s) }
 {
     make_checked_results(conn)
 }

@@ -1,6 +1,5 @@
 //! A result comes in: its row, the mark that the broker checked it, and that it is the latest one for its content and its version.
 ghost use Rattle.std.specs.Prelude.{option_map, Some, None};
-ghost use Rattle.sqlite.specs.Held.{state};
 ghost use Rattle.table_access.specs.Calls.{CallsStore};
 ghost use Rattle.broker_tables.specs.Holds.{IsBroker, Changes};
 ghost use Rattle.contract_tables.specs.Verified.{RecordsResult, PutsRow, result_row, Marks, Points};
@@ -20,10 +19,10 @@ fn put_run<S: Alter>(
     pass: bool,
     run: &str,
 ) -> Result<(), StoreFault>
-    ensures { CallsStore (state S.Store conn.old) (state S.Store conn.new) result
-        (λ _. IsBroker (state S.Store conn.old).now →
+    ensures { CallsStore S.Store conn.old conn.new result
+        (λ _ old new. IsBroker old.now →
         PutsRow 17 (result_row number content provider.now version_number pass (Some run.now))
-        (state S.Store conn.old) (state S.Store conn.new)) }
+        old new) }
 {
     change(
         conn,
@@ -41,10 +40,10 @@ fn put_plain<S: Alter>(
     version_number: u32,
     pass: bool,
 ) -> Result<(), StoreFault>
-    ensures { CallsStore (state S.Store conn.old) (state S.Store conn.new) result
-        (λ _. IsBroker (state S.Store conn.old).now →
+    ensures { CallsStore S.Store conn.old conn.new result
+        (λ _ old new. IsBroker old.now →
         PutsRow 17 (result_row number content provider.now version_number pass None)
-        (state S.Store conn.old) (state S.Store conn.new)) }
+        old new) }
 {
     change(
         conn,
@@ -63,11 +62,11 @@ fn put_result<S: Alter>(
     pass: bool,
     run: Option<&str>,
 ) -> Result<(), StoreFault>
-    ensures { CallsStore (state S.Store conn.old) (state S.Store conn.new) result
-        (λ _. IsBroker (state S.Store conn.old).now →
+    ensures { CallsStore S.Store conn.old conn.new result
+        (λ _ old new. IsBroker old.now →
         PutsRow 17
         (result_row number content provider.now version_number pass (option_map (λ text. text.now) run.entry))
-        (state S.Store conn.old) (state S.Store conn.new)) }
+        old new) }
 {
     match run {
         Some(run) => put_run(conn, number, content, provider, version_number, pass, run),
@@ -77,9 +76,9 @@ fn put_result<S: Alter>(
 
 /// Marks a result as checked.
 fn mark_checked<S: Alter>(conn: &mut Connection<S>, number: u32) -> Result<(), StoreFault>
-    ensures { CallsStore (state S.Store conn.old) (state S.Store conn.new) result
-        (λ _. IsBroker (state S.Store conn.old).now →
-        PutsRow 25 (Int (pos number) ∷ Null ∷ []) (state S.Store conn.old) (state S.Store conn.new)) }
+    ensures { CallsStore S.Store conn.old conn.new result
+        (λ _ old new. IsBroker old.now →
+        PutsRow 25 (Int (pos number) ∷ Null ∷ []) old new) }
 {
     change(
         conn,
@@ -90,9 +89,9 @@ fn mark_checked<S: Alter>(conn: &mut Connection<S>, number: u32) -> Result<(), S
 
 /// Marks a result as checked where it was.
 fn mark<S: Alter>(conn: &mut Connection<S>, number: u32, checked: bool) -> Result<(), StoreFault>
-    ensures { CallsStore (state S.Store conn.old) (state S.Store conn.new) result
-        (λ _. IsBroker (state S.Store conn.old).now →
-        Marks checked number (state S.Store conn.old) (state S.Store conn.new)) }
+    ensures { CallsStore S.Store conn.old conn.new result
+        (λ _ old new. IsBroker old.now →
+        Marks checked number old new) }
 {
     if checked {
         mark_checked(conn, number)
@@ -108,9 +107,9 @@ fn point_latest<S: Alter>(
     version_number: u32,
     number: u32,
 ) -> Result<(), StoreFault>
-    ensures { CallsStore (state S.Store conn.old) (state S.Store conn.new) result
-        (λ _. IsBroker (state S.Store conn.old).now →
-        Points content version_number number (state S.Store conn.old) (state S.Store conn.new)) }
+    ensures { CallsStore S.Store conn.old conn.new result
+        (λ _ old new. IsBroker old.now →
+        Points content version_number number old new) }
 {
     change(
         conn,
@@ -133,7 +132,7 @@ pub fn record_result<S: Alter>(
     checked: bool,
     run: Option<&str>,
 ) -> Result<(), StoreFault>
-    ensures { Changes (state S.Store conn.old) (state S.Store conn.new) result
+    ensures { Changes S.Store conn.old conn.new result
         (RecordsResult number content provider.now version_number pass checked
         (option_map (λ text. text.now) run.entry)) }
 {

@@ -4,7 +4,7 @@ use Rattle.std.specs.Prelude.{Contains, filter_map, ⊤}
 use Rattle.std.specs.List.{cons_option}
 use Rattle.sqlite.specs.State.{State}
 use Rattle.table_access.specs.declared.StoreFault.{StoreFault}
-use Rattle.table_access.specs.Calls.{CallsTables}
+use Rattle.table_access.specs.Calls.{CallsTablesBetween}
 use Rattle.table_access.proofs.CallLemmas.{seq, then_ok, then_stop}
 use Rattle.table_access.proofs.Members.{has_contains}
 use Rattle.table_access.proofs.ReadLemmas.{has_get}
@@ -24,7 +24,7 @@ module _ {A X Y : Type 0} (see : A → List Y) (value : Broker → X → Option 
   Found x o s = right s x → o ≡ value s x
 
   pub one_more : (old mid new : State) (at : ℕ) (x : X) (a b : A) (o : Option Y) → at < length xs → x ≡ get_or xs at x → see b ≡ see a ++ cons_option o []
-      → CallsTables old mid (Ok a) (IsRead old mid (SoFar at)) → CallsTables mid new (Ok o) (IsRead mid new (Found x)) → CallsTables old new (Ok b) (IsRead old new (SoFar (at + 1)))
+      → CallsTablesBetween old mid (Ok a) (IsRead old mid (SoFar at)) → CallsTablesBetween mid new (Ok o) (IsRead mid new (Found x)) → CallsTablesBetween old new (Ok b) (IsRead old new (SoFar (at + 1)))
   one_more old mid new at x a b o low is more one two =
       then_ok old new o b (λ q. see b ≡ see a ++ cons_option q [] → IsRead old new (SoFar (at + 1)) b) (IsRead old new (SoFar (at + 1))) (λ m. m more)
       (seq old mid new a (Ok o) (IsRead old mid (SoFar at)) (IsRead mid new (Found x)) (λ q. see b ≡ see a ++ cons_option q [] → IsRead old new (SoFar (at + 1)) b)
@@ -38,7 +38,7 @@ module _ {A X Y : Type 0} (see : A → List Y) (value : Broker → X → Option 
       )) one two)
 
   -- there is no room for what was found
-  pub no_room : {B : Type 0} (old mid new : State) (at : ℕ) (x : X) (a : A) (o : Option Y) (e : StoreFault) (R : B → Type 0) → CallsTables old mid (Ok a) (IsRead old mid (SoFar at)) → CallsTables mid new (Ok o) (IsRead mid new (Found x)) → CallsTables old new (Err e) R
+  pub no_room : {B : Type 0} (old mid new : State) (at : ℕ) (x : X) (a : A) (o : Option Y) (e : StoreFault) (R : B → Type 0) → CallsTablesBetween old mid (Ok a) (IsRead old mid (SoFar at)) → CallsTablesBetween mid new (Ok o) (IsRead mid new (Found x)) → CallsTablesBetween old new (Err e) R
   no_room old mid new at x a o e R one two =
       then_stop old new o e (λ _. ⊤) R (seq old mid new a (Ok o) (IsRead old mid (SoFar at)) (IsRead mid new (Found x)) (λ _. ⊤) (λ first q second. tt) one two)
 

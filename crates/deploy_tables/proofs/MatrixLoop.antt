@@ -4,7 +4,7 @@ use Rattle.std.specs.Prelude.{Contains, ◌↔◌}
 use Rattle.std.proofs.lemmas.List.{take_more}
 use Rattle.std.proofs.lemmas.List.Elements.{Contains-append_cases, Contains-append_left, Contains-append_right}
 use Rattle.sqlite.specs.State.{State}
-use Rattle.table_access.specs.Calls.{CallsTables}
+use Rattle.table_access.specs.Calls.{CallsTablesBetween}
 use Rattle.table_access.proofs.CallLemmas.{seq, then_ok}
 use Rattle.broker_core.specs.State.{State as Broker}
 use Rattle.broker_core.proofs.Lists.{contains_none, contains_cases, contains_here}
@@ -13,12 +13,12 @@ use Rattle.deploy_tables.specs.declared.entries.Entry.{Entry}
 use Rattle.deploy_tables.specs.Matrix.{IsOfSome}
 
 -- a reading, from which the answer is made
-pub read_made : {A B : Type 0} (old new : State) (a : A) (b : B) (P : A → Broker → Type 0) (Q : B → Broker → Type 0) → ((s : Broker) → P a s → Q b s) → CallsTables old new (Ok a) (IsRead old new P) → CallsTables old new (Ok b) (IsRead old new Q)
+pub read_made : {A B : Type 0} (old new : State) (a : A) (b : B) (P : A → Broker → Type 0) (Q : B → Broker → Type 0) → ((s : Broker) → P a s → Q b s) → CallsTablesBetween old new (Ok a) (IsRead old new P) → CallsTablesBetween old new (Ok b) (IsRead old new Q)
 read_made old new a b P Q given = then_ok old new a b (IsRead old new P) (IsRead old new Q) (λ h s held. let f = h s held in (given s f.0, f.1))
 
 -- a reading, and another, from which the answer is made
 pub read_both : {A O B : Type 0} (old mid new : State) (a : A) (o : O) (b : B) (P : A → Broker → Type 0) (Q : O → Broker → Type 0) (R : B → Broker → Type 0) → ((s : Broker) → P a s → Q o s → R b s)
-    → CallsTables old mid (Ok a) (IsRead old mid P) → CallsTables mid new (Ok o) (IsRead mid new Q) → CallsTables old new (Ok b) (IsRead old new R)
+    → CallsTablesBetween old mid (Ok a) (IsRead old mid P) → CallsTablesBetween mid new (Ok o) (IsRead mid new Q) → CallsTablesBetween old new (Ok b) (IsRead old new R)
 read_both old mid new a o b P Q R given one two =
     then_ok old new o b (λ q. ((s : Broker) → P a s → Q q s → R b s) → IsRead old new R b) (IsRead old new R) (λ m. m given)
     (seq old mid new a (Ok o) (IsRead old mid P) (IsRead mid new Q) (λ q. ((s : Broker) → P a s → Q q s → R b s) → IsRead old new R b) (λ first q second both s held.

@@ -1,21 +1,21 @@
--- Queries one after another, and a computation after a query, over the state that the database holds.
+-- QueriesBetween one after another, and a computation after a query, over the state that the database holds.
 use Rattle.std.proofs.Common.{Ok, Err, Result, IfOk}
 use Rattle.sqlite.specs.State.{State}
 use Rattle.table_access.specs.declared.StoreFault.{StoreFault}
-use Rattle.table_access.specs.Calls.{CallsTables}
+use Rattle.table_access.specs.Calls.{CallsTablesBetween}
 use Rattle.table_access.proofs.CallLemmas.{seq, then_ok, then_stop}
 use Rattle.broker_core.specs.State.{State as Broker}
 use Rattle.broker_tables.specs.Holds.{IsRead}
 
 -- a query after another, about the same state
 pub query_then : {A B : Type 0} (old mid new : State) (a : A) (r : Result B StoreFault) (P : A → Broker → Type 0) (Q R : B → Broker → Type 0) → ((s : Broker) → P a s → (b : B) → Q b s → R b s)
-    → CallsTables old mid (Ok a) (IsRead old mid P) → CallsTables mid new r (IsRead mid new Q) → CallsTables old new r (IsRead old new R)
+    → CallsTablesBetween old mid (Ok a) (IsRead old mid P) → CallsTablesBetween mid new r (IsRead mid new Q) → CallsTablesBetween old new r (IsRead old new R)
 query_then old mid new a r P Q R more one two =
     seq old mid new a r (IsRead old mid P) (IsRead mid new Q) (IsRead old new R)
     (λ first b second s held. let f = first s held in let g = second s f.1 in (more s f.0 b g.0, g.1)) one two
 
 -- an answer that is computed after a query, or no room for it
 pub computed : {A B : Type 0} (old new : State) (a : A) (r : Result B StoreFault) (P : A → Broker → Type 0) (L : B → Type 0) (R : B → Broker → Type 0) → ((s : Broker) → P a s → (b : B) → L b → R b s)
-    → IfOk r L → CallsTables old new (Ok a) (IsRead old new P) → CallsTables old new r (IsRead old new R)
+    → IfOk r L → CallsTablesBetween old new (Ok a) (IsRead old new P) → CallsTablesBetween old new r (IsRead old new R)
 computed old new a (Ok b) P L R more is one = then_ok old new a b (IsRead old new P) (IsRead old new R) (λ first s held. let f = first s held in (more s f.0 b is, f.1)) one
 computed old new a (Err e) P L R more is one = then_stop old new a e (IsRead old new P) (IsRead old new R) one

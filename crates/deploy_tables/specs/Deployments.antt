@@ -1,5 +1,5 @@
 -- What a deployment and its end change of the state.
-use Rattle.std.specs.Prelude.{◌≡◌, ℕ, Some, None, if◌then◌else◌}
+use Rattle.std.specs.Prelude.{◌≡◌, ℕ, Bool, Some, None, if◌then◌else◌}
 use Rattle.broker_core.specs.declared.command.Version.{Version}
 use Rattle.broker_core.specs.Text.{Text, put_at, same_place}
 use Rattle.broker_core.specs.State.{State}
@@ -26,3 +26,12 @@ abbrev pub TakesOut : Text → Text → Text → ℕ → State → State → Typ
 TakesOut e p instance number s t =
     (v : Version) × (number_of s.versions v ≡ Some number) × (v.pacticipant ≡ p)
     × (t ≡ (if is_text v.name (s.deployed (e, p, instance)) then without_instance s e p instance else s))
+
+-- whether the version of this number, one of the pacticipant, is deployed in that instance
+abbrev pub TellsDeployed : Text → Text → Text → ℕ → Bool → State → Type 0
+TellsDeployed e p instance number stood s =
+    (v : Version) → number_of s.versions v ≡ Some number → v.pacticipant ≡ p → stood ≡ is_text v.name (s.deployed (e, p, instance))
+
+-- it is taken out, and whether it was there is told
+abbrev pub TakesOutAndTells : Text → Text → Text → ℕ → Bool → State → State → Type 0
+TakesOutAndTells e p instance number stood s t = TakesOut e p instance number s t × TellsDeployed e p instance number stood s

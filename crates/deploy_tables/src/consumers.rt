@@ -1,7 +1,6 @@
 //! The contracts of other pacticipants' versions with one pacticipant.
 ghost use Rattle.std.specs.Prelude.{◌≡◌, ◌++◌, [], IfOk, Some, option_map, filter_map};
 ghost use Rattle.std.specs.List.{cons_option};
-ghost use Rattle.sqlite.specs.Held.{state};
 ghost use Rattle.broker_core.specs.Text.{version as version_named};
 ghost use Rattle.broker_tables.specs.Numbers.{number_of as number_in};
 ghost use Rattle.broker_tables.specs.Holds.{Queries};
@@ -47,7 +46,7 @@ fn contract_with<S: Alter>(
     pacticipant: &Name,
     other: &StandingVersion,
 ) -> Result<Option<ConsumerContract>, StoreFault>
-    ensures { Queries (state S.Store conn.old) (state S.Store conn.new) result
+    ensures { Queries S.Store conn.old conn.new result
         (λ found s. number_in s.versions (version_named other.now.pacticipant other.now.name)
         ≡ Some other.now.number → found ≡ consumer_in s pacticipant.now other.now) }
 {
@@ -86,7 +85,7 @@ pub(crate) fn consumer_contracts<S: Alter>(
     pacticipant: &Name,
     standing: &[StandingVersion],
 ) -> Result<Vec<ConsumerContract>, StoreFault>
-    ensures { Queries (state S.Store conn.old) (state S.Store conn.new) result
+    ensures { Queries S.Store conn.old conn.new result
         (λ found s. HaveNumbers s standing.now →
         found.items ≡ filter_map (consumer_in s pacticipant.now) standing.now) }
 {

@@ -1,12 +1,8 @@
 //! The versions that are deployed: one of a pacticipant in an environment, as an instance.
-ghost use Rattle.std.specs.Prelude.{◌≡◌, ◌==◌, Some, false};
+ghost use Rattle.std.specs.Prelude.{◌≡◌, ◌==◌, false};
 ghost use Rattle.std.specs.Option.{option_map_or};
-ghost use Rattle.sqlite.specs.Held.{state};
-ghost use Rattle.broker_core.specs.declared.command.Version.{Version as VersionModel};
-ghost use Rattle.broker_core.specs.Change.{is_text};
 ghost use Rattle.broker_tables.specs.Holds.{QueriesInPlace, Changes, ChangesAndAnswers};
-ghost use Rattle.broker_tables.specs.Numbers.{number_of as number_in};
-ghost use Rattle.deploy_tables.specs.Deployments.{RecordsDeployed, IsVersionOf, TakesOut, without_instance};
+ghost use Rattle.deploy_tables.specs.Deployments.{RecordsDeployed, IsVersionOf, TellsDeployed, TakesOutAndTells, without_instance};
 
 use sqlite::{Alter, Connection, params};
 use table_access::{StoreFault, change, number_of};
@@ -22,10 +18,8 @@ pub fn is_deployed<S: Alter>(
     instance: &str,
     number: u32,
 ) -> Result<bool, StoreFault>
-    ensures { QueriesInPlace (state S.Store conn.old) (state S.Store conn.new) result
-        (λ has s. (v : VersionModel) → number_in s.versions v ≡ Some number →
-        v.pacticipant ≡ pacticipant.now →
-        has ≡ is_text v.name (s.deployed (environment.now, pacticipant.now, instance.now))) }
+    ensures { QueriesInPlace S.Store conn.old conn.new result
+        (TellsDeployed environment.now pacticipant.now instance.now number) }
 {
     match number_of(
         conn,
@@ -59,7 +53,7 @@ pub fn record_deployed<S: Alter>(
     instance: &str,
     number: u32,
 ) -> Result<(), StoreFault>
-    ensures { Changes (state S.Store conn.old) (state S.Store conn.new) result
+    ensures { Changes S.Store conn.old conn.new result
         (RecordsDeployed environment.now pacticipant.now instance.now number) }
 {
     change(
@@ -76,7 +70,7 @@ fn empty_instance<S: Alter>(
     pacticipant: &str,
     instance: &str,
 ) -> Result<(), StoreFault>
-    ensures { Changes (state S.Store conn.old) (state S.Store conn.new) result
+    ensures { Changes S.Store conn.old conn.new result
         (λ s t. t ≡ without_instance s environment.now pacticipant.now instance.now) }
 {
     change(
@@ -97,11 +91,8 @@ pub fn take_out<S: Alter>(
     instance: &str,
     number: u32,
 ) -> Result<bool, StoreFault>
-    ensures { ChangesAndAnswers (state S.Store conn.old) (state S.Store conn.new) result
-        (IsVersionOf pacticipant.now number)
-        (λ stood s t. TakesOut environment.now pacticipant.now instance.now number s t
-        × ((v : VersionModel) → number_in s.versions v ≡ Some number → v.pacticipant ≡ pacticipant.now →
-        stood ≡ is_text v.name (s.deployed (environment.now, pacticipant.now, instance.now)))) }
+    ensures { ChangesAndAnswers S.Store conn.old conn.new result (IsVersionOf pacticipant.now number)
+        (TakesOutAndTells environment.now pacticipant.now instance.now number) }
 {
     match is_deployed(conn, environment, pacticipant, instance, number) {
         Ok(true) => match empty_instance(conn, environment, pacticipant, instance) {

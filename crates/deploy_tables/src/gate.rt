@@ -1,6 +1,5 @@
 //! What the gate asks: the needs of a version in an environment, each with what the latest result says.
 ghost use Rattle.std.specs.Prelude.{◌≡◌, Some, IfOk, map, option_map, option_and_then};
-ghost use Rattle.sqlite.specs.Held.{state};
 ghost use Rattle.broker_core.specs.Text.{version as version_named};
 ghost use Rattle.broker_core.specs.State.{latest as latest_in};
 ghost use Rattle.broker_core.specs.Listing.{Lists};
@@ -22,7 +21,7 @@ use table_access::StoreFault;
 
 /// What the latest result for a pair says; `None` where there is none, or no version of the provider.
 fn latest_for<S: Alter>(conn: &mut Connection<S>, pair: &Pair) -> Result<Option<Latest>, StoreFault>
-    ensures { QueriesInPlace (state S.Store conn.old) (state S.Store conn.new) result
+    ensures { QueriesInPlace S.Store conn.old conn.new result
         (λ found s. IsNumberedPair s pair.now → found ≡ option_and_then
         (λ w. latest_in s pair.now.content (version_named pair.now.provider w.name)) pair.now.partner) }
 {
@@ -63,7 +62,7 @@ fn need_with(pair: &Pair, latest: Option<Latest>) -> Result<Need, AllocError>
 
 /// The need that a pair is.
 fn need_of<S: Alter>(conn: &mut Connection<S>, pair: &Pair) -> Result<Need, StoreFault>
-    ensures { Queries (state S.Store conn.old) (state S.Store conn.new) result
+    ensures { Queries S.Store conn.old conn.new result
         (λ need s. IsNumberedPair s pair.now → need ≡ need_in s pair.now) }
 {
     match latest_for(conn, pair) {
@@ -81,7 +80,7 @@ fn with_latest<S: Alter>(
     conn: &mut Connection<S>,
     pairs: &[Pair],
 ) -> Result<Vec<Need>, StoreFault>
-    ensures { Queries (state S.Store conn.old) (state S.Store conn.new) result
+    ensures { Queries S.Store conn.old conn.new result
         (λ needs s. AreNumberedPairs s pairs.now → needs.items ≡ map (need_in s) pairs.now) }
 {
     let mut needs = Vec::new(alloc);
@@ -105,7 +104,7 @@ fn find_pairs<S: Alter>(
     version: &Version,
     environment: &str,
 ) -> Result<Vec<Pair>, StoreFault>
-    ensures { Queries (state S.Store conn.old) (state S.Store conn.new) result
+    ensures { Queries S.Store conn.old conn.new result
         (λ pairs s. number_in s.versions version.now ≡ Some number → AreNumberedPairs s pairs.items
         × Lists need_cmp (IsNeed s version.now environment.now) (map (need_in s) pairs.items)) }
 {
@@ -132,7 +131,7 @@ pub fn needs<S: Alter>(
     version: &Version,
     environment: &str,
 ) -> Result<Vec<Need>, StoreFault>
-    ensures { Queries (state S.Store conn.old) (state S.Store conn.new) result
+    ensures { Queries S.Store conn.old conn.new result
         (λ found s. number_in s.versions version.now ≡ Some number →
         Lists need_cmp (IsNeed s version.now environment.now) found.items) }
 {

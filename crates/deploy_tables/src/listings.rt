@@ -1,6 +1,5 @@
 //! What stands in an environment, listed.
 ghost use Rattle.std.specs.Prelude.{◌≡◌, IsTrue, Some};
-ghost use Rattle.sqlite.specs.Held.{state};
 ghost use Rattle.broker_core.specs.Listing.{Lists};
 ghost use Rattle.broker_core.specs.Machine.{deployed_cmp, version_cmp};
 ghost use Rattle.broker_tables.specs.Holds.{Queries};
@@ -62,7 +61,7 @@ pub fn deployed<S: Alter>(
     conn: &mut Connection<S>,
     environment: &str,
 ) -> Result<Vec<DeployedItem>, StoreFault>
-    ensures { Queries (state S.Store conn.old) (state S.Store conn.new) result
+    ensures { Queries S.Store conn.old conn.new result
         (λ items s. Lists deployed_cmp
         (λ x. s.deployed (environment.now, x.pacticipant, x.instance) ≡ Some x.version) items.items) }
 {
@@ -83,7 +82,7 @@ pub fn released<S: Alter>(
     conn: &mut Connection<S>,
     environment: &str,
 ) -> Result<Vec<Version>, StoreFault>
-    ensures { Queries (state S.Store conn.old) (state S.Store conn.new) result
+    ensures { Queries S.Store conn.old conn.new result
         (λ items s. Lists version_cmp (λ v. IsTrue (s.released (environment.now, v))) items.items) }
 {
     list_of::<ReleasedRow, S>(

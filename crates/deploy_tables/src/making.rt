@@ -1,6 +1,5 @@
 //! The tables as a new broker makes them.
 ghost use Rattle.std.specs.Prelude.{◌≡◌, ◌++◌, ◌∷◌};
-ghost use Rattle.sqlite.specs.Held.{state};
 ghost use Rattle.table_access.specs.Calls.{CallsStore};
 ghost use Rattle.table_access.specs.Statements.{Makes};
 ghost use Rattle.broker_tables.specs.Schema.{registry_part, contents, contract_part, deploy_part, schema_of};
@@ -15,9 +14,9 @@ use table_access::StoreFault;
 /// # Errors
 /// `StoreFault::Memory` where the database is out of memory; `StoreFault::Store` where it refused a table.
 pub fn make_tables<S: Alter>(conn: &mut Connection<S>) -> Result<(), StoreFault>
-    ensures { CallsStore (state S.Store conn.old) (state S.Store conn.new) result
-        (λ _. (state S.Store conn.old).now.schema ≡ schema_of (registry_part ++ contents ∷ contract_part) →
-        Makes deploy_part (state S.Store conn.old).now (state S.Store conn.new).now) }
+    ensures { CallsStore S.Store conn.old conn.new result
+        (λ _ old new. old.now.schema ≡ schema_of (registry_part ++ contents ∷ contract_part) →
+        Makes deploy_part old.now new.now) }
 {
     make_each(conn, &[DEPLOYED, RELEASED])
 }

@@ -1,6 +1,5 @@
 //! The matrix of a version: its contracts, and those that it has results for, with the latest result of each version of the provider.
 ghost use Rattle.std.specs.Prelude.{◌≡◌, ◌++◌, ◌↔◌, IfOk, Some, option_map, Contains};
-ghost use Rattle.sqlite.specs.Held.{state};
 ghost use Rattle.table_access.specs.Reading.{AreRead};
 ghost use Rattle.broker_core.specs.Listing.{Lists};
 ghost use Rattle.broker_core.specs.Machine.{IsMatrixRow, matrix_cmp};
@@ -40,7 +39,7 @@ fn of_contract<S: Alter>(
     version: &Version,
     contract: &Contract,
 ) -> Result<Vec<Entry>, StoreFault>
-    ensures { Queries (state S.Store conn.old) (state S.Store conn.new) result
+    ensures { Queries S.Store conn.old conn.new result
         (λ found s. (x : EntryModel) → Contains found.items x ↔ IsOfContract s version.now contract.now x) }
 {
     match verified_versions(alloc, conn, contract.provider.as_str(), contract.content) {
@@ -59,7 +58,7 @@ fn of_contracts<S: Alter>(
     version: &Version,
     contracts: &[Contract],
 ) -> Result<Vec<Entry>, StoreFault>
-    ensures { Queries (state S.Store conn.old) (state S.Store conn.new) result
+    ensures { Queries S.Store conn.old conn.new result
         (λ found s. (x : EntryModel) → Contains found.items x
         ↔ IsOfSome (λ c. IsOfContract s version.now c x) contracts.now) }
 {
@@ -83,7 +82,7 @@ fn consumed<S: Alter>(
     number: u32,
     version: &Version,
 ) -> Result<Vec<Entry>, StoreFault>
-    ensures { Queries (state S.Store conn.old) (state S.Store conn.new) result
+    ensures { Queries S.Store conn.old conn.new result
         (λ found s. number_known s.versions version.now ≡ Some number →
         (x : EntryModel) → Contains found.items x ↔ IsConsumed s version.now x) }
 {
@@ -100,7 +99,7 @@ fn of_content<S: Alter>(
     version: &Version,
     verified: &VerifiedContent,
 ) -> Result<Vec<Entry>, StoreFault>
-    ensures { Queries (state S.Store conn.old) (state S.Store conn.new) result
+    ensures { Queries S.Store conn.old conn.new result
         (λ found s. (x : EntryModel) → Contains found.items x ↔ IsOfContent s version.now verified.now x) }
 {
     match consumers_of(alloc, conn, version.pacticipant.as_str(), verified.content) {
@@ -119,7 +118,7 @@ fn of_contents<S: Alter>(
     version: &Version,
     contents: &[VerifiedContent],
 ) -> Result<Vec<Entry>, StoreFault>
-    ensures { Queries (state S.Store conn.old) (state S.Store conn.new) result
+    ensures { Queries S.Store conn.old conn.new result
         (λ found s. (x : EntryModel) → Contains found.items x
         ↔ IsOfSome (λ c. IsOfContent s version.now c x) contents.now) }
 {
@@ -143,7 +142,7 @@ fn provided<S: Alter>(
     number: u32,
     version: &Version,
 ) -> Result<Vec<Entry>, StoreFault>
-    ensures { Queries (state S.Store conn.old) (state S.Store conn.new) result
+    ensures { Queries S.Store conn.old conn.new result
         (λ found s. number_known s.versions version.now ≡ Some number →
         (x : EntryModel) → Contains found.items x ↔ IsProvided s version.now x) }
 {
@@ -160,7 +159,7 @@ fn entries_of<S: Alter>(
     number: u32,
     version: &Version,
 ) -> Result<Vec<Entry>, StoreFault>
-    ensures { Queries (state S.Store conn.old) (state S.Store conn.new) result
+    ensures { Queries S.Store conn.old conn.new result
         (λ found s. number_known s.versions version.now ≡ Some number →
         Lists entry_cmp (IsEntry s version.now) found.items) }
 {
@@ -181,7 +180,7 @@ fn told<S: Alter>(
     conn: &mut Connection<S>,
     verified: &VerifiedVersion,
 ) -> Result<Verified, StoreFault>
-    ensures { Queries (state S.Store conn.old) (state S.Store conn.new) result
+    ensures { Queries S.Store conn.old conn.new result
         (λ found s. (found.provider_version ≡ verified.now.name) × (found.result ≡ verified.now.result)
         × (Some found.latest ≡ option_map said_by (result_with s verified.now.result))) }
 {
@@ -226,8 +225,7 @@ fn row_with(entry: &Entry, verified: Option<Verified>) -> Result<MatrixRow, Stor
 
 /// The entry's row, with what its result says.
 fn row_of<S: Alter>(conn: &mut Connection<S>, entry: &Entry) -> Result<MatrixRow, StoreFault>
-    ensures { Queries (state S.Store conn.old) (state S.Store conn.new) result
-        (λ row s. IsToldAs s entry.now row) }
+    ensures { Queries S.Store conn.old conn.new result (λ row s. IsToldAs s entry.now row) }
 {
     let Some(verified) = &entry.verified else {
         return row_with(entry, None);
@@ -244,8 +242,7 @@ fn rows_of<S: Alter>(
     conn: &mut Connection<S>,
     entries: &[Entry],
 ) -> Result<Vec<MatrixRow>, StoreFault>
-    ensures { Queries (state S.Store conn.old) (state S.Store conn.new) result
-        (λ rows s. AreRead (IsToldAs s) entries.now rows.items) }
+    ensures { Queries S.Store conn.old conn.new result (λ rows s. AreRead (IsToldAs s) entries.now rows.items) }
 {
     let mut rows = Vec::new(alloc);
     for entry in entries {
@@ -271,7 +268,7 @@ pub fn matrix<S: Alter>(
     number: u32,
     version: &Version,
 ) -> Result<Vec<MatrixRow>, StoreFault>
-    ensures { Queries (state S.Store conn.old) (state S.Store conn.new) result
+    ensures { Queries S.Store conn.old conn.new result
         (λ rows s. number_known s.versions version.now ≡ Some number →
         Lists matrix_cmp (IsMatrixRow s version.now) rows.items) }
 {

@@ -151,7 +151,7 @@ fn all_pairs(
 }
 
 /// These pairs, each once, in the order of their names.
-fn each_once(pairs: Vec<Pair>) -> Vec<Pair>
+fn each_pair_once(pairs: Vec<Pair>) -> Vec<Pair>
     ensures { Lists pair_cmp (Contains pairs.items) result.items }
 {
     let mut pairs = pairs;
@@ -177,7 +177,7 @@ pub(crate) fn pairs_of(
         (Contains (pairs_among version.now number own.now standing.now consumers.now)) pairs.items) }
 {
     match all_pairs(alloc, version, number, own, standing, consumers) {
-        Ok(pairs) => Ok(each_once(pairs)),
+        Ok(pairs) => Ok(each_pair_once(pairs)),
         Err(_) => Err(StoreFault::Memory),
     }
 }

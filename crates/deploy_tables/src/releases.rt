@@ -1,6 +1,5 @@
 //! The versions that are released and supported in an environment.
 ghost use Rattle.std.specs.Prelude.{◌≡◌, Some};
-ghost use Rattle.sqlite.specs.Held.{state};
 ghost use Rattle.broker_core.specs.declared.command.Version.{Version as VersionModel};
 ghost use Rattle.broker_tables.specs.Holds.{QueriesInPlace, Changes, ChangesAndAnswers};
 ghost use Rattle.broker_tables.specs.Numbers.{number_of as number_in};
@@ -18,7 +17,7 @@ pub fn is_released<S: Alter>(
     environment: &str,
     number: u32,
 ) -> Result<bool, StoreFault>
-    ensures { QueriesInPlace (state S.Store conn.old) (state S.Store conn.new) result
+    ensures { QueriesInPlace S.Store conn.old conn.new result
         (λ has s. (v : VersionModel) → number_in s.versions v ≡ Some number →
         has ≡ s.released (environment.now, v)) }
 {
@@ -38,8 +37,7 @@ pub fn record_released<S: Alter>(
     environment: &str,
     number: u32,
 ) -> Result<(), StoreFault>
-    ensures { Changes (state S.Store conn.old) (state S.Store conn.new) result
-        (RecordsReleased environment.now number) }
+    ensures { Changes S.Store conn.old conn.new result (RecordsReleased environment.now number) }
 {
     change(
         conn,
@@ -54,8 +52,7 @@ fn remove_released<S: Alter>(
     environment: &str,
     number: u32,
 ) -> Result<(), StoreFault>
-    ensures { Changes (state S.Store conn.old) (state S.Store conn.new) result
-        (EndsSupport environment.now number) }
+    ensures { Changes S.Store conn.old conn.new result (EndsSupport environment.now number) }
 {
     change(
         conn,
@@ -73,7 +70,7 @@ pub fn end_support<S: Alter>(
     environment: &str,
     number: u32,
 ) -> Result<bool, StoreFault>
-    ensures { ChangesAndAnswers (state S.Store conn.old) (state S.Store conn.new) result
+    ensures { ChangesAndAnswers S.Store conn.old conn.new result
         (IsVersion number) (λ stood s t. EndsSupport environment.now number s t
         × ((v : VersionModel) → number_in s.versions v ≡ Some number →
         stood ≡ s.released (environment.now, v))) }

@@ -1,6 +1,5 @@
 //! The versions that stand in an environment, with their numbers.
 ghost use Rattle.std.specs.Prelude.{Contains, ◌↔◌, ◌++◌, IfOk};
-ghost use Rattle.sqlite.specs.Held.{state};
 ghost use Rattle.broker_core.specs.Listing.{Lists};
 ghost use Rattle.broker_tables.specs.Holds.{Queries};
 ghost use Rattle.deploy_tables.specs.declared.standing_versions.StandingVersion.{StandingVersion as StandingModel};
@@ -49,7 +48,7 @@ fn deployed_versions<S: Alter>(
     conn: &mut Connection<S>,
     environment: &str,
 ) -> Result<Vec<StandingVersion>, StoreFault>
-    ensures { Queries (state S.Store conn.old) (state S.Store conn.new) result
+    ensures { Queries S.Store conn.old conn.new result
         (λ items s. ((x : StandingModel) → Contains items.items x ↔ IsDeployedThere s environment.now x)
         × AreDeployedNumbered s environment.now) }
 {
@@ -67,7 +66,7 @@ fn released_versions<S: Alter>(
     conn: &mut Connection<S>,
     environment: &str,
 ) -> Result<Vec<StandingVersion>, StoreFault>
-    ensures { Queries (state S.Store conn.old) (state S.Store conn.new) result
+    ensures { Queries S.Store conn.old conn.new result
         (λ items s. Lists standing_cmp (IsReleasedThere s environment.now) items.items
         × AreReleasedNumbered s environment.now) }
 {
@@ -80,7 +79,7 @@ fn released_versions<S: Alter>(
 }
 
 /// These versions, each once, in the order of pacticipants and names.
-fn each_once(versions: Vec<StandingVersion>) -> Vec<StandingVersion>
+fn each_version_once(versions: Vec<StandingVersion>) -> Vec<StandingVersion>
     ensures { Lists standing_cmp (Contains versions.items) result.items }
 {
     let mut versions = versions;
@@ -99,7 +98,7 @@ fn of_both(
     let mut all = deployed;
     let mut released = released;
     match all.append(&mut released) {
-        Ok(()) => Ok(each_once(all)),
+        Ok(()) => Ok(each_version_once(all)),
         Err(_) => Err(StoreFault::Memory),
     }
 }
@@ -113,7 +112,7 @@ pub fn standing<S: Alter>(
     conn: &mut Connection<S>,
     environment: &str,
 ) -> Result<Vec<StandingVersion>, StoreFault>
-    ensures { Queries (state S.Store conn.old) (state S.Store conn.new) result
+    ensures { Queries S.Store conn.old conn.new result
         (λ items s. Lists standing_cmp (IsStanding s environment.now) items.items
         × AreNumbered s environment.now) }
 {

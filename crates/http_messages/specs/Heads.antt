@@ -6,8 +6,9 @@ use Rattle.std.specs.Str.Parse.{digits_value}
 use Rattle.httparse.specs.Grammar.{RequestHead, ReadsRequest}
 use Rattle.httparse.specs.Spans.{name_and_value}
 use Rattle.http_messages.specs.Lines.{lines_of, head_text, from_first}
-use Rattle.http_messages.specs.Fields.{values_named, is_short_number}
+use Rattle.http_messages.specs.Fields.{values_named, IsField, is_short_number}
 use Rattle.http_messages.specs.Options.{has_close}
+use Rattle.http_messages.specs.declared.fields.Field.{Field}
 use Rattle.http_messages.specs.declared.head.TheConstants.{FIELD_LIMIT, BODY_LIMIT}
 use Rattle.http_messages.specs.declared.head.Method.{Method}
 use Rattle.http_messages.specs.declared.head.Method.TheVariants.{Get, Put, Post, Delete}
@@ -42,6 +43,12 @@ judge method target minor hosts codings lengths =
     else (if not (is_some (known_method method)) then Err NotImplemented
     else (if not (length codings == 0) then Err NotImplemented
     else body_length lengths)))
+
+-- the checks on a head of these fields come to this
+abbrev pub AreChecked : (method target : List ℕ) (minor : ℕ) (host coding length : Field) → Result ℕ Refusal → Type 0
+AreChecked method target minor host coding length checked =
+    (hosts codings lengths : List (List ℕ)) → IsField hosts host → IsField codings coding → IsField lengths length
+    → checked ≡ judge method target minor hosts codings lengths
 
 -- the names and values of the fields
 abbrev pub fields_of : RequestHead → List (List ℕ × List ℕ)

@@ -1,6 +1,6 @@
 -- The messages of a stream.
-use Rattle.std.specs.Prelude.{◌≡◌, ℕ, ◌≤◌, List, ◌++◌, length, take, drop, MatchOption}
-use Rattle.http_messages.specs.Message.{Message}
+use Rattle.std.specs.Prelude.{◌≡◌, ℕ, ◌≤◌, List, ◌++◌, length, take, drop, MatchOption, Option, None, Some}
+use Rattle.http_messages.specs.Message.{Message, message}
 use Rattle.http_messages.specs.Lines.{head_text}
 use Rattle.http_messages.specs.Heads.{IsBodyLength}
 use Rattle.http_messages.specs.declared.messages.TheConstants.{HEAD_LIMIT}
@@ -16,6 +16,11 @@ IsHeadOf stream head =
 abbrev pub HasNoHead : List ℕ → Type 0
 HasNoHead stream = (head : List ℕ) → ¬ (IsHeadOf stream head)
 
+-- the head of so many bytes is at the front, or none is whole yet
+abbrev pub IsHeadFound : List ℕ → Option ℕ → Type 0
+IsHeadFound bytes None = HasNoHead bytes
+IsHeadFound bytes (Some n) = (n ≤ length bytes) × (n ≤ HEAD_LIMIT) × IsHeadOf bytes (take n bytes)
+
 -- the stream begins with this message, and goes on with after
 pub record Begins (stream : List ℕ) (m : Message) (after : List ℕ) : Type 0 where
   pub whole : stream ≡ m.head ++ (m.body ++ after)
@@ -28,7 +33,4 @@ HasNoMessage stream = (m : Message) (after : List ℕ) → ¬ (Begins stream m a
 
 -- the message of so many bytes of head and body
 abbrev pub message_of : List ℕ → ℕ → ℕ → Message
-message_of bytes head_len body_len = record {
-  head = take head_len bytes;
-  body = take body_len (drop head_len bytes);
-}
+message_of bytes head_len body_len = message (take head_len bytes) (take body_len (drop head_len bytes))

@@ -1,6 +1,6 @@
 -- What reading a message leaves of the bytes, and what it finds.
 use Rattle.std.specs.Prelude.{◌≡◌, ℕ, ◌+◌, ◌<◌, ◌≤◌, max, List, ◌++◌, length, take, drop, Option}
-use Rattle.std.specs.Io.KnownBytes.{Consumes}
+use Rattle.std.specs.Io.KnownBytes.{Consumes, IsAtEnd}
 use Rattle.http_messages.specs.Messages.{Begins, HasNoMessage, message_of}
 use Rattle.http_messages.specs.Views.{IsHeadRead}
 use Rattle.http_messages.specs.declared.head.TheConstants.{BODY_LIMIT}
@@ -34,3 +34,23 @@ IsOutcome bytes outcomes.End = HasNoMessage bytes
 abbrev pub size_limit : ReadOutcome → ℕ
 size_limit (outcomes.Message head_len body_len head) = max HEAD_LIMIT (head_len + body_len)
 size_limit outcomes.End = HEAD_LIMIT + BODY_LIMIT
+
+-- The reader had before to give and has after; the buffer had the bytes old and has new.
+module _ (before after : Option (List ℕ)) (old new : List ℕ) where
+  -- what reading a message promises where it comes to an outcome
+  pub record ReadsMessage (read : ReadOutcome) : Type 0 where
+    -- what the reader gave is behind what was in the buffer
+    pub gains : Gains before after old new
+    -- the buffer begins with the message, and its head says what is told of it; or no message is whole
+    pub outcome : IsOutcome new read
+    -- no message is whole only where the reader is at its end
+    pub end : read ≡ outcomes.End → IsAtEnd after
+    -- it reads no further than the head may go, or the message goes
+    pub wanted : length new ≤ max (length old) (size_limit read)
+
+  -- what it promises where it fails
+  pub record FailsToRead (fault : ReadFault) : Type 0 where
+    -- bytes are lost only where memory ran out, and some are lost then
+    pub leaves : LeavesAtFault before after old new fault
+    -- it fails only while no message is whole
+    pub none : HasNoMessage new

@@ -3,7 +3,7 @@ ghost use Rattle.std.specs.Prelude.{All, codes, ◌≡◌, ℕ, ◌≤◌, ◌==
 ghost use Rattle.httparse.specs.Grammar.{RequestHead};
 ghost use Rattle.httparse.specs.Spans.{IsHeaderWithin, header_bytes, IsRequestAt, IsRequestWithin};
 ghost use Rattle.http_messages.specs.Fields.{IsField, values_named};
-ghost use Rattle.http_messages.specs.Heads.{known_method, body_length, judge, IsHeadText, is_too_large, is_last, unread};
+ghost use Rattle.http_messages.specs.Heads.{known_method, body_length, AreChecked, IsHeadText, is_too_large, is_last, unread};
 ghost use Rattle.http_messages.specs.Views.{judgement_of, IsHeadRead, announced};
 
 use crate::fields::{Field, field_of, short_number};
@@ -85,9 +85,7 @@ fn judge(
     coding: Field<'_>,
     length: Field<'_>,
 ) -> Result<usize, Refusal>
-    ensures judged { (hosts codings lengths : List (List ℕ))
-        → IsField hosts host.entry → IsField codings coding.entry → IsField lengths length.entry
-        → result ≡ judge method.now target.now minor hosts codings lengths }
+    ensures judged { AreChecked method.now target.now minor host.entry coding.entry length.entry result }
     ensures small { IfOk result (λ n. n ≤ BODY_LIMIT) }
 {
     if target.is_empty() || target[0] != b'/' {

@@ -1,8 +1,8 @@
 //! Reading one message after another from a device.
 ghost use Rattle.std.specs.Prelude.{◌≡◌, ℕ, ◌+◌, ◌<◌, ◌≤◌, Bool, true, false, max, length, drop, take, vec_len, IfOk, IfErr, OnOk, OnErr, MatchOption};
 ghost use Rattle.std.specs.Io.KnownBytes.{IsAtEnd};
-ghost use Rattle.http_messages.specs.Messages.{IsHeadOf, HasNoHead, HasNoMessage};
-ghost use Rattle.http_messages.specs.Reading.{Gains, LeavesAtFault, IsOutcome, size_limit};
+ghost use Rattle.http_messages.specs.Messages.{HasNoHead, IsHeadFound};
+ghost use Rattle.http_messages.specs.Reading.{Gains, LeavesAtFault, ReadsMessage, FailsToRead};
 ghost use Rattle.http_messages.specs.Views.{announced};
 
 use crate::head::{BODY_LIMIT, Head, Refused, read_head};
@@ -83,9 +83,7 @@ fn read_head_bytes<R: Read>(
     ensures ok { OnOk result
         (Gains (R.remaining reader.old) (R.remaining reader.new)
         buffer.old.items buffer.new.items) }
-    ensures found { IfOk result (λ found. MatchOption found (HasNoHead buffer.new.items)
-        (λ n. (n ≤ length buffer.new.items) × (n ≤ HEAD_LIMIT)
-        × IsHeadOf buffer.new.items (take n buffer.new.items))) }
+    ensures found { IfOk result (IsHeadFound buffer.new.items) }
     ensures end { IfOk result (λ found. MatchOption found (IsAtEnd (R.remaining reader.new)) (λ _. Unit {0})) }
     ensures err { IfErr result
         (LeavesAtFault (R.remaining reader.old) (R.remaining reader.new)
@@ -130,21 +128,11 @@ fn read_up_to<R: Read>(reader: &mut R, buffer: &mut Vec<u8>, len: usize) -> Resu
 /// Each read asks for no more than what the head may still want, or the body still wants, so that the
 /// buffer never gets more than one head and one body. The head is parsed once.
 pub fn read_message<R: Read>(reader: &mut R, buffer: &mut Vec<u8>) -> Result<ReadOutcome, ReadFault>
-    // What the reader gave is behind what was in the buffer.
-    ensures ok { OnOk result
-        (Gains (R.remaining reader.old) (R.remaining reader.new)
+    ensures ok { IfOk result (ReadsMessage (R.remaining reader.old) (R.remaining reader.new)
         buffer.old.items buffer.new.items) }
-    ensures outcome { IfOk result (IsOutcome buffer.new.items) }
-    ensures end { result ≡ Ok ReadOutcome.End → IsAtEnd (R.remaining reader.new) }
-    // Bytes are lost only where memory ran out, and some are lost then.
-    ensures err { IfErr result
-        (LeavesAtFault (R.remaining reader.old) (R.remaining reader.new)
+    ensures err { IfErr result (FailsToRead (R.remaining reader.old) (R.remaining reader.new)
         buffer.old.items buffer.new.items) }
-    // It fails only while no message is whole.
-    ensures none { OnErr result (HasNoMessage buffer.new.items) }
     ensures bound { length buffer.new.items ≤ max (length buffer.old.items) (HEAD_LIMIT + BODY_LIMIT) }
-    ensures wanted { IfOk result (λ outcome.
-        length buffer.new.items ≤ max (length buffer.old.items) (size_limit outcome)) }
 {
     let Some(head_len) = read_head_bytes(reader, buffer)? else {
         return Ok(ReadOutcome::End);

@@ -1,12 +1,14 @@
 -- What a message asks: a command, or a refusal by HTTP (RFC 9112; the order of the checks is this project's
 -- own choice).
-use Rattle.std.specs.Prelude.{◌≡◌, ℕ, ◌==◌, Bool, true, false, List, codes, Option, Some, None, Result, Ok, Err}
+use Rattle.std.specs.Prelude.{◌≡◌, ℕ, ◌==◌, Bool, List, codes, Option, Some, None, Result, Ok, Err}
 use Rattle.std.specs.List.{before_first, after_first}
 use Rattle.httparse.specs.Grammar.{RequestHead}
+use Rattle.httparse.specs.Spans.{IsRequestAt}
 use Rattle.broker_core.specs.declared.command.Command.{Command}
 use Rattle.http_messages.specs.Fields.{values_named}
 use Rattle.http_messages.specs.Heads.{Judgement, IsJudged, IsHeadText, fields_of, known_method, is_last_head}
 use Rattle.http_messages.specs.Message.{Message}
+use Rattle.http_messages.specs.declared.head.Head.{Head}
 use Rattle.http_messages.specs.declared.head.Method.{Method}
 use Rattle.http_messages.specs.declared.head.Refusal.{Refusal}
 use Rattle.http_routes.specs.Methods.{operation_at}
@@ -32,6 +34,10 @@ query_of target = after_first is_question_mark target
 abbrev pub operation_asked : Resource → Option Method → Option Operation
 operation_asked resource None = None
 operation_asked resource (Some method) = operation_at resource method
+
+-- the code's head is this one: its parts stand so in the text, and it closes the connection where this one does
+abbrev pub IsReadFrom : List ℕ → Head → RequestHead → Type 0
+IsReadFrom text head h = IsRequestAt text head.spans head.parsed h × (head.closes ≡ is_last_head h)
 
 module _ (h : RequestHead) (body : List ℕ) where
   -- a command and its caller's token

@@ -75,7 +75,7 @@ fn non_null(value: Option<&Value>) -> Option<&Value>
 }
 
 /// The token that a text is.
-fn token_of(alloc: Global, text: Option<&str>) -> Parsed<Token>
+fn body_token(alloc: Global, text: Option<&str>) -> Parsed<Token>
     ensures { IfOk result (IsTokenText (option_map (λ t. t.now) text.entry)) }
 {
     let Some(text) = text else {
@@ -153,7 +153,7 @@ impl Fields {
         let Some(object) = &self.object else {
             return Ok(Err(FormFault::Json));
         };
-        token_of(alloc, object.get("token").and_then(Value::as_str))
+        body_token(alloc, object.get("token").and_then(Value::as_str))
     }
 
     /// A truth value that must be there.

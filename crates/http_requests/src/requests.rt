@@ -1,11 +1,11 @@
 //! What a message asks by its head and its body.
 ghost use Rattle.std.specs.Prelude.{◌≡◌, codes, List, IfOk, Option, IsUtf8};
 ghost use Rattle.httparse.specs.Grammar.{RequestHead};
-ghost use Rattle.httparse.specs.Spans.{IsRequestAt, IsRequestWithin};
-ghost use Rattle.http_messages.specs.Heads.{is_last_head};
+ghost use Rattle.httparse.specs.Spans.{IsRequestWithin};
+ghost use Rattle.http_messages.specs.Message.{message};
 ghost use Rattle.http_messages.specs.Views.{IsHeadRead};
 ghost use Rattle.http_routes.specs.Routes.{resource_of};
-ghost use Rattle.http_requests.specs.Requests.{operation_asked, path_of, ByResource, ByOperation, IsRequest};
+ghost use Rattle.http_requests.specs.Requests.{operation_asked, path_of, ByResource, ByOperation, IsReadFrom, IsRequest};
 
 use crate::commands::command_of;
 use crate::target::split_target;
@@ -62,8 +62,7 @@ fn command_request(
     operation: Operation,
 ) -> Result<Request, AllocError>
     requires { IsRequestWithin text.now head.spans head.parsed }
-    ensures { (h : RequestHead) → IsRequestAt text.now head.spans head.parsed h → head.closes ≡ is_last_head h
-        → IfOk result (ByOperation h body.now operation) }
+    ensures { (h : RequestHead) → IsReadFrom text.now head h → IfOk result (ByOperation h body.now operation) }
 {
     let closes = head.closes;
     let (path, query) = split_target(head.parsed.path.of(text));
@@ -96,7 +95,7 @@ fn request_of(
     body: &[u8],
 ) -> Result<Request, AllocError>
     requires { IsRequestWithin text.now head.spans head.parsed }
-    ensures { (h : RequestHead) → IsRequestAt text.now head.spans head.parsed h → head.closes ≡ is_last_head h
+    ensures { (h : RequestHead) → IsReadFrom text.now head h
         → IfOk result (ByResource h body.now (resource_of (path_of h.target))) }
 {
     let closes = head.closes;
@@ -123,7 +122,7 @@ pub fn read_request(
     body: &[u8],
 ) -> Result<Request, AllocError>
     requires { IsHeadRead text.now head }
-    ensures { IfOk result (IsRequest (record { head = text.now; body = body.now })) }
+    ensures { IfOk result (IsRequest (message text.now body.now)) }
 {
     match head {
         Ok(head) => request_of(alloc, routes, text, head, body),

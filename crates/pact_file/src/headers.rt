@@ -100,7 +100,7 @@ fn find_headers(alloc: Global, response: &Value) -> Result<Option<Vec<Header>>, 
 }
 
 /// Where the header goes, or None where its name is there.
-fn index_of(list: &[Header], new: &Header) -> Option<usize>
+fn header_index(list: &[Header], new: &Header) -> Option<usize>
     ensures { MatchOption result (with_header new.now list.now ≡ None)
         (IsInsertedAt new.now list.now (with_header new.now list.now)) }
 {
@@ -126,7 +126,7 @@ fn insert_header(list: &mut Vec<Header>, new: Header) -> Result<bool, AllocError
         (with_header new list.old.items ≡ Some list.new.items)
         (with_header new list.old.items ≡ None)) }
 {
-    let Some(at) = index_of(list, &new) else {
+    let Some(at) = header_index(list, &new) else {
         return Ok(false);
     };
     list.insert(at, new)?;

@@ -7,7 +7,7 @@ use Rattle.serde_json.specs.Find.{is_float}
 use Rattle.serde_json.specs.Written.{has_float, items_have_float, members_have_float}
 use Rattle.pact_rules.specs.Kept as kept
 use Rattle.pact_rules.specs.Outcome.{Gives}
-use Rattle.pact_rules.specs.Trees.{Node, null, truth, whole, text, list, object, Nodes, no_nodes, node, Fields, no_fields, field, IsTree, AreTrees, IsMap, IsBelow}
+use Rattle.pact_rules.specs.Trees.{Node, null, truth, whole, text, list, object, Nodes, no_nodes, node, Fields, no_fields, field, IsTree, AreTrees, IsMap, IsBelowFields}
 use Rattle.pact_rules.specs.TreeReading.{whole_number, whole_tree, whole_items, whole_members, whole_or, data_of, items_data, members_data}
 use Rattle.pact_rules.specs.TreeView.{tree_view}
 use Rattle.pact_rules.specs.declared.tree.Tree.{Tree}
@@ -110,11 +110,11 @@ mutual
 
 -- ---- the keys stay in order
 
-below : (k : List ℕ) (ms : json.Members) (fs : Fields) → kept.IsBelow k ms → whole_members ms ≡ Some fs → IsBelow k fs
-below k json.no_members fs h e = subst (IsBelow k) (same_Some _ _ e) tt
+below : (k : List ℕ) (ms : json.Members) (fs : Fields) → kept.IsBelow k ms → whole_members ms ≡ Some fs → IsBelowFields k fs
+below k json.no_members fs h e = subst (IsBelowFields k) (same_Some _ _ e) tt
 below k (json.member l d ms) fs h e =
     let p = both_some (whole_tree d) (whole_members ms) (field l) fs e in
-    subst (IsBelow k) p.4 (h.0, below k ms p.1 h.1 p.3)
+    subst (IsBelowFields k) p.4 (h.0, below k ms p.1 h.1 p.3)
 
 number_tree : (n : json.Num) (t : Node) → whole_number n ≡ Some t → IsTree t
 number_tree (json.unsigned n) t e = subst IsTree (same_Some _ _ e) tt

@@ -24,9 +24,9 @@ mutual
     field : List ℕ → Node → Fields → Fields
 
 -- the key is before each key of the members, by bytes
-abbrev pub IsBelow : List ℕ → Fields → Type 0
-IsBelow k no_fields = Unit {0}
-IsBelow k (field l t fs) = (slice_cmp nat_cmp k l ≡ Less) × IsBelow k fs
+abbrev pub IsBelowFields : List ℕ → Fields → Type 0
+IsBelowFields k no_fields = Unit {0}
+IsBelowFields k (field l t fs) = (slice_cmp nat_cmp k l ≡ Less) × IsBelowFields k fs
 
 -- each object is a finite map: its keys stand in order, each once
 abbrev mutual
@@ -44,4 +44,4 @@ abbrev mutual
 
   pub IsMap : Fields → Type 0
   IsMap no_fields = Unit {0}
-  IsMap (field k t fs) = IsBelow k fs × IsTree t × IsMap fs
+  IsMap (field k t fs) = IsBelowFields k fs × IsTree t × IsMap fs

@@ -5,7 +5,6 @@ ghost use Rattle.sqlite.specs.Order.{column};
 ghost use Rattle.sqlite.specs.declared.types.Value.TheVariants.{Int};
 ghost use Rattle.table_access.specs.Reading.{TellsNumber};
 ghost use Rattle.broker_core.specs.Listing.{Lists};
-ghost use Rattle.sqlite.specs.Held.{state};
 ghost use Rattle.broker_core.specs.declared.command.Version.{Version as VersionModel};
 ghost use Rattle.broker_tables.specs.Numbers.{number_of as number_at};
 ghost use Rattle.broker_tables.specs.Holds.{Queries, QueriesInPlace, Changes};
@@ -24,7 +23,7 @@ pub fn on_branch<S: Alter>(
     number: u32,
     branch: &str,
 ) -> Result<bool, StoreFault>
-    ensures { QueriesInPlace (state S.Store conn.old) (state S.Store conn.new) result
+    ensures { QueriesInPlace S.Store conn.old conn.new result
         (λ has s. (v : VersionModel) → number_at s.versions v ≡ Some number →
         has ≡ s.branches (v, branch.now)) }
 {
@@ -44,8 +43,7 @@ pub fn add_branch<S: Alter>(
     number: u32,
     branch: &str,
 ) -> Result<(), StoreFault>
-    ensures { Changes (state S.Store conn.old) (state S.Store conn.new) result
-        (AddsBranch number branch.now) }
+    ensures { Changes S.Store conn.old conn.new result (AddsBranch number branch.now) }
 {
     change(
         conn,
@@ -79,7 +77,7 @@ pub fn branch_numbers<S: Alter>(
     pacticipant: &str,
     branch: &str,
 ) -> Result<Vec<u32>, StoreFault>
-    ensures { Queries (state S.Store conn.old) (state S.Store conn.new) result
+    ensures { Queries S.Store conn.old conn.new result
         (λ numbers s. Lists (flip_args nat_cmp)
         (IsBranchNumber s pacticipant.now branch.now) numbers.items) }
 {
@@ -101,7 +99,7 @@ pub fn branch_number_below<S: Alter>(
     branch: &str,
     below: u32,
 ) -> Result<Option<u32>, StoreFault>
-    ensures { QueriesInPlace (state S.Store conn.old) (state S.Store conn.new) result
+    ensures { QueriesInPlace S.Store conn.old conn.new result
         (λ found s. IsNewestBelow s pacticipant.now branch.now below found) }
 {
     number_of(

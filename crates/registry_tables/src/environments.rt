@@ -1,6 +1,5 @@
 //! Environments and their two marks: whether the gate judges what comes in, and whether it trusts checked results alone.
 ghost use Rattle.std.specs.Prelude.{◌≡◌, ◌==◌, false, Some, option_map};
-ghost use Rattle.sqlite.specs.Held.{state};
 ghost use Rattle.broker_core.specs.declared.command.Marks.{Marks as MarksModel};
 ghost use Rattle.broker_tables.specs.Holds.{QueriesInPlace, Changes};
 ghost use Rattle.registry_tables.specs.Registry.{AddsEnvironment, marks, MakesStrict};
@@ -18,7 +17,7 @@ pub fn gated<S: Alter>(
     conn: &mut Connection<S>,
     environment: &str,
 ) -> Result<Option<bool>, StoreFault>
-    ensures { QueriesInPlace (state S.Store conn.old) (state S.Store conn.new) result
+    ensures { QueriesInPlace S.Store conn.old conn.new result
         (λ found s. found ≡ option_map (λ m. m.gated) (s.environments environment.now)) }
 {
     match number_of(
@@ -33,7 +32,7 @@ pub fn gated<S: Alter>(
 
 /// Whether an environment that is there is strict.
 fn is_strict<S: Alter>(conn: &mut Connection<S>, environment: &str) -> Result<bool, StoreFault>
-    ensures { QueriesInPlace (state S.Store conn.old) (state S.Store conn.new) result
+    ensures { QueriesInPlace S.Store conn.old conn.new result
         (λ strict s. (m : MarksModel) → s.environments environment.now ≡ Some m → strict ≡ m.strict) }
 {
     has_row(
@@ -51,8 +50,7 @@ pub fn marks_of<S: Alter>(
     conn: &mut Connection<S>,
     environment: &str,
 ) -> Result<Option<Marks>, StoreFault>
-    ensures { QueriesInPlace (state S.Store conn.old) (state S.Store conn.new) result
-        (λ found s. found ≡ s.environments environment.now) }
+    ensures { QueriesInPlace S.Store conn.old conn.new result (λ found s. found ≡ s.environments environment.now) }
 {
     match gated(conn, environment) {
         Ok(Some(gated)) => match is_strict(conn, environment) {
@@ -72,7 +70,7 @@ pub fn strict_of<S: Alter>(
     conn: &mut Connection<S>,
     environment: &str,
 ) -> Result<Option<bool>, StoreFault>
-    ensures { QueriesInPlace (state S.Store conn.old) (state S.Store conn.new) result
+    ensures { QueriesInPlace S.Store conn.old conn.new result
         (λ found s. found ≡ option_map (λ m. m.strict) (s.environments environment.now)) }
 {
     match marks_of(conn, environment) {
@@ -95,8 +93,7 @@ fn put_environment<S: Alter>(
     environment: &str,
     mark: u32,
 ) -> Result<(), StoreFault>
-    ensures { Changes (state S.Store conn.old) (state S.Store conn.new) result
-        (AddsEnvironment environment.now (marks (mark == 1) false)) }
+    ensures { Changes S.Store conn.old conn.new result (AddsEnvironment environment.now (marks (mark == 1) false)) }
 {
     change(
         conn,
@@ -107,8 +104,7 @@ fn put_environment<S: Alter>(
 
 /// Makes an environment strict.
 fn put_strict<S: Alter>(conn: &mut Connection<S>, environment: &str) -> Result<(), StoreFault>
-    ensures { Changes (state S.Store conn.old) (state S.Store conn.new) result
-        (MakesStrict environment.now) }
+    ensures { Changes S.Store conn.old conn.new result (MakesStrict environment.now) }
 {
     change(
         conn,
@@ -127,8 +123,7 @@ pub fn add_environment<S: Alter>(
     gated: bool,
     strict: bool,
 ) -> Result<(), StoreFault>
-    ensures { Changes (state S.Store conn.old) (state S.Store conn.new) result
-        (AddsEnvironment environment.now (marks gated strict)) }
+    ensures { Changes S.Store conn.old conn.new result (AddsEnvironment environment.now (marks gated strict)) }
 {
     match put_environment(conn, environment, number_for(gated)) {
         Ok(()) => if strict {

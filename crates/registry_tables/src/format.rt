@@ -82,9 +82,9 @@ fn one_number(rows: &[Row]) -> Result<Option<u32>, StoreFault>
 /// # Errors
 /// `StoreFault::Memory` where the database has no memory; `StoreFault::Store` where it refused the query or holds no number there.
 pub fn format_of<S: Alter>(conn: &mut Connection<S>) -> Result<Option<u32>, StoreFault>
-    ensures { CallsStore (state S.Store conn.old) (state S.Store conn.new) result
-        (λ found. Finds (state S.Store conn.old).now found
-        × ((state S.Store conn.new).now ≡ (state S.Store conn.old).now)) }
+    ensures { CallsStore S.Store conn.old conn.new result
+        (λ found old new. Finds old.now found
+        × (new.now ≡ old.now)) }
 {
     if !has_meta(conn) {
         return Ok(None);

@@ -1,6 +1,5 @@
 //! Grants: the teams that may change what stands in an environment.
 ghost use Rattle.std.specs.Prelude.{◌≡◌};
-ghost use Rattle.sqlite.specs.Held.{state};
 ghost use Rattle.broker_tables.specs.Holds.{QueriesInPlace, Changes};
 ghost use Rattle.registry_tables.specs.Registry.{AddsGrant, RemovesGrant};
 
@@ -16,8 +15,7 @@ pub fn granted<S: Alter>(
     team: &str,
     environment: &str,
 ) -> Result<bool, StoreFault>
-    ensures { QueriesInPlace (state S.Store conn.old) (state S.Store conn.new) result
-        (λ has s. has ≡ s.grants (team.now, environment.now)) }
+    ensures { QueriesInPlace S.Store conn.old conn.new result (λ has s. has ≡ s.grants (team.now, environment.now)) }
 {
     has_row(
         conn,
@@ -35,8 +33,7 @@ pub fn add_grant<S: Alter>(
     team: &str,
     environment: &str,
 ) -> Result<(), StoreFault>
-    ensures { Changes (state S.Store conn.old) (state S.Store conn.new) result
-        (AddsGrant team.now environment.now) }
+    ensures { Changes S.Store conn.old conn.new result (AddsGrant team.now environment.now) }
 {
     change(
         conn,
@@ -54,8 +51,7 @@ pub fn remove_grant<S: Alter>(
     team: &str,
     environment: &str,
 ) -> Result<(), StoreFault>
-    ensures { Changes (state S.Store conn.old) (state S.Store conn.new) result
-        (RemovesGrant team.now environment.now) }
+    ensures { Changes S.Store conn.old conn.new result (RemovesGrant team.now environment.now) }
 {
     change(
         conn,

@@ -1,6 +1,5 @@
 //! The tables as a new broker makes them.
 ghost use Rattle.std.specs.Prelude.{◌≡◌, ◌++◌, ◌∷◌, []};
-ghost use Rattle.sqlite.specs.Held.{state};
 ghost use Rattle.table_access.specs.Calls.{CallsStore};
 ghost use Rattle.table_access.specs.Statements.{Creates, Makes, Indexes, indexed_by};
 ghost use Rattle.broker_tables.specs.Making.{IsBlank, HasTables};
@@ -24,9 +23,9 @@ pub fn make_tables<S: Alter>(
     format: u32,
     digest: &str,
 ) -> Result<(), StoreFault>
-    ensures { CallsStore (state S.Store conn.old) (state S.Store conn.new) result
-        (λ _. IsBlank (state S.Store conn.old).now →
-        HasTables registry_part format digest.now (state S.Store conn.new).now) }
+    ensures { CallsStore S.Store conn.old conn.new result
+        (λ _ old new. IsBlank old.now →
+        HasTables registry_part format digest.now new.now) }
 {
     match make_registry(conn) {
         Ok(()) => put_meta(conn, format, digest),
@@ -36,9 +35,9 @@ pub fn make_tables<S: Alter>(
 
 /// Makes the tables of the registry, without rows.
 fn make_registry<S: Alter>(conn: &mut Connection<S>) -> Result<(), StoreFault>
-    ensures { CallsStore (state S.Store conn.old) (state S.Store conn.new) result
-        (λ _. (state S.Store conn.old).now.schema ≡ schema_of [] →
-        Makes registry_part (state S.Store conn.old).now (state S.Store conn.new).now) }
+    ensures { CallsStore S.Store conn.old conn.new result
+        (λ _ old new. old.now.schema ≡ schema_of [] →
+        Makes registry_part old.now new.now) }
 {
     make_each(
         conn,
@@ -59,10 +58,10 @@ fn make_registry<S: Alter>(conn: &mut Connection<S>) -> Result<(), StoreFault>
 /// # Errors
 /// `StoreFault::Memory` where the database is out of memory; `StoreFault::Store` where it refused the table.
 pub fn make_strict_environments<S: Alter>(conn: &mut Connection<S>) -> Result<(), StoreFault>
-    ensures { CallsStore (state S.Store conn.old) (state S.Store conn.new) result
-        (λ _. (state S.Store conn.old).now.schema
+    ensures { CallsStore S.Store conn.old conn.new result
+        (λ _ old new. old.now.schema
         ≡ schema_of (registry_part ++ contents ∷ contract_part ++ deploy_part ++ checked_results ∷ []) →
-        Creates (state S.Store conn.old).now (state S.Store conn.new).now strict_environments) }
+        Creates old.now new.now strict_environments) }
 {
     make_each(conn, &[STRICT_ENVIRONMENTS])
 }
@@ -72,10 +71,10 @@ pub fn make_strict_environments<S: Alter>(conn: &mut Connection<S>) -> Result<()
 /// # Errors
 /// `StoreFault::Memory` where the database is out of memory; `StoreFault::Store` where it refused the index.
 pub fn make_index<S: Alter>(conn: &mut Connection<S>) -> Result<(), StoreFault>
-    ensures { CallsStore (state S.Store conn.old) (state S.Store conn.new) result
-        (λ _. (state S.Store conn.old).now.schema
+    ensures { CallsStore S.Store conn.old conn.new result
+        (λ _ old new. old.now.schema
         ≡ indexed_by (schema_of all_tables) (contents_by_digest ∷ contract_indexes) →
-        Indexes (state S.Store conn.old).now (state S.Store conn.new).now
+        Indexes old.now new.now
         versions_by_pacticipant.0 versions_by_pacticipant.1) }
 {
     make_each(conn, &[VERSIONS_BY_PACTICIPANT])
@@ -83,8 +82,7 @@ pub fn make_index<S: Alter>(conn: &mut Connection<S>) -> Result<(), StoreFault>
 
 /// Puts in the one row of meta.
 fn put_meta<S: Alter>(conn: &mut Connection<S>, format: u32, digest: &str) -> Result<(), StoreFault>
-    ensures { CallsStore (state S.Store conn.old) (state S.Store conn.new) result
-        (λ _. PutsMeta format digest.now (state S.Store conn.old).now (state S.Store conn.new).now) }
+    ensures { CallsStore S.Store conn.old conn.new result (λ _ old new. PutsMeta format digest.now old.now new.now) }
 {
     change(
         conn,

@@ -1,6 +1,5 @@
 //! The tables of a broker of format 1, as they become today's.
 ghost use Rattle.std.specs.Prelude.{◌∷◌, []};
-ghost use Rattle.sqlite.specs.Held.{state};
 ghost use Rattle.table_access.specs.Calls.{CallsStore};
 ghost use Rattle.broker_core.specs.State.{State as Broker};
 ghost use Rattle.broker_tables.specs.Schema.{checked_results};
@@ -16,10 +15,10 @@ use table_access::{StoreFault, change};
 /// # Errors
 /// `StoreFault::Memory` where the database is out of memory; `StoreFault::Store` where it refused the table or the format.
 pub fn to_format_2<S: Alter>(conn: &mut Connection<S>) -> Result<(), StoreFault>
-    ensures { CallsStore (state S.Store conn.old) (state S.Store conn.new) result
-        (λ _. (s : Broker) →
-        HoldsUnmarked former_format (checked_results ∷ []) (state S.Store conn.old).now s →
-        HoldsUnmarked format added_tables (state S.Store conn.new).now s) }
+    ensures { CallsStore S.Store conn.old conn.new result
+        (λ _ old new. (s : Broker) →
+        HoldsUnmarked former_format (checked_results ∷ []) old.now s →
+        HoldsUnmarked format added_tables new.now s) }
 {
     match make_strict_environments(conn) {
         Ok(()) => set_format(conn),
@@ -29,9 +28,9 @@ pub fn to_format_2<S: Alter>(conn: &mut Connection<S>) -> Result<(), StoreFault>
 
 /// Sets the format to 2.
 fn set_format<S: Alter>(conn: &mut Connection<S>) -> Result<(), StoreFault>
-    ensures { CallsStore (state S.Store conn.old) (state S.Store conn.new) result
-        (λ _. (s : Broker) → HoldsUnmarked former_format added_tables (state S.Store conn.old).now s →
-        HoldsUnmarked format added_tables (state S.Store conn.new).now s) }
+    ensures { CallsStore S.Store conn.old conn.new result
+        (λ _ old new. (s : Broker) → HoldsUnmarked former_format added_tables old.now s →
+        HoldsUnmarked format added_tables new.now s) }
 {
     change(conn, "UPDATE meta SET format = 2", &[])
 }

@@ -15,8 +15,7 @@ use table_access::{StoreFault, text_of};
 /// `StoreFault::Memory` where the database is out of memory, or there is no room for the digest;
 /// `StoreFault::Store` where it refused the query or has no such row.
 pub fn office_digest<S: Alter>(conn: &mut Connection<S>) -> Result<String, StoreFault>
-    ensures reads { Queries (state S.Store conn.old) (state S.Store conn.new) result
-        (λ digest s. string_bytes digest ≡ s.office) }
+    ensures reads { Queries S.Store conn.old conn.new result (λ digest s. string_bytes digest ≡ s.office) }
     ensures memory { IsBroker (state S.Store conn.old).now →
         rows_of (state S.Store conn.old).now (codes "meta") ≡ [] →
         TellsMemory (state S.Store conn.old) (state S.Store conn.new) result }

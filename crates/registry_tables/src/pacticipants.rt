@@ -1,6 +1,5 @@
 //! Pacticipants, and the teams that own them.
 ghost use Rattle.std.specs.Prelude.{◌≡◌, option_map, string_bytes};
-ghost use Rattle.sqlite.specs.Held.{state};
 ghost use Rattle.broker_tables.specs.Holds.{Queries, Changes};
 ghost use Rattle.registry_tables.specs.Registry.{AddsPacticipant};
 
@@ -15,7 +14,7 @@ pub fn owner_of<S: Alter>(
     conn: &mut Connection<S>,
     pacticipant: &str,
 ) -> Result<Option<String>, StoreFault>
-    ensures { Queries (state S.Store conn.old) (state S.Store conn.new) result
+    ensures { Queries S.Store conn.old conn.new result
         (λ owner s. option_map string_bytes owner ≡ s.pacticipants pacticipant.now) }
 {
     text_of(
@@ -34,8 +33,7 @@ pub fn add_pacticipant<S: Alter>(
     pacticipant: &str,
     team: &str,
 ) -> Result<(), StoreFault>
-    ensures { Changes (state S.Store conn.old) (state S.Store conn.new) result
-        (AddsPacticipant pacticipant.now team.now) }
+    ensures { Changes S.Store conn.old conn.new result (AddsPacticipant pacticipant.now team.now) }
 {
     change(
         conn,

@@ -1,6 +1,5 @@
 //! Teams, and the digests of their tokens.
 ghost use Rattle.std.specs.Prelude.{◌≡◌, ℕ, List, Some, None, MatchOption, option_map, string_bytes, is_some};
-ghost use Rattle.sqlite.specs.Held.{state};
 ghost use Rattle.broker_tables.specs.Holds.{Queries, QueriesInPlace, Changes};
 ghost use Rattle.registry_tables.specs.Registry.{AddsTeam};
 
@@ -17,7 +16,7 @@ pub fn digest_of<S: Alter>(
     conn: &mut Connection<S>,
     team: &str,
 ) -> Result<Option<String>, StoreFault>
-    ensures { Queries (state S.Store conn.old) (state S.Store conn.new) result
+    ensures { Queries S.Store conn.old conn.new result
         (λ digest s. option_map string_bytes digest ≡ s.teams team.now) }
 {
     text_of(conn, DIGEST_OF_TEAM, params![team])
@@ -28,8 +27,7 @@ pub fn digest_of<S: Alter>(
 /// # Errors
 /// `StoreFault::Memory` where the database is out of memory; `StoreFault::Store` where it refused the query.
 pub fn has_team<S: Alter>(conn: &mut Connection<S>, team: &str) -> Result<bool, StoreFault>
-    ensures { QueriesInPlace (state S.Store conn.old) (state S.Store conn.new) result
-        (λ has s. has ≡ is_some (s.teams team.now)) }
+    ensures { QueriesInPlace S.Store conn.old conn.new result (λ has s. has ≡ is_some (s.teams team.now)) }
 {
     has_row(conn, DIGEST_OF_TEAM, params![team])
 }
@@ -42,7 +40,7 @@ pub fn team_of_digest<S: Alter>(
     conn: &mut Connection<S>,
     digest: &str,
 ) -> Result<Option<String>, StoreFault>
-    ensures { Queries (state S.Store conn.old) (state S.Store conn.new) result
+    ensures { Queries S.Store conn.old conn.new result
         (λ team s. MatchOption team
         ((t : List ℕ) → ¬ (s.teams t ≡ Some digest.now))
         (λ name. s.teams (string_bytes name) ≡ Some digest.now)) }
@@ -63,8 +61,7 @@ pub fn add_team<S: Alter>(
     team: &str,
     digest: &str,
 ) -> Result<(), StoreFault>
-    ensures { Changes (state S.Store conn.old) (state S.Store conn.new) result
-        (AddsTeam team.now digest.now) }
+    ensures { Changes S.Store conn.old conn.new result (AddsTeam team.now digest.now) }
 {
     change(
         conn,

@@ -1,6 +1,5 @@
 //! Versions of pacticipants, and their numbers.
 ghost use Rattle.std.specs.Prelude.{◌≡◌, length, is_some};
-ghost use Rattle.sqlite.specs.Held.{state};
 ghost use Rattle.broker_core.specs.Text.{version as version_named};
 ghost use Rattle.broker_core.specs.Request.{is_known};
 ghost use Rattle.broker_tables.specs.Numbers.{number_of as number_in};
@@ -20,7 +19,7 @@ pub fn version_of<S: Alter>(
     pacticipant: &str,
     version: &str,
 ) -> Result<Option<u32>, StoreFault>
-    ensures { QueriesInPlace (state S.Store conn.old) (state S.Store conn.new) result
+    ensures { QueriesInPlace S.Store conn.old conn.new result
         (λ found s. (found ≡ number_in s.versions (version_named pacticipant.now version.now))
         × (is_some found ≡ is_known s (version_named pacticipant.now version.now))) }
 {
@@ -36,8 +35,7 @@ pub fn version_of<S: Alter>(
 /// # Errors
 /// `StoreFault::Memory` where the database is out of memory; `StoreFault::Store` where it refused the query or holds no number there.
 pub fn version_count<S: Alter>(conn: &mut Connection<S>) -> Result<u64, StoreFault>
-    ensures { QueriesInPlace (state S.Store conn.old) (state S.Store conn.new) result
-        (λ count s. count ≡ length s.versions) }
+    ensures { QueriesInPlace S.Store conn.old conn.new result (λ count s. count ≡ length s.versions) }
 {
     match number_of(
         conn,
@@ -56,7 +54,7 @@ fn put_version<S: Alter>(
     pacticipant: &str,
     version: &str,
 ) -> Result<(), StoreFault>
-    ensures { Changes (state S.Store conn.old) (state S.Store conn.new) result
+    ensures { Changes S.Store conn.old conn.new result
         (PutsVersion number (version_named pacticipant.now version.now)) }
 {
     change(
@@ -76,7 +74,7 @@ pub fn add_version_as<S: Alter>(
     pacticipant: &str,
     version: &str,
 ) -> Result<(), StoreFault>
-    ensures { ChangesAndAnswers (state S.Store conn.old) (state S.Store conn.new) result
+    ensures { ChangesAndAnswers S.Store conn.old conn.new result
         (AllowsVersionAs number (version_named pacticipant.now version.now))
         (λ _. AddsVersion (version_named pacticipant.now version.now) number) }
 {
@@ -92,7 +90,7 @@ pub fn add_version<S: Alter>(
     pacticipant: &str,
     version: &str,
 ) -> Result<u32, StoreFault>
-    ensures { ChangesAndAnswers (state S.Store conn.old) (state S.Store conn.new) result
+    ensures { ChangesAndAnswers S.Store conn.old conn.new result
         (AllowsVersion (version_named pacticipant.now version.now))
         (AddsVersion (version_named pacticipant.now version.now)) }
 {

@@ -14,7 +14,7 @@ use Rattle.sqlite_trees.specs.declared.error.StoreError.TheVariants.{OutOfMemory
 use Rattle.table_access.specs.Unit.{IsLeft}
 use Rattle.table_access.specs.declared.StoreFault.{StoreFault}
 use Rattle.table_access.specs.declared.StoreFault.TheVariants.{Memory, Store}
-use Rattle.table_access.specs.Calls.{KeepsLastCommit, CallsTables, GoesOn, IsEnded, FailsAs, TellsMemory, CallsStore, fault_of}
+use Rattle.table_access.specs.Calls.{KeepsLastCommit, CallsTablesBetween, GoesOn, IsEnded, FailsAs, TellsMemory, CallsStoreBetween, fault_of}
 use Rattle.table_access.proofs.Refusals.{read_told}
 use Rattle.table_access.proofs.Texts.{IsRefused, caused, no_statement_told, command_told}
 
@@ -70,29 +70,29 @@ shows_outside sql params old db h = h.3.0
 -- ---- calls
 
 -- a call whose answer has P is one whose answer has Q, where P of an answer gives Q
-pub call_with : {A : Type 0} (old new : State) (r : Result A StoreFault) (P Q : A → Type 0) → ((a : A) → P a → Q a) → CallsTables old new r P → CallsTables old new r Q
+pub call_with : {A : Type 0} (old new : State) (r : Result A StoreFault) (P Q : A → Type 0) → ((a : A) → P a → Q a) → CallsTablesBetween old new r P → CallsTablesBetween old new r Q
 call_with old new (Ok a) P Q more it = record { ok = λ clean. more a (it.ok clean); goes_on = it.goes_on; fails = it.fails; commits = it.commits; survives = it.survives }
 call_with old new (Err e) P Q more it = record { ok = it.ok; goes_on = it.goes_on; fails = it.fails; commits = it.commits; survives = it.survives }
 
 -- another answer, computed from the first
-pub then_ok : {A B : Type 0} (old new : State) (a : A) (b : B) (P : A → Type 0) (Q : B → Type 0) → (P a → Q b) → CallsTables old new (Ok a) P → CallsTables old new (Ok b) Q
+pub then_ok : {A B : Type 0} (old new : State) (a : A) (b : B) (P : A → Type 0) (Q : B → Type 0) → (P a → Q b) → CallsTablesBetween old new (Ok a) P → CallsTablesBetween old new (Ok b) Q
 then_ok old new a b P Q more it = record { ok = λ clean. more (it.ok clean); goes_on = it.goes_on; fails = it.fails; commits = it.commits; survives = it.survives }
 
 -- the failure of a call, handed on
-pub then_err : {A B : Type 0} (old new : State) (e : StoreFault) (P : A → Type 0) (Q : B → Type 0) → CallsTables old new (Err e) P → CallsTables old new (Err e) Q
+pub then_err : {A B : Type 0} (old new : State) (e : StoreFault) (P : A → Type 0) (Q : B → Type 0) → CallsTablesBetween old new (Err e) P → CallsTablesBetween old new (Err e) Q
 then_err old new e P Q it = record { ok = it.ok; goes_on = it.goes_on; fails = it.fails; commits = it.commits; survives = it.survives }
 
 -- a row that breaks the rules, or a growth that is refused, after a call
-pub then_stop : {A B : Type 0} (old new : State) (a : A) (e : StoreFault) (P : A → Type 0) (Q : B → Type 0) → CallsTables old new (Ok a) P → CallsTables old new (Err e) Q
+pub then_stop : {A B : Type 0} (old new : State) (a : A) (e : StoreFault) (P : A → Type 0) (Q : B → Type 0) → CallsTablesBetween old new (Ok a) P → CallsTablesBetween old new (Err e) Q
 then_stop old new a e P Q it = record { ok = λ _. tt; goes_on = λ _ _. tt; fails = λ clean inside. inl (it.goes_on clean inside); commits = it.commits; survives = it.survives }
 
 -- a computation that may fail, after a call
-pub then_result : {A B : Type 0} (old new : State) (a : A) (r : Result B StoreFault) (P : A → Type 0) (Q : B → Type 0) → IfOk r (λ b. P a → Q b) → CallsTables old new (Ok a) P → CallsTables old new r Q
+pub then_result : {A B : Type 0} (old new : State) (a : A) (r : Result B StoreFault) (P : A → Type 0) (Q : B → Type 0) → IfOk r (λ b. P a → Q b) → CallsTablesBetween old new (Ok a) P → CallsTablesBetween old new r Q
 then_result old new a (Ok b) P Q more it = then_ok old new a b P Q more it
 then_result old new a (Err e) P Q more it = then_stop old new a e P Q it
 
 -- nothing is called
-pub idle : {A : Type 0} (c : State) (r : Result A StoreFault) (P : A → Type 0) → IfOk r P → CallsTables c c r P
+pub idle : {A : Type 0} (c : State) (r : Result A StoreFault) (P : A → Type 0) → IfOk r P → CallsTablesBetween c c r P
 idle {A} c r P h = record {
   ok = λ _. h;
   goes_on = λ _ inside. goes r inside;
@@ -135,7 +135,7 @@ fails_since a b c e on up (inl goes) = inl (goes.0, λ h. goes.1 (on.1 h))
 fails_since a b c e on up (inr ended) = inr (ended_since a b c e on up ended)
 
 -- one call after another: Q of the last answer is had from P of the first
-pub seq : {A B : Type 0} (old mid new : State) (a : A) (r : Result B StoreFault) (P : A → Type 0) (Q R : B → Type 0) → (P a → (b : B) → Q b → R b) → CallsTables old mid (Ok a) P → CallsTables mid new r Q → CallsTables old new r R
+pub seq : {A B : Type 0} (old mid new : State) (a : A) (r : Result B StoreFault) (P : A → Type 0) (Q R : B → Type 0) → (P a → (b : B) → Q b → R b) → CallsTablesBetween old mid (Ok a) P → CallsTablesBetween mid new r Q → CallsTablesBetween old new r R
 seq {A} {B} old mid new a r P Q R more one two = record {
   ok = λ clean. both r (one.ok (mid_clean clean)) (two.ok clean);
   goes_on = λ clean inside. let first = one.goes_on (mid_clean clean) inside in goes r first (two.goes_on clean first.0);
@@ -160,7 +160,7 @@ seq {A} {B} old mid new a r P Q R more one two = record {
     both (Err e) p q = tt
 
 -- a call that failed after another
-pub failed_then : {A B C : Type 0} (old mid new : State) (a : A) (e : StoreFault) (P : A → Type 0) (Q : B → Type 0) (R : C → Type 0) → CallsTables old mid (Ok a) P → CallsTables mid new (Err e) Q → CallsTables old new (Err e) R
+pub failed_then : {A B C : Type 0} (old mid new : State) (a : A) (e : StoreFault) (P : A → Type 0) (Q : B → Type 0) (R : C → Type 0) → CallsTablesBetween old mid (Ok a) P → CallsTablesBetween mid new (Err e) Q → CallsTablesBetween old new (Err e) R
 failed_then {A} {B} {C} old mid new a e P Q R one two = then_err old new e Q R (seq old mid new a (Err e) P Q Q (λ p b q. q) one two)
 
 -- ---- calls that take no memory of their own
@@ -178,24 +178,24 @@ pub memory_store : {A : Type 0} (old new : State) (e : StoreFault) → e ≡ Sto
 memory_store old new e store clean inside is = absurd (let clash : Store ≡ Memory = (let same : e ≡ Memory = (let h = is in cc) in sym store ∙ same) in cc)
 
 -- a statement whose answer has P is one whose answer has Q, where P of an answer gives Q
-pub statement_with : {A : Type 0} (old new : State) (r : Result A StoreFault) (P Q : A → Type 0) → ((a : A) → P a → Q a) → CallsStore old new r P → CallsStore old new r Q
+pub statement_with : {A : Type 0} (old new : State) (r : Result A StoreFault) (P Q : A → Type 0) → ((a : A) → P a → Q a) → CallsStoreBetween old new r P → CallsStoreBetween old new r Q
 statement_with old new r P Q more it = record { call = call_with old new r P Q more it.call; memory = it.memory }
 
 -- another answer, computed from the first
-pub statement_ok : {A B : Type 0} (old new : State) (a : A) (b : B) (P : A → Type 0) (Q : B → Type 0) → (P a → Q b) → CallsStore old new (Ok a) P → CallsStore old new (Ok b) Q
+pub statement_ok : {A B : Type 0} (old new : State) (a : A) (b : B) (P : A → Type 0) (Q : B → Type 0) → (P a → Q b) → CallsStoreBetween old new (Ok a) P → CallsStoreBetween old new (Ok b) Q
 statement_ok old new a b P Q more it = record { call = then_ok old new a b P Q more it.call; memory = memory_ok old new b }
 
 -- the failure of a statement, handed on
-pub statement_err : {A B : Type 0} (old new : State) (e : StoreFault) (P : A → Type 0) (Q : B → Type 0) → CallsStore old new (Err e) P → CallsStore old new (Err e) Q
+pub statement_err : {A B : Type 0} (old new : State) (e : StoreFault) (P : A → Type 0) (Q : B → Type 0) → CallsStoreBetween old new (Err e) P → CallsStoreBetween old new (Err e) Q
 statement_err old new e P Q it = record { call = then_err old new e P Q it.call; memory = memory_err old new e it.memory }
 
 -- a computation that fails only where a row breaks the rules, after a statement
-pub statement_result : {A B : Type 0} (old new : State) (a : A) (r : Result B StoreFault) (P : A → Type 0) (Q : B → Type 0) → IfOk r (λ b. P a → Q b) → IfErr r (λ e. e ≡ Store) → CallsStore old new (Ok a) P → CallsStore old new r Q
+pub statement_result : {A B : Type 0} (old new : State) (a : A) (r : Result B StoreFault) (P : A → Type 0) (Q : B → Type 0) → IfOk r (λ b. P a → Q b) → IfErr r (λ e. e ≡ Store) → CallsStoreBetween old new (Ok a) P → CallsStoreBetween old new r Q
 statement_result old new a (Ok b) P Q more store it = statement_ok old new a b P Q more it
 statement_result old new a (Err e) P Q more store it = record { call = then_stop old new a e P Q it.call; memory = memory_store old new e store }
 
 -- one after another
-pub statement_seq : {A B : Type 0} (old mid new : State) (a : A) (r : Result B StoreFault) (P : A → Type 0) (Q R : B → Type 0) → (P a → (b : B) → Q b → R b) → CallsStore old mid (Ok a) P → CallsStore mid new r Q → CallsStore old new r R
+pub statement_seq : {A B : Type 0} (old mid new : State) (a : A) (r : Result B StoreFault) (P : A → Type 0) (Q R : B → Type 0) → (P a → (b : B) → Q b → R b) → CallsStoreBetween old mid (Ok a) P → CallsStoreBetween mid new r Q → CallsStoreBetween old new r R
 statement_seq old mid new a r P Q R more one two = record {
   call = seq old mid new a r P Q R more one.call two.call;
   memory = λ clean inside is.

@@ -5,7 +5,7 @@ use Rattle.sqlite.specs.Effect.{Database, IsDatabase}
 use Rattle.sqlite.specs.State.{State, HasCleanDisk, Survives, Commits, IsLive}
 use Rattle.table_access.specs.Unit.{Begins}
 use Rattle.table_access.specs.declared.StoreFault.{StoreFault}
-use Rattle.table_access.specs.Calls.{CallsTables, KeepsLastCommit}
+use Rattle.table_access.specs.Calls.{CallsTablesBetween, KeepsLastCommit}
 use Rattle.table_access.specs.Durability.{HoldsDurably, IsOnDisk, HoldsEither}
 
 stored : (P : Database → Type 0) (db : Database) (trees : Trees) → IsDatabase db → P db → trees ≡ db.trees → IsOnDisk P trees
@@ -29,7 +29,7 @@ commits Q done new it live law has =
       left = λ trees may. stored Q new.committed trees sound now (law trees it.0.is_open may);
     }
 
-module _ {A : Type 0} (P : Database → Type 0) (old mid done : State) (r : Result A StoreFault) (X : A → Type 0) (keeps : HoldsDurably P old) (begun : Begins old mid) (s : Survives old mid (λ _. ⊥)) (work : CallsTables mid done r X) (clean : HasCleanDisk done) where
+module _ {A : Type 0} (P : Database → Type 0) (old mid done : State) (r : Result A StoreFault) (X : A → Type 0) (keeps : HoldsDurably P old) (begun : Begins old mid) (s : Survives old mid (λ _. ⊥)) (work : CallsTablesBetween mid done r X) (clean : HasCleanDisk done) where
   -- what a crash leaves before the end, it left before the transaction
   left_before : (trees : Trees) → done.may_leave trees → IsOnDisk P trees
   left_before trees may = elim (work.survives.crash clean trees may) [

@@ -1,10 +1,13 @@
 -- What a call on the tables leaves of a connection.
-use Rattle.std.specs.Prelude.{◌≡◌, ◌⊎◌, false, IsTrue, ⊤, Result, Err, IfOk, IfErr, OnOk}
+use Rattle.std.specs.Prelude.{◌≡◌, ◌⊎◌, ℕ, false, IsTrue, ⊤, List, Result, Err, IfOk, IfErr, OnOk}
 use Rattle.sqlite.specs.declared.error.ErrorCode.TheVariants as code
 use Rattle.sqlite.specs.declared.error.Error.{Error}
 use Rattle.sqlite.specs.declared.error.Error.TheVariants.{SqliteFailure}
-use Rattle.sqlite.specs.State.{State, HasCleanDisk, Survives, HasCause, store_error}
+use Rattle.sqlite.specs.Order.{Row}
+use Rattle.sqlite.specs.Held.{Held, state}
+use Rattle.sqlite.specs.State.{State, HasCleanDisk, Survives, HasCause, Executes, store_error}
 use Rattle.sqlite_trees.specs.declared.error.StoreError.{StoreError}
+use Rattle.sqlite_trees.specs.declared.store.Store.{Ghosts}
 use Rattle.sqlite_trees.specs.View.{Tells}
 use Rattle.table_access.specs.declared.StoreFault.{StoreFault}
 use Rattle.table_access.specs.declared.StoreFault.TheVariants.{Memory, Store}
@@ -13,6 +16,10 @@ use Rattle.table_access.specs.declared.StoreFault.TheVariants.{Memory, Store}
 abbrev pub fault_of : Error → StoreFault
 fault_of (SqliteFailure code.OutOfMemory) = Memory
 fault_of _ = Store
+
+-- the statement was refused, and the fault stands for its error
+abbrev pub FailsToRun : List ℕ → Row → State → State → StoreFault → Type 0
+FailsToRun sql params old new fault = (e : Error) × (fault ≡ fault_of e) × Executes sql params old new (Err e)
 
 -- nothing is committed
 pub record KeepsLastCommit (old new : State) : Type 0 where
@@ -42,14 +49,26 @@ TellsMemory old new r = HasCleanDisk new → IsTrue old.in_transaction → r ≡
 
 -- P of the answer, in a transaction that goes on, or a failure. Nothing is committed, and a crash leaves what
 -- it left before.
-pub record CallsTables {A : Type 0} (old new : State) (r : Result A StoreFault) (P : A → Type 0) : Type 0 where
+pub record CallsTablesBetween {A : Type 0} (old new : State) (r : Result A StoreFault) (P : A → Type 0) : Type 0 where
   pub ok : HasCleanDisk new → IfOk r P
   pub goes_on : HasCleanDisk new → IsTrue old.in_transaction → OnOk r (GoesOn old new)
   pub fails : HasCleanDisk new → IsTrue old.in_transaction → IfErr r (FailsAs old new)
   pub commits : HasCleanDisk new → IsTrue old.in_transaction → KeepsLastCommit old new
   pub survives : Survives old new (λ _. old.in_transaction ≡ false)
 
--- A call that takes no memory of its own, as a statement, or some in turn: only the store may be out of memory.
-pub record CallsStore {A : Type 0} (old new : State) (r : Result A StoreFault) (P : A → Type 0) : Type 0 where
-  pub call : CallsTables old new r P
+-- A call that takes no memory of its own, as a statement, or several: only the store may be out of memory.
+pub record CallsStoreBetween {A : Type 0} (old new : State) (r : Result A StoreFault) (P : A → Type 0) : Type 0 where
+  pub call : CallsTablesBetween old new r P
   pub memory : TellsMemory old new r
+
+-- ---- the same of a connection over this store; P speaks of what it showed before, and of what it shows now
+
+module _ {X A : Type 0} (store : Ghosts X) (old new : Held X) (r : Result A StoreFault)
+    (P : A → State → State → Type 0) where
+  abbrev pub CallsTables : Type 0
+  CallsTables =
+      CallsTablesBetween (state store old) (state store new) r (λ a. P a (state store old) (state store new))
+
+  abbrev pub CallsStore : Type 0
+  CallsStore =
+      CallsStoreBetween (state store old) (state store new) r (λ a. P a (state store old) (state store new))

@@ -11,8 +11,8 @@ ghost use Rattle.sqlite.specs.declared.error.Error.{Error as SqlError};
 ghost use Rattle.sqlite.specs.Held.{state};
 ghost use Rattle.sqlite.specs.Values.{bound};
 ghost use Rattle.sqlite_resolve.specs.Compile.{first};
-ghost use Rattle.table_access.specs.Unit.{Begins, IsLeft, IsOver};
-ghost use Rattle.table_access.specs.Calls.{KeepsLastCommit, CallsStore};
+ghost use Rattle.table_access.specs.Unit.{Begins, IsLeft, IsEndedAnyway, IsOver};
+ghost use Rattle.table_access.specs.Calls.{KeepsLastCommit, CallsStore, FailsToRun};
 ghost use Rattle.table_access.specs.Calls as spec;
 ghost use Rattle.table_access.specs.Reading.{IsRefusedAs};
 ghost use Rattle.table_access.specs.Writes.{IsWriteText};
@@ -82,9 +82,7 @@ fn run_rollback<S: Alter>(conn: &mut Connection<S>) -> Result<usize, Error>
     ensures undone { HasCleanDisk (state S.Store conn.new) →
         OnOk result (IsRolledBack (state S.Store conn.old) (state S.Store conn.new)) }
     ensures refused { HasCleanDisk (state S.Store conn.new) →
-        OnErr result (IsRolledBack (state S.Store conn.old) (state S.Store conn.new)
-        ⊎ (((state S.Store conn.old).in_transaction ≡ false)
-        × IsUnchanged (state S.Store conn.old) (state S.Store conn.new))) }
+        OnErr result (IsEndedAnyway (state S.Store conn.old) (state S.Store conn.new)) }
     ensures cause { HasCleanDisk (state S.Store conn.new) →
         IfErr result (λ e. Executes (codes "ROLLBACK") [] (state S.Store conn.old) (state S.Store conn.new) (Err e)) }
     ensures survives { Survives (state S.Store conn.old) (state S.Store conn.new) (λ _. ⊥) }
@@ -99,8 +97,7 @@ pub fn begin<S: Alter>(conn: &mut Connection<S>) -> Result<(), StoreFault>
     ensures refused { HasCleanDisk (state S.Store conn.new) →
         OnErr result (IsLeft (state S.Store conn.old) (state S.Store conn.new)) }
     ensures cause { HasCleanDisk (state S.Store conn.new) →
-        IfErr result (λ f. (e : SqlError) × (f ≡ spec.fault_of e)
-        × Executes (codes "BEGIN") [] (state S.Store conn.old) (state S.Store conn.new) (Err e)) }
+        IfErr result (FailsToRun (codes "BEGIN") [] (state S.Store conn.old) (state S.Store conn.new)) }
     ensures survives { Survives (state S.Store conn.old) (state S.Store conn.new) (λ _. ⊥) }
 {
     match run_begin(conn) {
@@ -131,8 +128,7 @@ pub fn commit<S: Alter>(conn: &mut Connection<S>) -> bool
     ensures done { HasCleanDisk (state S.Store conn.new) → IsTrue result →
         Commits (state S.Store conn.old) (state S.Store conn.new) }
     ensures refused { HasCleanDisk (state S.Store conn.new) → result ≡ false →
-        KeepsLastCommit (state S.Store conn.old) (state S.Store conn.new) }
-    ensures over { HasCleanDisk (state S.Store conn.new) → result ≡ false → IsOver (state S.Store conn.new) }
+        KeepsLastCommit (state S.Store conn.old) (state S.Store conn.new) × IsOver (state S.Store conn.new) }
     ensures survives { Survives (state S.Store conn.old) (state S.Store conn.new)
         (λ db. db ≡ (state S.Store conn.old).now.trees) }
 {
@@ -153,12 +149,11 @@ pub fn change<S: Alter>(
     params: &[ValueRef<'_>],
 ) -> Result<(), StoreFault>
     requires { IsWriteText (first sql.now) }
-    ensures leaves { CallsStore (state S.Store conn.old) (state S.Store conn.new) result
-        (λ _. (count : ℕ)
-        × Executes sql.now (bound params.now) (state S.Store conn.old) (state S.Store conn.new) (Ok count)) }
+    ensures leaves { CallsStore S.Store conn.old conn.new result
+        (λ _ old new. (count : ℕ)
+        × Executes sql.now (bound params.now) old new (Ok count)) }
     ensures cause { HasCleanDisk (state S.Store conn.new) →
-        IfErr result (λ f. (e : SqlError) × (f ≡ spec.fault_of e)
-        × Executes sql.now (bound params.now) (state S.Store conn.old) (state S.Store conn.new) (Err e)) }
+        IfErr result (FailsToRun sql.now (bound params.now) (state S.Store conn.old) (state S.Store conn.new)) }
 {
     match conn.execute(sql, params) {
         Ok(_) => Ok(()),
@@ -172,8 +167,8 @@ pub fn select<S: Alter>(
     sql: &str,
     params: &[ValueRef<'_>],
 ) -> Result<Vec<Row>, StoreFault>
-    ensures leaves { CallsStore (state S.Store conn.old) (state S.Store conn.new) result
-        (λ rows. Shown sql.now (bound params.now) (state S.Store conn.old) (state S.Store conn.new) rows.items) }
+    ensures leaves { CallsStore S.Store conn.old conn.new result
+        (λ rows old new. Shown sql.now (bound params.now) old new rows.items) }
     ensures cause { HasCleanDisk (state S.Store conn.new) →
         IfErr result (IsRefusedAs sql.now (bound params.now) (state S.Store conn.old) (state S.Store conn.new)) }
 {

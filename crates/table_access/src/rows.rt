@@ -60,9 +60,9 @@ pub fn list_of<R: ReadRow, S: Alter>(
     sql: &str,
     params: &[ValueRef<'_>],
 ) -> Result<Vec<R::Item>, StoreFault>
-    ensures leaves { CallsTables (state S.Store conn.old) (state S.Store conn.new) result
-        (λ items. (rows : List SqlRow)
-        × Shown sql.now (bound params.now) (state S.Store conn.old) (state S.Store conn.new) rows
+    ensures leaves { CallsTables S.Store conn.old conn.new result
+        (λ items old new. (rows : List SqlRow)
+        × Shown sql.now (bound params.now) old new rows
         × AreRead R.reads_as rows items.items) }
     ensures cause { HasCleanDisk (state S.Store conn.new) →
         IfErr result (FailsToRead R.reads_as R.fails_as sql.now (bound params.now)
@@ -80,9 +80,9 @@ pub fn has_row<S: Alter>(
     sql: &str,
     params: &[ValueRef<'_>],
 ) -> Result<bool, StoreFault>
-    ensures leaves { CallsStore (state S.Store conn.old) (state S.Store conn.new) result
-        (λ has. (rows : List SqlRow)
-        × Shown sql.now (bound params.now) (state S.Store conn.old) (state S.Store conn.new) rows
+    ensures leaves { CallsStore S.Store conn.old conn.new result
+        (λ has old new. (rows : List SqlRow)
+        × Shown sql.now (bound params.now) old new rows
         × (has ≡ is_some (slice_get rows 0))) }
     ensures cause { HasCleanDisk (state S.Store conn.new) →
         IfErr result (IsRefusedAs sql.now (bound params.now) (state S.Store conn.old) (state S.Store conn.new)) }
@@ -166,9 +166,9 @@ pub fn text_of<S: Alter>(
     sql: &str,
     params: &[ValueRef<'_>],
 ) -> Result<Option<String>, StoreFault>
-    ensures leaves { CallsTables (state S.Store conn.old) (state S.Store conn.new) result
-        (λ found. (rows : List SqlRow)
-        × Shown sql.now (bound params.now) (state S.Store conn.old) (state S.Store conn.new) rows
+    ensures leaves { CallsTables S.Store conn.old conn.new result
+        (λ found old new. (rows : List SqlRow)
+        × Shown sql.now (bound params.now) old new rows
         × (option_map string_bytes found ≡ option_map (text 0) (slice_get rows 0))) }
     ensures cause { HasCleanDisk (state S.Store conn.new) →
         IfErr result (FailsToTake TellsText sql.now (bound params.now)
@@ -187,9 +187,9 @@ pub fn number_of<S: Alter>(
     sql: &str,
     params: &[ValueRef<'_>],
 ) -> Result<Option<u32>, StoreFault>
-    ensures leaves { CallsStore (state S.Store conn.old) (state S.Store conn.new) result
-        (λ found. (rows : List SqlRow)
-        × Shown sql.now (bound params.now) (state S.Store conn.old) (state S.Store conn.new) rows
+    ensures leaves { CallsStore S.Store conn.old conn.new result
+        (λ found old new. (rows : List SqlRow)
+        × Shown sql.now (bound params.now) old new rows
         × (option_map (λ n. Int (pos n)) found ≡ option_map (λ row. column row 0) (slice_get rows 0))) }
     ensures cause { HasCleanDisk (state S.Store conn.new) →
         IfErr result (FailsToTake TellsNumber sql.now (bound params.now)

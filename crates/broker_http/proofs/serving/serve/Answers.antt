@@ -1,43 +1,51 @@
-use Rattle.std.proofs.Common.{Result, Ok, Err, IfOk, IfErr, []}
-use Rattle.broker_http.specs.Exchange.{Exchange}
-use Rattle.broker_http.specs.Serving.{Applied}
-use Rattle.broker_http.specs.Journal.{Journal, JournalStep, blank}
+use Rattle.std.proofs.Common.{Result, Ok, Err, Option, List, ℕ, [], ◌≢◌}
+use Rattle.sqlite.specs.Held.{Held, state}
+use Rattle.sqlite.specs.State.{State, HasCleanDisk, Survives}
+use Rattle.std.specs.Bool.{⊤}
+use Rattle.broker_service.specs.BrokerView.{BrokerView}
+use Rattle.broker_http.specs.Calls.{ByBroker, ByMachine}
+use Rattle.broker_http.specs.Journal.{Journal, IsRunFrom, blank}
+use Rattle.broker_http.specs.Serving.{Mode, IsInMode, ServesStream}
+use Rattle.broker_http.specs.declared.served.ServeFault.{ServeFault}
+use Rattle.broker_http.specs.declared.served.Served.{Served}
 use Rattle.broker_http.proofs.JournalLemmas.{journaled, runs}
-use Rattle.std.proofs.lemmas.Result.{IfOk-weaker}
-use Rattle.sqlite.specs.Held.{state}
 use Rattle.broker_http.proofs.ModeLemmas.{machine, all_survive}
 use Rattle.broker_http.proofs.serving.serve.Goals as goal
 
-of_either : {A E X : Type 0} (r : Result A E) (P : A → Type 0) (Q : E → Type 0) → IfOk r P → IfErr r Q → ((a : A) → P a → X) → ((e : E) → Q e → X) → X
-of_either (Ok a) P Q p q done cut = done a p
-of_either (Err e) P Q p q done cut = cut e q
+module _ {X : Type 0} (shown : Held X → State) (s t : BrokerView X) (before after old new : Option (List ℕ)) where
+  survives : (result : Result Served ServeFault) → ServesStream (ByBroker shown) s t before after old new result
+      → Survives (shown s.connection) (shown t.connection) (λ _. ⊤)
+  survives (Ok served) answers = let p = answers.ok in all_survive shown s p.0 p.1 t p.2 p.4
+  survives (Err fault) answers = let p = answers.fault in all_survive shown s p.0 p.1 t p.2 p.5
 
-err_weaker : {A E : Type 0} (r : Result A E) (P Q : E → Type 0) → ((e : E) → P e → Q e) → IfErr r P → IfErr r Q
-err_weaker (Ok a) P Q goes p = tt
-err_weaker (Err e) P Q goes p = goes e p
+  machines : (result : Result Served ServeFault) → ServesStream (ByBroker shown) s t before after old new result
+      → HasCleanDisk (shown t.connection) → (mode : Mode) → IsInMode shown mode s
+      → (last : Journal) × IsInMode shown last.mode t × IsRunFrom mode last
+      × ServesStream ByMachine (blank mode) last before after old new result
+  machines (Ok served) answers clean mode held =
+      let p = answers.ok in
+      let m = machine shown mode s p.0 p.1 t p.2 p.4 clean held in
+      let j = journaled mode m.0 [] p.0 p.1 p.2 m.1 in
+      let last : Journal = record { mode = m.0; steps = j.0 } in (
+        last,
+        m.2,
+        runs mode last p.0 p.1 p.2 j.1,
+        record { ok = (p.0, p.1, p.2, p.3, j.1, p.5, p.6, p.7); end = answers.end; fault = tt },
+      )
+  machines (Err fault) answers clean mode held =
+      let p = answers.fault in
+      let m = machine shown mode s p.0 p.1 t p.2 p.5 clean held in
+      let j = journaled mode m.0 [] p.0 p.1 p.2 m.1 in
+      let last : Journal = record { mode = m.0; steps = j.0 } in (
+        last,
+        m.2,
+        runs mode last p.0 p.1 p.2 j.1,
+        record { ok = tt; end = tt; fault = (p.0, p.1, p.2, p.3, p.4, j.1, p.6, p.7) },
+      )
 
-pub returns-clause-machine : goal.returns-clause-machine
-returns-clause-machine g c =
-    IfOk-weaker c.serve_all.result _ _
-    (λ served p clean mode held.
-    let m = machine (state g.S.Store) mode _ p.0 p.1 _ p.2 p.4 clean held in
-    let j = journaled mode m.0 [] p.0 p.1 p.2 m.1 in
-    let last : Journal = record { mode = m.0; steps = j.0 } in
-    (last, m.2, runs mode last p.0 p.1 p.2 j.1, (p.0, p.1, p.2, p.3, j.1, p.5, p.6, p.7)))
-    c.serve_all.ensures.ok
-
-pub returns-clause-machine_until : goal.returns-clause-machine_until
-returns-clause-machine_until g c =
-    err_weaker c.serve_all.result _ _
-    (λ fault p clean mode held.
-    let m = machine (state g.S.Store) mode _ p.0 p.1 _ p.2 p.5 clean held in
-    let j = journaled mode m.0 [] p.0 p.1 p.2 m.1 in
-    let last : Journal = record { mode = m.0; steps = j.0 } in
-    (last, m.2, runs mode last p.0 p.1 p.2 j.1, (p.0, p.1, p.2, p.3, p.4, j.1, p.6, p.7)))
-    c.serve_all.ensures.fault
-
-pub returns-clause-survives : goal.returns-clause-survives
-returns-clause-survives g c =
-    of_either c.serve_all.result _ _ c.serve_all.ensures.ok c.serve_all.ensures.fault
-    (λ served p. all_survive (state g.S.Store) _ p.0 p.1 _ p.2 p.4)
-    (λ fault p. all_survive (state g.S.Store) _ p.0 p.1 _ p.2 p.5)
+pub returns : goal.returns
+returns g c = record {
+  answers = c.serve_all.ensures;
+  machine = machines (state g.S.Store) _ _ _ _ _ _ c.serve_all.result c.serve_all.ensures;
+  survives = survives (state g.S.Store) _ _ _ _ _ _ c.serve_all.result c.serve_all.ensures;
+}

@@ -5,90 +5,105 @@ use Rattle.std.proofs.lemmas.Bool.{eqb-false}
 use Rattle.std.specs.Io.KnownBytes.{Appends}
 use Rattle.sqlite.specs.Held.{state}
 use Rattle.http_messages.specs.Reading.{IsOutcome}
-use Rattle.broker_http.specs.Exchange.{Exchange}
-use Rattle.broker_http.specs.Serving.{Applied}
+use Rattle.broker_http.specs.Calls.{ByBroker}
 use Rattle.broker_http.specs.Stream.{texts}
 use Rattle.broker_http.proofs.ResponsesLemmas.{Responses-came, Responses-answered, Responses-broken, Responses-unread, AllOpen-then, texts-then, StreamEnds-at_end, StreamEnds-rest}
 use Rattle.broker_http.proofs.serving.serve_all.Goals.{then-is_empty, else-is_empty}
 use Rattle.broker_http.proofs.serving.serve_all.Goals as goal
 
-pub returns-in_err-head_len-clause-fault : goal.returns-in_err-head_len-clause-fault
-returns-in_err-head_len-clause-fault g c =
+pub returns-in_err-head_len : goal.returns-in_err-head_len
+returns-in_err-head_len g c =
     let so_far = c.loop-answered.invariant in
     let p = err_from_is_err_and c.from_residual.result c.from_residual.ensures.1 in
-    rw (p.1, p.2) (Responses-unread (Exchange (Applied (state g.S.Store))) _ so_far.0 so_far.1 _ c.loop-answered.buffer.items _ _ _ _ _ _ _
-    so_far.2 so_far.3 so_far.4 so_far.6 c.in_err-head_len.ensures.err)
+    rw (p.1, p.2) (record {
+      ok = tt;
+      end = tt;
+      fault = Responses-unread (ByBroker (state g.S.Store)) _ so_far.0 so_far.1 _ c.loop-answered.buffer.items _ _ _ _ _ _ _
+          so_far.2 so_far.3 so_far.4 so_far.6 c.in_err-head_len.ensures.err.leaves;
+    })
 
-pub returns-in-End-clause-ok : goal.returns-in-End-clause-ok
-returns-in-End-clause-ok g c =
+pub returns-in-End : goal.returns-in-End
+returns-in-End g c =
     let so_far = c.loop-answered.invariant in
-    let came = c.in_ok-head_len.ensures.ok in
+    let came = c.in_ok-head_len.ensures.ok.gains in
     let bytes = c.read_message.new.buffer.items in
-    let none = subst (IsOutcome bytes) c.in-End.is c.in_ok-head_len.ensures.outcome in
-    let long : vec_len c.read_message.new.buffer ≡ length bytes = c.read_message.new.buffer.ok.0 in (
-      so_far.0 ++ came.0,
-      so_far.1,
-      bytes,
-      Consumes-trans _ _ _ so_far.0 came.0 so_far.2 came.1,
-      Responses-came (Exchange (Applied (state g.S.Store))) _ so_far.0 so_far.1 _ c.loop-answered.buffer.items came.0 bytes so_far.3 came.2,
-      elim c.if-is_empty.branch [
-        | then-is_empty w ↦ StreamEnds-at_end _ so_far.1 bytes w.ended-is so_far.4 (sym long ∙ eqb-true (vec_len c.read_message.new.buffer) 0 (sym c.is_empty.ensures ∙ w.if-is_empty.true))
-        | else-is_empty w ↦ StreamEnds-rest _ so_far.1 bytes w.ended-is so_far.4
-            (let some : vec_len c.read_message.new.buffer ≢ 0 = eqb-false (vec_len c.read_message.new.buffer) 0 (sym c.is_empty.ensures ∙ w.if-is_empty.false) in omega (arith, long)) none
-      ],
-      so_far.5,
-      so_far.6,
-    )
+    let none = subst (IsOutcome bytes) c.in-End.is c.in_ok-head_len.ensures.ok.outcome in
+    let long : vec_len c.read_message.new.buffer ≡ length bytes = c.read_message.new.buffer.ok.0 in record {
+      ok = (
+        so_far.0 ++ came.0,
+        so_far.1,
+        bytes,
+        Consumes-trans _ _ _ so_far.0 came.0 so_far.2 came.1,
+        Responses-came (ByBroker (state g.S.Store)) _ so_far.0 so_far.1 _ c.loop-answered.buffer.items came.0 bytes so_far.3 came.2,
+        elim c.if-is_empty.branch [
+          | then-is_empty w ↦ StreamEnds-at_end _ so_far.1 bytes w.ended-is so_far.4 (sym long ∙ eqb-true (vec_len c.read_message.new.buffer) 0 (sym c.is_empty.ensures ∙ w.if-is_empty.true))
+          | else-is_empty w ↦ StreamEnds-rest _ so_far.1 bytes w.ended-is so_far.4
+              (let some : vec_len c.read_message.new.buffer ≢ 0 = eqb-false (vec_len c.read_message.new.buffer) 0 (sym c.is_empty.ensures ∙ w.if-is_empty.false) in omega (arith, long)) none
+        ],
+        so_far.5,
+        so_far.6,
+      );
+      end = λ _. c.in_ok-head_len.ensures.ok.end c.in-End.is;
+      fault = tt;
+    }
 
-pub returns-in_err-answer-clause-fault : goal.returns-in_err-answer-clause-fault
-returns-in_err-answer-clause-fault g c =
-    let exchange = Exchange (Applied (state g.S.Store)) in
+pub returns-in_err-answer : goal.returns-in_err-answer
+returns-in_err-answer g c =
+    let exchange = ByBroker (state g.S.Store) in
     let so_far = c.loop-answered.invariant in
-    let came = c.in_ok-head_len.ensures.ok in
+    let came = c.in_ok-head_len.ensures.ok.gains in
     let bytes = c.read_message.new.buffer.items in
-    let begins = subst (IsOutcome bytes) c.in-Message.is c.in_ok-head_len.ensures.outcome in
+    let begins = subst (IsOutcome bytes) c.in-Message.is c.in_ok-head_len.ensures.ok.outcome in
     let broken = Responses-broken exchange _ (so_far.0 ++ came.0) so_far.1 _ bytes _ _ _ _ _ _ _
     (Responses-came exchange _ so_far.0 so_far.1 _ c.loop-answered.buffer.items came.0 bytes so_far.3 came.2)
     so_far.4 so_far.6 begins.2
     (rw (c.message_parts.ensures.head, c.message_parts.ensures.body, c.as_slice.ensures.value) at c.in_err-answer.ensures.fault) in
     let p = err_from_is_err_and c.from_residual-in_err-answer.result c.from_residual-in_err-answer.ensures.1 in
-    rw (p.1, p.2) (
-      so_far.0 ++ came.0,
-      broken.0,
-      broken.1,
-      broken.2,
-      Consumes-trans _ _ _ so_far.0 came.0 so_far.2 came.1,
-      broken.3,
-      broken.4,
-      broken.5,
-    )
+    rw (p.1, p.2) (record {
+      ok = tt;
+      end = tt;
+      fault = (
+        so_far.0 ++ came.0,
+        broken.0,
+        broken.1,
+        broken.2,
+        Consumes-trans _ _ _ so_far.0 came.0 so_far.2 came.1,
+        broken.3,
+        broken.4,
+        broken.5,
+      );
+    })
 
-pub returns-then-branch-clause-ok : goal.returns-then-branch-clause-ok
-returns-then-branch-clause-ok g c =
-    let exchange = Exchange (Applied (state g.S.Store)) in
+pub returns-then-branch : goal.returns-then-branch
+returns-then-branch g c =
+    let exchange = ByBroker (state g.S.Store) in
     let so_far = c.loop-answered.invariant in
-    let came = c.in_ok-head_len.ensures.ok in
+    let came = c.in_ok-head_len.ensures.ok.gains in
     let bytes = c.read_message.new.buffer.items in
     let answered = c.in_ok-answer.ensures.ok in
-    let response = answered.0 in (
-      so_far.0 ++ came.0,
-      so_far.1 ++ response ∷ [],
-      drop (c.in-Message.head_len + c.in-Message.body_len) bytes,
-      Consumes-trans _ _ _ so_far.0 came.0 so_far.2 came.1,
-      Responses-answered exchange _ so_far.0 so_far.1 _ c.loop-answered.buffer.items came.0 bytes c.in_ok-head_len.field-0
-          c.in-Message.head_len c.in-Message.body_len c.in-Message.head response _ so_far.3 came.2 c.in_ok-head_len.ensures.outcome c.in-Message.is
-          (rw (c.message_parts.ensures.head, c.message_parts.ensures.body, c.as_slice.ensures.value) at answered.1),
-      (so_far.1, response, refl, so_far.4, answered.2 ∙ c.if-branch.true),
-      omega (arith, so_far.5, length-append so_far.1 (response ∷ [])),
-      subst (Appends _ _) (sym (texts-then so_far.1 response))
-          (Appends-trans _ _ _ (texts so_far.1) response.text so_far.6 answered.3),
-    )
+    let response = answered.0 in record {
+      ok = (
+        so_far.0 ++ came.0,
+        so_far.1 ++ response ∷ [],
+        drop (c.in-Message.head_len + c.in-Message.body_len) bytes,
+        Consumes-trans _ _ _ so_far.0 came.0 so_far.2 came.1,
+        Responses-answered exchange _ so_far.0 so_far.1 _ c.loop-answered.buffer.items came.0 bytes c.in_ok-head_len.field-0
+            c.in-Message.head_len c.in-Message.body_len c.in-Message.head response _ so_far.3 came.2 c.in_ok-head_len.ensures.ok.outcome c.in-Message.is
+            (rw (c.message_parts.ensures.head, c.message_parts.ensures.body, c.as_slice.ensures.value) at answered.1),
+        (so_far.1, response, refl, so_far.4, answered.2 ∙ c.if-branch.true),
+        omega (arith, so_far.5, length-append so_far.1 (response ∷ [])),
+        subst (Appends _ _) (sym (texts-then so_far.1 response))
+            (Appends-trans _ _ _ (texts so_far.1) response.text so_far.6 answered.3),
+      );
+      end = λ differs. absurd (differs refl);
+      fault = tt;
+    }
 
 pub loop-answered-preserved : goal.loop-answered-preserved
 loop-answered-preserved g c =
-    let exchange = Exchange (Applied (state g.S.Store)) in
+    let exchange = ByBroker (state g.S.Store) in
     let so_far = c.loop-answered.invariant in
-    let came = c.in_ok-head_len.ensures.ok in
+    let came = c.in_ok-head_len.ensures.ok.gains in
     let bytes = c.read_message.new.buffer.items in
     let answered = c.in_ok-answer.ensures.ok in
     let response = answered.0 in (
@@ -97,10 +112,19 @@ loop-answered-preserved g c =
       Consumes-trans _ _ _ so_far.0 came.0 so_far.2 came.1,
       rw c.drop_front.ensures
           (Responses-answered exchange _ so_far.0 so_far.1 _ c.loop-answered.buffer.items came.0 bytes c.in_ok-head_len.field-0
-          c.in-Message.head_len c.in-Message.body_len c.in-Message.head response _ so_far.3 came.2 c.in_ok-head_len.ensures.outcome c.in-Message.is
+          c.in-Message.head_len c.in-Message.body_len c.in-Message.head response _ so_far.3 came.2 c.in_ok-head_len.ensures.ok.outcome c.in-Message.is
           (rw (c.message_parts.ensures.head, c.message_parts.ensures.body, c.as_slice.ensures.value) at answered.1)),
       AllOpen-then so_far.1 response so_far.4 (answered.2 ∙ c.if-branch.false),
       omega (arith, so_far.5, length-append so_far.1 (response ∷ [])),
       subst (Appends _ _) (sym (texts-then so_far.1 response))
           (Appends-trans _ _ _ (texts so_far.1) response.text so_far.6 answered.3),
     )
+
+pub returns : goal.returns
+returns g c =
+    let so_far = c.loop-answered.invariant in
+    record {
+      ok = tt;
+      end = tt;
+      fault = (so_far.0, so_far.1, _, texts so_far.1, so_far.2, so_far.3, (so_far.4, refl), so_far.6);
+    }

@@ -11,11 +11,11 @@ unfolding doubt Replays
 returns-in-Ok-clause-ok g c =
     let holds = subst (λ t. IsInMode (state over_memory) (new_broker t) c.in_ok-broker.broker) c.in_ok-office.ensures.ok.0 c.in_ok-broker.ensures.holds in
     let served = c.in-Ok.ensures.machine refl (new_broker c.args.office_token.now) holds in
-    (served.0, c.in-Ok.field-0, served.2, served.3, c.in-Ok.ensures.end)
+    (served.0, c.in-Ok.field-0, served.2, served.3)
 
 pub returns-clause-fails : goal.returns-clause-fails
 unfolding doubt ReplaysUntil
 returns-clause-fails g c =
     let holds = subst (λ t. IsInMode (state over_memory) (new_broker t) c.in_ok-broker.broker) c.in_ok-office.ensures.ok.0 c.in_ok-broker.ensures.holds in
-    let served = c.in-Err.ensures.machine_until refl (new_broker c.args.office_token.now) holds in
+    let served = c.in-Err.ensures.machine refl (new_broker c.args.office_token.now) holds in
     inr (served.0, c.in-Err.fault, served.2, served.3)

@@ -5,6 +5,7 @@ use Rattle.broker_tables.specs.Schema.{all_tables}
 use Rattle.broker_tables.specs.Holds.{format}
 use Rattle.broker_tables.specs.Making.{IsBlank, HasTables}
 use Rattle.broker_tables.proofs.Opening.{has_all, opens}
+use Rattle.broker_service.proofs.Transaction.{second_fails}
 use Rattle.broker_service.proofs.opening.make_all.Goals as goal
 
 pub returns-in-Ok-make_rest : goal.returns-in-Ok-make_rest
@@ -18,3 +19,10 @@ returns-in-Ok-make_rest g c =
     (λ has u makes blank. let before = has blank in opens digest new.now (has_all format digest second.now new.now before (makes before.schema)))
     (statement_seq old first second c.in-Ok.field-0 (Ok c.in-Ok-make_rest.field-0) _ _ (λ _. IsBlank old.now → HasTables all_tables format digest second.now) (λ has u rest blank. rest digest (has blank)) c.in-Ok.ensures c.in-Ok-make_rest.ensures)
     c.make_indexes.ensures
+
+pub returns-in-Err-make_rest : goal.returns-in-Err-make_rest
+returns-in-Err-make_rest g c =
+    let old = state g.S.Store c.args.conn.now in
+    let first = state g.S.Store c.make_first.new.conn in
+    let second = state g.S.Store c.make_rest.new.conn in
+    second_fails old first second c.in-Ok.field-0 c.in-Err-make_rest.fault _ _ _ c.in-Ok.ensures c.in-Err-make_rest.ensures

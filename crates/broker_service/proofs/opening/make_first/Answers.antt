@@ -5,6 +5,7 @@ use Rattle.broker_tables.specs.Schema.{registry_part, contents, contract_part}
 use Rattle.broker_tables.specs.Holds.{format}
 use Rattle.broker_tables.specs.Making.{IsBlank, HasTables}
 use Rattle.broker_tables.proofs.Opening.{has_more}
+use Rattle.broker_service.proofs.Transaction.{second_fails}
 use Rattle.broker_service.proofs.opening.make_first.Goals as goal
 
 pub returns-in-Ok-make_tables : goal.returns-in-Ok-make_tables
@@ -18,3 +19,10 @@ returns-in-Ok-make_tables g c =
     (statement_seq old first second c.in-Ok.field-0 (Ok c.in-Ok-make_tables.field-0) _ _ (λ _. IsBlank old.now → HasTables (registry_part ++ contents ∷ []) format c.args.digest.now second.now)
     (λ has u makes blank. let before = has blank in has_more registry_part (contents ∷ []) format c.args.digest.now first.now second.now (inl refl) before (makes before.schema)) c.in-Ok.ensures c.in-Ok-make_tables.ensures)
     c.make_tables-in-Ok-make_tables.ensures
+
+pub returns-in-Err-make_tables : goal.returns-in-Err-make_tables
+returns-in-Err-make_tables g c =
+    let old = state g.S.Store c.args.conn.now in
+    let first = state g.S.Store c.make_tables.new.conn in
+    let second = state g.S.Store c.make_tables-in-Ok.new.conn in
+    second_fails old first second c.in-Ok.field-0 c.in-Err-make_tables.fault _ _ _ c.in-Ok.ensures c.in-Err-make_tables.ensures

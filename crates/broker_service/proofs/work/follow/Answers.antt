@@ -4,8 +4,8 @@ use Rattle.broker_core.specs.declared.command.Command.{Command}
 use Rattle.broker_core.specs.declared.command.Command.TheVariants.{PutTeam, PutPacticipant, PutEnvironment, PutGrant, DeleteGrant, PutVersion, PutPact, GetPact, GetBranchPact, PostResult, PostReplies, GetEnvironment, Deploy, Undeploy, Release, EndSupport, CanIDeploy, GetMatrix, Malformed}
 use Rattle.broker_core.specs.declared.answer.Answer.{Answer}
 use Rattle.broker_core.specs.declared.answer.Answer.TheVariants.{BadForm}
-use Rattle.broker_service.specs.Performs.{Performs, CallersStep}
-use Rattle.broker_service.proofs.PerformLemmas.{refused, always_steps}
+use Rattle.command_facts.specs.Performs.{PerformsBetween, CallersStep}
+use Rattle.command_facts.proofs.PerformLemmas.{refused, always_steps}
 use Rattle.broker_service.proofs.work.follow.Goals as goal
 
 pub returns-in-PutTeam : goal.returns-in-PutTeam
@@ -60,7 +60,7 @@ returns-in-PostResult g c =
 
 pub returns-in-PostReplies : goal.returns-in-PostReplies
 returns-in-PostReplies g c =
-    subst (λ (command : Command). Performs (state g.S.Store c.args.conn.now) (state g.S.Store c.post_replies.new.conn) (CallersStep c.args.caller.now command) c.post_replies.result) (sym c.in-PostReplies.is) c.post_replies.ensures
+    subst (λ (command : Command). PerformsBetween (state g.S.Store c.args.conn.now) (state g.S.Store c.post_replies.new.conn) (CallersStep c.args.caller.now command) c.post_replies.result) (sym c.in-PostReplies.is) c.post_replies.ensures
 
 pub returns-in-GetEnvironment : goal.returns-in-GetEnvironment
 returns-in-GetEnvironment g c =
@@ -100,6 +100,6 @@ returns-in-GetMatrix g c =
 pub returns-in-Ok : goal.returns-in-Ok
 returns-in-Ok g c =
     let here = state g.S.Store c.args.conn.now in
-    subst (λ (answer : Answer). Performs here here (CallersStep c.args.caller.now c.args.command.now) (Ok answer)) (sym c.in-Ok.ensures.ok)
-    (subst (λ (command : Command). Performs here here (CallersStep c.args.caller.now command) (Ok (BadForm c.in-Malformed.fault))) (sym c.in-Malformed.is)
+    subst (λ (answer : Answer). PerformsBetween here here (CallersStep c.args.caller.now c.args.command.now) (Ok answer)) (sym c.in-Ok.ensures.ok)
+    (subst (λ (command : Command). PerformsBetween here here (CallersStep c.args.caller.now command) (Ok (BadForm c.in-Malformed.fault))) (sym c.in-Malformed.is)
     (refused here (BadForm c.in-Malformed.fault) (CallersStep c.args.caller.now (Malformed c.in-Malformed.fault)) (λ s sound. inl (Some c.in-Malformed.fault, refl, refl))))

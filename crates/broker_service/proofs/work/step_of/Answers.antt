@@ -2,8 +2,8 @@ use Rattle.std.proofs.Common.{inl, inr, Some, None, refl, Bor, List, ℕ, option
 use Rattle.sqlite.specs.Held.{state}
 use Rattle.broker_core.specs.declared.answer.Answer.TheVariants.{Denied}
 use Rattle.broker_core.specs.declared.policy.Rule.TheVariants.{A1}
-use Rattle.broker_service.specs.Performs.{CallersStep, TokensStep}
-use Rattle.broker_service.proofs.PerformLemmas.{answered_then, performs_then}
+use Rattle.command_facts.specs.Performs.{CallersStep, TokensStep}
+use Rattle.command_facts.proofs.PerformLemmas.{answered_then, performs_then}
 use Rattle.broker_service.proofs.work.step_of.Goals as goal
 
 pub returns-in-Ok-Some : goal.returns-in-Ok-Some

@@ -5,4 +5,4 @@ use Rattle.deploy_tables.specs.Needs.{pair_cmp}
 use Rattle.deploy_tables.proofs.pairs.pairs_of.Goals as goal
 
 pub returns-in-Ok : goal.returns-in-Ok
-returns-in-Ok c = subst (λ all. Lists pair_cmp (Contains all) c.each_once.result.items) c.in-Ok.ensures c.each_once.ensures
+returns-in-Ok c = subst (λ all. Lists pair_cmp (Contains all) c.each_pair_once.result.items) c.in-Ok.ensures c.each_pair_once.ensures

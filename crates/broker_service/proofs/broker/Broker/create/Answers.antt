@@ -1,10 +1,29 @@
-use Rattle.std.proofs.Common.{refl}
+use Rattle.std.proofs.Common.{◌≡◌, Ok, Err, refl, ap}
 use Rattle.sqlite.specs.Held.{state}
+use Rattle.broker_service.specs.declared.opening.OpenFault.TheVariants.{NotEmpty}
 use Rattle.broker_service.proofs.LeavingLemmas.{making_made, making_refused}
 use Rattle.broker_service.proofs.broker.Broker.create.Goals as goal
 
-pub returns-in-Ok-clause-leaves : goal.returns-in-Ok-clause-leaves
-returns-in-Ok-clause-leaves g c = making_made (state g.S.Store) c.args.conn _ _ refl c.in-Ok.ensures.made c.create.ensures.survives.clean
+pub returns-in-Ok : goal.returns-in-Ok
+returns-in-Ok g c = record {
+  made = c.in-Ok.ensures.made;
+  refuses = tt;
+  not_empty = (λ none. absurd none, λ there. let no = c.in-Ok.ensures.not_empty.1 there in absurd (cc));
+  same = tt;
+  unchanged = tt;
+  runs = refl;
+  survives = c.create.ensures.survives;
+  leaves = making_made (state g.S.Store) c.args.conn _ _ refl c.in-Ok.ensures.made c.create.ensures.survives.clean;
+}
 
-pub returns-in-Err-clause-leaves : goal.returns-in-Err-clause-leaves
-returns-in-Err-clause-leaves g c = making_refused (state g.S.Store) c.args.conn _ _ c.in-Err.ensures.refuses c.create.ensures.survives.clean
+pub returns-in-Err : goal.returns-in-Err
+returns-in-Err g c = record {
+  made = tt;
+  refuses = c.in-Err.ensures.refuses;
+  not_empty = (λ is. c.in-Err.ensures.not_empty.0 (ap Err is), λ there. let is = c.in-Err.ensures.not_empty.1 there in cc);
+  same = λ is. c.in-Err.ensures.same (ap Err is);
+  unchanged = c.in-Err.ensures.unchanged;
+  runs = tt;
+  survives = c.create.ensures.survives;
+  leaves = making_refused (state g.S.Store) c.args.conn _ _ c.in-Err.ensures.refuses c.create.ensures.survives.clean;
+}

@@ -1,0 +1,50 @@
+-- What the public call promises: how a broker answers a stream, and that the machine answers it so.
+use Rattle.std.specs.Prelude.{⊤, ℕ, Bool, List, Option, Result}
+use Rattle.sqlite.specs.Held.{Held}
+use Rattle.sqlite.specs.State.{State, HasCleanDisk, Survives}
+use Rattle.broker_service.specs.BrokerView.{BrokerView}
+use Rattle.broker_service.specs.Calls.{Applied}
+use Rattle.http_messages.specs.Message.{Message}
+use Rattle.http_requests.specs.declared.requests.Request.{Request}
+use Rattle.http_responses.specs.Responses.{Response, Writes}
+use Rattle.http_responses.specs.declared.writing.WriteFault.{WriteFault}
+use Rattle.broker_http.specs.Exchange.{Exchange, Responds}
+use Rattle.broker_http.specs.Journal.{Journal, JournalStep, IsRunFrom, blank}
+use Rattle.broker_http.specs.Serving.{Mode, IsInMode, ServesStream}
+use Rattle.broker_http.specs.declared.served.ServeFault.{ServeFault}
+use Rattle.broker_http.specs.declared.served.Served.{Served}
+
+-- a broker answers a message, each command by what it promises on any disk and any database
+abbrev pub ByBroker : {X : Type 0} → (Held X → State) → BrokerView X → Message → Response → BrokerView X → Type 0
+ByBroker shown = Exchange (Applied shown)
+
+-- the machine answers it, and each answer that is a step is written down
+abbrev pub ByMachine : Journal → Message → Response → Journal → Type 0
+ByMachine = Exchange JournalStep
+
+-- Shown is what a connection shows of its store. The writer had taken old and has taken new.
+module _ {X : Type 0} (shown : Held X → State) (s t : BrokerView X) (old new : Option (List ℕ)) where
+  -- what is asked is answered by the broker, and the response is out, or the writer failed at it
+  abbrev pub IsResponded : Request → Result Bool WriteFault → Type 0
+  IsResponded asked result =
+      (response : Response) × Responds (Applied shown) s asked response t × Writes old new response result
+
+-- The same, and the reader had before to give and has after.
+module _ {X : Type 0} (shown : Held X → State) (s t : BrokerView X) (before after old new : Option (List ℕ)) where
+  -- on any disk and any database, what was read is answered message by message by what the broker does with each
+  -- command; a fault leaves some messages answered
+  abbrev pub IsAnswered : Result Served ServeFault → Type 0
+  IsAnswered result = ServesStream (ByBroker shown) s t before after old new result
+
+  -- what serving a stream promises
+  pub record IsServed (result : Result Served ServeFault) : Type 0 where
+    -- on any disk and any database, by what the broker does with each command
+    pub answers : IsAnswered result
+    -- on a clean disk, from a database that holds a state of the machine, the answers are the machine's: those that
+    -- are steps run it, in order, from that state to the last, which the database holds; so too those to the messages
+    -- before a fault
+    pub machine : HasCleanDisk (shown t.connection) → (mode : Mode) → IsInMode shown mode s
+        → (last : Journal) × IsInMode shown last.mode t × IsRunFrom mode last
+        × ServesStream ByMachine (blank mode) last before after old new result
+    -- what the store promises of the connection: it is shut by a fault of the disk alone, and its step limit stays
+    pub survives : Survives (shown s.connection) (shown t.connection) (λ _. ⊤)

@@ -1,0 +1,85 @@
+-- What the broker's call leaves, put together from what its transaction leaves.
+use Rattle.std.proofs.Common.{◌≡◌, ◌↔◌, inl, inr, Option, Result, Ok, Err, IfOk, false, IsTrue, refl, sym, subst, arith, ◌∙◌}
+use Rattle.std.specs.Prelude.{◌≢◌, ⊤}
+use Rattle.sqlite.specs.Held.{Held}
+use Rattle.sqlite.specs.State.{State, HasCleanDisk, Survives}
+use Rattle.table_access.specs.Calls.{KeepsLastCommit}
+use Rattle.table_access.specs.declared.StoreFault.{StoreFault}
+use Rattle.table_access.specs.declared.StoreFault.TheVariants as fault
+use Rattle.broker_core.specs.Laws.{IsDone}
+use Rattle.broker_core.specs.State.{State as Broker}
+use Rattle.broker_core.specs.Text.{Text}
+use Rattle.broker_core.specs.declared.answer.Answer.{Answer}
+use Rattle.broker_core.specs.declared.answer.Answer.TheVariants as answers
+use Rattle.broker_core.specs.declared.command.Command.{Command}
+use Rattle.broker_service.specs.BrokerView.{BrokerView}
+use Rattle.broker_service.specs.Calls.{Applied}
+use Rattle.broker_service.specs.Ends.{Applies, Ends, IsAsBefore, IsUnchangedUnlessDone}
+use Rattle.broker_service.specs.Stored.{HoldsState}
+use Rattle.broker_service.proofs.EndLemmas.{deployed_exactly, released_exactly}
+use Rattle.broker_service.proofs.LeavingLemmas.{command_leaves, stopped_leaves}
+
+-- the answer that a transaction's end is told as
+abbrev pub told : Result Answer StoreFault → Answer
+told (Ok answer) = answer
+told (Err fault.Memory) = answers.Memory
+told (Err fault.Store) = answers.Store
+
+applies_told : (s : Broker) (token : Option Text) (command : Command) (new : State) (r : Result Answer StoreFault) → Ends s token command new r → Applies s token command new (told r)
+applies_told s token command new (Ok answer) (inl steps) = inl steps
+applies_told s token command new (Ok answer) (inr pattern) = inr (inl pattern)
+applies_told s token command new (Err fault.Memory) kept = inr (inr (inl (refl, kept)))
+applies_told s token command new (Err fault.Store) either = inr (inr (inr (refl, either)))
+
+unchanged_told : (old new : State) (r : Result Answer StoreFault) → IsUnchangedUnlessDone old new r → told r ≢ answers.Store → ¬ (IsDone (told r)) → IsAsBefore old new
+unchanged_told old new (Ok answer) it other undone = it undone
+unchanged_told old new (Err fault.Memory) it other undone = it
+unchanged_told old new (Err fault.Store) it other undone = absurd (other refl)
+
+fails_told : (old new : State) (r : Result Answer StoreFault) → IsUnchangedUnlessDone old new r → told r ≡ answers.Store → KeepsLastCommit old new
+fails_told old new (Ok answer) it is = (it (subst (λ (a : Answer). ¬ (IsDone a)) (sym is) (λ none. none))).commit
+fails_told old new (Err fault.Memory) it is = it.commit
+fails_told old new (Err fault.Store) it is = it
+
+runs_told : (r : Result Answer StoreFault) → IfOk r (λ answer. answer ≢ answers.Stopped) → told r ≢ answers.Stopped
+runs_told (Ok answer) it is = it is
+runs_told (Err fault.Memory) it is = absurd (cc)
+runs_told (Err fault.Store) it is = absurd (cc)
+
+module _ {X : Type 0} (shown : Held X → State) where
+  -- what a running broker's transaction leaves
+  pub ran : (old : BrokerView X) (token : Option Text) (command : Command) (r : Result Answer StoreFault) (answer : Answer) (new : BrokerView X) → answer ≡ told r
+      → (HasCleanDisk (shown new.connection) → (s : Broker) → HoldsState s (shown old.connection) → Ends s token command (shown new.connection) r)
+      → (HasCleanDisk (shown new.connection) → IsUnchangedUnlessDone (shown old.connection) (shown new.connection) r)
+      → Survives (shown old.connection) (shown new.connection) (λ _. ⊤)
+      → IfOk r (λ a. a ≢ answers.Stopped) → (IsTrue new.is_stopped ↔ (answer ≡ answers.Store)) → old.is_stopped ≡ false → Applied shown old token command answer new
+  ran old token command r answer new is ends unchanged survives runs stops running = record {
+    applies = λ clean _. applies clean;
+    deployments = λ clean _ step s holds. deployed_exactly s token command _ answer (applies clean s holds) step;
+    releases = λ clean _ step s holds. released_exactly s token command _ answer (applies clean s holds) step;
+    unchanged = λ clean _ other undone. unchanged_told _ _ r (unchanged clean) (subst (λ (a : Answer). a ≢ answers.Store) is other) (subst (λ (a : Answer). ¬ (IsDone a)) is undone);
+    fails = λ clean store. fails_told _ _ r (unchanged clean) (sym is ∙ store);
+    stops = λ _. stops;
+    stopped = λ stopped. absurd (cc);
+    runs = λ _. subst (λ (a : Answer). a ≢ answers.Stopped) (sym is) (runs_told r runs);
+    survives = survives;
+    leaves = command_leaves shown old (record { token = token; command = command }) answer new applies stops running survives.clean;
+  }
+    where
+      applies : HasCleanDisk (shown new.connection) → (s : Broker) → HoldsState s (shown old.connection) → Applies s token command (shown new.connection) answer
+      applies clean s holds = subst (λ (a : Answer). Applies s token command (shown new.connection) a) (sym is) (applies_told s token command (shown new.connection) r (ends clean s holds))
+
+  -- what a stopped broker is left as
+  pub refused_stopped : (b : BrokerView X) (token : Option Text) (command : Command) → IsTrue b.is_stopped → Applied shown b token command answers.Stopped b
+  refused_stopped b token command is = record {
+    applies = λ clean running. absurd (cc);
+    deployments = λ clean running. absurd (cc);
+    releases = λ clean running. absurd (cc);
+    unchanged = λ clean running. absurd (cc);
+    fails = λ clean store. absurd (cc);
+    stops = λ running. absurd (cc);
+    stopped = λ _. (refl, refl);
+    runs = λ running. absurd (cc);
+    survives = record { clean = omega arith; shield = λ h. h; counts = omega arith; limit = refl; closes = λ _ h. inl h; crash = λ _ db h. inl h };
+    leaves = stopped_leaves shown b (record { token = token; command = command }) is;
+  }

@@ -1,8 +1,0 @@
-use Rattle.std.proofs.Common.{Option, subst}
-use Rattle.broker_core.specs.Machine.{IsCallerOfDigest}
-use Rattle.broker_core.specs.declared.policy.Caller.{Caller}
-use Rattle.broker_core.specs.declared.policy.Caller.TheVariants.{Team}
-use Rattle.broker_service.proofs.put_team.decide.Goals as goal
-
-pub returns-in-None-holder-clause-unused : goal.returns-in-None-holder-clause-unused
-returns-in-None-holder-clause-unused c = λ s h team is. subst (λ (o : Option Caller). IsCallerOfDigest s c.args.digest.now o) c.in-None-holder.is h (Team team) is

@@ -1,0 +1,135 @@
+-- what a public call of the broker promises, on any disk and any database: one record a call
+use Rattle.std.specs.Prelude.{◌≡◌, ◌≢◌, ◌↔◌, ⊤, ℕ, List, false, IsTrue, Option, Some, None, Result, OnOk, IfOk, IfErr, IsErrAnd}
+use Rattle.sqlite.specs.Held.{Held}
+use Rattle.sqlite.specs.State.{State, HasCleanDisk, Survives}
+use Rattle.table_access.specs.Calls.{KeepsLastCommit}
+use Rattle.table_access.specs.Durability.{HoldsDurably}
+use Rattle.broker_core.specs.Change.{instance_of}
+use Rattle.broker_core.specs.Laws.{IsDone}
+use Rattle.broker_core.specs.Machine.{is_step}
+use Rattle.broker_core.specs.State.{State as Broker}
+use Rattle.broker_core.specs.Text.{Text}
+use Rattle.broker_core.specs.declared.answer.Answer.{Answer}
+use Rattle.broker_core.specs.declared.answer.Answer.TheVariants as answers
+use Rattle.broker_core.specs.declared.command.Command.{Command}
+use Rattle.broker_core.specs.declared.command.Command.TheVariants.{Deploy, Release}
+use Rattle.broker_core.specs.declared.command.Version.{Version}
+use Rattle.broker_tables.specs.Former.{former_format}
+use Rattle.broker_tables.specs.Holds.{format}
+use Rattle.broker_tables.specs.Making.{IsBlank, IsMarked}
+use Rattle.broker_tables.specs.Schema.{no_schema}
+use Rattle.broker_service.specs.BrokerView.{BrokerView}
+use Rattle.broker_service.specs.Ends.{Applies, IsAsBefore, AddsNoCrashState}
+use Rattle.broker_service.specs.Handed.{left_by, verdict}
+use Rattle.broker_service.specs.Headline.{RecordsExactly}
+use Rattle.broker_service.specs.Migration.{StoresFormer, HoldsFormerState, JudgesAsBefore}
+use Rattle.broker_service.specs.Opening.{Refuses, MakesNew, RefusesNew, IsUnchangedUnlessStore, IsJudged, Judged}
+use Rattle.broker_service.specs.Sessions.{CommandLeaves, MakingLeaves, OpeningLeaves}
+use Rattle.broker_service.specs.Stored.{Stores, HoldsState}
+use Rattle.broker_service.specs.declared.broker.Refused.{Refused}
+use Rattle.broker_service.specs.declared.opening.OpenFault.{OpenFault}
+use Rattle.broker_service.specs.declared.opening.OpenFault.TheVariants as fault
+
+-- shown is what a connection shows of its store
+module _ {X : Type 0} (shown : Held X → State) where
+  -- What a broker leaves of a command that came with this token, and what it answers.
+  pub record Applied (old : BrokerView X) (token : Option Text) (command : Command) (answer : Answer)
+      (new : BrokerView X) : Type 0 where
+    -- the machine's answer and its next state; or Pattern, Memory or Store, and no step
+    pub applies : HasCleanDisk (shown new.connection) → old.is_stopped ≡ false
+        → (s : Broker) → HoldsState s (shown old.connection)
+        → Applies s token command (shown new.connection) answer
+    -- a deployment is recorded exactly where it may be
+    pub deployments : HasCleanDisk (shown new.connection) → old.is_stopped ≡ false
+        → IsTrue (is_step answer) → (s : Broker) → HoldsState s (shown old.connection)
+        → (e : Text) (v : Version) (instance : Option Text) → command ≡ Deploy e v instance
+        → RecordsExactly s token e v (λ t. t.deployed (e, v.pacticipant, instance_of instance) ≡ Some v.name)
+        (shown new.connection) answer
+    -- and so is a release
+    pub releases : HasCleanDisk (shown new.connection) → old.is_stopped ≡ false
+        → IsTrue (is_step answer) → (s : Broker) → HoldsState s (shown old.connection)
+        → (e : Text) (v : Version) → command ≡ Release e v
+        → RecordsExactly s token e v (λ t. IsTrue (t.released (e, v))) (shown new.connection) answer
+    -- whatever the database is: Done and Store aside, it is as it was
+    pub unchanged : HasCleanDisk (shown new.connection) → old.is_stopped ≡ false
+        → answer ≢ answers.Store → ¬ (IsDone answer) → IsAsBefore (shown old.connection) (shown new.connection)
+    -- Store: the last commit is the old one
+    pub fails : HasCleanDisk (shown new.connection) → answer ≡ answers.Store
+        → KeepsLastCommit (shown old.connection) (shown new.connection)
+    -- Store alone stops the broker
+    pub stops : old.is_stopped ≡ false → (IsTrue new.is_stopped ↔ (answer ≡ answers.Store))
+    -- a stopped broker answers Stopped and is left as it is, and no other one answers so
+    pub stopped : IsTrue old.is_stopped → (answer ≡ answers.Stopped) × (new ≡ old)
+    pub runs : old.is_stopped ≡ false → answer ≢ answers.Stopped
+    -- on a disk that fails, and when the program is stopped in the call
+    pub survives : Survives (shown old.connection) (shown new.connection) (λ _. ⊤)
+    -- the same in the words of sessions
+    pub leaves : CommandLeaves shown old (record { token = token; command = command }) answer new
+
+  -- What the making of a broker leaves of a connection, and what it hands back. Its office's token has this digest.
+  pub record Created (old : Held X) (office : Text) (given : Result (BrokerView X) (Refused X)) : Type 0 where
+    -- on a database without tables: a new broker's database
+    pub made : IfOk given (λ b. MakesNew office (shown old) (shown b.connection))
+    -- or a failure: there are no tables, and after Store a crash may leave the new broker's
+    pub refuses : IfErr given (λ r. RefusesNew office (shown old) (shown r.connection) r.fault)
+    -- NotEmpty: there is a table, an index or a view
+    pub not_empty : IsErrAnd given (λ r. r.fault ≡ fault.NotEmpty) ↔ (¬ ((shown old).now.schema ≡ no_schema))
+    -- and the connection is handed back as it was
+    pub same : IfErr given (λ r. r.fault ≡ fault.NotEmpty → r.connection ≡ old)
+    -- whatever the database is: where no broker is made, it is as it was, or after Store the last commit is the old one
+    pub unchanged : IfErr given (λ r. HasCleanDisk (shown r.connection)
+        → IsUnchangedUnlessStore (shown old) (shown r.connection) r.fault)
+    -- a new broker isn't stopped
+    pub runs : IfOk given (λ b. b.is_stopped ≡ false)
+    -- on a disk that fails, and when the program is stopped in the call
+    pub survives : Survives (shown old) (shown (left_by given)) (λ _. ⊤)
+    -- the same in the words of sessions
+    pub leaves : MakingLeaves shown old office given
+
+  -- What the opening of a broker leaves of a connection, and what it hands back.
+  pub record Opened (old : Held X) (given : Result (BrokerView X) (Refused X)) : Type 0 where
+    -- a failure aside: the database is of today's format, or it is told what it is instead
+    pub judges : HasCleanDisk (shown (left_by given)) → IsJudged format (shown old).now (verdict given)
+    -- of a database without tables: NotABroker, or a failure
+    pub blank : HasCleanDisk (shown (left_by given)) → HoldsDurably IsBlank (shown old)
+        → Judged format None (verdict given)
+    -- of one that is marked with a format: whether that is today's, or a failure
+    pub marked : HasCleanDisk (shown (left_by given)) → (n : ℕ) (office : List ℕ)
+        → HoldsDurably (IsMarked n office) (shown old) → Judged format (Some n) (verdict given)
+    -- the database is as it was
+    pub kept : IfOk given (λ b. HasCleanDisk (shown b.connection) → IsAsBefore (shown old) (shown b.connection))
+    -- so that the broker holds the state that was held
+    pub holds : IfOk given (λ b. HasCleanDisk (shown b.connection) → (s : Broker) → HoldsState s (shown old)
+        → HoldsState s (shown b.connection))
+    -- where no broker is opened, the database is as it was too, or after Store the last commit is the old one
+    pub unchanged : IfErr given (λ r. HasCleanDisk (shown r.connection)
+        → IsUnchangedUnlessStore (shown old) (shown r.connection) r.fault)
+    -- what a crash leaves, it left before
+    pub crash : HasCleanDisk (shown (left_by given)) → AddsNoCrashState (shown old) (shown (left_by given))
+    -- an opened broker isn't stopped
+    pub runs : IfOk given (λ b. b.is_stopped ≡ false)
+    -- on a disk that fails, and when the program is stopped in the call
+    pub survives : Survives (shown old) (shown (left_by given)) (λ _. ⊤)
+    -- the same in the words of sessions
+    pub leaves : OpeningLeaves shown old given
+
+-- What a migration leaves of a connection, and what it answers.
+pub record Migrated (old new : State) (given : Result (Unit {0}) OpenFault) : Type 0 where
+  -- of a broker's database of format 1: it is one of today's with the same state
+  pub migrates : HasCleanDisk new → (s : Broker) → HoldsFormerState s old → OnOk given (HoldsState s new)
+  -- and what each version is permitted, its faults, and what can-i-deploy shows are what they were
+  pub permits : HasCleanDisk new → (s : Broker) → HoldsFormerState s old → OnOk given (JudgesAsBefore s)
+  -- or a failure: it is of format 1 with that state, and after Store a crash may leave today's
+  pub refuses : HasCleanDisk new → (s : Broker) → HoldsFormerState s old
+      → IfErr given (Refuses (λ db. StoresFormer db s) (λ db. Stores db s) new)
+  -- a failure aside: the database was of format 1, or it is told what it is instead
+  pub judges : HasCleanDisk new → IsJudged former_format old.now given
+  -- of a database without tables: NotABroker, or a failure
+  pub blank : HasCleanDisk new → HoldsDurably IsBlank old → Judged former_format None given
+  -- of one that is marked with a format: whether that is 1, or a failure
+  pub marked : HasCleanDisk new → (n : ℕ) (office : List ℕ) → HoldsDurably (IsMarked n office) old
+      → Judged former_format (Some n) given
+  -- whatever the database is: where it isn't migrated it is as it was, or after Store the last commit is the old one
+  pub unchanged : HasCleanDisk new → IfErr given (IsUnchangedUnlessStore old new)
+  -- on a disk that fails, and when the program is stopped in the call
+  pub survives : Survives old new (λ _. ⊤)

@@ -1,0 +1,18 @@
+-- how a transaction ends
+use Rattle.std.specs.Prelude.{◌≡◌, ◌⊎◌, Bool, false, IsTrue}
+use Rattle.sqlite.specs.Tree.{Trees}
+use Rattle.sqlite.specs.State.{State, HasCleanDisk, Survives, Commits, IsLive}
+use Rattle.table_access.specs.Calls.{KeepsLastCommit}
+use Rattle.table_access.specs.Unit.{IsOver}
+
+-- It is committed where something is to be kept, and else rolled back. Did: whether the database did so.
+pub record Finishes (old new : State) (keeps did : Bool) : Type 0 where
+  pub committed : HasCleanDisk new → IsTrue keeps → IsTrue did → Commits old new
+  -- else nothing is committed, and no transaction is open any more
+  pub over : HasCleanDisk new → (keeps ≡ false) ⊎ (did ≡ false) → KeepsLastCommit old new × IsOver new
+  -- what is committed is a database
+  pub live : IsTrue keeps → IsLive old
+  -- what a crash leaves while the connection is open was committed last
+  pub settled : (trees : Trees) → IsTrue new.is_open → new.may_leave trees → trees ≡ new.committed.trees
+  -- a crash leaves what it left before, or what was to be committed
+  pub survives : Survives old new (λ trees. IsTrue keeps × (trees ≡ old.now.trees))

@@ -1,0 +1,28 @@
+-- What a known caller's command leads to, where its form has no fault.
+use Rattle.std.proofs.Common.{◌≡◌, refl, sym, subst}
+use Rattle.std.specs.Prelude.{Option, Some, None, MatchOption}
+use Rattle.broker_core.specs.State.{State}
+use Rattle.broker_core.specs.Request.{refusal}
+use Rattle.broker_core.specs.Change.{Transition, unchanged_with}
+use Rattle.broker_core.specs.Machine.{FindsFault, TakesEffect, StepOfCaller}
+use Rattle.broker_core.specs.declared.answer.Answer.{Answer}
+use Rattle.broker_core.specs.declared.command.Command.{Command}
+use Rattle.broker_core.specs.declared.policy.Caller.{Caller}
+use Rattle.command_facts.specs.Primitives.{broker_primitives}
+
+module _ (s : State) (caller : Caller) (command : Command) (form : FindsFault broker_primitives command None) where
+  -- it is refused
+  pub refuses : (answer : Answer) → refusal s caller command ≡ Some answer → StepOfCaller broker_primitives s caller command (unchanged_with s answer)
+  refuses answer is = (
+    None,
+    form,
+    subst (λ (r : Option Answer). MatchOption r (TakesEffect broker_primitives s command (unchanged_with s answer)) (λ other. unchanged_with s answer ≡ unchanged_with s other)) (sym is) refl,
+  )
+
+  -- nothing refuses it
+  pub acts : (out : Transition) → refusal s caller command ≡ None → TakesEffect broker_primitives s command out → StepOfCaller broker_primitives s caller command out
+  acts out is effect = (
+    None,
+    form,
+    subst (λ (r : Option Answer). MatchOption r (TakesEffect broker_primitives s command out) (λ other. out ≡ unchanged_with s other)) (sym is) effect,
+  )

@@ -1,0 +1,112 @@
+-- How a command is put together from calls on the tables.
+use Rattle.std.proofs.Common.{◌≡◌, Ok, Err, Result, inl, refl, sym, subst}
+use Rattle.sqlite.specs.State.{State}
+use Rattle.table_access.specs.declared.StoreFault.{StoreFault}
+use Rattle.table_access.specs.declared.StoreFault.TheVariants as store
+use Rattle.table_access.proofs.CallLemmas.{call_with, then_ok, seq, idle}
+use Rattle.broker_core.specs.State.{State as Broker}
+use Rattle.broker_core.specs.Change.{Transition, unchanged_with}
+use Rattle.broker_core.specs.declared.answer.Answer.{Answer}
+use Rattle.broker_core.specs.declared.answer.Answer.TheVariants.{BadForm}
+use Rattle.broker_tables.specs.Holds.{Holds, IsRead, QueriesBetween, ChangesBetween, ChangesAndAnswersBetween}
+use Rattle.command_facts.specs.Performs.{PerformsBetween, PerformsWhereBetween, CallersStep}
+use Rattle.command_facts.specs.Primitives.{broker_primitives}
+use Rattle.broker_core.specs.Machine.{StepOfCaller}
+use Rattle.broker_core.specs.declared.command.Command.{Command}
+use Rattle.broker_core.specs.declared.command.FormFault.{FormFault}
+use Rattle.broker_core.specs.declared.policy.Caller.{Caller}
+use Rattle.pact_reading.specs.declared.reading.ReadFault.{ReadFault}
+use Rattle.pact_reading.specs.declared.reading.ReadFault.TheVariants.{Form, Memory}
+
+-- nothing is called
+pub refused : (c : State) (answer : Answer) (Q : Broker → Transition → Type 0) → ((s : Broker) → Q s (unchanged_with s answer)) → PerformsBetween c c Q (Ok answer)
+refused c answer Q f = idle c (Ok answer) _ (λ s held. (s, f s, held))
+
+-- a query, and an answer
+pub answered_then : {A : Type 0} (old new : State) (x : A) (answer : Answer) (P : A → Broker → Type 0) (Q : Broker → Transition → Type 0) → ((s : Broker) → P x s → Q s (unchanged_with s answer)) → QueriesBetween old new (Ok x) P → PerformsBetween old new Q (Ok answer)
+answered_then old new x answer P Q f it = then_ok old new x answer _ _ (λ h s held. (s, f s (h s held).0, (h s held).1)) it
+
+-- another answer of a query
+pub answers : {A B : Type 0} (old new : State) (x : A) (y : B) (P : A → Broker → Type 0) (Q : B → Broker → Type 0) → ((s : Broker) → P x s → Q y s) → QueriesBetween old new (Ok x) P → QueriesBetween old new (Ok y) Q
+answers old new x y P Q f it = then_ok old new x y _ _ (λ h s held. (f s (h s held).0, (h s held).1)) it
+
+-- one query after another
+pub reads_then : {A B : Type 0} (old mid new : State) (x : A) (r : Result B StoreFault) (P : A → Broker → Type 0) (Q R : B → Broker → Type 0) → ((s : Broker) → P x s → (b : B) → Q b s → R b s) → QueriesBetween old mid (Ok x) P → QueriesBetween mid new r Q → QueriesBetween old new r R
+reads_then old mid new x r P Q R f one two = seq old mid new x r _ _ _ (λ p b q s held. let first = p s held in let second = q s first.1 in (f s first.0 b second.0, second.1)) one two
+
+-- two queries, and an answer from both
+pub read_both : {A B C : Type 0} (old mid new : State) (x : A) (y : B) (z : C) (P : A → Broker → Type 0) (Q : B → Broker → Type 0) (R : C → Broker → Type 0) → ((s : Broker) → P x s → Q y s → R z s) → QueriesBetween old mid (Ok x) P → QueriesBetween mid new (Ok y) Q → QueriesBetween old new (Ok z) R
+read_both old mid new x y z P Q R f one two =
+    then_ok old new z z (λ _. (s : Broker) → Holds old.now s → R z s × Holds new.now s) _ (λ h. h)
+    (seq old mid new x (Ok z) _ (λ _. (s : Broker) → Holds mid.now s → Q y s × Holds new.now s) _ (λ p b q s held. let first = p s held in let second = q s first.1 in (f s first.0 second.0, second.1)) one (then_ok mid new y z _ _ (λ h. h) two))
+
+-- the same, by what the database holds too
+pub read_held : {A B C : Type 0} (old mid new : State) (x : A) (y : B) (z : C) (P : A → Broker → Type 0) (Q : B → Broker → Type 0) (R : C → Broker → Type 0)
+    → ((s : Broker) → Holds new.now s → P x s → Q y s → R z s) → QueriesBetween old mid (Ok x) P → QueriesBetween mid new (Ok y) Q → QueriesBetween old new (Ok z) R
+read_held old mid new x y z P Q R f one two =
+    then_ok old new z z (IsRead old new (λ _ s. P x s × Q y s)) _ (λ h s held. let both = h s held in (f s both.1 both.0.0 both.0.1, both.1))
+    (read_both old mid new x y z P Q (λ _ s. P x s × Q y s) (λ s p q. (p, q)) one two)
+
+-- a query, and a change
+pub changed_then : {A : Type 0} (old mid new : State) (x : A) (u : Unit {0}) (answer : Answer) (P : A → Broker → Type 0) (Next : Broker → Broker → Type 0) (Q : Broker → Transition → Type 0)
+    → ((s : Broker) → P x s → (t : Broker) × Next s t × Q s (record { answer = answer; state = t })) → QueriesBetween old mid (Ok x) P → ChangesBetween mid new (Ok u) Next → PerformsBetween old new Q (Ok answer)
+changed_then old mid new x u answer P Next Q f one two =
+    then_ok old new u answer (λ _. (s : Broker) → Holds old.now s → (t : Broker) × Q s (record { answer = answer; state = t }) × Holds new.now t) _ (λ h. h)
+    (seq old mid new x (Ok u) _ _ _ (λ p b q s held. let first = p s held in let next = f s first.0 in (next.0, next.2, q s first.1 next.0 next.1)) one two.call)
+
+-- a query, and then a command
+pub performs_then : {A : Type 0} (old mid new : State) (x : A) (r : Result Answer StoreFault) (P : A → Broker → Type 0) (Q R : Broker → Transition → Type 0) → ((s : Broker) → P x s → (out : Transition) → Q s out → R s out) → QueriesBetween old mid (Ok x) P → PerformsBetween mid new Q r → PerformsBetween old new R r
+performs_then old mid new x r P Q R f one two = seq old mid new x r _ _ _ (λ p b q s held. let first = p s held in let next = q s first.1 in (next.0, f s first.0 _ next.1, next.2)) one two
+
+-- a query, and then a listing
+pub shown_then : {A : Type 0} (old mid new : State) (x : A) (r : Result Answer StoreFault) (P : A → Broker → Type 0) (Q : Answer → Broker → Type 0) (R : Broker → Transition → Type 0)
+    → ((s : Broker) → P x s → (answer : Answer) → Q answer s → R s (unchanged_with s answer)) → QueriesBetween old mid (Ok x) P → QueriesBetween mid new r Q → PerformsBetween old new R r
+shown_then old mid new x r P Q R f one two = seq old mid new x r _ _ _ (λ p b q s held. let first = p s held in let second = q s first.1 in (s, f s first.0 b second.0, second.1)) one two
+
+-- a command that is always a step
+pub always_steps : (old new : State) (r : Result Answer StoreFault) (caller : Caller) (given command : Command) → given ≡ command
+    → PerformsBetween old new (λ s out. StepOfCaller broker_primitives s caller command out) r → PerformsBetween old new (CallersStep caller given) r
+always_steps old new r caller given command is it =
+    subst (λ c. PerformsBetween old new (CallersStep caller c) r) (sym is)
+    (call_with old new r _ _ (λ answer h s held. let next = h s held in (next.0, λ sound. inl next.1, next.2)) it)
+
+-- ---- commands that the state allows
+
+-- a query that tells that the state allows it, and then a command
+pub performs_where : {A : Type 0} (old mid new : State) (x : A) (r : Result Answer StoreFault) (P : A → Broker → Type 0) (Allows : Broker → Type 0) (Q R : Broker → Transition → Type 0)
+    → ((s : Broker) → P x s → Allows s × ((out : Transition) → Q s out → R s out)) → QueriesBetween old mid (Ok x) P → PerformsWhereBetween mid new Allows Q r → PerformsBetween old new R r
+performs_where old mid new x r P Allows Q R f one two =
+    seq old mid new x r _ _ _ (λ p b q s held. let first = p s held in let go = f s first.0 in let next = q s first.1 go.0 in (next.0, go.1 _ next.1, next.2)) one two
+
+-- where the state allows it, a query and then a command
+pub where_then : {A : Type 0} (old mid new : State) (x : A) (r : Result Answer StoreFault) (Allows : Broker → Type 0) (P : A → Broker → Type 0) (Next : Broker → Type 0) (Q R : Broker → Transition → Type 0)
+    → ((s : Broker) → Allows s → P x s → Next s × ((out : Transition) → Q s out → R s out)) → QueriesBetween old mid (Ok x) P → PerformsWhereBetween mid new Next Q r → PerformsWhereBetween old new Allows R r
+where_then old mid new x r Allows P Next Q R f one two =
+    seq old mid new x r _ _ _ (λ p b q s held allowed. let first = p s held in let go = f s allowed first.0 in let next = q s first.1 go.0 in (next.0, go.1 _ next.1, next.2)) one two
+
+-- a query, and an answer
+pub where_answered : {A : Type 0} (old new : State) (x : A) (answer : Answer) (Allows : Broker → Type 0) (P : A → Broker → Type 0) (Q : Broker → Transition → Type 0)
+    → ((s : Broker) → Allows s → P x s → Q s (unchanged_with s answer)) → QueriesBetween old new (Ok x) P → PerformsWhereBetween old new Allows Q (Ok answer)
+where_answered old new x answer Allows P Q f it = then_ok old new x answer _ _ (λ h s held allowed. (s, f s allowed (h s held).0, (h s held).1)) it
+
+-- a query, and a change
+pub where_changed : {A : Type 0} (old mid new : State) (x : A) (u : Unit {0}) (answer : Answer) (Allows : Broker → Type 0) (P : A → Broker → Type 0) (Next : Broker → Broker → Type 0) (Q : Broker → Transition → Type 0)
+    → ((s : Broker) → Allows s → P x s → (t : Broker) × Next s t × Q s (record { answer = answer; state = t })) → QueriesBetween old mid (Ok x) P → ChangesBetween mid new (Ok u) Next → PerformsWhereBetween old new Allows Q (Ok answer)
+where_changed old mid new x u answer Allows P Next Q f one two =
+    then_ok old new u answer (λ _. (s : Broker) → Holds old.now s → Allows s → (t : Broker) × Q s (record { answer = answer; state = t }) × Holds new.now t) _ (λ h. h)
+    (seq old mid new x (Ok u) _ _ _ (λ p b q s held allowed. let first = p s held in let next = f s allowed first.0 in (next.0, next.2, q s first.1 next.0 next.1)) one two.call)
+
+-- a change that answers
+pub where_told : {A : Type 0} (old new : State) (x : A) (answer : Answer) (Allows Takes : Broker → Type 0) (Next : A → Broker → Broker → Type 0) (Q : Broker → Transition → Type 0)
+    → ((s : Broker) → Allows s → Takes s × ((t : Broker) → Next x s t → Q s (record { answer = answer; state = t }))) → ChangesAndAnswersBetween old new (Ok x) Takes Next → PerformsWhereBetween old new Allows Q (Ok answer)
+where_told old new x answer Allows Takes Next Q f it =
+    then_ok old new x answer _ _ (λ h s held allowed. let go = f s allowed in let next = h s held go.0 in (next.0, go.1 next.0 next.1, next.2)) it.call
+
+-- a query, and a change that answers
+pub where_then_told : {A B : Type 0} (old mid new : State) (x : A) (y : B) (answer : Answer) (P : A → Broker → Type 0) (First Then : Broker → Type 0) (Next : B → Broker → Broker → Type 0) (R : Broker → Transition → Type 0)
+    → ((s : Broker) → First s → P x s → Then s) → ((s : Broker) → First s → P x s → (t : Broker) → Next y s t → R s (record { answer = answer; state = t }))
+    → QueriesBetween old mid (Ok x) P → ChangesAndAnswersBetween mid new (Ok y) Then Next → PerformsWhereBetween old new First R (Ok answer)
+where_then_told old mid new x y answer P First Then Next R may f one two =
+    then_ok old new y answer _ _ (λ h s held allows. let it = h s held allows in (it.0, f s allows it.1.0 it.0 it.1.1, it.2))
+    (seq old mid new x (Ok y) _ _ (λ b. (s : Broker) → Holds old.now s → First s → (t : Broker) × (P x s × Next b s t) × Holds new.now t)
+    (λ p b q s held allows. let first = p s held in let next = q s first.1 (may s allows first.0) in (next.0, (first.0, next.1), next.2)) one two.call)

@@ -1,0 +1,11 @@
+use Rattle.std.proofs.Common.{◌≡◌, ◌↔◌, Option, List, ℕ, sym, subst}
+use Rattle.std.specs.Prelude.{IsSomeAnd, String, string_bytes}
+use Rattle.std.specs.declared.alloc.Global.{Global}
+use Rattle.table_access.specs.declared.StoreFault.TheVariants.{Store}
+use Rattle.broker_core.specs.Name.{IsName}
+use Rattle.command_facts.proofs.rules.owners.Goals as goal
+
+pub returns-in-Err-clause-cause : goal.returns-in-Err-clause-cause
+returns-in-Err-clause-cause c =
+    subst (λ (o : Option (String Global)). (c.in-Err.fault ≡ Store) ↔ IsSomeAnd o (λ text. ¬ (IsName (string_bytes text)))) (sym c.in-Some.is)
+    (subst (λ (t : List ℕ). (c.in-Err.fault ≡ Store) ↔ (¬ (IsName t))) c.as_str.ensures.value c.in-Err.ensures.cause)

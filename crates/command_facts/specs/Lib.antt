@@ -1,0 +1,5 @@
+pub mod Owners
+pub mod Patterns
+pub mod Performs
+pub mod Primitives
+pub mod Callers

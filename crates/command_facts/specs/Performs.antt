@@ -1,0 +1,58 @@
+-- what a command does to the tables, inside its transaction
+use Rattle.std.specs.Prelude.{◌⊎◌, Result, Option}
+use Rattle.sqlite.specs.Held.{Held, state}
+use Rattle.sqlite.specs.State.{State}
+use Rattle.sqlite_trees.specs.declared.store.Store.{Ghosts}
+use Rattle.table_access.specs.declared.StoreFault.{StoreFault}
+use Rattle.table_access.specs.Calls.{CallsTablesBetween}
+use Rattle.broker_core.specs.Contents.{HasSoundContents}
+use Rattle.broker_core.specs.State.{State as Broker}
+use Rattle.broker_core.specs.Change.{Transition}
+use Rattle.broker_core.specs.declared.answer.Answer.{Answer}
+use Rattle.broker_core.specs.declared.command.Command.{Command}
+use Rattle.broker_core.specs.declared.policy.Caller.{Caller}
+use Rattle.broker_core.specs.Machine.{StepOfCaller, Step}
+use Rattle.broker_core.specs.Text.{Text}
+use Rattle.broker_tables.specs.Holds.{Holds}
+use Rattle.command_facts.specs.Primitives.{broker_primitives}
+use Rattle.command_facts.specs.Patterns.{RefusesPattern, ComparesPattern, AsksPattern}
+
+-- what a known caller's command does: a step of the machine
+abbrev pub IsStepOf : Caller → Command → Broker → Transition → Type 0
+IsStepOf caller command s out = StepOfCaller broker_primitives s caller command out
+
+-- what a known caller's command does where each stored pact can be read again: a step, or no step where a pattern is
+-- refused
+abbrev pub CallersStep : Caller → Command → Broker → Transition → Type 0
+CallersStep caller command s out =
+    HasSoundContents broker_primitives s
+    → StepOfCaller broker_primitives s caller command out
+    ⊎ (RefusesPattern s out × ComparesPattern s caller command)
+
+-- and what a command does with the token that came with it
+abbrev pub TokensStep : Option Text → Command → Broker → Transition → Type 0
+TokensStep token command s out =
+    HasSoundContents broker_primitives s
+    → Step broker_primitives s token command out ⊎ (RefusesPattern s out × AsksPattern s token command)
+
+-- an answer, and the state that the database holds now, are such a transition from the state that it held
+abbrev pub PerformsBetween : State → State → (Broker → Transition → Type 0) → Result Answer StoreFault → Type 0
+PerformsBetween old new P r =
+    CallsTablesBetween old new r (λ answer. (s : Broker) → Holds old.now s → (t : Broker)
+    × P s (record { answer = answer; state = t }) × Holds new.now t)
+
+-- the same where the state that the database held allows it
+abbrev pub PerformsWhereBetween : State → State → (Broker → Type 0) → (Broker → Transition → Type 0)
+    → Result Answer StoreFault → Type 0
+PerformsWhereBetween old new Allows P r =
+    CallsTablesBetween old new r (λ answer. (s : Broker) → Holds old.now s → Allows s → (t : Broker)
+    × P s (record { answer = answer; state = t }) × Holds new.now t)
+
+-- ---- the same of a connection over this store
+
+module _ {X : Type 0} (store : Ghosts X) (old new : Held X) where
+  abbrev pub Performs : Result Answer StoreFault → (Broker → Transition → Type 0) → Type 0
+  Performs r P = PerformsBetween (state store old) (state store new) P r
+
+  abbrev pub PerformsWhere : Result Answer StoreFault → (Broker → Type 0) → (Broker → Transition → Type 0) → Type 0
+  PerformsWhere r Allows P = PerformsWhereBetween (state store old) (state store new) Allows P r

@@ -1,0 +1,69 @@
+-- What replies that are well formed lead to, from what was read.
+use Rattle.std.proofs.Common.{◌≡◌, ◌==◌, ℕ, suc, false, arith, List, [], ◌∷◌, length, Some, None, Result, Ok, Err, refl, ap, ◌∙◌, inl, inr}
+use Rattle.std.proofs.lemmas.Bool.Decides.{nat_tests}
+use Rattle.std.specs.Prelude.{option_and_then}
+use Rattle.broker_core.specs.Text.{Text}
+use Rattle.broker_core.specs.State.{State}
+use Rattle.broker_core.specs.Contents.{HasSoundContents}
+use Rattle.broker_core.specs.Change.{Transition, text_of, unchanged_with}
+use Rattle.broker_core.specs.Request.{consumer_version, refusal}
+use Rattle.broker_core.specs.Machine.{FindsFault, is_empty}
+use Rattle.broker_core.specs.Machine.Reading.{IsPact}
+use Rattle.broker_core.specs.declared.policy.Caller.{Caller}
+use Rattle.broker_core.specs.declared.command.Command.TheVariants.{PostReplies}
+use Rattle.broker_core.specs.declared.command.FormFault.{FormFault}
+use Rattle.broker_core.specs.declared.command.PactPath.{PactPath}
+use Rattle.broker_core.specs.declared.command.Report.{Report}
+use Rattle.broker_core.specs.declared.answer.Answer.{Answer}
+use Rattle.broker_core.specs.declared.answer.Answer.TheVariants.{BadForm}
+use Rattle.pact_file.specs.Normal.{Normal}
+use Rattle.pact_file.specs.Pact.{Pact}
+use Rattle.pact_file.specs.declared.fault.PactFault.{PactFault}
+use Rattle.reply_check.specs.Recorded.{Reply}
+use Rattle.reply_check.specs.Replies.{RepliesRead}
+use Rattle.pact_reading.specs.Readings.{HasPattern, HasPatternIfPact, Tells, reading_of}
+use Rattle.pact_reading.specs.declared.checking.Comparison.{Comparison}
+use Rattle.pact_reading.specs.declared.checking.Comparison.TheVariants.{Failing, UnknownReply, Pattern, NoPact}
+use Rattle.contract_commands.specs.Checks.{Leads, Checks}
+use Rattle.command_facts.specs.Performs.{CallersStep}
+use Rattle.command_facts.specs.Primitives.{broker_primitives}
+use Rattle.command_facts.proofs.CallerSteps.{acts, refuses}
+
+-- a stored text is read as a pact, so it has the pattern that it would have
+stored_pattern : (s : State) (content : ℕ) (text : Text) → HasSoundContents broker_primitives s → text_of s content ≡ Some text → HasPatternIfPact text → HasPattern text
+stored_pattern s content text sound has would = let it = sound.normal content text has in by_answer it.0 it.1 it.2.0 it.2.1 it.2.2 where
+  by_answer : (consumer provider : Text) (answer : Result Pact PactFault) → Normal text answer → IsPact consumer provider text ≡ reading_of answer → HasPattern text
+  by_answer consumer provider (Ok p) reads is = (p, reads, would p reads)
+  by_answer consumer provider (Err found) reads is = absurd cc
+
+module _ (s : State) (caller : Caller) (path : PactPath) (r : Report) (body : Text) where
+  -- the form of the replies is at fault
+  pub replies_fault : (found : FormFault) → FindsFault broker_primitives (PostReplies path r body) (Some found) → CallersStep caller (PostReplies path r body) s (unchanged_with s (BadForm found))
+  replies_fault found is = λ sound. inl (Some found, is, refl)
+
+  module _ (replies : List Reply) (reads : RepliesRead body (Ok replies)) where
+    well_formed : FindsFault broker_primitives (PostReplies path r body) None
+    well_formed = (Ok replies, reads, refl)
+
+    -- they are refused
+    pub replies_refused : (answer : Answer) → refusal s caller (PostReplies path r body) ≡ Some answer → CallersStep caller (PostReplies path r body) s (unchanged_with s answer)
+    replies_refused answer is = λ sound. inl (refuses s caller (PostReplies path r body) well_formed answer is)
+
+    by_told : (out : Transition) (content : ℕ) (text : Text) (told : Comparison) → s.contracts (consumer_version path, path.provider) ≡ Some content → refusal s caller (PostReplies path r body) ≡ None → text_of s content ≡ Some text
+        → Tells text replies told → Leads s path.provider r content told out → CallersStep caller (PostReplies path r body) s out
+    by_told out content text (Failing places) is none has tells leads = λ sound. inl (acts s caller (PostReplies path r body) well_formed out none (content, is, (text, has, (Some places, (replies, reads, tells), leads))))
+    by_told out content text UnknownReply is none has tells leads = λ sound. inl (acts s caller (PostReplies path r body) well_formed out none (content, is, (text, has, (None, (replies, reads, tells), leads))))
+    by_told out content text Pattern is none has tells leads = λ sound. inr (leads, (well_formed, none, (text, ap (option_and_then (text_of s)) is ∙ has, stored_pattern s content text sound has tells)))
+    by_told out content text NoPact is none has tells leads = absurd leads
+
+    -- they are compared with the contract
+    pub replies_checked : (out : Transition) (content : ℕ) → s.contracts (consumer_version path, path.provider) ≡ Some content → refusal s caller (PostReplies path r body) ≡ None → Checks s path.provider r content replies out
+        → CallersStep caller (PostReplies path r body) s out
+    replies_checked out content is none it = by_told out content it.0 it.2.0 is none it.1 it.2.1 it.2.2
+
+-- no interaction fails where the list of those that do is empty
+pub empty_is : (failing : List ℕ) → (length failing == 0) ≡ is_empty failing
+empty_is [] = refl
+empty_is (place ∷ failing) = some_fail (length failing) where
+  some_fail : (n : ℕ) → (suc n == 0) ≡ false
+  some_fail n = grind (arith, nat_tests)

@@ -1,0 +1,5 @@
+pub mod BranchLast
+pub mod CheckLemmas
+pub mod PactLemmas
+pub mod ResultLemmas
+pub mod Unread

@@ -1,0 +1,178 @@
+-- What the commands on results lead to, from what was read.
+use Rattle.std.proofs.Common.{◌≡◌, ℕ, ◌+◌, ◌==◌, List, [], ◌∷◌, ◌++◌, length, Bool, true, false, ◌&&◌, ◌||◌, is_some, Option, Some, None, refl, sym, ap, ◌∙◌}
+use Rattle.std.specs.Prelude.{option_map, if◌then◌else◌}
+use Rattle.std.specs.Option.{option_map_or}
+use Rattle.broker_core.specs.Text.{Text, same_bool, same_version, version}
+use Rattle.broker_core.specs.State.{State, Verification}
+use Rattle.broker_core.specs.Limit.{has_room}
+use Rattle.broker_core.specs.Change.{Transition, unchanged_with, named, can_name, report, result_of_run, says_same}
+use Rattle.broker_core.specs.Request.{is_known, unless, unless_contract, is_allowed, refused, refusal}
+use Rattle.broker_core.specs.declared.policy.Caller.{Caller}
+use Rattle.broker_core.specs.declared.policy.Rule.TheVariants.{A4}
+use Rattle.broker_core.specs.declared.command.Command.{Command}
+use Rattle.broker_core.specs.declared.command.Command.TheVariants.{PostResult, PostReplies}
+use Rattle.broker_core.specs.declared.command.PactPath.{PactPath}
+use Rattle.broker_core.specs.declared.command.Report.{Report}
+use Rattle.broker_core.specs.declared.command.Version.{Version}
+use Rattle.broker_core.specs.declared.answer.Answer.{Answer}
+use Rattle.broker_core.specs.declared.answer.Answer.TheVariants as answer
+use Rattle.broker_core.specs.declared.answer.Detail.{Detail}
+use Rattle.broker_core.specs.declared.answer.Clash.TheVariants as clash
+use Rattle.broker_core.specs.declared.answer.Missing.{Missing}
+use Rattle.broker_core.specs.declared.answer.Missing.TheVariants as missing
+use Rattle.broker_tables.specs.Numbers.{number_of}
+use Rattle.broker_core.proofs.Judgement.{version_is}
+use Rattle.broker_tables.proofs.NumberLemmas.{number_ties}
+use Rattle.broker_tables.proofs.Ties.{nat_ties}
+use Rattle.contract_tables.specs.Verified.{Told, told_of, RecordsResult}
+use Rattle.contract_tables.specs.declared.lookups.ResultRow.{ResultRow}
+use Rattle.contract_commands.specs.Pacts.{AsksContract}
+use Rattle.contract_commands.specs.Results.{HasPacticipant, reported_version, reported_result, Reports, told_row, IsRowOf, IsNumbered, IsUnused, AreCountsRead, recorded}
+use Rattle.contract_commands.specs.declared.results.Counts.{Counts}
+use Rattle.contract_commands.specs.declared.results.Finding.{Finding}
+use Rattle.contract_commands.specs.declared.results.Reported.TheVariants.{Recorded, Known, RunTaken, Full}
+
+-- ---- the two commands ask for the contract of their path
+
+pub asks_to_claim : (path : PactPath) (r : Report) (success : Bool) → AsksContract path A4 (path.provider ∷ []) (PostResult path r success)
+asks_to_claim path r success = record { rule_is = refl; owned_is = refl; missing_is = λ s. refl }
+
+pub asks_to_check : (path : PactPath) (r : Report) (replies : Text) → AsksContract path A4 (path.provider ∷ []) (PostReplies path r replies)
+asks_to_check path r replies = record { rule_is = refl; owned_is = refl; missing_is = λ s. refl }
+
+first_there : (command : Command) (b may : Bool) (what : Missing) (rest : Option Missing) → refused command (unless b what rest) may ≡ None → b ≡ true
+first_there command true may what rest h = refl
+first_there command false may what rest h = absurd cc
+
+-- where nothing refuses, the provider is there
+pub provider_there : (s : State) (caller : Caller) (path : PactPath) (command : Command) → AsksContract path A4 (path.provider ∷ []) command → refusal s caller command ≡ None → HasPacticipant s path.provider
+provider_there s caller path command asks none =
+    let told : refused command (unless_contract s path None) (is_allowed s caller command) ≡ None = sym (ap (λ o. refused command o (is_allowed s caller command)) (asks.missing_is s)) ∙ none in
+    first_there command (is_some (s.pacticipants path.provider)) (is_allowed s caller command) missing.Pacticipant _ told
+
+-- ---- a run that was used
+
+-- the result that a row tells
+pub row_told : (s : State) (o : Option (ℕ × Verification)) (found : Option ResultRow) (row : ResultRow) → found ≡ Some row → option_map told_row found ≡ option_map (told_of s.versions) o → (e : ℕ × Verification) × (o ≡ Some e) × IsRowOf s row e
+row_told s o found row is h = by_result o (sym (ap (option_map told_row) is) ∙ h) where
+  by_result : (o : Option (ℕ × Verification)) → Some (told_row row) ≡ option_map (told_of s.versions) o → (e : ℕ × Verification) × (o ≡ Some e) × IsRowOf s row e
+  by_result None g = absurd cc
+  by_result (Some e) g = (e, refl, (let same : told_row row ≡ told_of s.versions e = cc in same))
+
+pub none_told : (s : State) (o : Option (ℕ × Verification)) (found : Option ResultRow) → found ≡ None → option_map told_row found ≡ option_map (told_of s.versions) o → o ≡ None
+none_told s o found is h = by_result o (sym (ap (option_map told_row) is) ∙ h) where
+  by_result : (o : Option (ℕ × Verification)) → None ≡ option_map (told_of s.versions) o → o ≡ None
+  by_result None g = refl
+  by_result (Some e) g = absurd cc
+
+-- ---- what is told
+
+module _ (s : State) (r : Verification) (e : ℕ × Verification) (used : result_of_run s r.version.pacticipant r.run ≡ Some e) where
+  abbrev again : (ℕ → Detail) → Bool → Answer
+  again detail b = if b then answer.Already (detail e.0) else answer.Taken clash.Run
+
+  abbrev first : (ℕ → Detail) → Transition
+  first detail = if can_name s r.version && has_room s.results
+      then record { answer = answer.Done (detail (length s.results + 1)); state = record (named s r.version) { results = s.results ++ r ∷ [] } }
+      else unchanged_with s answer.Full
+
+  is_again : (detail : ℕ → Detail) (b : Bool) → says_same e.1 r ≡ b → unchanged_with s (again detail b) ≡ report s r detail
+  is_again detail b same =
+      sym (ap (λ (o : Option (ℕ × Verification)). option_map_or (λ q. unchanged_with s (if says_same q.1 r then answer.Already (detail q.0) else answer.Taken clash.Run)) o (first detail)) used
+      ∙ ap (λ t. unchanged_with s (again detail t)) same)
+
+  pub known_again : (number : ℕ) → number ≡ e.0 → says_same e.1 r ≡ true → Reports s r (Known number) s
+  known_again number is same = λ detail. ap (λ n. unchanged_with s (answer.Already (detail n))) is ∙ is_again detail true same
+
+  pub taken_again : says_same e.1 r ≡ false → Reports s r RunTaken s
+  taken_again other = λ detail. is_again detail false other
+
+module _ (s : State) (r : Verification) (unused : result_of_run s r.version.pacticipant r.run ≡ None) where
+  abbrev newly : (ℕ → Detail) → Bool → Transition
+  newly detail b = if b
+      then record { answer = answer.Done (detail (length s.results + 1)); state = recorded s r }
+      else unchanged_with s answer.Full
+
+  is_new : (detail : ℕ → Detail) (b : Bool) → (can_name s r.version && has_room s.results) ≡ b → newly detail b ≡ report s r detail
+  is_new detail b place =
+      sym (ap (λ (o : Option (ℕ × Verification)). option_map_or (λ q. unchanged_with s (if says_same q.1 r then answer.Already (detail q.0) else answer.Taken clash.Run)) o (newly detail (can_name s r.version && has_room s.results))) unused
+      ∙ ap (newly detail) place)
+
+  pub newly_recorded : (number : ℕ) (t : State) → (can_name s r.version && has_room s.results) ≡ true → number ≡ length s.results + 1 → t ≡ recorded s r → Reports s r (Recorded number) t
+  newly_recorded number t place is next = λ detail.
+      let told : ◌≡◌ {A = Transition} (record { answer = answer.Done (detail number); state = t }) (record { answer = answer.Done (detail (length s.results + 1)); state = recorded s r }) = (λ i. record { answer = answer.Done (detail (is i)); state = next i }) in
+      told ∙ is_new detail true place
+
+  pub no_place : (can_name s r.version && has_room s.results) ≡ false → Reports s r Full s
+  no_place none = λ detail. is_new detail false none
+
+-- ---- whether two results say the same, by numbers
+
+no_content : (b c : Bool) → (b && (false && c)) ≡ false
+no_content true c = refl
+no_content false c = refl
+
+false_if : (b : Bool) → (b ≡ true → ⊥) → b ≡ false
+false_if true h = absurd (h refl)
+false_if false h = refl
+
+module _ (s : State) (provider : Text) (r : Report) (found : Finding) (row : ResultRow) (e : ℕ × Verification) (h : IsRowOf s row e) where
+  content_is : row.content ≡ e.1.content
+  content_is = ap (λ (t : Told). t.1) h
+
+  version_numbered : Some row.provider_version ≡ number_of s.versions e.1.version
+  version_numbered = ap (λ (t : Told). t.2) h
+
+  pass_is : row.pass ≡ e.1.pass
+  pass_is = ap (λ (t : Told). t.3) h
+
+  checked_is : row.checked ≡ e.1.checked
+  checked_is = ap (λ (t : Told). t.4) h
+
+  pub number_told : row.number ≡ e.0
+  number_told = ap (λ (t : Told). t.0) h
+
+  pub same_numbered : (n : ℕ) → number_of s.versions (reported_version provider r) ≡ Some n
+      → (row.content == found.content && (row.provider_version == n && (same_bool row.pass found.pass && same_bool row.checked found.checked))) ≡ says_same e.1 (reported_result provider r found)
+  same_numbered n is =
+      let ties : (row.provider_version == n) ≡ same_version e.1.version (reported_version provider r) = nat_ties row.provider_version n ∙ sym (number_ties s.versions e.1.version (reported_version provider r) row.provider_version n (sym version_numbered) is) in
+      λ i. (content_is i == found.content) && (ties i && (same_bool (pass_is i) found.pass && same_bool (checked_is i) found.checked))
+
+  pub not_numbered : number_of s.versions (reported_version provider r) ≡ None → false ≡ says_same e.1 (reported_result provider r found)
+  not_numbered none =
+      let other : same_version e.1.version (reported_version provider r) ≡ false = false_if _ (λ same. let both : Some row.provider_version ≡ None = version_numbered ∙ ap (number_of s.versions) (version_is e.1.version (reported_version provider r) same) ∙ none in absurd cc) in
+      let rest = same_bool e.1.pass found.pass && same_bool e.1.checked found.checked in
+      sym (ap (λ b. (e.1.content == found.content) && (b && rest)) other ∙ no_content (e.1.content == found.content) rest)
+
+-- ---- a result that is recorded
+
+results_by : (s : State) (v : Version) (b : Bool) → (if b then s else record s { versions = s.versions ++ v ∷ [] }).results ≡ s.results
+results_by s v true = refl
+results_by s v false = refl
+
+named_results : (s : State) (v : Version) → (named s v).results ≡ s.results
+named_results s v = results_by s v (is_known s v)
+
+pub records : (s : State) (provider : Text) (r : Report) (found : Finding) (number version : ℕ) → number ≡ length s.results + 1 → number_of (named s (reported_version provider r)).versions (reported_version provider r) ≡ Some version
+    → RecordsResult number found.content provider version found.pass found.checked r.run (named s (reported_version provider r)) (recorded s (reported_result provider r found))
+records s provider r found number version is numbered =
+    let v = reported_version provider r in (
+      v,
+      numbered,
+      refl,
+      is ∙ ap (λ (rows : List Verification). length rows + 1) (sym (named_results s v)),
+      λ i. record (named s v) { results = sym (named_results s v) i ++ reported_result provider r found ∷ [] },
+    )
+
+-- there is room just where it was read so
+pub result_place : (s : State) (provider : Text) (r : Report) (found : Finding) (number : Option ℕ) (counts : Counts) → IsUnused s provider r number → AreCountsRead s counts
+    → (can_name s (reported_version provider r) && has_room s.results) ≡ ((is_some number || counts.for_version) && counts.for_result)
+result_place s provider r found number counts h k = λ i. (h.version.known_is i || k.version_is i) && k.result_is i
+
+-- ---- the version that a report is of
+
+pub numbered : (s : State) (provider : Text) (r : Report) (p name : Text) (number : Option ℕ) → p ≡ provider → name ≡ r.provider_version → (number ≡ number_of s.versions (version p name)) × (is_some number ≡ is_known s (version p name)) → IsNumbered s (reported_version provider r) number
+numbered s provider r p name number is called h = record {
+  number_is = sym (h.0 ∙ (λ i. number_of s.versions (version (is i) (called i))));
+  known_is = sym (h.1 ∙ (λ i. is_known s (version (is i) (called i))));
+}

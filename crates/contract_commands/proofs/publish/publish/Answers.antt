@@ -1,0 +1,30 @@
+use Rattle.std.proofs.Common.{[], refl, sym, ◌∙◌}
+use Rattle.sqlite.specs.Held.{state}
+use Rattle.broker_core.specs.declared.command.Command.TheVariants.{PutPact}
+use Rattle.contract_commands.specs.Pacts.{Publishes}
+use Rattle.contract_commands.proofs.PactLemmas.{publication_refused, publishes_refused, publishes, sides_there}
+use Rattle.command_facts.proofs.PerformLemmas.{answered_then, performs_where}
+use Rattle.contract_commands.proofs.publish.publish.Goals as goal
+
+pub returns-in-Some : goal.returns-in-Some
+returns-in-Some g c =
+    let caller = c.args.caller.now in
+    let path = c.args.path.now in
+    let text = c.args.text.now in
+    let sides = c.in-Ok.sides in
+    answered_then (state g.S.Store c.args.conn.now) (state g.S.Store c.read_sides.new.conn) sides c.in-Some.answer _ (λ s out. Publishes s caller path text out)
+    (λ s h. publishes_refused s caller path text c.in-Some.answer (λ file. publication_refused s caller path text file sides h ∙ sym (c.refuse_sides.ensures (PutPact path file) refl) ∙ c.in-Some.is)) c.in-Ok.ensures
+
+pub returns-in-None : goal.returns-in-None
+returns-in-None g c =
+    let caller = c.args.caller.now in
+    let path = c.args.path.now in
+    let text = c.args.text.now in
+    let sides = c.in-Ok.sides in
+    let both = sides_there (PutPact path []) sides.provider.has_pacticipant sides.consumer.has_pacticipant sides.consumer.is_allowed (sym c.in-None.is ∙ c.refuse_sides.ensures (PutPact path []) refl) in
+    performs_where (state g.S.Store c.args.conn.now) (state g.S.Store c.read_sides.new.conn) (state g.S.Store c.publish_between.new.conn) sides c.publish_between.result _ _ _ (λ s out. Publishes s caller path text out)
+    (λ s h. (
+      (h.provider_is.pacticipant_is ∙ both.0, h.consumer_is.pacticipant_is ∙ both.1),
+      λ out is. publishes s caller path text out (λ file. publication_refused s caller path text file sides h ∙ sym (c.refuse_sides.ensures (PutPact path file) refl) ∙ c.in-None.is) is,
+    ))
+    c.in-Ok.ensures c.publish_between.ensures

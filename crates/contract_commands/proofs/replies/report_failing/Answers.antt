@@ -1,0 +1,28 @@
+use Rattle.std.proofs.Common.{◌≡◌, ◌==◌, ℕ, List, Some, length, ap, ◌∙◌}
+use Rattle.sqlite.specs.Held.{state}
+use Rattle.broker_core.specs.State.{checked_result}
+use Rattle.broker_core.specs.Change.{Transition, report}
+use Rattle.broker_core.specs.Machine.{is_empty, report_replies}
+use Rattle.broker_core.specs.declared.answer.Detail.TheVariants.{Replies}
+use Rattle.contract_commands.specs.Results.{told_as, reported_version}
+use Rattle.contract_commands.proofs.CheckLemmas.{empty_is}
+use Rattle.command_facts.proofs.PerformLemmas.{where_told}
+use Rattle.contract_commands.proofs.replies.report_failing.Goals as goal
+
+pub returns-in-Ok : goal.returns-in-Ok
+returns-in-Ok g c =
+    let it = c.in-Ok.it in
+    let failing = c.args.failing in
+    let content = c.args.content in
+    let v = reported_version c.args.provider.now c.args.report.now in
+    let run = c.args.report.now.run in
+    let pass = c.is_empty-pass.result in
+    let passes : pass ≡ is_empty failing = c.is_empty-pass.ensures ∙ ap (λ (xs : List ℕ). length xs == 0) c.as_slice.ensures ∙ empty_is failing in
+    where_told (state g.S.Store c.args.conn.now) (state g.S.Store c.receive.new.conn) it c.tell_replies.result _ _ _ (λ s out. out ≡ report_replies s content v run (Some failing))
+    (λ s has. (
+      has,
+      λ t reports.
+          let told : ◌≡◌ {A = Transition} (record { answer = c.tell_replies.result; state = t }) (record { answer = told_as (λ n. Replies failing n pass) it; state = t }) = (λ i. record { answer = c.tell_replies.ensures i; state = t }) in
+          told ∙ reports (λ n. Replies failing n pass) ∙ (λ i. report s (checked_result content v (passes i) run) (λ n. Replies failing n (passes i))),
+    ))
+    c.in-Ok.ensures

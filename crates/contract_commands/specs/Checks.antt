@@ -1,0 +1,29 @@
+-- what replies that are compared with a stored pact lead to, for the clauses of private functions: no public clause
+-- cites it
+use Rattle.std.specs.Prelude.{◌≡◌, ℕ, List, Some, None}
+use Rattle.broker_core.specs.Text.{Text}
+use Rattle.broker_core.specs.State.{State}
+use Rattle.broker_core.specs.Change.{Transition, text_of}
+use Rattle.broker_core.specs.Machine.{report_replies}
+use Rattle.broker_core.specs.declared.command.Report.{Report}
+use Rattle.reply_check.specs.Recorded.{Reply}
+use Rattle.pact_reading.specs.Readings.{Tells}
+use Rattle.pact_reading.specs.declared.checking.Comparison.{Comparison}
+use Rattle.pact_reading.specs.declared.checking.Comparison.TheVariants.{Failing, UnknownReply, Pattern, NoPact}
+use Rattle.command_facts.specs.Patterns.{RefusesPattern}
+use Rattle.contract_commands.specs.Results.{reported_version}
+
+-- the result comes in, or the replies are at fault, or a pattern was refused
+abbrev pub Leads : State → Text → Report → ℕ → Comparison → Transition → Type 0
+Leads s provider r content (Failing places) out =
+    out ≡ report_replies s content (reported_version provider r) r.run (Some places)
+Leads s provider r content UnknownReply out =
+    out ≡ report_replies s content (reported_version provider r) r.run None
+Leads s provider r content Pattern out = RefusesPattern s out
+Leads s provider r content NoPact out = ⊥
+
+-- the text of the content is compared with the replies, and it leads to this
+abbrev pub Checks : State → Text → Report → ℕ → List Reply → Transition → Type 0
+Checks s provider r content replies out =
+    (text : Text) × (text_of s content ≡ Some text)
+    × ((told : Comparison) × Tells text replies told × Leads s provider r content told out)

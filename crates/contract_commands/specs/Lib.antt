@@ -1,0 +1,4 @@
+pub mod BranchPact
+pub mod Checks
+pub mod Pacts
+pub mod Results

@@ -1,0 +1,110 @@
+-- what the commands on results read of a state and tell of it, for the clauses of private functions: no public clause
+-- cites it
+use Rattle.std.specs.Prelude.{◌≡◌, ◌+◌, ◌++◌, ◌∷◌, [], ℕ, Option, Some, None, Bool, is_some, IsTrue, length}
+use Rattle.broker_core.specs.Text.{Text, version}
+use Rattle.broker_core.specs.State.{State as Broker, Verification, claimed_result}
+use Rattle.broker_core.specs.Limit.{has_room}
+use Rattle.broker_core.specs.Request.{is_known}
+use Rattle.broker_core.specs.Change.{Transition, named, report, result_of_run, says_same}
+use Rattle.broker_core.specs.declared.command.Report.{Report}
+use Rattle.broker_core.specs.declared.command.Version.{Version}
+use Rattle.broker_core.specs.declared.answer.Answer.{Answer}
+use Rattle.broker_core.specs.declared.answer.Answer.TheVariants as answer
+use Rattle.broker_core.specs.declared.answer.Detail.{Detail}
+use Rattle.broker_core.specs.declared.answer.Detail.TheVariants as detail
+use Rattle.broker_core.specs.declared.answer.Clash.TheVariants as clash
+use Rattle.broker_tables.specs.Numbers.{number_of}
+use Rattle.contract_tables.specs.Verified.{Told, told, told_of, result_for}
+use Rattle.contract_tables.specs.declared.lookups.ResultRow.{ResultRow}
+use Rattle.contract_commands.specs.Pacts.{CanName}
+use Rattle.contract_commands.specs.declared.results.Counts.{Counts}
+use Rattle.contract_commands.specs.declared.results.Finding.{Finding}
+use Rattle.contract_commands.specs.declared.results.Reported.{Reported}
+use Rattle.contract_commands.specs.declared.results.Reported.TheVariants.{Recorded, Known, RunTaken, Full}
+
+-- the pacticipant is there
+abbrev pub HasPacticipant : Broker → Text → Type 0
+HasPacticipant s p = IsTrue (is_some (s.pacticipants p))
+
+-- the version that a report is of
+abbrev pub reported_version : Text → Report → Version
+reported_version provider report = version provider report.provider_version
+
+-- the result that a report and what was found come to
+abbrev pub reported_result : Text → Report → Finding → Verification
+reported_result provider report found =
+    result_for found.content (reported_version provider report) found.pass found.checked report.run
+
+-- what is told of a result, with this detail beside its number
+abbrev pub told_as : (ℕ → Detail) → Reported → Answer
+told_as detail (Recorded number) = answer.Done (detail number)
+told_as detail (Known number) = answer.Already (detail number)
+told_as detail RunTaken = answer.Taken clash.Run
+told_as detail Full = answer.Full
+
+-- the result comes in: this is told of it, whatever the detail is, and the next state is t
+abbrev pub Reports : Broker → Verification → Reported → Broker → Type 0
+Reports s r it t = (detail : ℕ → Detail) → record { answer = told_as detail it; state = t } ≡ report s r detail
+
+-- a report of what was found comes in: this is told of it, and the next state is t
+abbrev pub Receives : Text → Report → Finding → Reported → Broker → Broker → Type 0
+Receives provider report found it s t = Reports s (reported_result provider report found) it t
+
+-- a report comes in as its sender claims it
+abbrev pub Claims : Text → Report → ℕ → Bool → Broker → Transition → Type 0
+Claims provider r content success s out =
+    out ≡ report s (claimed_result content (reported_version provider r) success r.run) detail.Result
+
+-- the row as the tables tell a result
+abbrev pub told_row : ResultRow → Told
+told_row row = told row.number row.content row.provider_version row.pass row.checked
+
+-- the row is this result with its number
+abbrev pub IsRowOf : Broker → ResultRow → ℕ × Verification → Type 0
+IsRowOf s row e = told_row row ≡ told_of s.versions e
+
+-- whether the result of the row says the same as what was found by any report whose version has this number
+abbrev pub TellsSame : Broker → ResultRow → Option ℕ → Finding → Bool → Type 0
+TellsSame s row number found same =
+    (provider : Text) (report : Report) (e : ℕ × Verification) → IsRowOf s row e
+    → number_of s.versions (reported_version provider report) ≡ number
+    → same ≡ says_same e.1 (reported_result provider report found)
+
+-- what is told of any such report whose run was used for the result of the row; nothing changes
+abbrev pub TellsAgain : Broker → ResultRow → Option ℕ → Finding → Reported → Type 0
+TellsAgain s row number found it =
+    (provider : Text) (report : Report) (e : ℕ × Verification) → IsRowOf s row e
+    → number_of s.versions (reported_version provider report) ≡ number → result_of_run s provider report.run ≡ Some e
+    → Reports s (reported_result provider report found) it s
+
+-- the number of the version that a report is of
+pub record IsNumbered (s : Broker) (v : Version) (number : Option ℕ) : Type 0 where
+  pub number_is : number_of s.versions v ≡ number
+  pub known_is : is_known s v ≡ is_some number
+
+-- the provider is there, and has used no such run
+pub record IsUnused (s : Broker) (provider : Text) (report : Report) (number : Option ℕ) : Type 0 where
+  pub version : IsNumbered s (reported_version provider report) number
+  pub owned : HasPacticipant s provider
+  pub unused : result_of_run s provider report.run ≡ None
+
+-- how many versions and results there are, and what there is room for
+pub record AreCountsRead (s : Broker) (counts : Counts) : Type 0 where
+  pub versions_are : counts.versions ≡ length s.versions
+  pub version_is : has_room s.versions ≡ counts.for_version
+  pub results_are : counts.results ≡ length s.results
+  pub result_is : has_room s.results ≡ counts.for_result
+
+-- the result stands last, and its version is named
+abbrev pub recorded : Broker → Verification → Broker
+recorded s r = record (named s r.version) { results = s.results ++ r ∷ [] }
+
+-- a report may be recorded: its version may be named where it has no number, and this many results are there
+abbrev pub CanReport : Text → Report → Option ℕ → Counts → Broker → Type 0
+CanReport provider report number counts s =
+    CanName s (reported_version provider report) number counts.versions × (counts.results ≡ length s.results)
+
+-- what was found is the last result, with this number, and the version of its report is named
+abbrev pub RecordsReport : Text → Report → Finding → ℕ → Broker → Broker → Type 0
+RecordsReport provider report found number s t =
+    (number ≡ length s.results + 1) × (t ≡ recorded s (reported_result provider report found))

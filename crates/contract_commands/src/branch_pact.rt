@@ -1,0 +1,163 @@
+//! The contract that a branch shows: that of its newest version with one.
+ghost use Rattle.std.specs.Prelude.{◌≡◌, ◌+◌, ◌<◌, IfOk, IfSome, length};
+ghost use Rattle.broker_core.specs.declared.command.Command.TheVariants.{GetBranchPact};
+ghost use Rattle.broker_core.specs.declared.policy.Rule.TheVariants.{A5};
+ghost use Rattle.broker_tables.specs.Holds.{Queries};
+ghost use Rattle.contract_commands.specs.BranchPact.{IsNextBelow, IsBranchContent, IsContentBelow, ReachesBranch};
+ghost use Rattle.contract_commands.specs.Pacts.{missing_of_branch, owns_side, Admits};
+ghost use Rattle.command_facts.specs.Performs.{Performs, IsStepOf};
+
+use crate::pacts::show_pact;
+use crate::sides::{Sides, read_sides};
+use broker_core::answer::{Answer, Missing};
+use broker_core::name::Name;
+use broker_core::policy::{Caller, Rule};
+use broker_tables::next_number;
+use contract_tables::contract_of;
+use registry_tables::{branch_number_below, version_count};
+use sqlite::{Alter, Connection};
+use std::alloc::Global;
+use table_access::StoreFault;
+
+/// A version on a branch.
+#[derive(Clone, Copy)]
+struct BranchVersion {
+    number: u32,
+    /// The number of the content of its contract with the provider, if it has one.
+    content: Option<u32>,
+}
+
+/// The number that the next version gets: those of all others are below.
+fn read_bound<S: Alter>(conn: &mut Connection<S>) -> Result<u32, StoreFault>
+    ensures { Queries S.Store conn.old conn.new result (λ bound s. bound ≡ length s.versions + 1) }
+{
+    match version_count(conn) {
+        Ok(count) => match next_number(count) {
+            Some(bound) => Ok(bound),
+            None => Err(StoreFault::Store),
+        },
+        Err(fault) => Err(fault),
+    }
+}
+
+/// The newest version on the branch whose number is below this one.
+fn next_below<S: Alter>(
+    conn: &mut Connection<S>,
+    provider: &Name,
+    consumer: &Name,
+    branch: &Name,
+    bound: u32,
+) -> Result<Option<BranchVersion>, StoreFault>
+    ensures read { Queries S.Store conn.old conn.new result
+        (λ found s. IsNextBelow s provider.now consumer.now branch.now bound found) }
+    ensures lower { IfOk result (λ found. IfSome found (λ next. next.number < bound)) }
+{
+    match branch_number_below(conn, consumer.as_str(), branch.as_str(), bound) {
+        Ok(Some(number)) => if number < bound {
+            match contract_of(conn, number, provider.as_str()) {
+                Ok(content) => Ok(Some(BranchVersion { number, content })),
+                Err(fault) => Err(fault),
+            }
+        } else {
+            Err(StoreFault::Store)
+        },
+        Ok(None) => Ok(None),
+        Err(fault) => Err(fault),
+    }
+}
+
+/// The number of the content of the contract that the branch shows, if there is one, where no version from this number
+/// on has one.
+fn content_below<S: Alter>(
+    conn: &mut Connection<S>,
+    provider: &Name,
+    consumer: &Name,
+    branch: &Name,
+    mut bound: u32,
+) -> Result<Option<u32>, StoreFault>
+    ensures { Queries S.Store conn.old conn.new result
+        (λ content s. IsContentBelow s provider.now consumer.now branch.now bound content) }
+{
+    loop {
+        match next_below(conn, provider, consumer, branch, bound) {
+            Ok(Some(next)) => match next.content {
+                Some(content) => return Ok(Some(content)),
+                None => bound = next.number,
+            },
+            Ok(None) => return Ok(None),
+            Err(fault) => return Err(fault),
+        }
+    }
+}
+
+/// The number of the content of the contract that the branch shows, if there is one.
+fn read_branch<S: Alter>(
+    conn: &mut Connection<S>,
+    provider: &Name,
+    consumer: &Name,
+    branch: &Name,
+) -> Result<Option<u32>, StoreFault>
+    ensures { Queries S.Store conn.old conn.new result
+        (λ content s. IsBranchContent s provider.now consumer.now branch.now content) }
+{
+    match read_bound(conn) {
+        Ok(bound) => content_below(conn, provider, consumer, branch, bound),
+        Err(fault) => Err(fault),
+    }
+}
+
+/// The content of the contract that the branch shows, or the refusal: which of its two sides and the contract is
+/// missing first, or the rule that doesn't let the caller.
+fn admit_branch_pact(sides: Sides, content: Option<u32>) -> Result<u32, Answer>
+    ensures { Admits A5 content (missing_of_branch sides content) (owns_side sides) result }
+{
+    if !sides.provider.has_pacticipant || !sides.consumer.has_pacticipant {
+        return Err(Answer::Unknown(Missing::Pacticipant));
+    }
+    let Some(content) = content else {
+        return Err(Answer::Unknown(Missing::Contract));
+    };
+    if !sides.provider.is_allowed && !sides.consumer.is_allowed {
+        return Err(Answer::Denied(Rule::A5));
+    }
+    Ok(content)
+}
+
+/// The content of the contract that the branch shows to the caller, or the refusal.
+fn read_branch_to_show<S: Alter>(
+    alloc: Global,
+    conn: &mut Connection<S>,
+    caller: &Caller,
+    provider: &Name,
+    consumer: &Name,
+    branch: &Name,
+) -> Result<Result<u32, Answer>, StoreFault>
+    ensures { Queries S.Store conn.old conn.new result
+        (λ place s. ReachesBranch s caller.now provider.now consumer.now branch.now place) }
+{
+    match read_sides(alloc, conn, caller, Rule::A5, provider, consumer) {
+        Ok(sides) => match read_branch(conn, provider, consumer, branch) {
+            Ok(content) => Ok(admit_branch_pact(sides, content)),
+            Err(fault) => Err(fault),
+        },
+        Err(fault) => Err(fault),
+    }
+}
+
+/// Shows the contract of the newest version on a branch that has one with the provider, or tells why not.
+pub fn get_branch_pact<S: Alter>(
+    alloc: Global,
+    conn: &mut Connection<S>,
+    caller: &Caller,
+    provider: &Name,
+    consumer: &Name,
+    branch: &Name,
+) -> Result<Answer, StoreFault>
+    ensures { Performs S.Store conn.old conn.new result
+        (IsStepOf caller.now (GetBranchPact provider.now consumer.now branch.now)) }
+{
+    match read_branch_to_show(alloc, conn, caller, provider, consumer, branch) {
+        Ok(place) => show_pact(conn, place),
+        Err(fault) => Err(fault),
+    }
+}

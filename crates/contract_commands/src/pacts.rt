@@ -1,0 +1,58 @@
+//! Contracts, shown by their version.
+ghost use Rattle.std.specs.Prelude.{◌≡◌, ℕ, List, Some};
+ghost use Rattle.broker_core.specs.Change.{text_of};
+ghost use Rattle.contract_commands.specs.Pacts.{ShowsReached};
+ghost use Rattle.broker_core.specs.declared.command.Command.TheVariants.{GetPact};
+ghost use Rattle.broker_core.specs.declared.answer.Answer.TheVariants as told;
+ghost use Rattle.broker_core.specs.declared.answer.Shown.TheVariants as shown;
+ghost use Rattle.broker_tables.specs.Holds.{Queries};
+ghost use Rattle.command_facts.specs.Performs.{Performs, IsStepOf};
+
+use crate::sides::{read_contract_to_show, read_text};
+use broker_core::answer::{Answer, Shown};
+use broker_core::command::PactPath;
+use broker_core::policy::Caller;
+use sqlite::{Alter, Connection};
+use std::alloc::Global;
+use table_access::StoreFault;
+
+/// Shows the text of a content.
+fn show_pact_text<S: Alter>(conn: &mut Connection<S>, content: u32) -> Result<Answer, StoreFault>
+    ensures { Queries S.Store conn.old conn.new result
+        (λ answer s. (text : List ℕ) × (text_of s content ≡ Some text)
+        × (answer ≡ told.Shown (shown.Pact text))) }
+{
+    match read_text(conn, content) {
+        Ok(text) => Ok(Answer::Shown(Shown::Pact(text))),
+        Err(fault) => Err(fault),
+    }
+}
+
+/// Shows the text of a contract's content, or tells the refusal.
+pub(crate) fn show_pact<S: Alter>(
+    conn: &mut Connection<S>,
+    place: Result<u32, Answer>,
+) -> Result<Answer, StoreFault>
+    ensures { Queries S.Store conn.old conn.new result (λ answer s. ShowsReached s place answer) }
+{
+    match place {
+        Ok(content) => show_pact_text(conn, content),
+        Err(answer) => Ok(answer),
+    }
+}
+
+/// Shows a contract, or tells why not.
+pub fn get_pact<S: Alter>(
+    alloc: Global,
+    conn: &mut Connection<S>,
+    caller: &Caller,
+    path: &PactPath,
+) -> Result<Answer, StoreFault>
+    ensures { Performs S.Store conn.old conn.new result
+        (IsStepOf caller.now (GetPact path.now)) }
+{
+    match read_contract_to_show(alloc, conn, caller, path) {
+        Ok(place) => show_pact(conn, place),
+        Err(fault) => Err(fault),
+    }
+}

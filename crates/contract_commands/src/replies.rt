@@ -1,0 +1,143 @@
+//! Replies that were recorded: the broker checks them itself against the contract's pact.
+ghost use Rattle.std.specs.Prelude.{◌≡◌, ℕ, List, Ok};
+ghost use Rattle.broker_core.specs.declared.answer.Detail.TheVariants as detail;
+ghost use Rattle.broker_core.specs.declared.command.Command.TheVariants.{PostReplies};
+ghost use Rattle.pact_reading.specs.declared.checking.Comparison.TheVariants.{Failing};
+ghost use Rattle.reply_check.specs.Replies.{RepliesRead};
+ghost use Rattle.command_facts.specs.Performs.{Performs, PerformsWhere, CallersStep};
+ghost use Rattle.contract_commands.specs.Results.{HasPacticipant, told_as};
+ghost use Rattle.contract_commands.specs.Checks.{Leads, Checks};
+
+use crate::publish::tell_unread;
+use crate::results::{Finding, Reported, receive};
+use crate::sides::{read_contract_to_verify, read_text};
+use broker_core::answer::{Answer, Clash, Detail, Places};
+use broker_core::command::{FormFault, PactPath, Report};
+use broker_core::name::{Body, Name};
+use broker_core::policy::Caller;
+use pact_reading::{Comparison, Replies, compare, read_replies_body};
+use sqlite::{Alter, Connection};
+use std::alloc::Global;
+use table_access::StoreFault;
+
+/// The answer to replies by which these interactions fail.
+fn tell_replies(failing: Places, success: bool, it: Reported) -> Answer
+    ensures { result ≡ told_as (λ n. detail.Replies failing n success) it }
+{
+    match it {
+        Reported::Recorded(number) => Answer::Done(Detail::Replies {
+            failing,
+            result: number as u64,
+            success,
+        }),
+        Reported::Known(number) => Answer::Already(Detail::Replies {
+            failing,
+            result: number as u64,
+            success,
+        }),
+        Reported::RunTaken => Answer::Taken(Clash::Run),
+        Reported::Full => Answer::Full,
+    }
+}
+
+/// The result of replies by which these interactions fail comes in: it is a pass where none fails.
+fn report_failing<S: Alter>(
+    conn: &mut Connection<S>,
+    provider: &Name,
+    report: &Report,
+    content: u32,
+    failing: Places,
+) -> Result<Answer, StoreFault>
+    ensures { PerformsWhere S.Store conn.old conn.new result (λ s. HasPacticipant s provider.now)
+        (λ s out. Leads s provider.now report.now content (Failing failing) out) }
+{
+    let pass = failing.as_slice().is_empty();
+    let found = Finding {
+        content,
+        pass,
+        checked: true,
+    };
+    match receive(conn, provider, report, found) {
+        Ok(it) => Ok(tell_replies(failing, pass, it)),
+        Err(fault) => Err(fault),
+    }
+}
+
+/// What the comparison of a content with replies leads to.
+fn tell_compared<S: Alter>(
+    conn: &mut Connection<S>,
+    provider: &Name,
+    report: &Report,
+    content: u32,
+    told: Comparison,
+) -> Result<Answer, StoreFault>
+    ensures { PerformsWhere S.Store conn.old conn.new result (λ s. HasPacticipant s provider.now)
+        (λ s out. Leads s provider.now report.now content told out) }
+{
+    match told {
+        Comparison::Failing(failing) => report_failing(conn, provider, report, content, failing),
+        Comparison::UnknownReply => Ok(Answer::BadForm(FormFault::UnknownReply)),
+        Comparison::Pattern => Ok(Answer::Pattern),
+        Comparison::NoPact => Err(StoreFault::Store),
+    }
+}
+
+/// Checks replies against the text of a content.
+fn check_content<S: Alter>(
+    alloc: Global,
+    conn: &mut Connection<S>,
+    provider: &Name,
+    report: &Report,
+    content: u32,
+    replies: &Replies,
+) -> Result<Answer, StoreFault>
+    ensures { PerformsWhere S.Store conn.old conn.new result (λ s. HasPacticipant s provider.now)
+        (λ s out. Checks s provider.now report.now content replies.now out) }
+{
+    match read_text(conn, content) {
+        Ok(text) => match compare(alloc, text.as_str(), replies) {
+            Ok(told) => tell_compared(conn, provider, report, content, told),
+            Err(_) => Err(StoreFault::Memory),
+        },
+        Err(fault) => Err(fault),
+    }
+}
+
+/// Checks replies that are well formed against the contract, or tells why not.
+fn check_replies<S: Alter>(
+    alloc: Global,
+    conn: &mut Connection<S>,
+    caller: &Caller,
+    path: &PactPath,
+    report: &Report,
+    replies: &Replies,
+) -> Result<Answer, StoreFault>
+    ensures { (body : List ℕ) → RepliesRead body (Ok replies.now)
+        → Performs S.Store conn.old conn.new result (CallersStep caller.now (PostReplies path.now report.now body)) }
+{
+    match read_contract_to_verify(alloc, conn, caller, path) {
+        Ok(place) => match place {
+            Ok(content) => check_content(alloc, conn, &path.provider, report, content, replies),
+            Err(answer) => Ok(answer),
+        },
+        Err(fault) => Err(fault),
+    }
+}
+
+/// Checks recorded replies against the contract and records what they come to, or tells why not.
+pub fn post_replies<S: Alter>(
+    alloc: Global,
+    conn: &mut Connection<S>,
+    caller: &Caller,
+    path: &PactPath,
+    report: &Report,
+    body: &Body,
+) -> Result<Answer, StoreFault>
+    ensures { Performs S.Store conn.old conn.new result
+        (CallersStep caller.now (PostReplies path.now report.now body.now)) }
+{
+    match read_replies_body(alloc, body.as_slice()) {
+        Ok(replies) => check_replies(alloc, conn, caller, path, report, &replies),
+        Err(fault) => tell_unread(fault),
+    }
+}

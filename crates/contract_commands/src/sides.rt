@@ -1,0 +1,184 @@
+//! The two sides of a contract, the contract itself, and its text, as the commands on contracts read them.
+ghost use Rattle.std.specs.Prelude.{◌≡◌, ◌∷◌, [], Some, None};
+ghost use Rattle.broker_core.specs.Text.{version as version_named};
+ghost use Rattle.broker_core.specs.Change.{text_of};
+ghost use Rattle.broker_core.specs.Request.{refused, rule_of};
+ghost use Rattle.broker_core.specs.declared.policy.Rule.TheVariants.{A4, A5};
+ghost use Rattle.broker_core.specs.declared.command.Command.{Command as CommandModel};
+ghost use Rattle.broker_tables.specs.Holds.{Queries};
+ghost use Rattle.contract_commands.specs.Pacts.{AreSidesRead, IsContractRead, IsPlaceRead, missing_side, missing_part, owns_side, Admits, Reaches};
+
+use broker_core::answer::{Answer, Missing};
+use broker_core::command::PactPath;
+use broker_core::name::{Name, Text};
+use broker_core::policy::{Caller, Rule};
+use command_facts::rules::{OwnerFacts, read_owner};
+use content_store::get;
+use contract_tables::contract_of;
+use registry_tables::version_of;
+use sqlite::{Alter, Connection};
+use std::alloc::Global;
+use table_access::StoreFault;
+
+/// What the tables say of the two sides of a contract: whether each is there, and whether the rule lets the caller as
+/// its owner.
+#[derive(Clone, Copy)]
+pub(crate) struct Sides {
+    pub(crate) provider: OwnerFacts,
+    pub(crate) consumer: OwnerFacts,
+}
+
+/// The numbers by which the tables know a contract.
+#[derive(Clone, Copy)]
+pub(crate) struct ContractNumbers {
+    /// The number of the consumer's version, if it is there.
+    pub(crate) version: Option<u32>,
+    /// The number of the content, if the version has a contract with the provider.
+    pub(crate) content: Option<u32>,
+}
+
+/// What the tables say of a contract and of its two sides.
+#[derive(Clone, Copy)]
+pub(crate) struct ContractPlace {
+    pub(crate) sides: Sides,
+    pub(crate) contract: ContractNumbers,
+}
+
+/// Whether the two sides of a contract are there, and whether the rule lets the caller as the owner of each.
+pub(crate) fn read_sides<S: Alter>(
+    alloc: Global,
+    conn: &mut Connection<S>,
+    caller: &Caller,
+    rule: Rule,
+    provider: &Name,
+    consumer: &Name,
+) -> Result<Sides, StoreFault>
+    ensures { Queries S.Store conn.old conn.new result
+        (λ sides s. AreSidesRead s caller.now rule provider.now consumer.now sides) }
+{
+    let provider = done!(read_owner(alloc, conn, caller, rule, provider, false));
+    let consumer = done!(read_owner(alloc, conn, caller, rule, consumer, false));
+    Ok(Sides { provider, consumer })
+}
+
+/// The number of a consumer's version, if it is there, and of the content of its contract with the provider, if it has
+/// one.
+pub(crate) fn read_contract<S: Alter>(
+    conn: &mut Connection<S>,
+    provider: &Name,
+    consumer: &Name,
+    version: &Name,
+) -> Result<ContractNumbers, StoreFault>
+    ensures { Queries S.Store conn.old conn.new result
+        (λ found s. IsContractRead s (version_named consumer.now version.now) provider.now
+        found.version found.content) }
+{
+    match done!(version_of(conn, consumer.as_str(), version.as_str())) {
+        Some(number) => Ok(ContractNumbers {
+            version: Some(number),
+            content: done!(contract_of(conn, number, provider.as_str())),
+        }),
+        None => Ok(ContractNumbers {
+            version: None,
+            content: None,
+        }),
+    }
+}
+
+/// The text of a content.
+pub(crate) fn read_text<S: Alter>(
+    conn: &mut Connection<S>,
+    content: u32,
+) -> Result<Text, StoreFault>
+    ensures { Queries S.Store conn.old conn.new result (λ text s. text_of s content ≡ Some text) }
+{
+    match get(conn, content as u64) {
+        Ok(Some(text)) => Ok(Text::new(text)),
+        Ok(None) => Err(StoreFault::Store),
+        Err(fault) => Err(fault),
+    }
+}
+
+/// The refusal of a command on the two sides of a contract, if there is one.
+pub(crate) fn refuse_sides(rule: Rule, sides: Sides, is_allowed: bool) -> Option<Answer>
+    ensures { (command : CommandModel) → rule_of command ≡ rule
+        → result ≡ refused command (missing_side sides None) is_allowed }
+{
+    if !sides.provider.has_pacticipant || !sides.consumer.has_pacticipant {
+        return Some(Answer::Unknown(Missing::Pacticipant));
+    }
+    if !is_allowed {
+        return Some(Answer::Denied(rule));
+    }
+    None
+}
+
+/// The content of a contract that is asked for, or the refusal: which of its two sides, its version and the contract
+/// is missing first, or the rule that doesn't let the caller.
+fn admit_contract(rule: Rule, place: ContractPlace, is_allowed: bool) -> Result<u32, Answer>
+    ensures { Admits rule place.contract.content (missing_part place) is_allowed result }
+{
+    if !place.sides.provider.has_pacticipant || !place.sides.consumer.has_pacticipant {
+        return Err(Answer::Unknown(Missing::Pacticipant));
+    }
+    if place.contract.version.is_none() {
+        return Err(Answer::Unknown(Missing::Version));
+    }
+    let Some(content) = place.contract.content else {
+        return Err(Answer::Unknown(Missing::Contract));
+    };
+    if !is_allowed {
+        return Err(Answer::Denied(rule));
+    }
+    Ok(content)
+}
+
+/// What the tables say of a contract and of its two sides.
+fn read_contract_place<S: Alter>(
+    alloc: Global,
+    conn: &mut Connection<S>,
+    caller: &Caller,
+    rule: Rule,
+    path: &PactPath,
+) -> Result<ContractPlace, StoreFault>
+    ensures { Queries S.Store conn.old conn.new result (λ place s. IsPlaceRead s caller.now rule path.now place) }
+{
+    let sides = done!(read_sides(alloc, conn, caller, rule, &path.provider, &path.consumer));
+    let contract = done!(read_contract(conn, &path.provider, &path.consumer, &path.version));
+    Ok(ContractPlace { sides, contract })
+}
+
+/// Whether the rule lets the caller as the owner of one of the two sides.
+fn is_side(sides: Sides) -> bool
+    ensures { result ≡ owns_side sides }
+{
+    sides.provider.is_allowed || sides.consumer.is_allowed
+}
+
+/// The content of a contract that the caller may see, or the refusal.
+pub(crate) fn read_contract_to_show<S: Alter>(
+    alloc: Global,
+    conn: &mut Connection<S>,
+    caller: &Caller,
+    path: &PactPath,
+) -> Result<Result<u32, Answer>, StoreFault>
+    ensures { Queries S.Store conn.old conn.new result
+        (λ found s. Reaches s caller.now path.now A5 (path.now.provider ∷ path.now.consumer ∷ []) found) }
+{
+    let place = done!(read_contract_place(alloc, conn, caller, Rule::A5, path));
+    Ok(admit_contract(Rule::A5, place, is_side(place.sides)))
+}
+
+/// The content of a contract of which the caller may report how its verification went, or the refusal.
+pub(crate) fn read_contract_to_verify<S: Alter>(
+    alloc: Global,
+    conn: &mut Connection<S>,
+    caller: &Caller,
+    path: &PactPath,
+) -> Result<Result<u32, Answer>, StoreFault>
+    ensures { Queries S.Store conn.old conn.new result
+        (λ found s. Reaches s caller.now path.now A4 (path.now.provider ∷ []) found) }
+{
+    let place = done!(read_contract_place(alloc, conn, caller, Rule::A4, path));
+    Ok(admit_contract(Rule::A4, place, place.sides.provider.is_allowed))
+}

@@ -1,0 +1,30 @@
+-- What a listing leads to, from what was read.
+use Rattle.std.proofs.Common.{◌≡◌, List, true, refl, sym, subst, ap}
+use Rattle.std.specs.Prelude.{Option, Some, None, MatchOption, IsTrue, is_some}
+use Rattle.broker_core.specs.Text.{Text}
+use Rattle.broker_core.specs.State.{State}
+use Rattle.broker_core.specs.Listing.{Lists}
+use Rattle.broker_core.specs.Request.{refused, unless}
+use Rattle.broker_core.specs.Change.{unchanged_with}
+use Rattle.broker_core.specs.Machine.{TakesEffect, StepOfCaller, deployed_cmp, version_cmp}
+use Rattle.broker_core.specs.declared.answer.Answer.TheVariants.{Shown}
+use Rattle.broker_core.specs.declared.answer.DeployedItem.{DeployedItem}
+use Rattle.broker_core.specs.declared.answer.Missing.TheVariants as missing
+use Rattle.broker_core.specs.declared.answer.Shown.TheVariants as shown
+use Rattle.broker_core.specs.declared.command.Command.TheVariants.{GetEnvironment}
+use Rattle.broker_core.specs.declared.command.Marks.{Marks}
+use Rattle.broker_core.specs.declared.command.Version.{Version}
+use Rattle.broker_core.specs.declared.policy.Caller.{Caller}
+use Rattle.command_facts.specs.Primitives.{broker_primitives}
+
+-- an environment that is there is shown with its two lists
+pub is_listed : (s : State) (caller : Caller) (e name : Text) (marks : Marks) (items : List DeployedItem) (versions : List Version) → s.environments e ≡ Some marks → name ≡ e
+    → Lists deployed_cmp (λ x. s.deployed (e, x.pacticipant, x.instance) ≡ Some x.version) items → Lists version_cmp (λ v. IsTrue (s.released (e, v))) versions
+    → StepOfCaller broker_primitives s caller (GetEnvironment e) (unchanged_with s (Shown (shown.Environment name marks items versions)))
+is_listed s caller e name marks items versions is same deployed released = (
+  None,
+  refl,
+  subst (λ (o : Option Marks). MatchOption (refused (GetEnvironment e) (unless (is_some o) missing.Environment None) true) (TakesEffect broker_primitives s (GetEnvironment e) (unchanged_with s (Shown (shown.Environment name marks items versions))))
+      (λ answer. unchanged_with s (Shown (shown.Environment name marks items versions)) ≡ unchanged_with s answer))
+      (sym is) (marks, is, (items, deployed, (versions, released, ap (λ (n : Text). unchanged_with s (Shown (shown.Environment n marks items versions))) same))),
+)

@@ -1,0 +1,63 @@
+-- what the commands on a version and an environment show and change
+use Rattle.std.specs.Prelude.{◌≡◌, ℕ, List, Some, Bool, IsTrue}
+use Rattle.broker_core.specs.Change.{Transition, unchanged_with}
+use Rattle.broker_core.specs.Gate.{IsNeed, Judges}
+use Rattle.broker_core.specs.Listing.{Lists}
+use Rattle.broker_core.specs.Machine.{StepOfCaller, TakesEffect, deployed_cmp, version_cmp}
+use Rattle.broker_core.specs.State.{State as Broker}
+use Rattle.broker_core.specs.Text.{Text}
+use Rattle.broker_core.specs.declared.answer.Answer.{Answer}
+use Rattle.broker_core.specs.declared.answer.Answer.TheVariants.{Shown}
+use Rattle.broker_core.specs.declared.answer.DeployedItem.{DeployedItem}
+use Rattle.broker_core.specs.declared.answer.Shown.TheVariants as shown
+use Rattle.broker_core.specs.declared.command.Command.{Command}
+use Rattle.broker_core.specs.declared.command.Command.TheVariants.{GetEnvironment, CanIDeploy, GetMatrix}
+use Rattle.broker_core.specs.declared.command.Marks.{Marks}
+use Rattle.broker_core.specs.declared.command.Version.{Version}
+use Rattle.broker_core.specs.declared.need.Need.{Need}
+use Rattle.broker_core.specs.declared.need.PairFault.{PairFault}
+use Rattle.broker_core.specs.declared.policy.Caller.{Caller}
+use Rattle.command_facts.specs.Primitives.{broker_primitives}
+use Rattle.deploy_tables.specs.Needs.{need_cmp}
+use Rattle.environment_commands.specs.Places.{HasNumber, IsAdmitted}
+use Rattle.environment_commands.specs.declared.places.Admitted.{Admitted}
+
+-- what the command does once nothing refuses it
+abbrev pub Enacts : Command → Broker → Transition → Type 0
+Enacts command s out = TakesEffect broker_primitives s command out
+
+-- an environment with these marks judges a version with these needs so
+abbrev pub JudgesNeeds : Marks → List Need → Bool → List PairFault → Type 0
+JudgesNeeds marks needs permitted faults = (s : Broker) (v : Version) (e : Text) → s.environments e ≡ Some marks
+    → Lists need_cmp (IsNeed s v e) needs → Judges s v e permitted faults
+
+-- what the gate says of a version and an environment that are there
+abbrev pub GateSays : Text → Version → Admitted → Bool → List PairFault → Broker → Type 0
+GateSays e v place permitted faults s = IsAdmitted e v place s → Judges s v e permitted faults
+
+-- all that is deployed in an environment, and all that is released there, each in its order
+abbrev pub ListsAll : Text → List DeployedItem → List Version → Broker → Type 0
+ListsAll e deployed released s =
+    Lists deployed_cmp (λ x. s.deployed (e, x.pacticipant, x.instance) ≡ Some x.version) deployed
+    × Lists version_cmp (λ v. IsTrue (s.released (e, v))) released
+
+-- what each caller is shown of an environment with these marks
+abbrev pub IsEnvironmentShown : Text → Marks → Answer → Broker → Type 0
+IsEnvironmentShown e marks answer s = (caller : Caller) → s.environments e ≡ Some marks
+    → StepOfCaller broker_primitives s caller (GetEnvironment e) (unchanged_with s answer)
+
+-- what is shown of the gate for a version and an environment that are there
+abbrev pub IsGateShown : Text → Version → Admitted → Answer → Broker → Type 0
+IsGateShown e v place answer s = IsAdmitted e v place s → Enacts (CanIDeploy v e) s (unchanged_with s answer)
+
+-- what is shown of the matrix of a version with this number
+abbrev pub IsMatrixShown : Version → ℕ → Answer → Broker → Type 0
+IsMatrixShown v number answer s = HasNumber v number s → Enacts (GetMatrix v) s (unchanged_with s answer)
+
+-- the answer that shows an environment with its lists
+abbrev pub shows : Text → Marks → List DeployedItem → List Version → Answer
+shows e marks deployed released = Shown (shown.Environment e marks deployed released)
+
+-- the answer that shows what the gate says
+abbrev pub shows_gate : Text → Marks → Bool → List PairFault → Answer
+shows_gate e marks permitted faults = Shown (shown.Gate e marks permitted faults)

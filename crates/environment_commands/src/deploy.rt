@@ -1,0 +1,93 @@
+//! Deployment of a version.
+ghost use Rattle.std.specs.Prelude.{◌≡◌};
+ghost use Rattle.broker_core.specs.Change.{deploy as deployment};
+ghost use Rattle.broker_core.specs.declared.command.Command.TheVariants.{Deploy};
+ghost use Rattle.command_facts.specs.Performs.{Performs, PerformsWhere, IsStepOf};
+ghost use Rattle.environment_commands.specs.Effects.{Enacts};
+ghost use Rattle.environment_commands.specs.Places.{HasNumber, IsAdmitted};
+
+use crate::gate::judge;
+use crate::places::{Admitted, instance_text, read_admitted};
+use broker_core::answer::{Answer, Detail, Faults};
+use broker_core::command::Version;
+use broker_core::name::Name;
+use broker_core::policy::Caller;
+use deploy_tables::{is_deployed, record_deployed};
+use sqlite::{Alter, Connection};
+use std::alloc::Global;
+use table_access::StoreFault;
+
+/// Deploys the version of this number as this instance, where it isn't deployed there yet.
+fn record_deployment<S: Alter>(
+    conn: &mut Connection<S>,
+    environment: &Name,
+    version: &Version,
+    instance: &str,
+    number: u32,
+) -> Result<Answer, StoreFault>
+    ensures { PerformsWhere S.Store conn.old conn.new result
+        (HasNumber version.now number) (λ s out. out ≡ deployment s environment.now version.now instance.now) }
+{
+    if done!(is_deployed(
+        conn,
+        environment.as_str(),
+        version.pacticipant.as_str(),
+        instance,
+        number,
+    )) {
+        return Ok(Answer::Already(Detail::Plain));
+    }
+    done!(record_deployed(
+        conn,
+        environment.as_str(),
+        version.pacticipant.as_str(),
+        instance,
+        number,
+    ));
+    Ok(Answer::Done(Detail::Plain))
+}
+
+/// Asks the gate, and deploys the version where it is permitted.
+fn deploy_judged<S: Alter>(
+    alloc: Global,
+    conn: &mut Connection<S>,
+    environment: &Name,
+    version: &Version,
+    instance: &Option<Name>,
+    place: Admitted,
+) -> Result<Answer, StoreFault>
+    ensures { PerformsWhere S.Store conn.old conn.new result
+        (IsAdmitted environment.now version.now place)
+        (Enacts (Deploy environment.now version.now instance.now)) }
+{
+    let (permitted, faults) = done!(judge(alloc, conn, environment, version, place));
+    if permitted {
+        record_deployment(
+            conn,
+            environment,
+            version,
+            instance_text(instance),
+            place.number,
+        )
+    } else {
+        Ok(Answer::NotPermitted(Faults::new(faults)))
+    }
+}
+
+/// Deploys a version, or tells why not.
+pub fn deploy<S: Alter>(
+    alloc: Global,
+    conn: &mut Connection<S>,
+    caller: &Caller,
+    environment: &Name,
+    version: &Version,
+    instance: &Option<Name>,
+) -> Result<Answer, StoreFault>
+    ensures { Performs S.Store conn.old conn.new result
+        (IsStepOf caller.now (Deploy environment.now version.now instance.now)) }
+{
+    match done!(read_admitted(alloc, conn, caller, environment, version)) {
+        Ok(place) => deploy_judged(alloc, conn, environment, version, instance, place),
+        Err(answer) => Ok(answer),
+    }
+}

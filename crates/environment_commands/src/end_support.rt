@@ -1,0 +1,49 @@
+//! The end of a release.
+ghost use Rattle.std.specs.Prelude.{◌≡◌};
+ghost use Rattle.broker_core.specs.Change.{end_support as unsupported};
+ghost use Rattle.broker_core.specs.declared.command.Command.TheVariants.{EndSupport};
+ghost use Rattle.command_facts.specs.Performs.{Performs, PerformsWhere, IsStepOf};
+ghost use Rattle.environment_commands.specs.Places.{HasNumber};
+
+use crate::places::read_admitted;
+use broker_core::answer::{Answer, Detail, Missing};
+use broker_core::command::Version;
+use broker_core::name::Name;
+use broker_core::policy::Caller;
+use sqlite::{Alter, Connection};
+use std::alloc::Global;
+use table_access::StoreFault;
+
+/// Ends the support of the version of this number, if it is released there.
+fn remove_release<S: Alter>(
+    conn: &mut Connection<S>,
+    environment: &Name,
+    version: &Version,
+    number: u32,
+) -> Result<Answer, StoreFault>
+    ensures { PerformsWhere S.Store conn.old conn.new result
+        (HasNumber version.now number) (λ s out. out ≡ unsupported s environment.now version.now) }
+{
+    match deploy_tables::end_support(conn, environment.as_str(), number) {
+        Ok(true) => Ok(Answer::Done(Detail::Plain)),
+        Ok(false) => Ok(Answer::Unknown(Missing::Released)),
+        Err(fault) => Err(fault),
+    }
+}
+
+/// Ends the support of a version, or tells why not.
+pub fn end_support<S: Alter>(
+    alloc: Global,
+    conn: &mut Connection<S>,
+    caller: &Caller,
+    environment: &Name,
+    version: &Version,
+) -> Result<Answer, StoreFault>
+    ensures { Performs S.Store conn.old conn.new result
+        (IsStepOf caller.now (EndSupport environment.now version.now)) }
+{
+    match done!(read_admitted(alloc, conn, caller, environment, version)) {
+        Ok(place) => remove_release(conn, environment, version, place.number),
+        Err(answer) => Ok(answer),
+    }
+}

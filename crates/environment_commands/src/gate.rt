@@ -1,0 +1,54 @@
+//! The gate.
+ghost use Rattle.std.specs.Prelude.{◌≡◌, ◌==◌, ◌||◌, IfOk, IfErr, length, not};
+ghost use Rattle.broker_tables.specs.Holds.{Queries};
+ghost use Rattle.environment_commands.specs.Effects.{GateSays, JudgesNeeds};
+
+use crate::places::Admitted;
+use broker_core::command::{Marks, Version};
+use broker_core::gate::decide;
+use broker_core::name::Name;
+use broker_core::need::{Need, PairFault};
+use deploy_tables::needs;
+use sqlite::{Alter, Connection};
+use std::alloc::Global;
+use table_access::StoreFault;
+
+/// Whether an environment with these marks permits a version with these faults: none, or they don't
+/// count where the environment isn't gated.
+fn permits(marks: Marks, faults: &[PairFault]) -> bool
+    ensures { result ≡ not marks.gated || length faults.now == 0 }
+{
+    !marks.gated || faults.is_empty()
+}
+
+/// Whether an environment with these marks permits a version with these needs, and the faults of
+/// the needs.
+fn judgement(
+    alloc: Global,
+    needs: &[Need],
+    marks: Marks,
+) -> Result<(bool, Vec<PairFault>), StoreFault>
+    ensures ok { IfOk result (λ judged. JudgesNeeds marks needs.now judged.0 judged.1.items) }
+    ensures cause { IfErr result (λ fault. fault ≡ StoreFault.Memory) }
+{
+    match decide(alloc, needs, marks.strict) {
+        Ok(faults) => Ok((permits(marks, &faults), faults)),
+        Err(_) => Err(StoreFault::Memory),
+    }
+}
+
+/// Asks the gate for a version and an environment that are there: whether the version is permitted,
+/// and all its faults.
+pub(crate) fn judge<S: Alter>(
+    alloc: Global,
+    conn: &mut Connection<S>,
+    environment: &Name,
+    version: &Version,
+    place: Admitted,
+) -> Result<(bool, Vec<PairFault>), StoreFault>
+    ensures { Queries S.Store conn.old conn.new result
+        (λ judged s. GateSays environment.now version.now place judged.0 judged.1.items s) }
+{
+    let needs = done!(needs(alloc, conn, place.number, version, environment.as_str()));
+    Ok(done!(judgement(alloc, &needs, place.marks)))
+}

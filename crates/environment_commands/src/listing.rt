@@ -1,0 +1,95 @@
+//! The listing of an environment.
+ghost use Rattle.std.specs.Prelude.{◌≡◌, IfOk, IfErr};
+ghost use Rattle.broker_core.specs.declared.command.Command.TheVariants.{GetEnvironment};
+ghost use Rattle.broker_tables.specs.Holds.{Queries};
+ghost use Rattle.command_facts.specs.Performs.{Performs, IsStepOf};
+ghost use Rattle.environment_commands.specs.Effects.{ListsAll, IsEnvironmentShown, shows};
+
+use broker_core::answer::{Answer, DeployedItem, DeployedItems, Missing, Shown, Versions};
+use broker_core::command::{Marks, Version};
+use broker_core::name::Name;
+use broker_core::policy::Caller;
+use deploy_tables::{deployed, released};
+use registry_tables::marks_of;
+use sqlite::{Alter, Connection};
+use std::alloc::Global;
+use table_access::StoreFault;
+
+/// What is deployed and what is released in an environment.
+fn read_lists<S: Alter>(
+    alloc: Global,
+    conn: &mut Connection<S>,
+    environment: &Name,
+) -> Result<(Vec<DeployedItem>, Vec<Version>), StoreFault>
+    ensures { Queries S.Store conn.old conn.new result
+        (λ found s. ListsAll environment.now found.0.items found.1.items s) }
+{
+    match deployed(alloc, conn, environment.as_str()) {
+        Ok(items) => match released(alloc, conn, environment.as_str()) {
+            Ok(versions) => Ok((items, versions)),
+            Err(fault) => Err(fault),
+        },
+        Err(fault) => Err(fault),
+    }
+}
+
+/// The answer that shows an environment.
+fn environment_answer(
+    environment: &Name,
+    marks: Marks,
+    deployed: Vec<DeployedItem>,
+    released: Vec<Version>,
+) -> Result<Answer, StoreFault>
+    ensures ok { IfOk result (λ answer. answer ≡ shows environment.now marks deployed.items released.items) }
+    ensures cause { IfErr result (λ fault. fault ≡ StoreFault.Memory) }
+{
+    match environment.clone() {
+        Ok(environment) => Ok(Answer::Shown(Shown::Environment {
+            environment,
+            marks,
+            deployed: DeployedItems::new(deployed),
+            released: Versions::new(released),
+        })),
+        Err(_) => Err(StoreFault::Memory),
+    }
+}
+
+/// Shows an environment with these marks.
+fn list_environment<S: Alter>(
+    alloc: Global,
+    conn: &mut Connection<S>,
+    environment: &Name,
+    marks: Marks,
+) -> Result<Answer, StoreFault>
+    ensures { Queries S.Store conn.old conn.new result (IsEnvironmentShown environment.now marks) }
+{
+    match read_lists(alloc, conn, environment) {
+        Ok((deployed, released)) => match environment_answer(
+            environment,
+            marks,
+            deployed,
+            released,
+        ) {
+            Ok(answer) => Ok(answer),
+            Err(fault) => Err(fault),
+        },
+        Err(fault) => Err(fault),
+    }
+}
+
+/// Shows an environment, if it is there.
+pub fn get_environment<S: Alter>(
+    alloc: Global,
+    conn: &mut Connection<S>,
+    caller: &Caller,
+    environment: &Name,
+) -> Result<Answer, StoreFault>
+    ensures { Performs S.Store conn.old conn.new result
+        (IsStepOf caller.now (GetEnvironment environment.now)) }
+{
+    match marks_of(conn, environment.as_str()) {
+        Ok(Some(marks)) => list_environment(alloc, conn, environment, marks),
+        Ok(None) => Ok(Answer::Unknown(Missing::Environment)),
+        Err(fault) => Err(fault),
+    }
+}

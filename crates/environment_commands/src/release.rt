@@ -1,0 +1,75 @@
+//! Release of a version.
+ghost use Rattle.std.specs.Prelude.{◌≡◌};
+ghost use Rattle.broker_core.specs.Change.{release as released};
+ghost use Rattle.broker_core.specs.declared.command.Command.TheVariants.{Release};
+ghost use Rattle.command_facts.specs.Performs.{Performs, PerformsWhere, IsStepOf};
+ghost use Rattle.environment_commands.specs.Effects.{Enacts};
+ghost use Rattle.environment_commands.specs.Places.{HasNumber, IsAdmitted};
+
+use crate::gate::judge;
+use crate::places::{Admitted, read_admitted};
+use broker_core::answer::{Answer, Detail, Faults};
+use broker_core::command::Version;
+use broker_core::name::Name;
+use broker_core::policy::Caller;
+use deploy_tables::{is_released, record_released};
+use sqlite::{Alter, Connection};
+use std::alloc::Global;
+use table_access::StoreFault;
+
+/// Releases the version of this number, where it isn't released there yet.
+fn record_release<S: Alter>(
+    conn: &mut Connection<S>,
+    environment: &Name,
+    version: &Version,
+    number: u32,
+) -> Result<Answer, StoreFault>
+    ensures { PerformsWhere S.Store conn.old conn.new result
+        (HasNumber version.now number) (λ s out. out ≡ released s environment.now version.now) }
+{
+    match is_released(conn, environment.as_str(), number) {
+        Ok(true) => Ok(Answer::Already(Detail::Plain)),
+        Ok(false) => match record_released(conn, environment.as_str(), number) {
+            Ok(()) => Ok(Answer::Done(Detail::Plain)),
+            Err(fault) => Err(fault),
+        },
+        Err(fault) => Err(fault),
+    }
+}
+
+/// Asks the gate, and releases the version where it is permitted.
+fn release_judged<S: Alter>(
+    alloc: Global,
+    conn: &mut Connection<S>,
+    environment: &Name,
+    version: &Version,
+    place: Admitted,
+) -> Result<Answer, StoreFault>
+    ensures { PerformsWhere S.Store conn.old conn.new result
+        (IsAdmitted environment.now version.now place)
+        (Enacts (Release environment.now version.now)) }
+{
+    let (permitted, faults) = done!(judge(alloc, conn, environment, version, place));
+    if permitted {
+        record_release(conn, environment, version, place.number)
+    } else {
+        Ok(Answer::NotPermitted(Faults::new(faults)))
+    }
+}
+
+/// Releases a version, or tells why not.
+pub fn release<S: Alter>(
+    alloc: Global,
+    conn: &mut Connection<S>,
+    caller: &Caller,
+    environment: &Name,
+    version: &Version,
+) -> Result<Answer, StoreFault>
+    ensures { Performs S.Store conn.old conn.new result
+        (IsStepOf caller.now (Release environment.now version.now)) }
+{
+    match done!(read_admitted(alloc, conn, caller, environment, version)) {
+        Ok(place) => release_judged(alloc, conn, environment, version, place),
+        Err(answer) => Ok(answer),
+    }
+}

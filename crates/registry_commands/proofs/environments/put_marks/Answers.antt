@@ -1,0 +1,20 @@
+use Rattle.std.proofs.Common.{Some, sym, ◌∙◌, ap}
+use Rattle.sqlite.specs.Held.{state}
+use Rattle.broker_core.specs.Text.{put_at, same_text, Text}
+use Rattle.broker_core.specs.Machine.{StepOfCaller}
+use Rattle.broker_core.specs.declared.command.Command.TheVariants.{PutEnvironment}
+use Rattle.broker_core.specs.declared.answer.Answer.TheVariants.{Done}
+use Rattle.broker_core.specs.declared.answer.Detail.TheVariants.{Plain}
+use Rattle.command_facts.specs.Primitives.{broker_primitives}
+use Rattle.command_facts.proofs.PerformLemmas.{changed_then}
+use Rattle.registry_commands.proofs.environments.put_marks.Goals as goal
+
+pub returns-in-Ok-add_environment : goal.returns-in-Ok-add_environment
+returns-in-Ok-add_environment g c =
+    changed_then (state g.S.Store c.args.conn.now) (state g.S.Store c.marks_of.new.conn) (state g.S.Store c.add_environment.new.conn) c.in-Ok.value c.in-Ok-add_environment.value (Done Plain) _ _
+    (λ s out. StepOfCaller broker_primitives s c.args.caller.now (PutEnvironment c.args.environment.now c.args.marks) out)
+    (λ s h. let it = c.in-None.ensures.changes s c.args.environment.now c.requires (ap s.environments (sym c.as_str.ensures) ∙ sym h) in (
+      record s { environments = put_at same_text s.environments c.args.environment.now (Some c.args.marks) },
+      (ap s.environments c.as_str-in-None.ensures ∙ it.0, ap (λ (e : Text). record s { environments = put_at same_text s.environments e (Some c.args.marks) }) (sym c.as_str-in-None.ensures)),
+      it.1,
+    )) c.in-Ok.ensures.call c.in-Ok-add_environment.ensures

@@ -1,0 +1,24 @@
+use Rattle.std.proofs.Common.{◌≡◌, true, false, sym, ◌∙◌, ap}
+use Rattle.std.specs.Option.{is_some}
+use Rattle.sqlite.specs.Held.{state}
+use Rattle.broker_core.specs.Text.{put_at, same_text, same_pair, Text}
+use Rattle.broker_core.specs.Machine.{StepOfCaller}
+use Rattle.broker_core.specs.declared.command.Command.TheVariants.{PutGrant}
+use Rattle.broker_core.specs.declared.answer.Answer.TheVariants.{Done}
+use Rattle.broker_core.specs.declared.answer.Detail.TheVariants.{Plain}
+use Rattle.command_facts.specs.Primitives.{broker_primitives}
+use Rattle.command_facts.proofs.PerformLemmas.{changed_then}
+use Rattle.registry_commands.proofs.grants.put_grant.Goals as goal
+
+pub returns-in-Ok-add_grant : goal.returns-in-Ok-add_grant
+returns-in-Ok-add_grant g c =
+    changed_then (state g.S.Store c.args.conn.now) (state g.S.Store c.read_grant_facts.new.conn) (state g.S.Store c.add_grant.new.conn) c.in-Ok.value c.in-Ok-add_grant.value (Done Plain) _ _
+    (λ s out. StepOfCaller broker_primitives s c.args.caller.now (PutGrant c.args.team.now c.args.environment.now) out)
+    (λ s h. let it = c.in-None.ensures.changes s c.args.team.now c.args.environment.now h in
+    let team_is : is_some (s.teams c.as_str.result.now) ≡ true = ap (λ t. is_some (s.teams t)) c.as_str.ensures ∙ h.team_is ∙ it.0 in
+    let environment_is : is_some (s.environments c.as_str-in-None.result.now) ≡ true = ap (λ e. is_some (s.environments e)) c.as_str-in-None.ensures ∙ h.environment_is ∙ it.1 in
+    let grant_is : s.grants (c.as_str.result.now, c.as_str-in-None.result.now) ≡ false = ap (λ (k : Text × Text). s.grants k) (λ i. (c.as_str.ensures i, c.as_str-in-None.ensures i)) ∙ h.grant_is ∙ it.2 in (
+      record s { grants = put_at (same_pair same_text same_text) s.grants (c.args.team.now, c.args.environment.now) true },
+      (team_is, environment_is, grant_is, λ i. record s { grants = put_at (same_pair same_text same_text) s.grants (sym c.as_str.ensures i, sym c.as_str-in-None.ensures i) true }),
+      it.3,
+    )) c.in-Ok.ensures c.in-Ok-add_grant.ensures

@@ -1,0 +1,134 @@
+//! PUT and DELETE of a grant.
+ghost use Rattle.std.specs.Prelude.{IfSome, IfNone};
+ghost use Rattle.broker_core.specs.declared.command.Command.TheVariants.{PutGrant, DeleteGrant};
+ghost use Rattle.broker_tables.specs.Holds.{Queries};
+ghost use Rattle.command_facts.specs.Performs.{Performs, IsStepOf};
+ghost use Rattle.registry_commands.specs.Facts.{IsGrantRead, AnswersPutGrant, AddsNewGrant, AnswersDeleteGrant, TakesGrant};
+
+use command_facts::rules::is_office;
+use broker_core::answer::{Answer, Detail, Missing};
+use broker_core::name::Name;
+use broker_core::policy::{Caller, Rule};
+use registry_tables::{add_grant, gated, granted, has_team, remove_grant};
+use sqlite::{Alter, Connection};
+use std::alloc::Global;
+use table_access::StoreFault;
+
+/// What the tables say of a team, an environment and the team's grant for it.
+#[derive(Clone, Copy)]
+struct GrantFacts {
+    /// Whether the team is there.
+    has_team: bool,
+    /// Whether the environment is there.
+    has_environment: bool,
+    /// Whether the team has a grant for the environment.
+    has_grant: bool,
+}
+
+/// Whether the team, the environment and the grant are there.
+fn read_grant_facts<S: Alter>(
+    conn: &mut Connection<S>,
+    team: &Name,
+    environment: &Name,
+) -> Result<GrantFacts, StoreFault>
+    ensures { Queries S.Store conn.old conn.new result (λ found s. IsGrantRead s team.now environment.now found) }
+{
+    let has_team = done!(has_team(conn, team.as_str()));
+    let gated = done!(gated(conn, environment.as_str()));
+    let has_grant = done!(granted(conn, team.as_str(), environment.as_str()));
+    Ok(GrantFacts {
+        has_team,
+        has_environment: gated.is_some(),
+        has_grant,
+    })
+}
+
+/// The answer if no grant is added; none if it is.
+fn decide_put_grant(alloc: Global, caller: &Caller, facts: GrantFacts) -> Option<Answer>
+    ensures unchanged { IfSome result (AnswersPutGrant caller.now facts) }
+    ensures changes { IfNone result (AddsNewGrant caller.now facts) }
+{
+    if !facts.has_team {
+        return Some(Answer::Unknown(Missing::Team));
+    }
+    if !facts.has_environment {
+        return Some(Answer::Unknown(Missing::Environment));
+    }
+    if !is_office(alloc, caller) {
+        return Some(Answer::Denied(Rule::A2));
+    }
+    if facts.has_grant {
+        return Some(Answer::Already(Detail::Plain));
+    }
+    None
+}
+
+/// The answer if no grant is taken; none if it is.
+fn decide_delete_grant(alloc: Global, caller: &Caller, facts: GrantFacts) -> Option<Answer>
+    ensures unchanged { IfSome result (AnswersDeleteGrant caller.now facts) }
+    ensures changes { IfNone result (TakesGrant caller.now facts) }
+{
+    if !facts.has_team {
+        return Some(Answer::Unknown(Missing::Team));
+    }
+    if !facts.has_environment {
+        return Some(Answer::Unknown(Missing::Environment));
+    }
+    if !is_office(alloc, caller) {
+        return Some(Answer::Denied(Rule::A2));
+    }
+    if !facts.has_grant {
+        return Some(Answer::Unknown(Missing::Grant));
+    }
+    None
+}
+
+/// Adds a grant, for the office; or answers why not, and nothing changes.
+///
+/// # Errors
+/// `StoreFault::Memory` if the database is out of memory; `StoreFault::Store` if it refused a statement, or a row breaks
+/// the rules of its table.
+pub fn put_grant<S: Alter>(
+    alloc: Global,
+    conn: &mut Connection<S>,
+    caller: &Caller,
+    team: &Name,
+    environment: &Name,
+) -> Result<Answer, StoreFault>
+    ensures { Performs S.Store conn.old conn.new result
+        (IsStepOf caller.now (PutGrant team.now environment.now)) }
+{
+    let facts = done!(read_grant_facts(conn, team, environment));
+    match decide_put_grant(alloc, caller, facts) {
+        Some(answer) => Ok(answer),
+        None => {
+            done!(add_grant(conn, team.as_str(), environment.as_str()));
+            Ok(Answer::Done(Detail::Plain))
+        }
+    }
+}
+
+/// Takes a grant away, for the office; or answers why not, and nothing changes.
+///
+/// # Errors
+/// `StoreFault::Memory` if the database is out of memory; `StoreFault::Store` if it refused a statement, or a row breaks
+/// the rules of its table.
+pub fn delete_grant<S: Alter>(
+    alloc: Global,
+    conn: &mut Connection<S>,
+    caller: &Caller,
+    team: &Name,
+    environment: &Name,
+) -> Result<Answer, StoreFault>
+    ensures { Performs S.Store conn.old conn.new result
+        (IsStepOf caller.now (DeleteGrant team.now environment.now)) }
+{
+    let facts = done!(read_grant_facts(conn, team, environment));
+    match decide_delete_grant(alloc, caller, facts) {
+        Some(answer) => Ok(answer),
+        None => {
+            done!(remove_grant(conn, team.as_str(), environment.as_str()));
+            Ok(Answer::Done(Detail::Plain))
+        }
+    }
+}
