@@ -1,0 +1,146 @@
+//! Statements, transactions and rows, over a table of the tests' own.
+use crate::tables::{fail_of, is_text};
+use sqlite::{Alter, Connection, Row, params};
+use std::alloc::Global;
+use std::test::Fail;
+use table_access::{
+    ReadRow, StoreFault, begin, change, commit, has_row, list_of, number_of, rollback, text_of,
+};
+
+fn make<S: Alter>(conn: &mut Connection<S>) -> Result<(), StoreFault> {
+    change(
+        conn,
+        "CREATE TABLE word (number INTEGER PRIMARY KEY, text TEXT NOT NULL UNIQUE) STRICT",
+        &[],
+    )
+}
+
+fn put<S: Alter>(conn: &mut Connection<S>, number: u32, text: &str) -> Result<(), StoreFault> {
+    change(
+        conn,
+        "INSERT INTO word (number, text) VALUES (?1, ?2)",
+        params![number, text],
+    )
+}
+
+struct Word;
+
+impl ReadRow for Word {
+    type Item = (u32, String);
+
+    ghost reads_as = { λ row word. Unit {0} };
+
+    ghost fails_as = { λ row fault. Unit {0} };
+
+    fn read(_: Global, row: &Row) -> Result<(u32, String), StoreFault> {
+        let number = row.get(0)?;
+        let text = row.get(1)?;
+        Ok((number, text))
+    }
+}
+
+fn texts<S: Alter>(alloc: Global, conn: &mut Connection<S>) -> Result<String, Fail> {
+    let words = list_of::<Word, S>(
+        alloc,
+        conn,
+        "SELECT number, text FROM word ORDER BY text DESC",
+        &[],
+    )
+    .map_err(fail_of)?;
+    let mut all = String::new(alloc);
+    for (_, text) in words {
+        all.push_str(&text)?;
+        all.push_str(" ")?;
+    }
+    Ok(all)
+}
+
+/// What a transaction reads and writes, one that is left, and one that is committed.
+#[test]
+fn reads_and_writes(rt: HostRuntime) -> Result<(), Fail> {
+    let alloc = rt.alloc();
+    let mut conn = Connection::open_in_memory(alloc)?;
+    begin(&mut conn).map_err(fail_of)?;
+    make(&mut conn).map_err(fail_of)?;
+    put(&mut conn, 4294967295, "it's \"x\" é").map_err(fail_of)?;
+    put(&mut conn, 1, "").map_err(fail_of)?;
+    assert!(rt;
+        is_text(
+            text_of(
+                &mut conn,
+                "SELECT text FROM word WHERE number = ?1",
+                params![4294967295u32]
+            ),
+            Some("it's \"x\" é")
+        )
+    );
+    assert!(rt;
+        number_of(
+            &mut conn,
+            "SELECT number FROM word WHERE text = ?1",
+            params!["it's \"x\" é"]
+        )
+        .map_err(fail_of)?
+            == Some(4294967295)
+    );
+    assert!(rt;
+        number_of(
+            &mut conn,
+            "SELECT number FROM word WHERE text = 'none'",
+            &[]
+        )
+        .map_err(fail_of)?
+            == None
+    );
+    assert!(rt;
+        has_row(
+            &mut conn,
+            "SELECT text FROM word WHERE number = ?1",
+            params![1u32]
+        )
+        .map_err(fail_of)?
+    );
+    assert!(rt;
+        !has_row(
+            &mut conn,
+            "SELECT text FROM word WHERE number = ?1",
+            params![2u32]
+        )
+        .map_err(fail_of)?
+    );
+    assert!(rt; commit(&mut conn));
+    assert!(rt; !commit(&mut conn));
+    begin(&mut conn).map_err(fail_of)?;
+    put(&mut conn, 2, "b").map_err(fail_of)?;
+    assert!(rt; texts(alloc, &mut conn)?.as_str() == "it's \"x\" é b  ");
+    assert!(rt; rollback(&mut conn));
+    assert!(rt; rollback(&mut conn));
+    assert!(rt; texts(alloc, &mut conn)?.as_str() == "it's \"x\" é  ");
+    Ok(())
+}
+
+/// What the database refuses is told as Store, and the transaction goes on; so is a row that doesn't read.
+#[test]
+fn tells_store(rt: HostRuntime) -> Result<(), Fail> {
+    let alloc = rt.alloc();
+    let mut conn = Connection::open_in_memory(alloc)?;
+    assert!(rt; put(&mut conn, 1, "a") == Err(StoreFault::Store));
+    begin(&mut conn).map_err(fail_of)?;
+    assert!(rt; begin(&mut conn) == Err(StoreFault::Store));
+    make(&mut conn).map_err(fail_of)?;
+    assert!(rt; make(&mut conn) == Err(StoreFault::Store));
+    put(&mut conn, 1, "a").map_err(fail_of)?;
+    assert!(rt; put(&mut conn, 2, "a") == Err(StoreFault::Store));
+    assert!(rt; put(&mut conn, 1, "b") == Err(StoreFault::Store));
+    assert!(rt; number_of(&mut conn, "SELECT text FROM word", &[]) == Err(StoreFault::Store));
+    assert!(rt; number_of(&mut conn, "SELECT number - 2 FROM word", &[]) == Err(StoreFault::Store));
+    assert!(rt; number_of(&mut conn, "SELECT 4294967296", &[]) == Err(StoreFault::Store));
+    assert!(rt;
+        text_of(&mut conn, "SELECT number FROM word", &[]).map(|_| ()) == Err(StoreFault::Store)
+    );
+    assert!(rt; has_row(&mut conn, "SELECT number FROM words", &[]) == Err(StoreFault::Store));
+    assert!(rt; !conn.is_autocommit());
+    assert!(rt; commit(&mut conn));
+    assert!(rt; texts(alloc, &mut conn)?.as_str() == "a ");
+    Ok(())
+}

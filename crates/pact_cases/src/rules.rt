@@ -1,0 +1,102 @@
+//! Questions about trees and matching rules.
+use crate::case::Case;
+use crate::json::{location, rules_in, tree_in, yes_or_no};
+use crate::walk::walked;
+use anyhow::{Result, bail};
+use pact_rules::{Matcher, RuleTable, Tree, has_keys_of, holds as holds_of, tree_of};
+use serde_json::Value;
+use std::alloc::Global;
+
+/// Whether `value` is `a tree`.
+pub(crate) fn tree(alloc: Global, case: &Case) -> Result<String> {
+    tree_in(alloc, case, "value")?;
+    Ok(String::from_str(alloc, "a tree")?)
+}
+
+/// Whether `rules` is `a table`.
+pub(crate) fn table(alloc: Global, case: &Case) -> Result<String> {
+    rules_in(alloc, case)?;
+    Ok(String::from_str(alloc, "a table")?)
+}
+
+/// The index and the path of the body entry of `rules` that is chosen at the location `at`, and whether that is its own place;
+/// or `none`. The walk to the location has to choose the same. Without `rules` the table has no entries.
+pub(crate) fn choice(alloc: Global, case: &Case) -> Result<String> {
+    let rules = rules_in(alloc, case)?;
+    let location = location(alloc, case)?;
+    let walk = walked(alloc, &rules, &location)?;
+    if walk.chosen(&rules) != rules.choose(&location) {
+        bail!("the walk chooses another");
+    }
+    let Some(index) = rules.choose(&location) else {
+        return Ok(String::from_str(alloc, "none")?);
+    };
+    let path = rules.path(index).text(alloc)?;
+    if walk.own_place(&rules) {
+        Ok(format!(in alloc; "{index} {path}, its own place")?)
+    } else {
+        Ok(format!(in alloc; "{index} {path}")?)
+    }
+}
+
+/// Of the entry of `rules` for the header `name`, whether `all` or `one` of how many matchers must hold; or `none`.
+pub(crate) fn header(alloc: Global, case: &Case) -> Result<String> {
+    let rules = rules_in(alloc, case)?;
+    let Some(entry) = rules.header(case.text("name")?) else {
+        return Ok(String::from_str(alloc, "none")?);
+    };
+    let some = if entry.any { "one" } else { "all" };
+    let count = entry.matchers.len();
+    Ok(format!(in alloc; "{some} of {count}")?)
+}
+
+/// Whether `rules` has a pattern.
+pub(crate) fn patterns(alloc: Global, case: &Case) -> Result<String> {
+    yes_or_no(alloc, rules_in(alloc, case)?.has_regex())
+}
+
+/// A table that has one matcher for the root.
+fn rules_with(alloc: Global, matcher: &str) -> Result<RuleTable> {
+    let text = format!(in alloc; "{{\"body\":{{\"$\":{{\"matchers\":[{matcher}]}}}}}}")?;
+    let rules = tree_of(alloc, &Value::from_str(alloc, text.as_str())?)?;
+    Ok(RuleTable::read(alloc, &rules)?)
+}
+
+/// Whether `matcher` holds of the `expected` and the `actual` value; with `own no` not at its own place.
+pub(crate) fn holds(alloc: Global, case: &Case) -> Result<String> {
+    let rules = rules_with(alloc, case.text("matcher")?)?;
+    let expected = tree_in(alloc, case, "expected")?;
+    let actual = tree_in(alloc, case, "actual")?;
+    let own_place = case.given("own") != Some("no");
+    let Some(index) = rules.choose(&[]) else {
+        bail!("no rule");
+    };
+    match rules.entry(index).matchers.first() {
+        Some(matcher) => {
+            let is = holds_of(alloc, matcher, &expected, &actual, own_place)?;
+            yes_or_no(alloc, is)
+        }
+        None => bail!("no matcher"),
+    }
+}
+
+/// Whether the `pattern`, which no table has to have, is found in the text of the `actual` value.
+pub(crate) fn pattern(alloc: Global, case: &Case) -> Result<String> {
+    let matcher = Matcher::Regex(String::from_str(alloc, case.text("pattern")?)?);
+    let actual = tree_in(alloc, case, "actual")?;
+    let is = holds_of(alloc, &matcher, &actual, &actual, true)?;
+    yes_or_no(alloc, is)
+}
+
+/// Whether each key of the object `first` is in the object `second`.
+pub(crate) fn keys(alloc: Global, case: &Case) -> Result<String> {
+    match (
+        tree_in(alloc, case, "first")?,
+        tree_in(alloc, case, "second")?,
+    ) {
+        (Tree::Object(first), Tree::Object(second)) => {
+            yes_or_no(alloc, has_keys_of(&first, &second))
+        }
+        _ => bail!("two objects are wanted"),
+    }
+}
