@@ -1,4 +1,3 @@
 pub mod TextNumbers
 pub mod ContentRows
 pub mod Held
-pub mod Apart

@@ -59,11 +59,6 @@ text_in texts number = if number == 0 then None else slice_get texts (number - 1
 abbrev pub with_text : List Text → Text → List Text
 with_text texts body = if is_among texts body then texts else texts ++ body ∷ []
 
--- no text stands twice
-abbrev pub AreApart : List Text → Type 0
-AreApart [] = ⊤
-AreApart (body ∷ texts) = (is_among texts body ≡ false) × AreApart texts
-
 -- ---- how a call is stated
 
 -- an answer about the contents, all stored by this digest; nothing changes

@@ -41,14 +41,12 @@ pub fn content_count<S: Alter>(conn: &mut Connection<S>) -> Result<u64, StoreFau
     ensures { CallsStore S.Store conn.old conn.new result
         (λ count old new. IsReadByAny old new (λ count texts. count ≡ length texts) count) }
 {
-    match number_of(
+    let newest = done!(number_of(
         conn,
         "SELECT number FROM contents ORDER BY number DESC LIMIT 1",
         &[],
-    ) {
-        Ok(newest) => Ok(newest.unwrap_or(0) as u64),
-        Err(fault) => Err(fault),
-    }
+    ));
+    Ok(newest.unwrap_or(0) as u64)
 }
 
 /// Whether this is the row's text. `StoreFault::Store` where the row has none.
@@ -70,13 +68,8 @@ fn number_among(rows: &[Row], body: &str) -> Result<Option<u32>, StoreFault>
     ensures store { IfErr result (λ f. f ≡ StoreFault.Store) }
 {
     for row in rows {
-        match has_text(row, body) {
-            Ok(true) => match number_in(row) {
-                Ok(number) => return Ok(Some(number)),
-                Err(fault) => return Err(fault),
-            },
-            Ok(false) => {}
-            Err(fault) => return Err(fault),
+        if done!(has_text(row, body)) {
+            return Ok(Some(done!(number_in(row))));
         }
     }
     Ok(None)
@@ -93,14 +86,12 @@ fn find_beside<S: Alter>(
         IsReadBy by old new
         (λ found texts. found ≡ found_in texts body.now) found) }
 {
-    match select(
+    let rows = done!(select(
         conn,
         "SELECT number, body FROM contents WHERE digest = ?1 ORDER BY number",
         &[ValueRef::Text(digest)],
-    ) {
-        Ok(rows) => number_among(&rows, body),
-        Err(fault) => Err(fault),
-    }
+    ));
+    number_among(&rows, body)
 }
 
 /// The number of the text, or `None` where it isn't stored.
@@ -116,10 +107,9 @@ pub fn find<S: Alter, D: Digester>(
         (λ found old new. IsReadBy (hex_of D.digest_of) old new (λ found texts. found ≡ found_in texts body.now) found) }
 {
     let digest = digest_digits(digester, body.as_bytes());
-    match find_beside(conn, &digest, body) {
-        Ok(Some(number)) => Ok(Some(u64::from(number))),
-        Ok(None) => Ok(None),
-        Err(fault) => Err(fault),
+    match done!(find_beside(conn, &digest, body)) {
+        Some(number) => Ok(Some(u64::from(number))),
+        None => Ok(None),
     }
 }
 
@@ -147,16 +137,12 @@ fn add<S: Alter>(conn: &mut Connection<S>, digest: &[u8], body: &str) -> Result<
         (λ number old new. (by : Text → Text) → by body.now ≡ digest.now →
         IsNewBy by body.now old new number) }
 {
-    match content_count(conn) {
-        Ok(count) => match next_number(count) {
-            Some(number) => match put_under(conn, number, digest, body) {
-                Ok(()) => Ok(number),
-                Err(fault) => Err(fault),
-            },
-            None => Err(StoreFault::Store),
-        },
-        Err(fault) => Err(fault),
-    }
+    let count = done!(content_count(conn));
+    let Some(number) = next_number(count) else {
+        return Err(StoreFault::Store);
+    };
+    done!(put_under(conn, number, digest, body));
+    Ok(number)
 }
 
 /// The number of the text, which is stored under the next one where it isn't stored yet. Each text that is there was stored by this digester.
@@ -172,12 +158,8 @@ pub fn put<S: Alter, D: Digester>(
         (λ number old new. IsPutBy (hex_of D.digest_of) body.now old new number) }
 {
     let digest = digest_digits(digester, body.as_bytes());
-    match find_beside(conn, &digest, body) {
-        Ok(Some(number)) => Ok(u64::from(number)),
-        Ok(None) => match add(conn, &digest, body) {
-            Ok(number) => Ok(u64::from(number)),
-            Err(fault) => Err(fault),
-        },
-        Err(fault) => Err(fault),
+    match done!(find_beside(conn, &digest, body)) {
+        Some(number) => Ok(u64::from(number)),
+        None => Ok(u64::from(done!(add(conn, &digest, body)))),
     }
 }

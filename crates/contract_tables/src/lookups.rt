@@ -20,14 +20,12 @@ use table_access::{StoreFault, has_row, number_at, number_of, select};
 pub fn result_count<S: Alter>(conn: &mut Connection<S>) -> Result<u64, StoreFault>
     ensures { QueriesInPlace S.Store conn.old conn.new result (λ count s. count ≡ length s.results) }
 {
-    match number_of(
+    let newest = done!(number_of(
         conn,
         "SELECT number FROM results ORDER BY number DESC LIMIT 1",
         &[],
-    ) {
-        Ok(newest) => Ok(newest.unwrap_or(0) as u64),
-        Err(fault) => Err(fault),
-    }
+    ));
+    Ok(newest.unwrap_or(0) as u64)
 }
 
 /// The number of the latest result for a content and the version of this number, or `None` where there is none.
@@ -55,14 +53,12 @@ fn passed<S: Alter>(conn: &mut Connection<S>, number: u32) -> Result<Option<bool
     ensures { QueriesInPlace S.Store conn.old conn.new result
         (λ found s. found ≡ option_map (λ r. r.pass) (result_with s number)) }
 {
-    match number_of(
+    let found = done!(number_of(
         conn,
         "SELECT pass FROM results WHERE number = ?1",
         params![number],
-    ) {
-        Ok(found) => truth_of(found),
-        Err(fault) => Err(fault),
-    }
+    ));
+    truth_of(found)
 }
 
 /// Whether the broker checked the result with this number, which is there.
@@ -88,13 +84,12 @@ pub fn result_said<S: Alter>(
     ensures { QueriesInPlace S.Store conn.old conn.new result
         (λ found s. found ≡ option_map said_by (result_with s number)) }
 {
-    match passed(conn, number) {
-        Ok(Some(pass)) => match is_checked(conn, number) {
-            Ok(checked) => Ok(Some(Latest { pass, checked })),
-            Err(fault) => Err(fault),
+    match done!(passed(conn, number)) {
+        Some(pass) => {
+            let checked = done!(is_checked(conn, number));
+            Ok(Some(Latest { pass, checked }))
         },
-        Ok(None) => Ok(None),
-        Err(fault) => Err(fault),
+        None => Ok(None),
     }
 }
 
@@ -111,10 +106,9 @@ pub fn latest_of<S: Alter>(
         (λ found s. (v : VersionModel) → number_in s.versions v ≡ Some version_number →
         found ≡ latest s content v) }
 {
-    match latest_number(conn, content, version_number) {
-        Ok(Some(number)) => result_said(conn, number),
-        Ok(None) => Ok(None),
-        Err(fault) => Err(fault),
+    match done!(latest_number(conn, content, version_number)) {
+        Some(number) => result_said(conn, number),
+        None => Ok(None),
     }
 }
 
@@ -166,10 +160,7 @@ fn first_result(rows: &[Row]) -> Result<Option<StoredResult>, StoreFault>
 {
     match rows.first() {
         None => Ok(None),
-        Some(row) => match read_result(row) {
-            Ok(found) => Ok(Some(found)),
-            Err(fault) => Err(fault),
-        },
+        Some(row) => Ok(Some(done!(read_result(row)))),
     }
 }
 
@@ -183,14 +174,12 @@ fn stored_of_run<S: Alter>(
         (λ found s. option_map (λ r. numbers_are r.number r.content r.provider_version r.pass) found
         ≡ option_map (by_numbers s.versions) (run_result s provider.now (Some run.now))) }
 {
-    match select(
+    let rows = done!(select(
         conn,
         "SELECT number, content, provider_version, pass FROM results WHERE provider = ?1 AND run = ?2",
         params![provider, run],
-    ) {
-        Ok(rows) => first_result(&rows),
-        Err(fault) => Err(fault),
-    }
+    ));
+    first_result(&rows)
 }
 
 /// The result of a run of the provider, or `None` where it has none.
@@ -206,18 +195,17 @@ pub fn result_of_run<S: Alter>(
         (λ found s. option_map (λ r. told r.number r.content r.provider_version r.pass r.checked) found
         ≡ option_map (told_of s.versions) (run_result s provider.now (Some run.now))) }
 {
-    match stored_of_run(conn, provider, run) {
-        Ok(Some(stored)) => match is_checked(conn, stored.number) {
-            Ok(checked) => Ok(Some(ResultRow {
+    match done!(stored_of_run(conn, provider, run)) {
+        Some(stored) => {
+            let checked = done!(is_checked(conn, stored.number));
+            Ok(Some(ResultRow {
                 number: stored.number,
                 content: stored.content,
                 provider_version: stored.provider_version,
                 pass: stored.pass,
                 checked,
-            })),
-            Err(fault) => Err(fault),
+            }))
         },
-        Ok(None) => Ok(None),
-        Err(fault) => Err(fault),
+        None => Ok(None),
     }
 }

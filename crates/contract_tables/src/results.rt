@@ -136,11 +136,7 @@ pub fn record_result<S: Alter>(
         (RecordsResult number content provider.now version_number pass checked
         (option_map (λ text. text.now) run.entry)) }
 {
-    match put_result(conn, number, content, provider, version_number, pass, run) {
-        Ok(()) => match mark(conn, number, checked) {
-            Ok(()) => point_latest(conn, content, version_number, number),
-            Err(fault) => Err(fault),
-        },
-        Err(fault) => Err(fault),
-    }
+    done!(put_result(conn, number, content, provider, version_number, pass, run));
+    done!(mark(conn, number, checked));
+    point_latest(conn, content, version_number, number)
 }

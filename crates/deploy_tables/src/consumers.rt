@@ -53,10 +53,8 @@ fn contract_with<S: Alter>(
     if other.pacticipant == *pacticipant {
         return Ok(None);
     }
-    match contract_of(conn, other.number, pacticipant.as_str()) {
-        Ok(content) => consumer_contract(other, content),
-        Err(fault) => Err(fault),
-    }
+    let content = done!(contract_of(conn, other.number, pacticipant.as_str()));
+    consumer_contract(other, content)
 }
 
 /// Puts the contract at the end, where there is one.
@@ -91,13 +89,8 @@ pub(crate) fn consumer_contracts<S: Alter>(
 {
     let mut found = Vec::new(alloc);
     for other in standing {
-        match contract_with(conn, pacticipant, other) {
-            Ok(contract) => match keep(&mut found, contract) {
-                Ok(()) => {}
-                Err(fault) => return Err(fault),
-            },
-            Err(fault) => return Err(fault),
-        }
+        let contract = done!(contract_with(conn, pacticipant, other));
+        done!(keep(&mut found, contract));
     }
     Ok(found)
 }

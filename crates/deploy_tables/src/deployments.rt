@@ -21,14 +21,12 @@ pub fn is_deployed<S: Alter>(
     ensures { QueriesInPlace S.Store conn.old conn.new result
         (TellsDeployed environment.now pacticipant.now instance.now number) }
 {
-    match number_of(
+    let found = done!(number_of(
         conn,
         "SELECT version_number FROM deployed WHERE environment = ?1 AND pacticipant = ?2 AND instance = ?3",
         params![environment, pacticipant, instance],
-    ) {
-        Ok(found) => Ok(is_number(found, number)),
-        Err(fault) => Err(fault),
-    }
+    ));
+    Ok(is_number(found, number))
 }
 
 /// Whether that number was found.
@@ -94,12 +92,10 @@ pub fn take_out<S: Alter>(
     ensures { ChangesAndAnswers S.Store conn.old conn.new result (IsVersionOf pacticipant.now number)
         (TakesOutAndTells environment.now pacticipant.now instance.now number) }
 {
-    match is_deployed(conn, environment, pacticipant, instance, number) {
-        Ok(true) => match empty_instance(conn, environment, pacticipant, instance) {
-            Ok(()) => Ok(true),
-            Err(fault) => Err(fault),
-        },
-        Ok(false) => Ok(false),
-        Err(fault) => Err(fault),
+    if done!(is_deployed(conn, environment, pacticipant, instance, number)) {
+        done!(empty_instance(conn, environment, pacticipant, instance));
+        Ok(true)
+    } else {
+        Ok(false)
     }
 }

@@ -65,12 +65,10 @@ fn need_of<S: Alter>(conn: &mut Connection<S>, pair: &Pair) -> Result<Need, Stor
     ensures { Queries S.Store conn.old conn.new result
         (λ need s. IsNumberedPair s pair.now → need ≡ need_in s pair.now) }
 {
-    match latest_for(conn, pair) {
-        Ok(latest) => match need_with(pair, latest) {
-            Ok(need) => Ok(need),
-            Err(_) => Err(StoreFault::Memory),
-        },
-        Err(fault) => Err(fault),
+    let latest = done!(latest_for(conn, pair));
+    match need_with(pair, latest) {
+        Ok(need) => Ok(need),
+        Err(_) => Err(StoreFault::Memory),
     }
 }
 
@@ -85,12 +83,10 @@ fn with_latest<S: Alter>(
 {
     let mut needs = Vec::new(alloc);
     for pair in pairs {
-        match need_of(conn, pair) {
-            Ok(need) => match needs.push(need) {
-                Ok(()) => {}
-                Err(_) => return Err(StoreFault::Memory),
-            },
-            Err(fault) => return Err(fault),
+        let need = done!(need_of(conn, pair));
+        match needs.push(need) {
+            Ok(()) => {}
+            Err(_) => return Err(StoreFault::Memory),
         }
     }
     Ok(needs)
@@ -108,16 +104,10 @@ fn find_pairs<S: Alter>(
         (λ pairs s. number_in s.versions version.now ≡ Some number → AreNumberedPairs s pairs.items
         × Lists need_cmp (IsNeed s version.now environment.now) (map (need_in s) pairs.items)) }
 {
-    match standing(alloc, conn, environment) {
-        Ok(there) => match contracts_of(alloc, conn, number) {
-            Ok(own) => match consumer_contracts(alloc, conn, &version.pacticipant, &there) {
-                Ok(consumers) => pairs_of(alloc, version, number, &own, &there, &consumers),
-                Err(fault) => Err(fault),
-            },
-            Err(fault) => Err(fault),
-        },
-        Err(fault) => Err(fault),
-    }
+    let there = done!(standing(alloc, conn, environment));
+    let own = done!(contracts_of(alloc, conn, number));
+    let consumers = done!(consumer_contracts(alloc, conn, &version.pacticipant, &there));
+    pairs_of(alloc, version, number, &own, &there, &consumers)
 }
 
 /// What the version of this number needs in the environment, with what the latest result says of each: its contracts with each version of their providers that stands there, or with none, and the contracts that versions of other pacticipants which stand there have with its pacticipant. Each need stands once, in the order of consumers, their versions, providers and their versions, an absent provider first.
@@ -135,8 +125,6 @@ pub fn needs<S: Alter>(
         (λ found s. number_in s.versions version.now ≡ Some number →
         Lists need_cmp (IsNeed s version.now environment.now) found.items) }
 {
-    match find_pairs(alloc, conn, number, version, environment) {
-        Ok(pairs) => with_latest(alloc, conn, &pairs),
-        Err(fault) => Err(fault),
-    }
+    let pairs = done!(find_pairs(alloc, conn, number, version, environment));
+    with_latest(alloc, conn, &pairs)
 }

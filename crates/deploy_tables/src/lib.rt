@@ -4,6 +4,17 @@
 //! `StoreFault::Memory` comes where the database has no memory or an allocation failed, and `StoreFault::Store` where it refused a statement for another cause, or where a row breaks the tables' rules.
 #![tactic(auto)]
 
+/// Gives what a call on the tables answers. Its failure is the failure of the function in which this stands, and
+/// nothing more is done there. A proof knows behind it what it knows in the arms of the match that stands here.
+macro_rules! done {
+    ($call:expr) => {
+        match $call {
+            Ok(value) => value,
+            Err(fault) => return Err(fault),
+        }
+    };
+}
+
 mod consumers;
 mod deployments;
 mod entries;

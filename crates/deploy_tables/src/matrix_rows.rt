@@ -42,12 +42,15 @@ fn of_contract<S: Alter>(
     ensures { Queries S.Store conn.old conn.new result
         (λ found s. (x : EntryModel) → Contains found.items x ↔ IsOfContract s version.now contract.now x) }
 {
-    match verified_versions(alloc, conn, contract.provider.as_str(), contract.content) {
-        Ok(verified) => match entries_with(alloc, version, contract, &verified) {
-            Ok(entries) => Ok(entries),
-            Err(_) => Err(StoreFault::Memory),
-        },
-        Err(fault) => Err(fault),
+    let verified = done!(verified_versions(
+        alloc,
+        conn,
+        contract.provider.as_str(),
+        contract.content,
+    ));
+    match entries_with(alloc, version, contract, &verified) {
+        Ok(entries) => Ok(entries),
+        Err(_) => Err(StoreFault::Memory),
     }
 }
 
@@ -64,13 +67,8 @@ fn of_contracts<S: Alter>(
 {
     let mut found = Vec::new(alloc);
     for contract in contracts {
-        match of_contract(alloc, conn, version, contract) {
-            Ok(more) => match add(&mut found, more) {
-                Ok(()) => {}
-                Err(fault) => return Err(fault),
-            },
-            Err(fault) => return Err(fault),
-        }
+        let more = done!(of_contract(alloc, conn, version, contract));
+        done!(add(&mut found, more));
     }
     Ok(found)
 }
@@ -86,10 +84,8 @@ fn consumed<S: Alter>(
         (λ found s. number_known s.versions version.now ≡ Some number →
         (x : EntryModel) → Contains found.items x ↔ IsConsumed s version.now x) }
 {
-    match contracts_of(alloc, conn, number) {
-        Ok(contracts) => of_contracts(alloc, conn, version, &contracts),
-        Err(fault) => Err(fault),
-    }
+    let contracts = done!(contracts_of(alloc, conn, number));
+    of_contracts(alloc, conn, version, &contracts)
 }
 
 /// The contracts of this content with the version's pacticipant, with the version's result for it.
@@ -102,12 +98,15 @@ fn of_content<S: Alter>(
     ensures { Queries S.Store conn.old conn.new result
         (λ found s. (x : EntryModel) → Contains found.items x ↔ IsOfContent s version.now verified.now x) }
 {
-    match consumers_of(alloc, conn, version.pacticipant.as_str(), verified.content) {
-        Ok(consumers) => match entries_used(alloc, version, verified, &consumers) {
-            Ok(entries) => Ok(entries),
-            Err(_) => Err(StoreFault::Memory),
-        },
-        Err(fault) => Err(fault),
+    let consumers = done!(consumers_of(
+        alloc,
+        conn,
+        version.pacticipant.as_str(),
+        verified.content,
+    ));
+    match entries_used(alloc, version, verified, &consumers) {
+        Ok(entries) => Ok(entries),
+        Err(_) => Err(StoreFault::Memory),
     }
 }
 
@@ -124,13 +123,8 @@ fn of_contents<S: Alter>(
 {
     let mut found = Vec::new(alloc);
     for verified in contents {
-        match of_content(alloc, conn, version, verified) {
-            Ok(more) => match add(&mut found, more) {
-                Ok(()) => {}
-                Err(fault) => return Err(fault),
-            },
-            Err(fault) => return Err(fault),
-        }
+        let more = done!(of_content(alloc, conn, version, verified));
+        done!(add(&mut found, more));
     }
     Ok(found)
 }
@@ -146,10 +140,8 @@ fn provided<S: Alter>(
         (λ found s. number_known s.versions version.now ≡ Some number →
         (x : EntryModel) → Contains found.items x ↔ IsProvided s version.now x) }
 {
-    match verified_contents(alloc, conn, number) {
-        Ok(contents) => of_contents(alloc, conn, version, &contents),
-        Err(fault) => Err(fault),
-    }
+    let contents = done!(verified_contents(alloc, conn, number));
+    of_contents(alloc, conn, version, &contents)
 }
 
 /// The entries of both sides, each once, in the order of the matrix.
@@ -163,15 +155,11 @@ fn entries_of<S: Alter>(
         (λ found s. number_known s.versions version.now ≡ Some number →
         Lists entry_cmp (IsEntry s version.now) found.items) }
 {
-    match consumed(alloc, conn, number, version) {
-        Ok(own) => match provided(alloc, conn, number, version) {
-            Ok(others) => match both_sides(own, others) {
-                Ok(entries) => Ok(entries),
-                Err(_) => Err(StoreFault::Memory),
-            },
-            Err(fault) => Err(fault),
-        },
-        Err(fault) => Err(fault),
+    let own = done!(consumed(alloc, conn, number, version));
+    let others = done!(provided(alloc, conn, number, version));
+    match both_sides(own, others) {
+        Ok(entries) => Ok(entries),
+        Err(_) => Err(StoreFault::Memory),
     }
 }
 
@@ -184,17 +172,16 @@ fn told<S: Alter>(
         (λ found s. (found.provider_version ≡ verified.now.name) × (found.result ≡ verified.now.result)
         × (Some found.latest ≡ option_map said_by (result_with s verified.now.result))) }
 {
-    match result_said(conn, verified.result) {
-        Ok(Some(latest)) => match verified.name.clone() {
-            Ok(provider_version) => Ok(Verified {
-                provider_version,
-                result: u64::from(verified.result),
-                latest,
-            }),
-            Err(_) => Err(StoreFault::Memory),
-        },
-        Ok(None) => Err(StoreFault::Store),
-        Err(fault) => Err(fault),
+    let Some(latest) = done!(result_said(conn, verified.result)) else {
+        return Err(StoreFault::Store);
+    };
+    match verified.name.clone() {
+        Ok(provider_version) => Ok(Verified {
+            provider_version,
+            result: u64::from(verified.result),
+            latest,
+        }),
+        Err(_) => Err(StoreFault::Memory),
     }
 }
 
@@ -230,10 +217,8 @@ fn row_of<S: Alter>(conn: &mut Connection<S>, entry: &Entry) -> Result<MatrixRow
     let Some(verified) = &entry.verified else {
         return row_with(entry, None);
     };
-    match told(conn, verified) {
-        Ok(verified) => row_with(entry, Some(verified)),
-        Err(fault) => Err(fault),
-    }
+    let verified = done!(told(conn, verified));
+    row_with(entry, Some(verified))
 }
 
 /// The rows of these entries, with what their results say.
@@ -246,12 +231,10 @@ fn rows_of<S: Alter>(
 {
     let mut rows = Vec::new(alloc);
     for entry in entries {
-        match row_of(conn, entry) {
-            Ok(row) => match rows.push(row) {
-                Ok(()) => {}
-                Err(_) => return Err(StoreFault::Memory),
-            },
-            Err(fault) => return Err(fault),
+        let row = done!(row_of(conn, entry));
+        match rows.push(row) {
+            Ok(()) => {}
+            Err(_) => return Err(StoreFault::Memory),
         }
     }
     Ok(rows)
@@ -272,8 +255,6 @@ pub fn matrix<S: Alter>(
         (λ rows s. number_known s.versions version.now ≡ Some number →
         Lists matrix_cmp (IsMatrixRow s version.now) rows.items) }
 {
-    match entries_of(alloc, conn, number, version) {
-        Ok(entries) => rows_of(alloc, conn, &entries),
-        Err(fault) => Err(fault),
-    }
+    let entries = done!(entries_of(alloc, conn, number, version));
+    rows_of(alloc, conn, &entries)
 }

@@ -75,11 +75,7 @@ pub fn end_support<S: Alter>(
         × ((v : VersionModel) → number_in s.versions v ≡ Some number →
         stood ≡ s.released (environment.now, v))) }
 {
-    match is_released(conn, environment, number) {
-        Ok(stood) => match remove_released(conn, environment, number) {
-            Ok(()) => Ok(stood),
-            Err(fault) => Err(fault),
-        },
-        Err(fault) => Err(fault),
-    }
+    let stood = done!(is_released(conn, environment, number));
+    done!(remove_released(conn, environment, number));
+    Ok(stood)
 }

@@ -116,11 +116,7 @@ pub fn standing<S: Alter>(
         (λ items s. Lists standing_cmp (IsStanding s environment.now) items.items
         × AreNumbered s environment.now) }
 {
-    match deployed_versions(alloc, conn, environment) {
-        Ok(deployed) => match released_versions(alloc, conn, environment) {
-            Ok(released) => of_both(deployed, released),
-            Err(fault) => Err(fault),
-        },
-        Err(fault) => Err(fault),
-    }
+    let deployed = done!(deployed_versions(alloc, conn, environment));
+    let released = done!(released_versions(alloc, conn, environment));
+    of_both(deployed, released)
 }

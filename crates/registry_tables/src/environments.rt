@@ -20,14 +20,12 @@ pub fn gated<S: Alter>(
     ensures { QueriesInPlace S.Store conn.old conn.new result
         (λ found s. found ≡ option_map (λ m. m.gated) (s.environments environment.now)) }
 {
-    match number_of(
+    let found = done!(number_of(
         conn,
         "SELECT gated FROM environments WHERE name = ?1",
         params![environment],
-    ) {
-        Ok(found) => truth_of(found),
-        Err(fault) => Err(fault),
-    }
+    ));
+    truth_of(found)
 }
 
 /// Whether an environment that is there is strict.
@@ -52,13 +50,12 @@ pub fn marks_of<S: Alter>(
 ) -> Result<Option<Marks>, StoreFault>
     ensures { QueriesInPlace S.Store conn.old conn.new result (λ found s. found ≡ s.environments environment.now) }
 {
-    match gated(conn, environment) {
-        Ok(Some(gated)) => match is_strict(conn, environment) {
-            Ok(strict) => Ok(Some(Marks { gated, strict })),
-            Err(fault) => Err(fault),
+    match done!(gated(conn, environment)) {
+        Some(gated) => {
+            let strict = done!(is_strict(conn, environment));
+            Ok(Some(Marks { gated, strict }))
         },
-        Ok(None) => Ok(None),
-        Err(fault) => Err(fault),
+        None => Ok(None),
     }
 }
 
@@ -73,10 +70,9 @@ pub fn strict_of<S: Alter>(
     ensures { QueriesInPlace S.Store conn.old conn.new result
         (λ found s. found ≡ option_map (λ m. m.strict) (s.environments environment.now)) }
 {
-    match marks_of(conn, environment) {
-        Ok(Some(marks)) => Ok(Some(marks.strict)),
-        Ok(None) => Ok(None),
-        Err(fault) => Err(fault),
+    match done!(marks_of(conn, environment)) {
+        Some(marks) => Ok(Some(marks.strict)),
+        None => Ok(None),
     }
 }
 
@@ -125,12 +121,10 @@ pub fn add_environment<S: Alter>(
 ) -> Result<(), StoreFault>
     ensures { Changes S.Store conn.old conn.new result (AddsEnvironment environment.now (marks gated strict)) }
 {
-    match put_environment(conn, environment, number_for(gated)) {
-        Ok(()) => if strict {
-            put_strict(conn, environment)
-        } else {
-            Ok(())
-        },
-        Err(fault) => Err(fault),
+    done!(put_environment(conn, environment, number_for(gated)));
+    if strict {
+        put_strict(conn, environment)
+    } else {
+        Ok(())
     }
 }

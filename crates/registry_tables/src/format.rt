@@ -69,10 +69,7 @@ fn one_number(rows: &[Row]) -> Result<Option<u32>, StoreFault>
     ensures cause { IfErr result (λ fault. fault ≡ StoreFault.Store) }
 {
     match rows {
-        [row] => match number_in(row) {
-            Ok(number) => Ok(Some(number)),
-            Err(fault) => Err(fault),
-        },
+        [row] => Ok(Some(done!(number_in(row)))),
         _ => Ok(None),
     }
 }
@@ -89,8 +86,6 @@ pub fn format_of<S: Alter>(conn: &mut Connection<S>) -> Result<Option<u32>, Stor
     if !has_meta(conn) {
         return Ok(None);
     }
-    match select(conn, "SELECT format FROM meta", &[]) {
-        Ok(rows) => one_number(&rows),
-        Err(fault) => Err(fault),
-    }
+    let rows = done!(select(conn, "SELECT format FROM meta", &[]));
+    one_number(&rows)
 }

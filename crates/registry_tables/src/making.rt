@@ -27,10 +27,8 @@ pub fn make_tables<S: Alter>(
         (λ _ old new. IsBlank old.now →
         HasTables registry_part format digest.now new.now) }
 {
-    match make_registry(conn) {
-        Ok(()) => put_meta(conn, format, digest),
-        Err(fault) => Err(fault),
-    }
+    done!(make_registry(conn));
+    put_meta(conn, format, digest)
 }
 
 /// Makes the tables of the registry, without rows.

@@ -20,10 +20,8 @@ pub fn to_format_2<S: Alter>(conn: &mut Connection<S>) -> Result<(), StoreFault>
         HoldsUnmarked former_format (checked_results ∷ []) old.now s →
         HoldsUnmarked format added_tables new.now s) }
 {
-    match make_strict_environments(conn) {
-        Ok(()) => set_format(conn),
-        Err(fault) => Err(fault),
-    }
+    done!(make_strict_environments(conn));
+    set_format(conn)
 }
 
 /// Sets the format to 2.

@@ -20,10 +20,9 @@ pub fn office_digest<S: Alter>(conn: &mut Connection<S>) -> Result<String, Store
         rows_of (state S.Store conn.old).now (codes "meta") ≡ [] →
         TellsMemory (state S.Store conn.old) (state S.Store conn.new) result }
 {
-    match text_of(conn, "SELECT office_digest FROM meta", &[]) {
-        Ok(Some(digest)) => Ok(digest),
-        Ok(None) => Err(StoreFault::Store),
-        Err(fault) => Err(fault),
+    match done!(text_of(conn, "SELECT office_digest FROM meta", &[])) {
+        Some(digest) => Ok(digest),
+        None => Err(StoreFault::Store),
     }
 }
 

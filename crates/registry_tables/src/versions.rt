@@ -37,14 +37,12 @@ pub fn version_of<S: Alter>(
 pub fn version_count<S: Alter>(conn: &mut Connection<S>) -> Result<u64, StoreFault>
     ensures { QueriesInPlace S.Store conn.old conn.new result (λ count s. count ≡ length s.versions) }
 {
-    match number_of(
+    let newest = done!(number_of(
         conn,
         "SELECT number FROM versions ORDER BY number DESC LIMIT 1",
         &[],
-    ) {
-        Ok(newest) => Ok(newest.unwrap_or(0) as u64),
-        Err(fault) => Err(fault),
-    }
+    ));
+    Ok(newest.unwrap_or(0) as u64)
 }
 
 /// Puts in a version under a number.
@@ -94,14 +92,10 @@ pub fn add_version<S: Alter>(
         (AllowsVersion (version_named pacticipant.now version.now))
         (AddsVersion (version_named pacticipant.now version.now)) }
 {
-    match version_count(conn) {
-        Ok(count) => match next_number(count) {
-            Some(number) => match add_version_as(conn, number, pacticipant, version) {
-                Ok(()) => Ok(number),
-                Err(fault) => Err(fault),
-            },
-            None => Err(StoreFault::Store),
-        },
-        Err(fault) => Err(fault),
-    }
+    let count = done!(version_count(conn));
+    let Some(number) = next_number(count) else {
+        return Err(StoreFault::Store);
+    };
+    done!(add_version_as(conn, number, pacticipant, version));
+    Ok(number)
 }

@@ -20,6 +20,17 @@ ghost use Rattle.table_access.specs.Writes.{IsWriteText};
 use sqlite::types::ValueRef;
 use sqlite::{Alter, Connection, Error, ErrorCode, Row};
 
+/// Gives what a call on the tables answers. Its failure is the failure of the function in which this stands, and
+/// nothing more is done there. A proof knows behind it what it knows in the arms of the match that stands here.
+macro_rules! done {
+    ($call:expr) => {
+        match $call {
+            Ok(value) => value,
+            Err(fault) => return Err(fault),
+        }
+    };
+}
+
 mod rows;
 
 pub use rows::{ReadRow, has_row, list_of, number_at, number_in, number_of, text_at, text_of};

@@ -42,12 +42,10 @@ fn read_all<R: ReadRow>(alloc: Global, rows: &[Row]) -> Result<Vec<R::Item>, Sto
 {
     let mut items = Vec::new(alloc);
     for row in rows {
-        match R::read(alloc, row) {
-            Ok(item) => match items.push(item) {
-                Ok(()) => {}
-                Err(_) => return Err(StoreFault::Memory),
-            },
-            Err(fault) => return Err(fault),
+        let item = done!(R::read(alloc, row));
+        match items.push(item) {
+            Ok(()) => {}
+            Err(_) => return Err(StoreFault::Memory),
         }
     }
     Ok(items)
@@ -68,10 +66,8 @@ pub fn list_of<R: ReadRow, S: Alter>(
         IfErr result (FailsToRead R.reads_as R.fails_as sql.now (bound params.now)
         (state S.Store conn.old) (state S.Store conn.new)) }
 {
-    match select(conn, sql, params) {
-        Ok(rows) => read_all::<R>(alloc, &rows),
-        Err(fault) => Err(fault),
-    }
+    let rows = done!(select(conn, sql, params));
+    read_all::<R>(alloc, &rows)
 }
 
 /// Whether a query shows a row.
@@ -87,10 +83,8 @@ pub fn has_row<S: Alter>(
     ensures cause { HasCleanDisk (state S.Store conn.new) →
         IfErr result (IsRefusedAs sql.now (bound params.now) (state S.Store conn.old) (state S.Store conn.new)) }
 {
-    match select(conn, sql, params) {
-        Ok(rows) => Ok(!rows.is_empty()),
-        Err(fault) => Err(fault),
-    }
+    let rows = done!(select(conn, sql, params));
+    Ok(!rows.is_empty())
 }
 
 /// The text in a column, lent. None where there is no such column, or no text in UTF-8 in it.
@@ -153,10 +147,7 @@ fn first_number(rows: &[Row]) -> Result<Option<u32>, StoreFault>
 {
     match rows.first() {
         None => Ok(None),
-        Some(row) => match number_in(row) {
-            Ok(number) => Ok(Some(number)),
-            Err(fault) => Err(fault),
-        },
+        Some(row) => Ok(Some(done!(number_in(row)))),
     }
 }
 
@@ -174,10 +165,8 @@ pub fn text_of<S: Alter>(
         IfErr result (FailsToTake TellsText sql.now (bound params.now)
         (state S.Store conn.old) (state S.Store conn.new)) }
 {
-    match select(conn, sql, params) {
-        Ok(rows) => first_text(*rows.allocator(), &rows),
-        Err(fault) => Err(fault),
-    }
+    let rows = done!(select(conn, sql, params));
+    first_text(*rows.allocator(), &rows)
 }
 
 /// The whole number in the first column of the first row that a query shows. None where it shows no row;
@@ -195,8 +184,6 @@ pub fn number_of<S: Alter>(
         IfErr result (FailsToTake TellsNumber sql.now (bound params.now)
         (state S.Store conn.old) (state S.Store conn.new)) }
 {
-    match select(conn, sql, params) {
-        Ok(rows) => first_number(&rows),
-        Err(fault) => Err(fault),
-    }
+    let rows = done!(select(conn, sql, params));
+    first_number(&rows)
 }

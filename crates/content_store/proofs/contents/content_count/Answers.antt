@@ -4,10 +4,10 @@ use Rattle.table_access.proofs.CallLemmas.{statement_ok}
 use Rattle.content_store.proofs.ContentRows.{count_sql, count_means, contents_counted, read_same}
 use Rattle.content_store.proofs.contents.content_count.Goals as goal
 
-pub returns-in-Ok : goal.returns-in-Ok
-returns-in-Ok g c =
+pub returns : goal.returns
+returns g c =
     let old = state g.S.Store c.args.conn.now in
     let new = state g.S.Store c.number_of.new.conn in
-    statement_ok old new c.in-Ok.newest _ _ _
-    (λ h digest texts held. (c.unwrap_or.ensures ∙ contents_counted digest old new h.0 texts c.in-Ok.newest held h.1 h.2, read_same count_sql _ old new h.0 (count_means old.now held.broker) h.1))
+    statement_ok old new c.in-Ok.value _ _ _
+    (λ h digest texts held. (c.unwrap_or.ensures ∙ contents_counted digest old new h.0 texts c.in-Ok.value held h.1 h.2, read_same count_sql _ old new h.0 (count_means old.now held.broker) h.1))
     c.in-Ok.ensures.leaves

@@ -9,18 +9,18 @@ use Rattle.contract_tables.specs.Verified.{told, told_of}
 use Rattle.contract_tables.proofs.RunLookup.{run_checked}
 use Rattle.contract_tables.proofs.lookups.result_of_run.Goals as goal
 
-pub returns-in-Ok : goal.returns-in-Ok
-returns-in-Ok g c =
+pub returns-in-Ok-is_checked : goal.returns-in-Ok-is_checked
+returns-in-Ok-is_checked g c =
     let old = state g.S.Store c.args.conn.now in
     let mid = state g.S.Store c.stored_of_run.new.conn in
     let new = state g.S.Store c.is_checked.new.conn in
-    let stored = c.in-Ok-Some.stored in
-    statement_ok old new c.in-Ok.checked (Some _)
+    let stored = c.in-Some.stored in
+    statement_ok old new c.in-Ok-is_checked.value (Some _)
     (λ checked. (s : State) → Holds old.now s
     → (Some (told stored.number stored.content stored.provider_version stored.pass checked) ≡ option_map (told_of s.versions) (result_of_run s c.args.provider.now (Some c.args.run.now))) × Holds new.now s)
     _ (λ both. both)
-    (statement_seq old mid new (Some stored) (Ok c.in-Ok.checked) _ _ _ (λ one checked two s held.
+    (statement_seq old mid new (Some stored) (Ok c.in-Ok-is_checked.value) _ _ _ (λ one checked two s held.
     let first = one s held in
     let second = two s first.1 in
     (run_checked s c.args.provider.now c.args.run.now stored.number stored.content stored.provider_version stored.pass checked first.0 second.0, second.1))
-    (rw c.in-Ok-Some.field-0-is at c.in-Ok-Some.ensures) c.in-Ok.ensures)
+    (rw c.in-Some.is at c.in-Ok.ensures) c.in-Ok-is_checked.ensures)

@@ -10,8 +10,8 @@ use Rattle.deploy_tables.proofs.NeedLemmas.{needs_read}
 use Rattle.deploy_tables.proofs.QueryLemmas.{query_then, computed}
 use Rattle.deploy_tables.proofs.gate.find_pairs.Goals as goal
 
-pub returns-in-Ok-consumer_contracts : goal.returns-in-Ok-consumer_contracts
-returns-in-Ok-consumer_contracts g c =
+pub returns : goal.returns
+returns g c =
     let old = state g.S.Store c.args.conn.now in
     let one = state g.S.Store c.standing.new.conn in
     let two = state g.S.Store c.contracts_of.new.conn in
@@ -19,14 +19,14 @@ returns-in-Ok-consumer_contracts g c =
     let v = c.args.version.now in
     let n = c.args.number in
     let e = c.args.environment.now in
-    let there = c.in-Ok.there.items in
-    let own = c.in-Ok-contracts_of.own.items in
-    computed old new c.in-Ok-consumer_contracts.consumers c.pairs_of.result
+    let there = c.in-Ok.value.items in
+    let own = c.in-Ok-contracts_of.value.items in
+    computed old new c.in-Ok-consumer_contracts.value c.pairs_of.result
     (λ consumers s. ((Lists standing_cmp (IsStanding s e) there × AreNumbered s e) × ((w : Version) → number_of s.versions w ≡ Some n → Lists contract_cmp (IsOwnContract s w) own))
     × (HaveNumbers s there → consumers.items ≡ filter_map (consumer_in s v.pacticipant) there))
-    (λ pairs. Lists pair_cmp (Contains (pairs_among v n own there c.in-Ok-consumer_contracts.consumers.items)) pairs.items) _
-    (λ s read pairs listed number. needs_read s v n e own there c.in-Ok-consumer_contracts.consumers.items read.0.0 read.0.1 read.1 pairs.items listed number)
-    (rw (c.deref-in-Ok-consumer_contracts.ensures.value, c.deref-in-Ok-consumer_contracts-2.ensures.value, c.deref-in-Ok-consumer_contracts-3.ensures.value) at c.pairs_of.ensures)
-    (query_then old two new c.in-Ok-contracts_of.own _ _ _ _ (λ s read consumers found. (read, found))
-    (query_then old one two c.in-Ok.there _ _ _ (λ mine s. (Lists standing_cmp (IsStanding s e) there × AreNumbered s e) × ((w : Version) → number_of s.versions w ≡ Some n → Lists contract_cmp (IsOwnContract s w) mine.items)) (λ s stands own mine. (stands, mine)) c.in-Ok.ensures c.in-Ok-contracts_of.ensures)
+    (λ pairs. Lists pair_cmp (Contains (pairs_among v n own there c.in-Ok-consumer_contracts.value.items)) pairs.items) _
+    (λ s read pairs listed number. needs_read s v n e own there c.in-Ok-consumer_contracts.value.items read.0.0 read.0.1 read.1 pairs.items listed number)
+    (rw (c.deref-2.ensures.value, c.deref-3.ensures.value, c.deref-4.ensures.value) at c.pairs_of.ensures)
+    (query_then old two new c.in-Ok-contracts_of.value _ _ _ _ (λ s read consumers found. (read, found))
+    (query_then old one two c.in-Ok.value _ _ _ (λ mine s. (Lists standing_cmp (IsStanding s e) there × AreNumbered s e) × ((w : Version) → number_of s.versions w ≡ Some n → Lists contract_cmp (IsOwnContract s w) mine.items)) (λ s stands own mine. (stands, mine)) c.in-Ok.ensures c.in-Ok-contracts_of.ensures)
     (rw c.deref.ensures.value at c.in-Ok-consumer_contracts.ensures))

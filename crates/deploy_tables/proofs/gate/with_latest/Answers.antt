@@ -12,9 +12,9 @@ loop-pair-preserved g c =
     let mid = state g.S.Store c.loop-pair.conn in
     let new = state g.S.Store c.need_of.new.conn in
     one_more (λ v. v.items) (λ s p. Some (need_in s p)) IsNumberedPair c.args.pairs.now
-    (state g.S.Store c.args.conn.now) mid new c.loop-pair.pair-index c.pair-item.result c.loop-pair.needs _ (Some c.in-Ok.need)
+    (state g.S.Store c.args.conn.now) mid new c.loop-pair.pair-index c.pair-item.result c.loop-pair.needs _ (Some c.in-Ok.value)
     c.loop-pair-test.true c.pair-item.is c.in-Ok-push.ensures.items c.loop-pair.invariant
-    (then_ok mid new c.in-Ok.need (Some c.in-Ok.need) _ _ (λ told s held. (λ right. ap Some ((told s held).0 right), (told s held).1)) c.in-Ok.ensures)
+    (then_ok mid new c.in-Ok.value (Some c.in-Ok.value) _ _ (λ told s held. (λ right. ap Some ((told s held).0 right), (told s held).1)) c.in-Ok.ensures)
 
 pub returns : goal.returns
 returns g c =
@@ -30,5 +30,5 @@ pub returns-in-Err-push : goal.returns-in-Err-push
 returns-in-Err-push g c =
     let mid = state g.S.Store c.loop-pair.conn in
     let new = state g.S.Store c.need_of.new.conn in
-    no_room (λ v. v.items) (λ s p. Some (need_in s p)) IsNumberedPair c.args.pairs.now (state g.S.Store c.args.conn.now) mid new c.loop-pair.pair-index c.pair-item.result c.loop-pair.needs (Some c.in-Ok.need) _ _
-    c.loop-pair.invariant (then_ok mid new c.in-Ok.need (Some c.in-Ok.need) _ _ (λ told s held. (λ right. ap Some ((told s held).0 right), (told s held).1)) c.in-Ok.ensures)
+    no_room (λ v. v.items) (λ s p. Some (need_in s p)) IsNumberedPair c.args.pairs.now (state g.S.Store c.args.conn.now) mid new c.loop-pair.pair-index c.pair-item.result c.loop-pair.needs (Some c.in-Ok.value) _ _
+    c.loop-pair.invariant (then_ok mid new c.in-Ok.value (Some c.in-Ok.value) _ _ (λ told s held. (λ right. ap Some ((told s held).0 right), (told s held).1)) c.in-Ok.ensures)

@@ -7,9 +7,9 @@ use Rattle.deploy_tables.proofs.MatrixLemmas.{of_listed}
 use Rattle.deploy_tables.proofs.QueryLemmas.{query_then}
 use Rattle.deploy_tables.proofs.matrix_rows.consumed.Goals as goal
 
-pub returns-in-Ok : goal.returns-in-Ok
-returns-in-Ok g c =
+pub returns : goal.returns
+returns g c =
     let v = c.args.version.now in
-    query_then (state g.S.Store c.args.conn.now) (state g.S.Store c.contracts_of.new.conn) (state g.S.Store c.of_contracts.new.conn) c.in-Ok.contracts c.of_contracts.result _ _ _
-    (λ s listed found here is x. of_listed (λ d. IsOfContract s v d x) (λ d. s.contracts (v, d.provider) ≡ Some d.content) contract_cmp c.in-Ok.contracts.items c.deref.result.now (listed v is) c.deref.ensures.value (Contains found.items x) (here x))
+    query_then (state g.S.Store c.args.conn.now) (state g.S.Store c.contracts_of.new.conn) (state g.S.Store c.of_contracts.new.conn) c.in-Ok.value c.of_contracts.result _ _ _
+    (λ s listed found here is x. of_listed (λ d. IsOfContract s v d x) (λ d. s.contracts (v, d.provider) ≡ Some d.content) contract_cmp c.in-Ok.value.items c.deref.result.now (listed v is) c.deref.ensures.value (Contains found.items x) (here x))
     c.in-Ok.ensures c.of_contracts.ensures

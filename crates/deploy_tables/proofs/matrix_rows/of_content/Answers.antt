@@ -12,8 +12,8 @@ pub returns-in-Ok-entries_used : goal.returns-in-Ok-entries_used
 returns-in-Ok-entries_used g c =
     let v = c.args.version.now in
     let verified = c.args.verified.now in
-    let consumers = c.in-Ok.consumers.items in
+    let consumers = c.in-Ok.value.items in
     let is = c.in-Ok-entries_used.ensures ∙ ap (map (entry_used v verified)) c.deref.ensures.value in
-    read_made (state g.S.Store c.args.conn.now) (state g.S.Store c.consumers_of.new.conn) c.in-Ok.consumers c.in-Ok-entries_used.entries _ _ (λ s listed x.
+    read_made (state g.S.Store c.args.conn.now) (state g.S.Store c.consumers_of.new.conn) c.in-Ok.value c.in-Ok-entries_used.entries _ _ (λ s listed x.
     let named = subst (λ p. Lists version_cmp (λ w. s.contracts (w, p) ≡ Some verified.content) consumers) c.as_str.ensures listed in
     subst (λ xs. Contains xs x ↔ IsOfContent s v verified x) (sym is) (content_entries s v verified consumers named x)) c.in-Ok.ensures

@@ -6,9 +6,9 @@ use Rattle.deploy_tables.proofs.MatrixLemmas.{of_listed}
 use Rattle.deploy_tables.proofs.QueryLemmas.{query_then}
 use Rattle.deploy_tables.proofs.matrix_rows.provided.Goals as goal
 
-pub returns-in-Ok : goal.returns-in-Ok
-returns-in-Ok g c =
+pub returns : goal.returns
+returns g c =
     let v = c.args.version.now in
-    query_then (state g.S.Store c.args.conn.now) (state g.S.Store c.verified_contents.new.conn) (state g.S.Store c.of_contents.new.conn) c.in-Ok.contents c.of_contents.result _ _ _
-    (λ s listed found here is x. of_listed (λ d. IsOfContent s v d x) (λ d. IsNewest s d.content v d.result) content_cmp c.in-Ok.contents.items c.deref.result.now (listed v is) c.deref.ensures.value (Contains found.items x) (here x))
+    query_then (state g.S.Store c.args.conn.now) (state g.S.Store c.verified_contents.new.conn) (state g.S.Store c.of_contents.new.conn) c.in-Ok.value c.of_contents.result _ _ _
+    (λ s listed found here is x. of_listed (λ d. IsOfContent s v d x) (λ d. IsNewest s d.content v d.result) content_cmp c.in-Ok.value.items c.deref.result.now (listed v is) c.deref.ensures.value (Contains found.items x) (here x))
     c.in-Ok.ensures c.of_contents.ensures

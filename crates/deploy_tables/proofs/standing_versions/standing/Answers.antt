@@ -8,14 +8,14 @@ use Rattle.deploy_tables.proofs.QueryLemmas.{query_then, computed}
 use Rattle.deploy_tables.proofs.StandingLemmas.{standing_are}
 use Rattle.deploy_tables.proofs.standing_versions.standing.Goals as goal
 
-pub returns-in-Ok-released_versions : goal.returns-in-Ok-released_versions
-returns-in-Ok-released_versions g c =
+pub returns : goal.returns
+returns g c =
     let old = state g.S.Store c.args.conn.now in
     let mid = state g.S.Store c.deployed_versions.new.conn in
     let new = state g.S.Store c.released_versions.new.conn in
     let e = c.args.environment.now in
-    let deployed = c.in-Ok.deployed in
-    let released = c.in-Ok-released_versions.released in
+    let deployed = c.in-Ok.value in
+    let released = c.in-Ok-released_versions.value in
     computed old new released c.of_both.result
     (λ items s. (((x : StandingVersion) → Contains deployed.items x ↔ IsDeployedThere s e x) × AreDeployedNumbered s e) × (Lists standing_cmp (IsReleasedThere s e) items.items × AreReleasedNumbered s e))
     (λ all. Lists standing_cmp (Contains (deployed.items ++ released.items)) all.items) _

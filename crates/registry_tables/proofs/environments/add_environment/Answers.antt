@@ -17,7 +17,7 @@ returns-then-strict g c =
     let e = c.args.environment.now in
     let first = marks (c.number_for.result == 1) false in
     let last = marks (c.number_for.result == 1) true in
-    statement_seq old mid new c.in-Ok.field-0 c.put_strict.result _ _ _ (λ one _ two s held t next.
+    statement_seq old mid new c.in-Ok.value c.put_strict.result _ _ _ (λ one _ two s held t next.
     let between : State = record s { environments = put_at same_text s.environments e (Some first) } in
     let same : last ≡ marks c.args.gated c.args.strict = λ i. marks (c.number_for.ensures i) (sym c.if-strict.true i) in
     subst (Holds new.now) (put_both s e first last ∙ ap (λ (m : Marks). record s { environments = put_at same_text s.environments e (Some m) }) same ∙ sym next.1)
@@ -30,7 +30,7 @@ returns-else-strict g c =
     let new = state g.S.Store c.put_environment.new.conn in
     let e = c.args.environment.now in
     let first = marks (c.number_for.result == 1) false in
-    statement_with old new (Ok c.in-Ok.field-0) _ _ (λ _ one s held t next.
+    statement_with old new (Ok c.in-Ok.value) _ _ (λ _ one s held t next.
     let same : first ≡ marks c.args.gated c.args.strict = λ i. marks (c.number_for.ensures i) (sym c.if-strict.false i) in
     subst (Holds new.now) (ap (λ (m : Marks). record s { environments = put_at same_text s.environments e (Some m) }) same ∙ sym next.1) (one s held _ (next.0, refl)))
     c.in-Ok.ensures

@@ -6,11 +6,11 @@ use Rattle.broker_tables.proofs.Frames.{held_still}
 use Rattle.registry_tables.proofs.EnvironmentRows.{gated_means, gated_found}
 use Rattle.registry_tables.proofs.environments.gated.Goals as goal
 
-pub returns-in-Ok : goal.returns-in-Ok
-returns-in-Ok g c =
+pub returns : goal.returns
+returns g c =
     let old = state g.S.Store c.args.conn.now in
     let new = state g.S.Store c.number_of.new.conn in
-    statement_result old new c.in-Ok.found c.truth_of.result _ _
-    (IfOk-weaker c.truth_of.result _ _ (λ truth is h s held. (is ∙ gated_found c.args.environment.now old new h.0 s c.in-Ok.found held h.1 h.2, held_still _ _ old new h.0 s (gated_means old.now held.broker) h.1 held)) c.truth_of.ensures.ok)
+    statement_result old new c.in-Ok.value c.truth_of.result _ _
+    (IfOk-weaker c.truth_of.result _ _ (λ truth is h s held. (is ∙ gated_found c.args.environment.now old new h.0 s c.in-Ok.value held h.1 h.2, held_still _ _ old new h.0 s (gated_means old.now held.broker) h.1 held)) c.truth_of.ensures.ok)
     (IfErr-weaker c.truth_of.result _ _ (λ fault why. why.0) c.truth_of.ensures.cause)
     (rw c.params-to_sql.ensures at c.in-Ok.ensures.leaves)

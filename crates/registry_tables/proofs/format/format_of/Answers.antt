@@ -4,10 +4,10 @@ use Rattle.table_access.proofs.CallLemmas.{statement_result}
 use Rattle.registry_tables.proofs.FoundFormat.{format_found, format_read}
 use Rattle.registry_tables.proofs.format.format_of.Goals as goal
 
-pub returns-in-Ok : goal.returns-in-Ok
-returns-in-Ok g c =
+pub returns : goal.returns
+returns g c =
     let old = state g.S.Store c.args.conn.now in
     let new = state g.S.Store c.select.new.conn in
     let has = c.has_meta.ensures.0 c.if-not-has_meta.false in
-    statement_result old new c.in-Ok.rows c.one_number.result _ _
-    (IfOk-weaker c.one_number.result _ _ (λ found it shown. (format_found old new has.0 has.1 has.2 c.in-Ok.rows.items shown found it, format_read old new has.0 has.1 has.2 c.in-Ok.rows.items shown)) (rw c.deref.ensures.value at c.one_number.ensures.ok)) c.one_number.ensures.cause c.in-Ok.ensures.leaves
+    statement_result old new c.in-Ok.value c.one_number.result _ _
+    (IfOk-weaker c.one_number.result _ _ (λ found it shown. (format_found old new has.0 has.1 has.2 c.in-Ok.value.items shown found it, format_read old new has.0 has.1 has.2 c.in-Ok.value.items shown)) (rw c.deref.ensures.value at c.one_number.ensures.ok)) c.one_number.ensures.cause c.in-Ok.ensures.leaves

@@ -5,19 +5,19 @@ use Rattle.broker_tables.proofs.Frames.{held_still}
 use Rattle.registry_tables.proofs.OfficeRows.{office_means, office_found, no_office}
 use Rattle.registry_tables.proofs.office.office_digest.Goals as goal
 
-pub returns-in-Ok-Some-clause-reads : goal.returns-in-Ok-Some-clause-reads
-returns-in-Ok-Some-clause-reads g c =
+pub returns-in-Some-clause-reads : goal.returns-in-Some-clause-reads
+returns-in-Some-clause-reads g c =
     let old = state g.S.Store c.args.conn.now in
     let new = state g.S.Store c.text_of.new.conn in
-    then_ok old new (Some c.in-Ok-Some.digest) c.in-Ok-Some.digest _ _ (λ h s held.
-    let is : Some (string_bytes c.in-Ok-Some.digest) ≡ Some s.office = h.2 ∙ office_found old new h.0 s held h.1 in
-    (cc, held_still _ _ old new h.0 s (office_means old.now held.broker) h.1 held)) (rw c.in-Ok-Some.field-0-is at c.in-Ok-Some.ensures.leaves)
+    then_ok old new (Some c.in-Some.digest) c.in-Some.digest _ _ (λ h s held.
+    let is : Some (string_bytes c.in-Some.digest) ≡ Some s.office = h.2 ∙ office_found old new h.0 s held h.1 in
+    (cc, held_still _ _ old new h.0 s (office_means old.now held.broker) h.1 held)) (rw c.in-Some.is at c.in-Ok.ensures.leaves)
 
-pub returns-in-Ok-Some-clause-memory : goal.returns-in-Ok-Some-clause-memory
-returns-in-Ok-Some-clause-memory g c broker none = memory_ok (state g.S.Store c.args.conn.now) (state g.S.Store c.text_of.new.conn) _
+pub returns-in-Some-clause-memory : goal.returns-in-Some-clause-memory
+returns-in-Some-clause-memory g c broker none = memory_ok (state g.S.Store c.args.conn.now) (state g.S.Store c.text_of.new.conn) _
 
-pub returns-in-Ok-None-clause-memory : goal.returns-in-Ok-None-clause-memory
-returns-in-Ok-None-clause-memory g c broker none = memory_store (state g.S.Store c.args.conn.now) (state g.S.Store c.text_of.new.conn) _ refl
+pub returns-in-None-clause-memory : goal.returns-in-None-clause-memory
+returns-in-None-clause-memory g c broker none = memory_store (state g.S.Store c.args.conn.now) (state g.S.Store c.text_of.new.conn) _ refl
 
 pub returns-in-Err-clause-memory : goal.returns-in-Err-clause-memory
 returns-in-Err-clause-memory g c broker none clean inside is =

@@ -7,15 +7,15 @@ use Rattle.table_access.proofs.CallLemmas.{statement_seq, statement_ok}
 use Rattle.registry_tables.specs.Registry.{AllowsVersionAs, AddsVersion}
 use Rattle.registry_tables.proofs.versions.add_version.Goals as goal
 
-pub returns-in-Ok-add_version_as : goal.returns-in-Ok-add_version_as
-returns-in-Ok-add_version_as g c =
+pub returns : goal.returns
+returns g c =
     let old = state g.S.Store c.args.conn.now in
     let mid = state g.S.Store c.version_count.new.conn in
     let new = state g.S.Store c.add_version_as.new.conn in
     let v = version_named c.args.pacticipant.now c.args.version.now in
-    statement_seq old mid new c.in-Ok.count (Ok c.in-Some.number) _ _ _ (λ one number two s held allowed.
+    statement_seq old mid new c.in-Ok.value (Ok c.in-Some.number) _ _ _ (λ one number two s held allowed.
     let read = one s held in
     two s read.1 (allowed, c.in-Some.ensures.some ∙ ap (λ k. k + 1) read.0))
     c.in-Ok.ensures
-    (statement_ok mid new c.in-Ok-add_version_as.field-0 c.in-Some.number _
+    (statement_ok mid new c.in-Ok-add_version_as.value c.in-Some.number _
     (λ number. (s : State) → Holds mid.now s → AllowsVersionAs c.in-Some.number v s → (t : State) × AddsVersion v number s t × Holds new.now t) (λ adds. adds) c.in-Ok-add_version_as.ensures)
