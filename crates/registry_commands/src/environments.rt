@@ -5,11 +5,11 @@ ghost use Rattle.broker_core.specs.declared.command.Command.TheVariants.{PutEnvi
 ghost use Rattle.command_facts.specs.Performs.{Performs, IsStepOf};
 ghost use Rattle.registry_commands.specs.Facts.{RefusesMarks, AnswersPutEnvironment, AddsNewEnvironment};
 
-use command_facts::rules::is_office;
 use broker_core::answer::{Answer, Clash, Detail};
 use broker_core::command::{FormFault, Marks};
 use broker_core::name::{Name, Text};
 use broker_core::policy::{Caller, Rule};
+use command_facts::rules::is_office;
 use registry_tables::{add_environment, marks_of};
 use sqlite::{Alter, Connection};
 use std::alloc::Global;
@@ -31,7 +31,12 @@ fn form_of_marks(alloc: Global, marks: Marks) -> Result<Option<Answer>, StoreFau
 }
 
 /// The answer if nothing changes; none if the environment is added.
-fn decide_put_environment(alloc: Global, caller: &Caller, old: Option<Marks>, marks: Marks) -> Option<Answer>
+fn decide_put_environment(
+    alloc: Global,
+    caller: &Caller,
+    old: Option<Marks>,
+    marks: Marks,
+) -> Option<Answer>
     ensures unchanged { IfSome result (AnswersPutEnvironment caller.now old marks) }
     ensures changes { IfNone result (AddsNewEnvironment caller.now old marks) }
 {

@@ -5,10 +5,10 @@ ghost use Rattle.broker_tables.specs.Holds.{Queries};
 ghost use Rattle.command_facts.specs.Performs.{Performs, IsStepOf};
 ghost use Rattle.registry_commands.specs.Facts.{IsGrantRead, AnswersPutGrant, AddsNewGrant, AnswersDeleteGrant, TakesGrant};
 
-use command_facts::rules::is_office;
 use broker_core::answer::{Answer, Detail, Missing};
 use broker_core::name::Name;
 use broker_core::policy::{Caller, Rule};
+use command_facts::rules::is_office;
 use registry_tables::{add_grant, gated, granted, has_team, remove_grant};
 use sqlite::{Alter, Connection};
 use std::alloc::Global;

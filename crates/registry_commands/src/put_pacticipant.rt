@@ -6,10 +6,10 @@ ghost use Rattle.command_facts.specs.Performs.{Performs, IsStepOf};
 ghost use Rattle.registry_commands.specs.Facts.{IsPacticipantRead, AnswersPutPacticipant, AddsNewPacticipant};
 ghost use Rattle.broker_core.specs.declared.command.Command.TheVariants.{PutPacticipant};
 
-use command_facts::rules::is_office;
 use broker_core::answer::{Answer, Clash, Detail, Missing};
 use broker_core::name::Name;
 use broker_core::policy::{Caller, Rule};
+use command_facts::rules::is_office;
 use registry_tables::{add_pacticipant, has_team, owner_of};
 use sqlite::{Alter, Connection};
 use std::alloc::Global;

@@ -8,11 +8,11 @@ ghost use Rattle.command_facts.specs.Performs.{Performs, IsStepOf};
 ghost use Rattle.registry_commands.specs.Facts.{IsTeamRead, PutsTeam, AnswersPutTeam, AddsNewTeam};
 ghost use Rattle.broker_core.specs.declared.command.Command.TheVariants.{PutTeam};
 
-use command_facts::callers::{digest_of, holder_of};
-use command_facts::rules::is_office;
 use broker_core::answer::{Answer, Clash, Detail};
 use broker_core::name::{Name, Token};
 use broker_core::policy::{Caller, Rule};
+use command_facts::callers::{digest_of, holder_of};
+use command_facts::rules::is_office;
 use registry_tables::add_team;
 use sqlite::{Alter, Connection};
 use std::alloc::Global;

@@ -10,13 +10,13 @@ ghost use Rattle.registry_tables.specs.Registry.{AllowsVersion, AddsVersion};
 ghost use Rattle.command_facts.specs.Performs.{Performs, IsStepOf};
 ghost use Rattle.registry_commands.specs.Facts.{IsNumberRead, IsRoomRead, IsNamingRead, CanJoin, AnswersPutVersion, NamesOrJoins, IsNamedApart, JoinsTable, RecordsVersion};
 
-use command_facts::rules::{OwnerFacts, read_owner};
 use broker_core::answer::{Answer, Detail, Missing};
 use broker_core::command::Version;
 use broker_core::limit::room;
 use broker_core::name::Name;
 use broker_core::policy::{Caller, Rule};
 use broker_tables::next_number;
+use command_facts::rules::{OwnerFacts, read_owner};
 use registry_tables::{add_branch, add_version_as, on_branch, version_count, version_of};
 use sqlite::{Alter, Connection};
 use std::alloc::Global;
