@@ -2,6 +2,8 @@ pub mod Lists
 pub mod SortingSteps
 pub mod Joined
 pub mod SetLemmas
+pub mod SortedSets
+pub mod Searching
 pub mod HeaderSets
 pub mod Steps
 pub mod Utf8Content
@@ -10,6 +12,7 @@ pub mod ReadKept
 pub mod ReadBack
 pub mod SoundData
 pub mod SoundParts
+pub mod NormalTexts
 pub mod Objects
 pub mod ReadLemmas
 pub mod OrderedSets

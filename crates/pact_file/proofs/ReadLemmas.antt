@@ -1,13 +1,12 @@
 -- What a reading that succeeds went through, and that what is read of sound data is sound.
-use Rattle.std.proofs.Common.{◌≡◌, inl, inr, ℕ, zero, suc, ◌+◌, ◌≤◌, ◌<◌, nat_le, List, [], ◌∷◌, length, map, codes, get_or, true, false, is_some, Some, None, option_and_then, Result, Ok, Err, refl, sym, ap, ◌∙◌, subst, arith}
+use Rattle.std.proofs.Common.{◌≡◌, inl, inr, ℕ, zero, suc, ◌+◌, ◌≤◌, ◌<◌, nat_le, List, [], ◌∷◌, length, map, codes, get_or, Bool, true, false, cond, is_some, Some, None, option_and_then, Result, Ok, Err, refl, sym, ap, ◌∙◌, subst, arith}
 use Rattle.std.specs.Prelude.{⊤}
 use Rattle.std.specs.Option.{ok_or}
 use Rattle.std.proofs.lemmas.Bool.Decides.{nat_tests}
-use Rattle.serde_json.specs.Data.{Data, array, Items, no_items, item, depth}
+use Rattle.serde_json.specs.Data.{Data, Items, no_items, item, depth}
 use Rattle.serde_json.specs.Events.{items_len}
 use Rattle.serde_json.specs.Find.{get, as_array, as_object}
 use Rattle.serde_json.specs.View.{view, items_view, items_of}
-use Rattle.serde_json.specs.Written.{items_have_float}
 use Rattle.serde_json.specs.declared.value.Value.{Value}
 use Rattle.pact_rules.proofs.Bridge.{has_tree}
 use Rattle.pact_rules.specs.Trees.{Node}
@@ -183,19 +182,13 @@ interactions_sound file xs h r =
     let each = each_sound 0 items.0 found.0 (items_sound file items.0 h items.1) found.1 in
     known_sound xs (λ z m. each z (found.2.1.known z m))
 
-pub interactions_whole : (file : Data) (xs : List Interaction) → IsSound 100 file → InteractionsRead file (Ok xs) → items_have_float (items_of (map interaction_data xs)) ≡ false
-interactions_whole file xs h r = is_whole 99 (array (items_of (map interaction_data xs))) (interactions_sound file xs h r)
-
 -- ---- the length of the normal text
 
-test_gt : (m k : ℕ) → k < m → nat_le m k ≡ false
-test_gt m k h = grind (arith, nat_tests)
+pub too_long : (p : Pact) (b : Bool) → b ≡ nat_le (length (normal_text p)) most_bytes → b ≡ false → if_short p ≡ Err TooLong
+too_long p b is h = ap (λ t. cond t (Ok p) (Err TooLong)) (sym is ∙ h)
 
-pub too_long : (p : Pact) (s : List ℕ) → s ≡ normal_text p → 1048576 < length s → if_short p ≡ Err TooLong
-too_long p s is h = let long : nat_le (length (normal_text p)) most_bytes ≡ false = ap (λ t. nat_le (length t) most_bytes) (sym is) ∙ test_gt (length s) most_bytes h in rw long refl
-
-pub short_enough : (p : Pact) (s : List ℕ) → s ≡ normal_text p → length s ≤ 1048576 → if_short p ≡ Ok p
-short_enough p s is h = let short : nat_le (length (normal_text p)) most_bytes ≡ true = ap (λ t. nat_le (length t) most_bytes) (sym is) ∙ test_le (length s) most_bytes h in rw short refl
+pub short_enough : (p : Pact) (b : Bool) → b ≡ nat_le (length (normal_text p)) most_bytes → b ≡ true → if_short p ≡ Ok p
+short_enough p b is h = ap (λ t. cond t (Ok p) (Err TooLong)) (sym is ∙ h)
 
 -- a pact of equal parts
 pub same_pact : {c d q r : List ℕ} (xs : List Interaction) → c ≡ d → q ≡ r → ◌≡◌ {A = Pact} (record { consumer = c; provider = q; interactions = xs }) (record { consumer = d; provider = r; interactions = xs })

@@ -29,7 +29,7 @@ module _ {A : Type 0} (cmp : A → A → Ordering) (total : IsTotalOrder cmp) wh
   abbrev Below : A → List A → Type 0
   Below x ys = AllByRecursion (λ y. cmp x y ≡ Less) ys
 
-  lower : (w x : A) (ys : List A) → cmp w x ≡ Less → Below x ys → Below w ys
+  pub lower : (w x : A) (ys : List A) → cmp w x ≡ Less → Below x ys → Below w ys
   lower w x [] h b = tt
   lower w x (y ∷ ys) h b = (total.trans w x y h b.0, lower w x ys h b.1)
 

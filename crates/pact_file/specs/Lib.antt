@@ -14,3 +14,4 @@ pub mod Normal
 pub mod PartsView
 pub mod Laws
 pub mod Words
+pub mod Texts

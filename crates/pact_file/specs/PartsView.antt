@@ -10,7 +10,7 @@ use Rattle.pact_file.specs.declared.fault.PactFault.TheVariants.{Rules, Memory}
 use Rattle.pact_file.specs.declared.interaction.Parts.{Parts}
 
 abbrev pub parts_view : Parts → Interaction
-parts_view p = interaction_with (string_bytes p.description) p.states.items (view p.request) (view p.response)
+parts_view p = interaction_with (string_bytes p.description) p.states.items (view p.request.now) (view p.response.now)
 
 -- no memory is the whole call's own fault
 abbrev pub as_pact_fault : ℕ → RuleFault → PactFault

@@ -1,10 +1,10 @@
 -- For private clauses: inserting one after another into a list whose keys rise.
-use Rattle.std.specs.Prelude.{◌≡◌, ◌≤◌, ◌++◌, ℕ, length, take, drop, List, [], ◌∷◌, Bool, false, Option, Some, None, option_map, option_and_then, if◌then◌else◌}
+use Rattle.std.specs.Prelude.{◌≡◌, ◌≤◌, ◌++◌, ℕ, length, take, drop, List, [], ◌∷◌, Bool, Option, Some, None, option_map, option_and_then, if◌then◌else◌}
 use Rattle.std.specs.Ordering.{match_ordering}
 use Rattle.std.specs.declared.cmp.Ordering.{Ordering}
 use Rattle.std.specs.Str.{bytes_eq}
 use Rattle.serde_json.specs.Written.{compact_text}
-use Rattle.pact_file.specs.Pact.{Interaction, Header, interaction_data, name_cmp, key_cmp}
+use Rattle.pact_file.specs.Pact.{Interaction, interaction_data, key_cmp}
 
 -- one of a key that is there is kept once, if it is the same
 unfoldable pub insert_sorted : {A : Type 0} → (A → A → Ordering) → (A → A → Bool) → A → List A → Option (List A)
@@ -22,14 +22,7 @@ insert_all_sorted cmp same list (x ∷ xs) =
 abbrev pub same_text : Interaction → Interaction → Bool
 same_text x y = bytes_eq (compact_text (interaction_data x)) (compact_text (interaction_data y))
 
-abbrev pub never : Header → Header → Bool
-never x y = false
-
--- a header in its place by name, where its name isn't there; an interaction in its place by key, where no other has
--- the key
-abbrev pub with_header : Header → List Header → Option (List Header)
-with_header new list = insert_sorted name_cmp never new list
-
+-- an interaction in its place by key, where no other has the key
 abbrev pub with_interaction : Interaction → List Interaction → Option (List Interaction)
 with_interaction new list = insert_sorted key_cmp same_text new list
 

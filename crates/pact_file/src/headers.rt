@@ -1,19 +1,21 @@
 //! The headers of a response.
 
 ghost use Rattle.std.specs.Prelude.{◌≡◌, ◌<◌, ◌++◌, [], codes, map, option_map, string_bytes, IfOk, OnOk};
-ghost use Rattle.std.specs.Prelude.{MatchOption, MatchBool, Some, None};
+ghost use Rattle.std.specs.Prelude.{MatchOption, Some, None};
+ghost use Rattle.std.specs.List.{IsAllAdjacentAnswer};
+ghost use Rattle.std.specs.List.Sorted.{IsPermutation, IsSorted};
+ghost use Rattle.std.specs.Ordering.{is_lt};
 ghost use Rattle.serde_json.specs.Find.{as_str};
 ghost use Rattle.serde_json.specs.View.{view, members_view};
-ghost use Rattle.pact_file.specs.Headers.{HasHeaders, LacksHeaders};
+ghost use Rattle.pact_file.specs.Headers.{HasTwins, HasHeaders, LacksHeaders};
 ghost use Rattle.pact_file.specs.Pact.{name_cmp};
 ghost use Rattle.pact_file.specs.Parts.{all_of, joined, header_value, header_in, members_listed, headers_found};
-ghost use Rattle.pact_file.specs.Sorting.{insert_all_sorted, never, with_header, IsInsertedAt};
+ghost use Rattle.pact_file.specs.Sets.{IsSetInOrder};
 
 use crate::pact::Header;
 use crate::parts::optional_member;
 use serde_json::{Map, Value};
 use std::alloc::{AllocError, Global};
-use std::cmp::Ordering;
 
 /// Adds a text behind those that are there.
 fn push_part(text: &mut String, index: usize, part: &str) -> Result<(), AllocError>
@@ -99,51 +101,32 @@ fn find_headers(alloc: Global, response: &Value) -> Result<Option<Vec<Header>>, 
     }
 }
 
-/// Where the header goes, or None where its name is there.
-fn header_index(list: &[Header], new: &Header) -> Option<usize>
-    ensures { MatchOption result (with_header new.now list.now ≡ None)
-        (IsInsertedAt new.now list.now (with_header new.now list.now)) }
+fn sort_by_name(headers: &mut Vec<Header>)
+    ensures moved { IsPermutation headers.old.items headers.new.items }
+    ensures sorted { IsSorted name_cmp headers.new.items }
 {
-    for (at, other) in list.iter().enumerate() {
-        match name_order(new, other) {
-            Ordering::Less => return Some(at),
-            Ordering::Equal => return None,
-            Ordering::Greater => {}
-        }
+    headers.sort_unstable_by(|left, right| left.name.cmp(&right.name));
+}
+
+/// Whether each name is below the next one.
+fn names_rise(headers: &[Header]) -> bool
+    ensures { IsAllAdjacentAnswer (λ x y b. b ≡ is_lt (name_cmp x y)) headers.now result }
+{
+    headers.is_sorted_by(|left, right| left.name.cmp(&right.name).is_lt())
+}
+
+/// The headers in the order of their names, unless two have one name.
+fn in_name_order(found: Vec<Header>) -> Option<Vec<Header>>
+    ensures { MatchOption result (HasTwins found.items)
+        (λ v. (¬ HasTwins found.items) × IsSetInOrder name_cmp found.items v.items) }
+{
+    let mut headers = found;
+    sort_by_name(&mut headers);
+    if names_rise(&headers) {
+        Some(headers)
+    } else {
+        None
     }
-    Some(list.len())
-}
-
-fn name_order(left: &Header, right: &Header) -> Ordering
-    ensures { result ≡ name_cmp left.now right.now }
-{
-    left.name.cmp(&right.name)
-}
-
-/// Inserts the header, unless its name is there.
-fn insert_header(list: &mut Vec<Header>, new: Header) -> Result<bool, AllocError>
-    ensures { IfOk result (λ is_in. MatchBool is_in
-        (with_header new list.old.items ≡ Some list.new.items)
-        (with_header new list.old.items ≡ None)) }
-{
-    let Some(at) = header_index(list, &new) else {
-        return Ok(false);
-    };
-    list.insert(at, new)?;
-    Ok(true)
-}
-
-fn in_name_order(alloc: Global, found: Vec<Header>) -> Result<Option<Vec<Header>>, AllocError>
-    ensures { IfOk result (λ o.
-        option_map (λ v. v.items) o ≡ insert_all_sorted name_cmp never [] found.items) }
-{
-    let mut list = Vec::new(alloc);
-    for new in found {
-        if !insert_header(&mut list, new)? {
-            return Ok(None);
-        }
-    }
-    Ok(Some(list))
 }
 
 /// The headers of a response or a reply: an object whose values are texts or lists of texts, which are joined by a
@@ -155,7 +138,7 @@ pub fn read_headers(alloc: Global, response: &Value) -> Result<Option<Vec<Header
         (LacksHeaders (view response.now)) (λ v. HasHeaders (view response.now) v.items)) }
 {
     match find_headers(alloc, response)? {
-        Some(found) => in_name_order(alloc, found),
+        Some(found) => Ok(in_name_order(found)),
         None => Ok(None),
     }
 }

@@ -23,17 +23,17 @@ use crate::pact::{Header, Interaction};
 use crate::parts::{object_member, optional_member, read_states, status_of, text_member};
 use crate::state::State;
 use crate::texts::{parts_text, states_text};
-use pact_rules::{RuleFault, RuleTable, Tree, TreeFault, tree_of};
+use pact_rules::{Patterns, RuleFault, RuleTable, Tree, TreeFault, tree_of};
 use serde_json::Value;
 use std::alloc::{AllocError, Global};
 
 /// What is read of an interaction before its headers and its rules.
 #[derive(Drop)]
-struct Parts {
+struct Parts<'a> {
     description: String,
     states: Vec<State>,
-    request: Value,
-    response: Value,
+    request: &'a Value,
+    response: &'a Value,
     status: u16,
 }
 
@@ -70,9 +70,9 @@ fn status_in(response: &Value, place: Place) -> Result<u16, PactFault>
 }
 
 #[tactic(auto, unfolding(crate::specs::Interactions::parts_at))]
-fn read_parts(alloc: Global, index: usize, value: &Value) -> Result<Parts, PactFault>
+fn read_parts<'a>(alloc: Global, index: usize, value: &'a Value) -> Result<Parts<'a>, PactFault>
     ensures parts { Gives Memory parts_view result (parts_at index (view value.now)) }
-    ensures status { IfOk result (λ p. status_found (view p.response) ≡ Some p.status) }
+    ensures status { IfOk result (λ p. status_found (view p.response.now) ≡ Some p.status) }
 {
     if !value.is_object() {
         return Err(PactFault::Shape(Place::Interaction(index, Part::Whole)));
@@ -89,8 +89,8 @@ fn read_parts(alloc: Global, index: usize, value: &Value) -> Result<Parts, PactF
     Ok(Parts {
         description: String::from_str(alloc, description)?,
         states,
-        request: request.clone()?,
-        response: response.clone()?,
+        request,
+        response,
         status,
     })
 }
@@ -131,7 +131,12 @@ fn rule_fault(index: usize, fault: RuleFault) -> PactFault
     }
 }
 
-fn read_rules(alloc: Global, index: usize, response: &Value) -> Result<RuleTable, PactFault>
+fn read_rules(
+    alloc: Global,
+    patterns: &mut Patterns,
+    index: usize,
+    response: &Value,
+) -> Result<RuleTable, PactFault>
     requires { IsSound 97 (view response.now) }
     ensures read { GivesOne Memory (λ t. t) result (RulesRead index (view response.now)) }
     ensures table { IfOk result (λ t. IsRulesOf (view response.now) t) }
@@ -140,7 +145,7 @@ fn read_rules(alloc: Global, index: usize, response: &Value) -> Result<RuleTable
         None => Ok(RuleTable::none(alloc)),
         Some(rules) => {
             let tree = part_of(alloc, rules)?;
-            match RuleTable::read(alloc, &tree) {
+            match RuleTable::read_with(alloc, patterns, &tree) {
                 Ok(table) => Ok(table),
                 Err(fault) => Err(rule_fault(index, fault)),
             }
@@ -150,30 +155,28 @@ fn read_rules(alloc: Global, index: usize, response: &Value) -> Result<RuleTable
 
 fn interaction_of(
     alloc: Global,
-    parts: Parts,
+    parts: Parts<'_>,
     headers: Vec<Header>,
     rules: RuleTable,
 ) -> Result<Interaction, AllocError>
     requires sound { IsSound 98 (interaction_data (parts_view parts)) }
-    requires status { status_found (view parts.response) ≡ Some parts.status }
-    requires headers { HasHeaders (view parts.response) headers.items }
-    requires rules { IsRulesOf (view parts.response) rules }
-    ensures { IfOk result (λ x. x ≡ parts_view parts) }
+    requires status { status_found (view parts.response.now) ≡ Some parts.status }
+    requires headers { HasHeaders (view parts.response.now) headers.items }
+    requires rules { IsRulesOf (view parts.response.now) rules }
+    ensures { IfOk result (λ x. x ≡ parts_view parts.entry) }
 {
     let states_text = states_text(alloc, parts.states.as_slice())?;
     let text = parts_text(
         alloc,
         parts.description.as_str(),
-        parts.states.as_slice(),
-        &parts.request,
-        &parts.response,
+        states_text.as_str(),
+        parts.request,
+        parts.response,
     )?;
-    let body = body_of(alloc, &parts.response)?;
+    let body = body_of(alloc, parts.response)?;
     Ok(Interaction {
         description: parts.description,
         states: parts.states,
-        request: parts.request,
-        response: parts.response,
         status: parts.status,
         headers,
         body,
@@ -186,6 +189,7 @@ fn interaction_of(
 /// The interaction at this index, or its first fault.
 pub(crate) fn read_interaction(
     alloc: Global,
+    patterns: &mut Patterns,
     index: usize,
     value: &Value,
 ) -> Result<Interaction, PactFault>
@@ -193,10 +197,10 @@ pub(crate) fn read_interaction(
     ensures { GivesOne Memory (λ x. x) result (InteractionRead index (view value.now)) }
 {
     let parts = read_parts(alloc, index, value)?;
-    match read_headers(alloc, &parts.response)? {
+    match read_headers(alloc, parts.response)? {
         None => Err(PactFault::Shape(Place::Interaction(index, Part::Headers))),
         Some(headers) => {
-            let rules = read_rules(alloc, index, &parts.response)?;
+            let rules = read_rules(alloc, patterns, index, parts.response)?;
             Ok(interaction_of(alloc, parts, headers, rules)?)
         }
     }

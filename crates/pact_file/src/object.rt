@@ -1,12 +1,13 @@
 //! Files of JSON that are one object without fractions.
 
+ghost use Rattle.std.specs.Prelude.{◌≡◌};
 ghost use Rattle.pact_file.specs.Objects.{json_of, tree_or_fault, object_of};
 ghost use Rattle.pact_file.specs.declared.object.FileFault.TheVariants.{Memory};
 ghost use Rattle.pact_rules.specs.Outcome.{Gives};
 ghost use Rattle.pact_rules.specs.TreeReading.{tree_in};
 ghost use Rattle.serde_json.specs.View.{view};
 
-use pact_rules::{TreeFault, tree_of};
+use pact_rules::{TreeFault, check_tree};
 use serde_json::Value;
 use std::alloc::Global;
 
@@ -39,14 +40,12 @@ fn read_json(alloc: Global, bytes: &[u8]) -> Result<Value, FileFault>
     }
 }
 
-fn check_tree(alloc: Global, value: &Value) -> Result<(), FileFault>
-    ensures { Gives Memory (λ x. x) result (tree_or_fault (tree_in (view value.now))) }
+fn check_file(value: &Value) -> Result<(), FileFault>
+    ensures { result ≡ tree_or_fault (tree_in (view value.now)) }
 {
-    match tree_of(alloc, value) {
-        Ok(_) => Ok(()),
-        Err(TreeFault::NotWhole) => Err(FileFault::Tree(TreeFault::NotWhole)),
-        Err(TreeFault::TooDeep) => Err(FileFault::Tree(TreeFault::TooDeep)),
-        Err(TreeFault::Memory) => Err(FileFault::Memory),
+    match check_tree(value) {
+        Ok(()) => Ok(()),
+        Err(fault) => Err(FileFault::Tree(fault)),
     }
 }
 
@@ -57,7 +56,7 @@ pub fn read_object(alloc: Global, bytes: &[u8]) -> Result<Value, FileFault>
     ensures { Gives Memory view result (object_of bytes.now) }
 {
     let value = read_json(alloc, bytes)?;
-    check_tree(alloc, &value)?;
+    check_file(&value)?;
     if !value.is_object() {
         return Err(FileFault::NotObject);
     }

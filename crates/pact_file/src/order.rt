@@ -5,6 +5,7 @@ ghost use Rattle.std.specs.Option.{ok_or};
 ghost use Rattle.pact_file.specs.declared.fault.PactFault.TheVariants.{Memory, SameInteraction};
 ghost use Rattle.pact_rules.specs.Outcome.{Gives};
 ghost use Rattle.pact_file.specs.Pact.{key_cmp};
+ghost use Rattle.pact_file.specs.Sets.{IsRising};
 ghost use Rattle.pact_file.specs.Sorting.{insert_all_sorted, same_text, with_interaction, IsInsertedAt};
 
 use crate::fault::PactFault;
@@ -28,29 +29,27 @@ fn is_same(left: &Interaction, right: &Interaction) -> bool
 
 /// Where the interaction goes, or None where it is there.
 fn index_of(list: &[Interaction], new: &Interaction) -> Result<Option<usize>, PactFault>
+    requires { IsRising key_cmp list.now }
     ensures ok { IfOk result (λ o. MatchOption o
         (with_interaction new.now list.now ≡ Some list.now)
         (IsInsertedAt new.now list.now (with_interaction new.now list.now))) }
     ensures err { IfErr result (λ e.
         (e ≡ SameInteraction) × (with_interaction new.now list.now ≡ None)) }
 {
-    for (at, other) in list.iter().enumerate() {
-        match key_order(new, other) {
-            Ordering::Less => return Ok(Some(at)),
-            Ordering::Greater => {}
-            Ordering::Equal => {
-                if is_same(new, other) {
-                    return Ok(None);
-                }
-                return Err(PactFault::SameInteraction);
+    match list.binary_search_by(|other| key_order(other, new)) {
+        Ok(place) => {
+            if is_same(new, &list[place]) {
+                return Ok(None);
             }
+            Err(PactFault::SameInteraction)
         }
+        Err(at) => Ok(Some(at)),
     }
-    Ok(Some(list.len()))
 }
 
 /// Inserts the interaction, unless it is there.
 fn insert_interaction(list: &mut Vec<Interaction>, new: Interaction) -> Result<(), PactFault>
+    requires { IsRising key_cmp list.old.items }
     ensures { Gives Memory (λ _. list.new.items) result
         (ok_or (with_interaction new list.old.items) SameInteraction) }
 {

@@ -2,17 +2,16 @@
 
 ghost use Rattle.std.specs.Prelude.{◌≡◌, Some, None, map, IfOk, string_bytes, option_map};
 ghost use Rattle.pact_rules.specs.TreeView.{tree_view, optional_view};
-ghost use Rattle.serde_json.specs.View.{view};
 ghost use Rattle.pact_file.specs.Headers.{HasHeaders};
-ghost use Rattle.pact_file.specs.Pact.{normal_text, states_data};
+ghost use Rattle.pact_file.specs.Pact.{normal_text, states_data, interaction_data};
 ghost use Rattle.pact_file.specs.Parts.{status_in, body_in};
 ghost use Rattle.pact_file.specs.Rules.{IsRulesOf};
 ghost use Rattle.pact_file.specs.Sound.{IsSound};
 ghost use Rattle.serde_json.specs.Written.{compact_text};
 
 use crate::state::State;
+use crate::texts::text_of_pact;
 use pact_rules::{RuleTable, Tree};
-use serde_json::Value;
 use std::alloc::AllocError;
 use std::marker::Model;
 
@@ -50,13 +49,11 @@ impl Header {
     }
 }
 
-/// An interaction: a request and the response that it must get.
+/// An interaction: a request and the response that it must get. Both stand in its text alone.
 #[derive(Drop)]
 pub struct Interaction {
     pub(crate) description: String,
     pub(crate) states: Vec<State>,
-    pub(crate) request: Value,
-    pub(crate) response: Value,
     pub(crate) status: u16,
     pub(crate) headers: Vec<Header>,
     pub(crate) body: Option<Tree>,
@@ -67,20 +64,20 @@ pub struct Interaction {
 
 impl Model for Interaction {
     ghost use Rattle.std.specs.Prelude.{string_bytes, option_map};
-    ghost use Rattle.serde_json.specs.View.{view as seen};
     ghost use Rattle.pact_rules.specs.TreeView.{tree_view};
-    ghost use Rattle.pact_file.specs.Pact.{Interaction as InteractionModel, interaction_code, interaction_with};
+    ghost use Rattle.pact_file.specs.Pact.{Interaction as InteractionModel, interaction_code};
+    ghost use Rattle.pact_file.specs.Texts.{interaction_of_text};
     ghost use Rattle.pact_file.specs.Filled.{IsFilled};
 
     ghost Value = { InteractionModel };
 
     ghost coded = { interaction_code };
 
-    ghost view = { λ a. interaction_with
-        (string_bytes a.description) a.states.items (seen a.request) (seen a.response) };
+    ghost view = { λ a. interaction_of_text
+        (string_bytes a.description) a.states.items (string_bytes a.text) };
 
-    ghost invariant = { λ a. IsFilled (interaction_with
-        (string_bytes a.description) a.states.items (seen a.request) (seen a.response))
+    ghost invariant = { λ a. IsFilled (interaction_of_text
+        (string_bytes a.description) a.states.items (string_bytes a.text))
         a.status a.headers.items (option_map tree_view a.body) a.rules
         (string_bytes a.states_text) (string_bytes a.text) };
 }
@@ -129,6 +126,13 @@ impl Interaction {
         self.body.as_ref()
     }
 
+    /// The compact text of its normal form.
+    pub(crate) fn text(&self) -> &str
+        ensures { result.now ≡ compact_text (interaction_data self.now) }
+    {
+        self.text.as_str()
+    }
+
     /// The matching rules.
     pub fn rules(&self) -> &RuleTable
         ensures { IsRulesOf self.now.response result.now }
@@ -143,12 +147,11 @@ pub struct Pact {
     pub(crate) consumer: String,
     pub(crate) provider: String,
     pub(crate) interactions: Vec<Interaction>,
-    pub(crate) text: String,
 }
 
 impl Model for Pact {
-    ghost use Rattle.std.specs.Prelude.{◌≡◌, string_bytes};
-    ghost use Rattle.pact_file.specs.Pact.{Pact as PactModel, pact_code, pact_with, normal_text};
+    ghost use Rattle.std.specs.Prelude.{string_bytes};
+    ghost use Rattle.pact_file.specs.Pact.{Pact as PactModel, pact_code, pact_with};
 
     ghost Value = { PactModel };
 
@@ -156,9 +159,6 @@ impl Model for Pact {
 
     ghost view = { λ a. pact_with
         (string_bytes a.consumer) (string_bytes a.provider) a.interactions.items };
-
-    ghost invariant = { λ a. string_bytes a.text ≡ normal_text (pact_with
-        (string_bytes a.consumer) (string_bytes a.provider) a.interactions.items) };
 }
 
 impl Pact {
@@ -183,10 +183,10 @@ impl Pact {
         self.interactions.as_slice()
     }
 
-    /// The normal text.
+    /// The normal text, made of the texts of the interactions at each call.
     pub fn normal_text(&self) -> Result<String, AllocError>
         ensures { IfOk result (λ s. string_bytes s ≡ normal_text self.now) }
     {
-        self.text.clone()
+        text_of_pact(self)
     }
 }

@@ -20,7 +20,8 @@ use crate::object::{FileFault, read_object};
 use crate::order::in_key_order;
 use crate::pact::{Interaction, Pact};
 use crate::parts::list_member;
-use crate::texts::text_of_pact;
+use crate::texts::is_short;
+use pact_rules::Patterns;
 use serde_json::Value;
 use std::alloc::Global;
 
@@ -161,9 +162,10 @@ fn read_list(alloc: Global, items: &[Value]) -> Result<Vec<Interaction>, PactFau
     ensures { GivesOne Memory (λ v. v.items) result
         (EachRead InteractionRead 0 (map view items.now)) }
 {
+    let mut patterns = Patterns::new(alloc);
     let mut found = Vec::new(alloc);
     for (index, item) in items.iter().enumerate() {
-        found.push(read_interaction(alloc, index, item)?)?;
+        found.push(read_interaction(alloc, &mut patterns, index, item)?)?;
     }
     Ok(found)
 }
@@ -213,14 +215,13 @@ pub fn read_pact(alloc: Global, bytes: &[u8]) -> Result<Pact, PactFault>
     let file = read_file(alloc, bytes)?;
     let (consumer, provider) = read_sides(&file)?;
     let interactions = read_interactions(alloc, &file)?;
-    let text = text_of_pact(alloc, consumer, provider, interactions.as_slice())?;
-    if text.len() > MOST_BYTES {
+    let has_room = is_short(alloc, consumer, provider, interactions.as_slice())?;
+    if !has_room {
         return Err(PactFault::TooLong);
     }
     Ok(Pact {
         consumer: String::from_str(alloc, consumer)?,
         provider: String::from_str(alloc, provider)?,
         interactions,
-        text,
     })
 }

@@ -1,12 +1,15 @@
 //! Normal forms as JSON values, and their compact texts.
 
-ghost use Rattle.std.specs.Prelude.{◌≡◌, map, false, string_bytes, IfOk};
-ghost use Rattle.serde_json.specs.View.{view, items_of};
-ghost use Rattle.serde_json.specs.Written.{has_float, compact_text, items_have_float};
-ghost use Rattle.pact_file.specs.Pact.{state_data, states_data, interaction_with, interaction_data, pact_with};
-ghost use Rattle.pact_file.specs.Pact.{pact_data, normal_text};
+ghost use Rattle.std.specs.Prelude.{◌≡◌, ◌+◌, ◌<◌, ◌≤◌, ◌++◌, codes, length, map, nat_le, false, string_bytes};
+ghost use Rattle.std.specs.Prelude.{IfOk, OnOk, MatchOption};
+ghost use Rattle.json.specs.Print.{quoted};
+ghost use Rattle.serde_json.specs.View.{view};
+ghost use Rattle.serde_json.specs.Written.{has_float, compact_text};
+ghost use Rattle.pact_file.specs.File.{most_bytes};
+ghost use Rattle.pact_file.specs.Pact.{state_data, states_data, pact_with, normal_text};
+ghost use Rattle.pact_file.specs.Texts.{text_of_parts, interactions_text, item_length, pact_length};
 
-use crate::pact::Interaction;
+use crate::pact::{Interaction, Pact};
 use crate::state::State;
 use serde_json::{Value, json};
 use std::alloc::{AllocError, Global};
@@ -40,92 +43,138 @@ pub fn states_text(alloc: Global, states: &[State]) -> Result<String, AllocError
     value.to_string(alloc)
 }
 
-fn parts_value(
-    alloc: Global,
-    description: &str,
-    states: &[State],
-    request: &Value,
-    response: &Value,
-) -> Result<Value, AllocError>
-    ensures { IfOk result (λ v. view v ≡ interaction_data (interaction_with
-        description.now states.now (view request.now) (view response.now))) }
+/// A text as it stands in JSON.
+fn quoted_text(alloc: Global, text: &str) -> Result<String, AllocError>
+    ensures { IfOk result (λ s. string_bytes s ≡ quoted text.now) }
 {
-    let states = states_value(alloc, states)?;
-    json!(in alloc; {
-        "description": description,
-        "providerStates": states,
-        "request": request,
-        "response": response
-    })
+    let value = Value::String(String::from_str(alloc, text)?);
+    value.to_string(alloc)
 }
 
-/// The compact text of an interaction's normal form.
+/// The compact text of an interaction's normal form, made of the text of its states.
 pub(crate) fn parts_text(
     alloc: Global,
     description: &str,
-    states: &[State],
+    states_text: &str,
     request: &Value,
     response: &Value,
 ) -> Result<String, AllocError>
-    requires { has_float (interaction_data (interaction_with
-        description.now states.now (view request.now) (view response.now))) ≡ false }
-    ensures { IfOk result (λ s. string_bytes s ≡ compact_text (interaction_data (interaction_with
-        description.now states.now (view request.now) (view response.now)))) }
+    requires request { has_float (view request.now) ≡ false }
+    requires response { has_float (view response.now) ≡ false }
+    ensures { IfOk result (λ s. string_bytes s
+        ≡ text_of_parts description.now states_text.now (view request.now) (view response.now)) }
 {
-    let value = parts_value(alloc, description, states, request, response)?;
-    value.to_string(alloc)
-}
-
-fn interaction_value(alloc: Global, interaction: &Interaction) -> Result<Value, AllocError>
-    ensures { IfOk result (λ v. view v ≡ interaction_data interaction.now) }
-{
-    parts_value(
-        alloc,
-        interaction.description.as_str(),
-        interaction.states.as_slice(),
-        &interaction.request,
-        &interaction.response,
+    let description = quoted_text(alloc, description)?;
+    let request = request.to_string(alloc)?;
+    let response = response.to_string(alloc)?;
+    format!(in alloc;
+        "{{\"description\":{},\"providerStates\":{},\"request\":{},\"response\":{}}}",
+        description, states_text, request, response
     )
 }
 
-fn interaction_values(alloc: Global, interactions: &[Interaction]) -> Result<Vec<Value>, AllocError>
-    ensures { IfOk result (λ v. map view v.items ≡ map interaction_data interactions.now) }
+/// Adds the text of an item behind those that are there.
+fn push_item(texts: &mut String, index: usize, item: &str) -> Result<(), AllocError>
+    ensures first { OnOk result (index ≡ 0
+        → string_bytes texts.new ≡ string_bytes texts.old ++ item.now) }
+    ensures later { OnOk result (0 < index
+        → string_bytes texts.new ≡ string_bytes texts.old ++ (codes "," ++ item.now)) }
 {
-    let mut values = Vec::new(alloc);
-    for interaction in interactions {
-        values.push(interaction_value(alloc, interaction)?)?;
+    if index > 0 {
+        texts.push_str(",")?;
     }
-    Ok(values)
+    texts.push_str(item)?;
+    Ok(())
 }
 
-fn pact_value(
+/// The interactions' texts, with a comma between each two.
+fn joined_texts(alloc: Global, interactions: &[Interaction]) -> Result<String, AllocError>
+    ensures { IfOk result (λ s. string_bytes s ++ codes "]" ≡ interactions_text interactions.now) }
+{
+    let mut texts = String::new(alloc);
+    for (index, interaction) in interactions.iter().enumerate() {
+        push_item(&mut texts, index, interaction.text())?;
+    }
+    Ok(texts)
+}
+
+/// The normal text of a pact, made of the texts of its interactions.
+pub(crate) fn text_of_pact(pact: &Pact) -> Result<String, AllocError>
+    ensures { IfOk result (λ s. string_bytes s ≡ normal_text pact.now) }
+{
+    let alloc = *pact.consumer.allocator();
+    let consumer = quoted_text(alloc, pact.consumer.as_str())?;
+    let provider = quoted_text(alloc, pact.provider.as_str())?;
+    let texts = joined_texts(alloc, pact.interactions.as_slice())?;
+    format!(in alloc;
+        "{{\"consumer\":{{\"name\":{}}},\"interactions\":[{}],\"provider\":{{\"name\":{}}}}}",
+        consumer, texts, provider
+    )
+}
+
+/// What is left of so much room behind an item's text, and behind the comma before it where it isn't the first; None
+/// where it doesn't fit.
+fn room_behind(room: usize, index: usize, item: &str) -> Option<usize>
+    ensures { MatchOption result (room < item_length index item.now)
+        (λ left. left + item_length index item.now ≡ room) }
+{
+    let length = item.len();
+    if room < length {
+        return None;
+    }
+    let room = room - length;
+    if index == 0 {
+        return Some(room);
+    }
+    if room == 0 {
+        return None;
+    }
+    Some(room - 1)
+}
+
+/// The same behind all interactions, where the bracket that ends them has a place of its own.
+fn room_behind_all(room: usize, interactions: &[Interaction]) -> Option<usize>
+    ensures { MatchOption result (room + 1 < length (interactions_text interactions.now))
+        (λ rest. rest + length (interactions_text interactions.now) ≡ room + 1) }
+{
+    let mut rest = room;
+    for (index, interaction) in interactions.iter().enumerate() {
+        match room_behind(rest, index, interaction.text()) {
+            Some(less) => rest = less,
+            None => return None,
+        }
+    }
+    Some(rest)
+}
+
+/// How much room a normal text has for its two names in quotes and its interactions, the last bracket aside.
+const ROOM: usize = 1_048_515;
+
+/// What is left of it, if all fit.
+fn room_left(consumer: &str, provider: &str, interactions: &[Interaction]) -> Option<usize>
+    ensures { MatchOption result
+        (most_bytes < pact_length consumer.now provider.now interactions.now)
+        (λ _. pact_length consumer.now provider.now interactions.now ≤ most_bytes) }
+{
+    let room = room_behind(ROOM, 0, consumer)?;
+    let room = room_behind(room, 0, provider)?;
+    room_behind_all(room, interactions)
+}
+
+/// Whether the normal text of a pact of these parts has at most 1,048,576 bytes; it isn't written for it.
+pub(crate) fn is_short(
     alloc: Global,
     consumer: &str,
     provider: &str,
     interactions: &[Interaction],
-) -> Result<Value, AllocError>
-    ensures { IfOk result (λ v.
-        view v ≡ pact_data (pact_with consumer.now provider.now interactions.now)) }
+) -> Result<bool, AllocError>
+    ensures { IfOk result (λ b. b ≡ nat_le
+        (length (normal_text (pact_with consumer.now provider.now interactions.now))) most_bytes) }
 {
-    let interactions = interaction_values(alloc, interactions)?;
-    json!(in alloc; {
-        "consumer": {"name": consumer},
-        "interactions": interactions,
-        "provider": {"name": provider}
-    })
-}
-
-/// The normal text of a pact of these parts.
-pub(crate) fn text_of_pact(
-    alloc: Global,
-    consumer: &str,
-    provider: &str,
-    interactions: &[Interaction],
-) -> Result<String, AllocError>
-    requires { items_have_float (items_of (map interaction_data interactions.now)) ≡ false }
-    ensures { IfOk result (λ s.
-        string_bytes s ≡ normal_text (pact_with consumer.now provider.now interactions.now)) }
-{
-    let value = pact_value(alloc, consumer, provider, interactions)?;
-    value.to_string(alloc)
+    let consumer = quoted_text(alloc, consumer)?;
+    let provider = quoted_text(alloc, provider)?;
+    match room_left(consumer.as_str(), provider.as_str(), interactions) {
+        Some(_) => Ok(true),
+        None => Ok(false),
+    }
 }

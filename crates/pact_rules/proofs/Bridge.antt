@@ -1,5 +1,5 @@
 -- A value that was read and its tree are each other's.
-use Rattle.std.proofs.Common.{◌≡◌, pos, negsuc, List, ℕ, false, ◌||◌, Option, Some, None, option_map, Result, Ok, Err, IfOk, refl, sym, ap, ◌∙◌, subst}
+use Rattle.std.proofs.Common.{◌≡◌, pos, negsuc, List, ℕ, Bool, true, false, true≢false, ◌||◌, Option, Some, None, option_map, Result, Ok, Err, IfOk, refl, sym, ap, ◌∙◌, subst}
 use Rattle.std.proofs.lemmas.Option.{same_Some}
 use Rattle.std.proofs.lemmas.Bool.{or_parts}
 use Rattle.serde_json.specs.Data as json
@@ -8,11 +8,11 @@ use Rattle.serde_json.specs.Written.{has_float, items_have_float, members_have_f
 use Rattle.pact_rules.specs.Kept as kept
 use Rattle.pact_rules.specs.Outcome.{Gives}
 use Rattle.pact_rules.specs.Trees.{Node, null, truth, whole, text, list, object, Nodes, no_nodes, node, Fields, no_fields, field, IsTree, AreTrees, IsMap, IsBelowFields}
-use Rattle.pact_rules.specs.TreeReading.{whole_number, whole_tree, whole_items, whole_members, whole_or, data_of, items_data, members_data}
+use Rattle.pact_rules.specs.TreeReading.{whole_number, whole_tree, whole_items, whole_members, whole_or, checked, data_of, items_data, members_data}
 use Rattle.pact_rules.specs.TreeView.{tree_view}
 use Rattle.pact_rules.specs.declared.tree.Tree.{Tree}
 use Rattle.pact_rules.specs.declared.tree.TreeFault.{TreeFault}
-use Rattle.pact_rules.specs.declared.tree.TreeFault.TheVariants.{Memory}
+use Rattle.pact_rules.specs.declared.tree.TreeFault.TheVariants.{Memory, NotWhole}
 use Rattle.pact_rules.proofs.TreeLemmas.{both_some, both_make, whole_of}
 
 map_some : {A B : Type 0} (f : A → B) (o : Option A) (y : B) → option_map f o ≡ Some y → (x : A) × (o ≡ Some x) × (f x ≡ y)
@@ -107,6 +107,20 @@ mutual
   members_have_trees (json.member k d ms) h =
       let p = or_parts (has_float d) _ h in let a = has_tree d p.0 in let b = members_have_trees ms p.1 in
       (field k a.0 b.0, both_make (whole_tree d) (whole_members ms) (field k) a.0 b.0 a.1 b.1)
+
+-- ---- whether it has one, told without making it
+
+no_tree : (o : Option Node) → (b : Bool) → ((t : Node) → o ≡ Some t → b ≡ false) → b ≡ true → checked (whole_or o) ≡ Err NotWhole
+no_tree None b f h = refl
+no_tree (Some t) b f h = absurd (true≢false (sym h ∙ f t refl))
+
+-- a value with a fraction is refused for it
+pub is_no_tree : (d : json.Data) → has_float d ≡ true → checked (whole_or (whole_tree d)) ≡ Err NotWhole
+is_no_tree d h = no_tree (whole_tree d) (has_float d) (no_float d) h
+
+-- and one without is a tree
+pub is_whole_tree : (d : json.Data) → has_float d ≡ false → checked (whole_or (whole_tree d)) ≡ Ok tt
+is_whole_tree d h = ap (λ o. checked (whole_or o)) (has_tree d h).1
 
 -- ---- the keys stay in order
 

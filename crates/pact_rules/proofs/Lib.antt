@@ -4,7 +4,9 @@ pub mod Each
 pub mod ChoiceLemmas
 pub mod MatchingLemmas
 pub mod PatternLemmas
+mod BuiltPatterns
 pub mod OrderLemmas
 pub mod ReadingLemmas
+mod NameLemmas
 pub mod WalkLemmas
 mod Examples

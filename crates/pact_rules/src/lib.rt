@@ -2,6 +2,7 @@
 #![tactic(auto)]
 
 mod matching;
+mod patterns;
 mod rule_fault;
 mod rule_reader;
 mod table;
@@ -11,7 +12,8 @@ mod walk;
 
 pub use matching::{MatchFault, has_keys_of, holds};
 pub use pact_paths::{Path, PathFault, Step, weight};
+pub use patterns::Patterns;
 pub use rule_fault::{RuleFault, Word};
 pub use table::{Entry, Matcher, RuleTable};
-pub use tree::{Tree, TreeFault, tree_of};
+pub use tree::{Tree, TreeFault, check_tree, tree_of};
 pub use walk::Alive;

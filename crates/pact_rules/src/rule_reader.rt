@@ -8,13 +8,12 @@ ghost use Rattle.pact_rules.specs.RuleReading.{Reads, optional_at, as_text, boun
 ghost use Rattle.pact_rules.specs.RuleReading.{combine_of as combine_in, pattern_at, same_type_at, nameless_matcher};
 ghost use Rattle.pact_rules.specs.RuleReading.{named_matcher, matcher_at, matchers_at, as_object, as_list, entry_at};
 ghost use Rattle.pact_rules.specs.RuleReading.{include_at};
-ghost use Rattle.pact_rules.specs.Refusals.{HasCause, as_rule_fault};
 ghost use Rattle.pact_rules.specs.declared.rule_fault.RuleFault.TheVariants.{Unsupported};
 
+use crate::patterns::Patterns;
 use crate::rule_fault::{RuleFault, Word};
 use crate::table::{Entry, Matcher};
 use crate::tree::Tree;
-use regex::Regex;
 use std::alloc::Global;
 use std::collections::BTreeMap;
 
@@ -88,26 +87,21 @@ fn same_type_of(members: &BTreeMap<String, Tree>) -> Result<Matcher, RuleFault>
     }
 }
 
-fn pattern_of(alloc: Global, members: &BTreeMap<String, Tree>) -> Result<Matcher, RuleFault>
+fn pattern_of(
+    alloc: Global,
+    patterns: &mut Patterns,
+    members: &BTreeMap<String, Tree>,
+) -> Result<Matcher, RuleFault>
     ensures { Reads matcher_view result
         (λ accepts. pattern_at accepts (object_view members.now.entries)) }
 {
     match text_of(optional_member(members, "regex")) {
         Some(source) => {
-            check_pattern(alloc, source)?;
+            patterns.build(alloc, source)?;
             Ok(Matcher::Regex(String::from_str(alloc, source)?))
         }
         None => Err(RuleFault::Pattern),
     }
-}
-
-/// Builds the pattern once, so that a refused one is a fault of the table.
-fn check_pattern(alloc: Global, source: &str) -> Result<(), RuleFault>
-    ensures read { IfOk result (λ _. is_pattern source.now ≡ true) }
-    ensures fails { IfErr result (HasCause as_rule_fault source.now) }
-{
-    let _regex = Regex::new(alloc, source)?;
-    Ok(())
 }
 
 pub(crate) fn object_of(tree: &Tree) -> Option<&BTreeMap<String, Tree>>
@@ -119,12 +113,16 @@ pub(crate) fn object_of(tree: &Tree) -> Option<&BTreeMap<String, Tree>>
     }
 }
 
-fn nameless_of(alloc: Global, members: &BTreeMap<String, Tree>) -> Result<Matcher, RuleFault>
+fn nameless_of(
+    alloc: Global,
+    patterns: &mut Patterns,
+    members: &BTreeMap<String, Tree>,
+) -> Result<Matcher, RuleFault>
     ensures { Reads matcher_view result
         (λ accepts. nameless_matcher accepts (object_view members.now.entries)) }
 {
     if optional_member(members, "regex").is_some() {
-        pattern_of(alloc, members)
+        pattern_of(alloc, patterns, members)
     } else if optional_member(members, "min").is_some()
         || optional_member(members, "max").is_some()
     {
@@ -143,6 +141,7 @@ fn unsupported(alloc: Global, name: &str) -> Result<Matcher, RuleFault>
 /// A matcher by the text under `match`; under a header there is no integer, number or null.
 fn named_of(
     alloc: Global,
+    patterns: &mut Patterns,
     in_header: bool,
     members: &BTreeMap<String, Tree>,
     name: &str,
@@ -155,7 +154,7 @@ fn named_of(
     } else if name == "type" {
         same_type_of(members)
     } else if name == "regex" {
-        pattern_of(alloc, members)
+        pattern_of(alloc, patterns, members)
     } else if name == "include" {
         include_of(alloc, members)
     } else if !in_header && (name == "integer" || name == "number") {
@@ -176,7 +175,12 @@ fn include_of(alloc: Global, members: &BTreeMap<String, Tree>) -> Result<Matcher
     }
 }
 
-fn matcher_of(alloc: Global, in_header: bool, tree: &Tree) -> Result<Matcher, RuleFault>
+fn matcher_of(
+    alloc: Global,
+    patterns: &mut Patterns,
+    in_header: bool,
+    tree: &Tree,
+) -> Result<Matcher, RuleFault>
     ensures { Reads matcher_view result
         (λ accepts. matcher_at accepts in_header (tree_view tree.now)) }
 {
@@ -184,21 +188,26 @@ fn matcher_of(alloc: Global, in_header: bool, tree: &Tree) -> Result<Matcher, Ru
         return Err(RuleFault::Form);
     };
     let Some(name) = optional_member(members, "match") else {
-        return nameless_of(alloc, members);
+        return nameless_of(alloc, patterns, members);
     };
     match text_of(Some(name)) {
-        Some(name) => named_of(alloc, in_header, members, name),
+        Some(name) => named_of(alloc, patterns, in_header, members, name),
         None => Err(RuleFault::Form),
     }
 }
 
-fn matchers_of(alloc: Global, in_header: bool, items: &Vec<Tree>) -> Result<Vec<Matcher>, RuleFault>
+fn matchers_of(
+    alloc: Global,
+    patterns: &mut Patterns,
+    in_header: bool,
+    items: &Vec<Tree>,
+) -> Result<Vec<Matcher>, RuleFault>
     ensures { Reads (λ v. map matcher_view v.items) result
         (λ accepts. matchers_at accepts in_header (list_view items.now.items)) }
 {
     let mut matchers = Vec::new(alloc);
     for item in items {
-        matchers.push(matcher_of(alloc, in_header, item)?)?;
+        matchers.push(matcher_of(alloc, patterns, in_header, item)?)?;
     }
     Ok(matchers)
 }
@@ -213,7 +222,12 @@ fn list_of(tree: Option<&Tree>) -> Option<&Vec<Tree>>
 }
 
 /// An entry behind its path.
-pub(crate) fn entry_of(alloc: Global, in_header: bool, tree: &Tree) -> Result<Entry, RuleFault>
+pub(crate) fn entry_of(
+    alloc: Global,
+    patterns: &mut Patterns,
+    in_header: bool,
+    tree: &Tree,
+) -> Result<Entry, RuleFault>
     ensures { Reads entry_view result (λ accepts. entry_at accepts in_header (tree_view tree.now)) }
 {
     let Some(members) = object_of(tree) else {
@@ -223,6 +237,6 @@ pub(crate) fn entry_of(alloc: Global, in_header: bool, tree: &Tree) -> Result<En
         return Err(RuleFault::Form);
     };
     let any = combine_of(optional_member(members, "combine"))?;
-    let matchers = matchers_of(alloc, in_header, items)?;
+    let matchers = matchers_of(alloc, patterns, in_header, items)?;
     Ok(Entry { any, matchers })
 }

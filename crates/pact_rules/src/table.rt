@@ -1,17 +1,22 @@
 //! Rule tables: what they hold, and the entry that is chosen at a location.
 
 ghost use Rattle.std.specs.Prelude.{slice_get, Some, ◌≡◌, ◌<◌, length, map, ℕ, IfSome, option_map};
+ghost use Rattle.std.specs.Char.{to_ascii_lowercase};
+ghost use Rattle.std.specs.Cmp.Lexicographic.{slice_cmp};
+ghost use Rattle.std.specs.Ordering.{nat_cmp};
+ghost use Rattle.std.specs.Str.{str_to_ascii_lowercase};
 ghost use Rattle.pact_paths.specs.Locations.{step_view};
 ghost use Rattle.pact_rules.specs.Candidates.{outweighs, better_of};
 ghost use Rattle.pact_rules.specs.Choice.{IsChosen, IsChoice, chosen};
 ghost use Rattle.std.specs.List.{list_any};
 ghost use Rattle.pact_rules.specs.RuleViews.{rule_view, header_view, entry_view, matcher_view};
 ghost use Rattle.pact_rules.specs.Rules.{IsInOrder, no_rules, is_regex as is_regex_of, entry_has_regex};
-ghost use Rattle.pact_rules.specs.Rules.{has_regex as has_regex_of};
+ghost use Rattle.pact_rules.specs.Rules.{IsOrderedBy, name_key, has_regex as has_regex_of};
 ghost use Rattle.pact_rules.specs.Tables.{header_entry};
 
 use pact_paths::{Path, Step, weight};
 use std::alloc::Global;
+use std::cmp::Ordering;
 use std::marker::Model;
 
 /// What an actual value is compared with; the names are those of the Pact Specification, what they ask is this
@@ -135,16 +140,47 @@ impl RuleTable {
     }
 }
 
+/// The entry of the header of this name, among rules in the order of their names, both in lower case.
 fn entry_named<'a>(rules: &'a [HeaderRule], name: &str) -> Option<&'a Entry>
+    requires { IsOrderedBy name_key (map header_view rules.now) }
     ensures { option_map (λ e. entry_view e.now) result
         ≡ header_entry (map header_view rules.now) name.now }
 {
-    for rule in rules {
-        if rule.name.as_str().eq_ignore_ascii_case(name) {
-            return Some(&rule.entry);
+    match rules.binary_search_by(|rule| name_order(rule, name)) {
+        Ok(index) => Some(&rules[index].entry),
+        Err(_) => None,
+    }
+}
+
+/// How the name of a header entry compares with a name, both in lower case.
+fn name_order(rule: &HeaderRule, name: &str) -> Ordering
+    ensures { result
+        ≡ slice_cmp nat_cmp (name_key (header_view rule.now)) (str_to_ascii_lowercase name.now) }
+{
+    lower_order(rule.name.as_str().as_bytes(), name.as_bytes())
+}
+
+/// How two texts compare in lower case, byte by byte.
+fn lower_order(left: &[u8], right: &[u8]) -> Ordering
+    ensures { result
+        ≡ slice_cmp nat_cmp (map to_ascii_lowercase left.now) (map to_ascii_lowercase right.now) }
+{
+    for (index, byte) in left.iter().enumerate() {
+        if index >= right.len() {
+            return Ordering::Greater;
+        }
+        let order = byte
+            .to_ascii_lowercase()
+            .cmp(&right[index].to_ascii_lowercase());
+        if order.is_ne() {
+            return order;
         }
     }
-    None
+    if left.len() < right.len() {
+        Ordering::Less
+    } else {
+        Ordering::Equal
+    }
 }
 
 fn body_has_regex(rules: &[BodyRule]) -> bool

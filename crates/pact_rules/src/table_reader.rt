@@ -12,6 +12,7 @@ ghost use Rattle.pact_rules.specs.OrderedReading.{ordered_headers_in, ordered_ca
 ghost use Rattle.pact_rules.specs.OrderedReading.{ordered_found};
 ghost use Rattle.pact_rules.specs.declared.rule_fault.RuleFault.TheVariants.{Memory};
 
+use crate::patterns::Patterns;
 use crate::rule_fault::{RuleFault, Word};
 use crate::rule_reader::{entry_of, is_null, object_of};
 use crate::table::{BodyRule, HeaderRule, RuleTable};
@@ -46,6 +47,7 @@ fn is_path_taken(rules: &BTreeMap<String, BodyRule>, text: &str) -> bool
 /// A body entry with its canonical text, beside those that were read before it.
 fn body_rule(
     alloc: Global,
+    patterns: &mut Patterns,
     before: &BTreeMap<String, BodyRule>,
     key: &str,
     tree: &Tree,
@@ -60,13 +62,14 @@ fn body_rule(
     if is_path_taken(before, text.as_str()) {
         return Err(RuleFault::SamePathTwice);
     }
-    let entry = entry_of(alloc, false, tree)?;
+    let entry = entry_of(alloc, patterns, false, tree)?;
     Ok((text, BodyRule { path, entry }))
 }
 
 /// The body entries of an object, beside those that were read before them.
 fn read_body(
     alloc: Global,
+    patterns: &mut Patterns,
     before: BTreeMap<String, BodyRule>,
     members: &BTreeMap<String, Tree>,
 ) -> Result<BTreeMap<String, BodyRule>, RuleFault>
@@ -77,7 +80,7 @@ fn read_body(
 {
     let mut rules = before;
     for (key, tree) in members.iter() {
-        let (text, rule) = body_rule(alloc, &rules, key.as_str(), tree)?;
+        let (text, rule) = body_rule(alloc, patterns, &rules, key.as_str(), tree)?;
         drop(rules.insert(text, rule)?);
     }
     Ok(rules)
@@ -95,6 +98,7 @@ fn is_name_taken(rules: &BTreeMap<String, HeaderRule>, name: &str) -> bool
 /// A header entry with its name in lower case, beside those that were read before it.
 fn header_rule(
     alloc: Global,
+    patterns: &mut Patterns,
     before: &BTreeMap<String, HeaderRule>,
     key: &str,
     tree: &Tree,
@@ -108,7 +112,7 @@ fn header_rule(
     if is_name_taken(before, name.as_str()) {
         return Err(RuleFault::SamePathTwice);
     }
-    let entry = entry_of(alloc, true, tree)?;
+    let entry = entry_of(alloc, patterns, true, tree)?;
     let as_written = String::from_str(alloc, key)?;
     Ok((
         name,
@@ -122,6 +126,7 @@ fn header_rule(
 /// The header entries of an object, beside those that were read before them.
 fn read_headers(
     alloc: Global,
+    patterns: &mut Patterns,
     before: BTreeMap<String, HeaderRule>,
     members: &BTreeMap<String, Tree>,
 ) -> Result<BTreeMap<String, HeaderRule>, RuleFault>
@@ -132,7 +137,7 @@ fn read_headers(
 {
     let mut rules = before;
     for (key, tree) in members.iter() {
-        let (name, rule) = header_rule(alloc, &rules, key.as_str(), tree)?;
+        let (name, rule) = header_rule(alloc, patterns, &rules, key.as_str(), tree)?;
         drop(rules.insert(name, rule)?);
     }
     Ok(rules)
@@ -163,7 +168,12 @@ impl Model for Found {
 }
 
 impl Found {
-    fn with_body(self, alloc: Global, tree: &Tree) -> Result<Found, RuleFault>
+    fn with_body(
+        self,
+        alloc: Global,
+        patterns: &mut Patterns,
+        tree: &Tree,
+    ) -> Result<Found, RuleFault>
         ensures { Reads (λ f. f) result
             (λ accepts. ordered_body_in accepts self (tree_view tree.now)) }
     {
@@ -171,11 +181,16 @@ impl Found {
         let Some(members) = object_of(tree) else {
             return Err(RuleFault::Form);
         };
-        let body = read_body(alloc, body, members)?;
+        let body = read_body(alloc, patterns, body, members)?;
         Ok(Found { body, headers })
     }
 
-    fn with_headers(self, alloc: Global, tree: &Tree) -> Result<Found, RuleFault>
+    fn with_headers(
+        self,
+        alloc: Global,
+        patterns: &mut Patterns,
+        tree: &Tree,
+    ) -> Result<Found, RuleFault>
         ensures { Reads (λ f. f) result
             (λ accepts. ordered_headers_in accepts self (tree_view tree.now)) }
     {
@@ -183,12 +198,18 @@ impl Found {
         let Some(members) = object_of(tree) else {
             return Err(RuleFault::Form);
         };
-        let headers = read_headers(alloc, headers, members)?;
+        let headers = read_headers(alloc, patterns, headers, members)?;
         Ok(Found { body, headers })
     }
 
     /// The entries of a category, beside those found before; null counts as absent.
-    fn with_category(self, alloc: Global, name: &str, tree: &Tree) -> Result<Found, RuleFault>
+    fn with_category(
+        self,
+        alloc: Global,
+        patterns: &mut Patterns,
+        name: &str,
+        tree: &Tree,
+    ) -> Result<Found, RuleFault>
         ensures { Reads (λ f. f) result
             (λ accepts. ordered_category accepts self name.now (tree_view tree.now)) }
     {
@@ -196,13 +217,13 @@ impl Found {
             if is_null(tree) {
                 Ok(self)
             } else {
-                self.with_body(alloc, tree)
+                self.with_body(alloc, patterns, tree)
             }
         } else if name == "header" {
             if is_null(tree) {
                 Ok(self)
             } else {
-                self.with_headers(alloc, tree)
+                self.with_headers(alloc, patterns, tree)
             }
         } else if name == "path" || name == "query" {
             Ok(self)
@@ -225,7 +246,11 @@ fn has_old_key(members: &BTreeMap<String, Tree>) -> bool
 }
 
 /// The entries of all categories.
-fn categories(alloc: Global, members: &BTreeMap<String, Tree>) -> Result<Found, RuleFault>
+fn categories(
+    alloc: Global,
+    patterns: &mut Patterns,
+    members: &BTreeMap<String, Tree>,
+) -> Result<Found, RuleFault>
     ensures { Reads (λ f. f) result
         (λ accepts. ordered_categories accepts no_rules (object_view members.now.entries)) }
 {
@@ -234,12 +259,12 @@ fn categories(alloc: Global, members: &BTreeMap<String, Tree>) -> Result<Found, 
         headers: BTreeMap::new(alloc),
     };
     for (name, tree) in members.iter() {
-        found = found.with_category(alloc, name.as_str(), tree)?;
+        found = found.with_category(alloc, patterns, name.as_str(), tree)?;
     }
     Ok(found)
 }
 
-fn found_in(alloc: Global, tree: &Tree) -> Result<Found, RuleFault>
+fn found_in(alloc: Global, patterns: &mut Patterns, tree: &Tree) -> Result<Found, RuleFault>
     ensures { Reads (λ f. f) result (λ accepts. ordered_found accepts (tree_view tree.now)) }
 {
     let Some(members) = object_of(tree) else {
@@ -248,7 +273,7 @@ fn found_in(alloc: Global, tree: &Tree) -> Result<Found, RuleFault>
     if has_old_key(members) {
         return Err(RuleFault::OldRules);
     }
-    categories(alloc, members)
+    categories(alloc, patterns, members)
 }
 
 /// The body entries with an effect, in order of canonical text.
@@ -301,7 +326,21 @@ impl RuleTable {
             (λ t. IsReading (tree_view tree.now) (Ok t))
             (λ e. ¬ (e ≡ Memory) → IsReading (tree_view tree.now) (Err e)) }
     {
-        let Found { body, headers } = found_in(alloc, tree)?;
+        let mut patterns = Patterns::new(alloc);
+        RuleTable::read_with(alloc, &mut patterns, tree)
+    }
+
+    /// The same for one of the tables of a file: a pattern that was built for an earlier one isn't built again.
+    pub fn read_with(
+        alloc: Global,
+        patterns: &mut Patterns,
+        tree: &Tree,
+    ) -> Result<RuleTable, RuleFault>
+        ensures { MatchResult result
+            (λ t. IsReading (tree_view tree.now) (Ok t))
+            (λ e. ¬ (e ≡ Memory) → IsReading (tree_view tree.now) (Err e)) }
+    {
+        let Found { body, headers } = found_in(alloc, patterns, tree)?;
         let body = effective_body(alloc, body)?;
         let headers = effective_headers(alloc, headers)?;
         Ok(RuleTable { body, headers })

@@ -3,12 +3,13 @@
 ghost use Rattle.std.specs.Prelude.{◌≡◌, IfOk};
 ghost use Rattle.std.specs.Prelude.{nat_le};
 ghost use Rattle.serde_json.specs.Data.{depth, items_depth, members_depth};
+ghost use Rattle.serde_json.specs.Written.{has_float, items_have_float, members_have_float};
 ghost use Rattle.serde_json.specs.View.{view, number_view, items_view, members_view};
 ghost use Rattle.pact_rules.specs.TreeView.{tree_view, list_view, object_view};
 ghost use Rattle.pact_rules.specs.Kept.{IsKept};
 ghost use Rattle.pact_rules.specs.Trees.{IsTree};
 ghost use Rattle.pact_rules.specs.TreeReading.{whole_or, whole_tree, whole_items, whole_members, whole_number};
-ghost use Rattle.pact_rules.specs.TreeReading.{tree_in, data_of};
+ghost use Rattle.pact_rules.specs.TreeReading.{tree_in, checked, data_of};
 ghost use Rattle.pact_rules.specs.Outcome.{Gives};
 ghost use Rattle.pact_rules.specs.declared.tree.TreeFault.TheVariants.{Memory};
 
@@ -79,6 +80,57 @@ pub fn tree_of(alloc: Global, value: &Value) -> Result<Tree, TreeFault>
         return Err(TreeFault::TooDeep);
     }
     convert(alloc, value)
+}
+
+/// Whether a value is a tree, by the same tests in the same order, without making it.
+#[tactic(auto, using(crate::proofs::Bridge::is_no_tree, crate::proofs::Bridge::is_whole_tree))]
+pub fn check_tree(value: &Value) -> Result<(), TreeFault>
+    ensures { result ≡ checked (tree_in (view value.now)) }
+{
+    if nests_within(value, MAX_DEPTH) {
+        if has_fraction(value) {
+            return Err(TreeFault::NotWhole);
+        }
+        return Ok(());
+    }
+    Err(TreeFault::TooDeep)
+}
+
+/// Whether a number in the value isn't whole.
+#[cycle(fractions)]
+fn has_fraction(value: &Value) -> bool
+    ensures { result ≡ has_float (view value.now) }
+{
+    match value {
+        Value::Null | Value::Bool(_) | Value::String(_) => false,
+        Value::Number(number) => number.as_i128().is_none(),
+        Value::Array(items) => items_have_fraction(items),
+        Value::Object(members) => members_have_fraction(members),
+    }
+}
+
+#[cycle(fractions)]
+fn items_have_fraction(items: &Vec<Value>) -> bool
+    ensures { result ≡ items_have_float (items_view items.now.items) }
+{
+    for item in items {
+        if has_fraction(item) {
+            return true;
+        }
+    }
+    false
+}
+
+#[cycle(fractions)]
+fn members_have_fraction(members: &Map<String, Value>) -> bool
+    ensures { result ≡ members_have_float (members_view members.now.entries) }
+{
+    for (_, member) in members.iter() {
+        if has_fraction(member) {
+            return true;
+        }
+    }
+    false
 }
 
 /// Whether the value nests at most so deep.

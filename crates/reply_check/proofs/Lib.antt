@@ -4,6 +4,7 @@ pub mod FittingLemmas
 mod WalkLemmas
 mod ValueLemmas
 mod Deciding
+mod SentLemmas
 mod MeetLemmas
 mod ReadLemmas
 mod RivalLemmas

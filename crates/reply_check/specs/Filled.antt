@@ -1,5 +1,7 @@
 -- For private clauses: what is kept beside a reply is what its definitions give.
-use Rattle.std.specs.Prelude.{◌≡◌, ℕ, List, Option, Some}
+use Rattle.std.specs.Prelude.{◌≡◌, ℕ, List, Option, Some, unwrap_or}
+use Rattle.serde_json.specs.Data.{Data, null}
+use Rattle.serde_json.specs.Read.{read}
 use Rattle.serde_json.specs.Written.{compact_text}
 use Rattle.pact_rules.specs.Trees.{Node}
 use Rattle.pact_file.specs.Headers.{HasHeaders}
@@ -7,6 +9,10 @@ use Rattle.pact_file.specs.Pact.{Header, states_data}
 use Rattle.pact_file.specs.Parts.{body_in}
 use Rattle.pact_file.specs.Sound.{IsSound}
 use Rattle.reply_check.specs.Recorded.{Reply, status_sent}
+
+-- the value that a text is
+abbrev pub said : List ℕ → Data
+said text = unwrap_or (read text) null
 
 pub record IsFilled (r : Reply) (status : ℕ) (headers : List Header) (body : Option Node)
     (states_text : List ℕ) : Type 0 where

@@ -26,10 +26,10 @@ use std::alloc::{AllocError, Global};
 
 /// What is read of a reply before its headers.
 #[derive(Drop)]
-struct Parts {
+struct Parts<'a> {
     description: String,
     states: Vec<State>,
-    response: Value,
+    response: &'a Value,
     status: u16,
 }
 
@@ -69,9 +69,9 @@ fn status_in(response: &Value, place: Place) -> Result<u16, RepliesFault>
 }
 
 #[tactic(auto, unfolding(crate::specs::ReplyParts::parts_at))]
-fn read_parts(alloc: Global, index: usize, value: &Value) -> Result<Parts, RepliesFault>
+fn read_parts<'a>(alloc: Global, index: usize, value: &'a Value) -> Result<Parts<'a>, RepliesFault>
     ensures parts { Gives Memory parts_view result (parts_at index (view value.now)) }
-    ensures status { IfOk result (λ p. status_sent (view p.response) ≡ Some p.status) }
+    ensures status { IfOk result (λ p. status_sent (view p.response.now) ≡ Some p.status) }
 {
     if !value.is_object() {
         return Err(RepliesFault::Shape(Place::Reply(index, Part::Whole)));
@@ -83,24 +83,25 @@ fn read_parts(alloc: Global, index: usize, value: &Value) -> Result<Parts, Repli
     Ok(Parts {
         description: String::from_str(alloc, description)?,
         states,
-        response: response.clone()?,
+        response,
         status,
     })
 }
 
-fn reply_of(alloc: Global, parts: Parts, headers: Vec<Header>) -> Result<Reply, AllocError>
+fn reply_of(alloc: Global, parts: Parts<'_>, headers: Vec<Header>) -> Result<Reply, AllocError>
     requires states { IsSound 97 (states_data parts.states.items) }
-    requires response { IsSound 97 (view parts.response) }
-    requires status { status_sent (view parts.response) ≡ Some parts.status }
-    requires headers { HasHeaders (view parts.response) headers.items }
-    ensures { IfOk result (λ r. r ≡ parts_view parts) }
+    requires response { IsSound 97 (view parts.response.now) }
+    requires status { status_sent (view parts.response.now) ≡ Some parts.status }
+    requires headers { HasHeaders (view parts.response.now) headers.items }
+    ensures { IfOk result (λ r. r ≡ parts_view parts.entry) }
 {
     let states_text = states_text(alloc, parts.states.as_slice())?;
-    let body = body_of(alloc, &parts.response)?;
+    let text = parts.response.to_string(alloc)?;
+    let body = body_of(alloc, parts.response)?;
     Ok(Reply {
         description: parts.description,
         states: parts.states,
-        response: parts.response,
+        text,
         status: parts.status,
         headers,
         body,
@@ -114,7 +115,7 @@ pub(crate) fn read_reply(alloc: Global, index: usize, value: &Value) -> Result<R
     ensures { GivesOne Memory (λ r. r) result (ReplyRead index (view value.now)) }
 {
     let parts = read_parts(alloc, index, value)?;
-    match read_headers(alloc, &parts.response)? {
+    match read_headers(alloc, parts.response)? {
         None => Err(RepliesFault::Shape(Place::Reply(index, Part::Headers))),
         Some(headers) => Ok(reply_of(alloc, parts, headers)?),
     }

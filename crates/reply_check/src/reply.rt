@@ -11,15 +11,15 @@ ghost use Rattle.reply_check.specs.Recorded.{status_sent};
 
 use pact_file::{Header, State};
 use pact_rules::Tree;
-use serde_json::Value;
 use std::marker::Model;
 
-/// What a provider answered for the interaction of a description and provider states.
+/// What a provider answered for the interaction of a description and provider states. The response stands in its text
+/// alone.
 #[derive(Drop)]
 pub struct Reply {
     pub(crate) description: String,
     pub(crate) states: Vec<State>,
-    pub(crate) response: Value,
+    pub(crate) text: String,
     pub(crate) status: u16,
     pub(crate) headers: Vec<Header>,
     pub(crate) body: Option<Tree>,
@@ -28,19 +28,19 @@ pub struct Reply {
 
 impl Model for Reply {
     ghost use Rattle.std.specs.Prelude.{string_bytes, option_map};
-    ghost use Rattle.serde_json.specs.View.{view as seen};
     ghost use Rattle.pact_rules.specs.TreeView.{tree_view};
     ghost use Rattle.reply_check.specs.Recorded.{Reply as ReplyModel, reply_code, reply_with};
-    ghost use Rattle.reply_check.specs.Filled.{IsFilled};
+    ghost use Rattle.reply_check.specs.Filled.{IsFilled, said};
 
     ghost Value = { ReplyModel };
 
     ghost coded = { reply_code };
 
-    ghost view = { λ a. reply_with (string_bytes a.description) a.states.items (seen a.response) };
+    ghost view = { λ a. reply_with
+        (string_bytes a.description) a.states.items (said (string_bytes a.text)) };
 
     ghost invariant = { λ a. IsFilled
-        (reply_with (string_bytes a.description) a.states.items (seen a.response))
+        (reply_with (string_bytes a.description) a.states.items (said (string_bytes a.text)))
         a.status a.headers.items (option_map tree_view a.body) (string_bytes a.states_text) };
 }
 

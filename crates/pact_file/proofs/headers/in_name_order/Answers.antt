@@ -1,22 +1,13 @@
-use Rattle.std.proofs.Common.{◌≡◌, Some, None, sym, ◌∙◌}
 use Rattle.pact_file.specs.Pact.{name_cmp}
-use Rattle.pact_file.specs.Sorting.{insert_sorted, never}
-use Rattle.pact_file.proofs.SortingSteps.{order_goes, order_ends, order_done, none_left}
+use Rattle.pact_file.proofs.HeaderSets.{name_total}
+use Rattle.pact_file.proofs.SortedSets.{sorted_set, sorted_twins}
 use Rattle.pact_file.proofs.headers.in_name_order.Goals as goal
 
-pub returns-then-not-branch : goal.returns-then-not-branch
-returns-then-not-branch c =
-    let l = c.loop-new in
-    let h : insert_sorted name_cmp never c.in-Some.new l.list.items ≡ None = rw c.if-not-branch.true at c.in_ok-insert_header.ensures in
-    sym (order_ends name_cmp never l.list.items l.new-iterator.rest.items c.in-Some.new c.next.new.self.rest.items _ c.in-Some.ensures.steps.0 h l.invariant)
+pub returns-then-names_rise : goal.returns-then-names_rise
+returns-then-names_rise c =
+    sorted_set name_cmp name_total c.args.found.items c.sort_by_name.new.headers.items c.sort_by_name.ensures.moved (rw (c.if-names_rise.true, c.deref.ensures.value) at c.names_rise.ensures)
 
-pub loop-new-preserved : goal.loop-new-preserved
-loop-new-preserved c =
-    let l = c.loop-new in
-    let h : insert_sorted name_cmp never c.in-Some.new l.list.items ≡ Some c.insert_header.new.list.items = rw c.if-not-branch.false at c.in_ok-insert_header.ensures in
-    order_goes name_cmp never l.list.items l.new-iterator.rest.items c.in-Some.new c.next.new.self.rest.items c.insert_header.new.list.items _ c.in-Some.ensures.steps.0 h l.invariant
-
-pub returns : goal.returns
-returns c =
-    let l = c.loop-new in
-    sym (order_done name_cmp never l.list.items l.new-iterator.rest.items _ (none_left l.new-iterator.rest.items (sym l.new-iterator.rest.ok.0 ∙ c.in-None.ensures.steps.0)) l.invariant)
+pub returns-else-names_rise : goal.returns-else-names_rise
+returns-else-names_rise c =
+    let h = rw (c.if-names_rise.false, c.deref.ensures.value) at c.names_rise.ensures in
+    sorted_twins name_cmp name_total c.args.found.items c.sort_by_name.new.headers.items c.sort_by_name.ensures.moved c.sort_by_name.ensures.sorted h.0 h.1 h.2

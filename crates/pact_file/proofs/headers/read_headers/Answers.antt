@@ -1,5 +1,4 @@
 use Rattle.std.proofs.Common.{◌≡◌, Some, option_map, sym, ap, ◌∙◌}
-use Rattle.std.proofs.lemmas.Result.{IfOk-weaker}
 use Rattle.serde_json.specs.View.{view}
 use Rattle.pact_file.specs.Parts.{headers_found}
 use Rattle.pact_file.proofs.HeaderSets.{either}
@@ -8,4 +7,4 @@ use Rattle.pact_file.proofs.headers.read_headers.Goals as goal
 pub returns-in-Some : goal.returns-in-Some
 returns-in-Some c =
     let is : headers_found (view c.args.response.now) ≡ Some c.in-Some.found.items = sym c.in_ok-found.ensures ∙ ap (option_map (λ v. v.items)) c.in-Some.is in
-    IfOk-weaker c.in_name_order.result _ _ (λ o h. either (view c.args.response.now) c.in-Some.found.items (λ v. v.items) o is h) c.in_name_order.ensures
+    either (view c.args.response.now) c.in-Some.found.items (λ v. v.items) c.in_name_order.result is c.in_name_order.ensures

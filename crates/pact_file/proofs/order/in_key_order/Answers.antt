@@ -4,14 +4,22 @@ use Rattle.std.proofs.lemmas.Result.{err_from_is_err_and}
 use Rattle.pact_file.specs.Pact.{key_cmp}
 use Rattle.pact_file.specs.declared.fault.PactFault.TheVariants.{SameInteraction}
 use Rattle.pact_file.specs.Sorting.{insert_sorted, same_text}
+use Rattle.pact_file.proofs.OrderedSets.{key_total}
+use Rattle.pact_file.proofs.Searching.{still_rising}
 use Rattle.pact_file.proofs.SortingSteps.{order_goes, order_ends, order_done, none_left}
 use Rattle.pact_file.proofs.Steps.{found_ok, lacks_err}
 use Rattle.pact_file.proofs.order.in_key_order.Goals as goal
 
+pub insert_interaction-requires : goal.insert_interaction-requires
+insert_interaction-requires c = c.loop-new.invariant.0
+
 pub loop-new-preserved : goal.loop-new-preserved
 loop-new-preserved c =
     let l = c.loop-new in
-    order_goes key_cmp same_text l.list.items l.new-iterator.rest.items c.in-Some.new c.next.new.self.rest.items c.insert_interaction.new.list.items _ c.in-Some.ensures.steps.0 (found_ok _ SameInteraction _ c.in_ok-insert_interaction.ensures) l.invariant
+    let new = found_ok _ SameInteraction _ c.in_ok-insert_interaction.ensures in (
+      still_rising key_cmp key_total same_text c.in-Some.new l.list.items c.insert_interaction.new.list.items l.invariant.0 new,
+      order_goes key_cmp same_text l.list.items l.new-iterator.rest.items c.in-Some.new c.next.new.self.rest.items c.insert_interaction.new.list.items _ c.in-Some.ensures.steps.0 new l.invariant.1,
+    )
 
 pub returns-in_err-insert_interaction : goal.returns-in_err-insert_interaction
 returns-in_err-insert_interaction c =
@@ -19,10 +27,10 @@ returns-in_err-insert_interaction c =
     let p = err_from_is_err_and c.from_residual.result c.from_residual.ensures.1 in
     rw (p.1, p.2) (λ memory.
     let h = lacks_err (insert_sorted key_cmp same_text c.in-Some.new l.list.items) SameInteraction _ (c.in_err-insert_interaction.ensures memory) in
-    ap (λ o. ok_or o SameInteraction) (order_ends key_cmp same_text l.list.items l.new-iterator.rest.items c.in-Some.new c.next.new.self.rest.items _ c.in-Some.ensures.steps.0 h.0 l.invariant)
+    ap (λ o. ok_or o SameInteraction) (order_ends key_cmp same_text l.list.items l.new-iterator.rest.items c.in-Some.new c.next.new.self.rest.items _ c.in-Some.ensures.steps.0 h.0 l.invariant.1)
     ∙ ap Err h.1)
 
 pub returns : goal.returns
 returns c =
     let l = c.loop-new in
-    ap (λ o. ok_or o SameInteraction) (order_done key_cmp same_text l.list.items l.new-iterator.rest.items _ (none_left l.new-iterator.rest.items (sym l.new-iterator.rest.ok.0 ∙ c.in-None.ensures.steps.0)) l.invariant)
+    ap (λ o. ok_or o SameInteraction) (order_done key_cmp same_text l.list.items l.new-iterator.rest.items _ (none_left l.new-iterator.rest.items (sym l.new-iterator.rest.ok.0 ∙ c.in-None.ensures.steps.0)) l.invariant.1)

@@ -1,18 +1,18 @@
-use Rattle.std.proofs.Common.{arith}
-use Rattle.pact_file.specs.Pact.{Header}
-use Rattle.reply_check.specs.Sent.{IsFit}
-use Rattle.reply_check.proofs.Deciding.{decides_true, decides_false, decides_not, one_steps, one_stops, one_ends}
+use Rattle.std.proofs.Common.{IsTrue, ◌↔◌}
+use Rattle.std.proofs.lemmas.Result.{IfOk-weaker}
+use Rattle.reply_check.specs.Sent.{WasSent}
+use Rattle.reply_check.proofs.Deciding.{decides_false}
+use Rattle.reply_check.proofs.SentLemmas.{fits_alone, not_sent}
 use Rattle.reply_check.proofs.header.was_sent.Goals as goal
 
-pub returns-then-branch-clause-value : goal.returns-then-branch-clause-value
-returns-then-branch-clause-value c =
-    decides_true (one_stops (λ (g : Header). IsFit c.args.rules.now c.args.expected.now g) c.args.sent.now c.loop-header.header-index c.header-item.result (omega arith) c.header-item.is
-    (c.in_ok-is_fit.ensures.value.0 c.if-branch.true) c.loop-header.invariant)
+pub returns-in-Some-clause-value : goal.returns-in-Some-clause-value
+returns-in-Some-clause-value c =
+    let found = rw c.name.ensures at c.in-Some.ensures in
+    let fits = rw c.value.ensures at c.value_fits.ensures.value in
+    IfOk-weaker c.value_fits.result _ (λ b. IsTrue b ↔ WasSent c.args.rules.now c.args.sent.now c.args.expected.now)
+    (λ b h. fits_alone c.args.rules.now c.args.sent.now c.args.expected.now c.in-Some.header.now b c.requires found h) fits
 
-pub loop-header-preserved : goal.loop-header-preserved
-loop-header-preserved c =
-    one_steps (λ (g : Header). IsFit c.args.rules.now c.args.expected.now g) c.args.sent.now c.loop-header.header-index c.header-item.result (omega arith) c.header-item.is
-    (decides_not c.in_ok-is_fit.field-0 c.if-branch.false c.in_ok-is_fit.ensures.value) c.loop-header.invariant
-
-pub returns-clause-value : goal.returns-clause-value
-returns-clause-value c = decides_false (one_ends (λ (g : Header). IsFit c.args.rules.now c.args.expected.now g) c.args.sent.now c.loop-header.header-index (omega arith) c.loop-header.invariant)
+pub returns-in-None-clause-value : goal.returns-in-None-clause-value
+returns-in-None-clause-value c =
+    let none = rw c.name.ensures at c.in-None.ensures in
+    decides_false (not_sent c.args.rules.now c.args.sent.now c.args.expected.now none)

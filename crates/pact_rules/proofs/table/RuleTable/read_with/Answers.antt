@@ -5,7 +5,7 @@ use Rattle.pact_rules.specs.TreeView.{tree_view}
 use Rattle.pact_rules.specs.Rules.{BodyRule, HeaderRule, Rules, has_effect}
 use Rattle.pact_rules.specs.RuleViews.{rule_view, header_view}
 use Rattle.pact_rules.proofs.ReadingLemmas.{is_table, is_read, is_fault}
-use Rattle.pact_rules.proofs.table.RuleTable.read.Goals as goal
+use Rattle.pact_rules.proofs.table.RuleTable.read_with.Goals as goal
 
 pub returns-in_err-body : goal.returns-in_err-body
 returns-in_err-body c =

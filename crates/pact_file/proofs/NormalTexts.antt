@@ -1,0 +1,147 @@
+-- The text of a normal form, made of the texts of its parts, and what it says.
+use Rattle.std.proofs.Common.{◌≡◌, ℕ, zero, suc, ◌+◌, ◌≤◌, ◌<◌, nat_le, List, [], ◌∷◌, ◌++◌, map, codes, true, false, Option, Some, None, MatchOption, refl, sym, ap, ◌∙◌, length, append_assoc, length-append, add-one, arith}
+use Rattle.json.specs.Print.{quoted, escape_byte}
+use Rattle.serde_json.specs.Data.{Data, Items, no_items, item}
+use Rattle.serde_json.specs.Read.{read}
+use Rattle.serde_json.specs.View.{items_of}
+use Rattle.serde_json.specs.Written.{compact_text, items_text}
+use Rattle.serde_json.proofs.OnLiterals.{serde_json_on_literals}
+use Rattle.std.proofs.lemmas.Bool.Decides.{nat_tests}
+use Rattle.pact_file.specs.File.{most_bytes}
+use Rattle.pact_file.specs.Pact.{State, Interaction, interaction_with, states_data, interaction_data, pact_with, normal_text}
+use Rattle.pact_file.specs.Sound.{IsSound}
+use Rattle.pact_file.specs.Texts.{text_of_parts, interaction_of_text, interactions_text, item_length, pact_length}
+use Rattle.pact_file.proofs.ReadBack.{read-compact_text}
+use Rattle.pact_file.proofs.SoundData.{kept, whole, shallow}
+
+-- ---- an interaction
+
+pub parts_text : (d : List ℕ) (ss : List State) (q r : Data) → text_of_parts d (compact_text (states_data ss)) q r ≡ compact_text (interaction_data (interaction_with d ss q r))
+unfolding escape_byte serde_json_on_literals
+parts_text d ss q r = refl
+
+read_text : (x : Interaction) → IsSound 98 (interaction_data x) → read (compact_text (interaction_data x)) ≡ Some (interaction_data x)
+read_text x h = read-compact_text (interaction_data x) (kept 98 (interaction_data x) h) (whole 98 (interaction_data x) h) (omega (arith, shallow 98 (interaction_data x) h))
+
+-- the text of an interaction says which it is
+pub says : (x : Interaction) → IsSound 98 (interaction_data x) → interaction_of_text x.description x.states (compact_text (interaction_data x)) ≡ x
+unfolding serde_json_on_literals
+says x h = rw (read_text x h) refl
+
+pub text_is : (x : Interaction) (d s text : List ℕ) → d ≡ x.description → s ≡ compact_text (states_data x.states) → text ≡ text_of_parts d s x.request x.response → text ≡ compact_text (interaction_data x)
+text_is x d s text e h is = is ∙ rw (e, h) (parts_text x.description x.states x.request x.response)
+
+pub is_said : (x : Interaction) (text : List ℕ) → IsSound 98 (interaction_data x) → text ≡ compact_text (interaction_data x) → interaction_of_text x.description x.states text ≡ x
+is_said x text h is = ap (interaction_of_text x.description x.states) is ∙ says x h
+
+-- ---- the interactions
+
+-- what the items from the place on add
+abbrev pub still : ℕ → Items → List ℕ
+still zero ds = items_text false ds
+still (suc i) ds = items_text true ds
+
+abbrev pub left : ℕ → List Interaction → List ℕ
+left i xs = still i (items_of (map interaction_data xs))
+
+pub joins : (i : ℕ) (text new : List ℕ) (xs : List Interaction) (x : Interaction) (more : List Interaction) (total : List ℕ)
+    → xs ≡ x ∷ more → (i ≡ 0 → new ≡ text ++ compact_text (interaction_data x)) → (0 < i → new ≡ text ++ (codes "," ++ compact_text (interaction_data x)))
+    → text ++ left i xs ≡ total → new ++ left (i + 1) more ≡ total
+joins i text new xs x more total is first later so_far = rw add-one (step i first later ∙ ap (λ ys. text ++ left i ys) (sym is) ∙ so_far) where
+  step : (i : ℕ) → (i ≡ 0 → new ≡ text ++ compact_text (interaction_data x)) → (0 < i → new ≡ text ++ (codes "," ++ compact_text (interaction_data x))) → new ++ left (suc i) more ≡ text ++ left i (x ∷ more)
+  step zero first later = ap (λ s. s ++ left 1 more) (first refl) ∙ append_assoc text (compact_text (interaction_data x)) (left 1 more)
+  step (suc i) first later = ap (λ s. s ++ left 1 more) (later (omega arith)) ∙ append_assoc text (codes "," ++ compact_text (interaction_data x)) (left 1 more)
+
+nothing : (i : ℕ) → left i [] ≡ codes "]"
+nothing zero = refl
+nothing (suc i) = refl
+
+pub joins_end : (i : ℕ) (text : List ℕ) (xs : List Interaction) (total : List ℕ) → xs ≡ [] → text ++ left i xs ≡ total → text ++ codes "]" ≡ total
+joins_end i text xs total is so_far = ap (λ t. text ++ t) (sym (nothing i)) ∙ ap (λ ys. text ++ left i ys) (sym is) ∙ so_far
+
+-- ---- a pact
+
+pub pact_text : (c p s : List ℕ) (xs : List Interaction) → s ++ codes "]" ≡ items_text false (items_of (map interaction_data xs))
+    → codes "{\"consumer\":{\"name\":" ++ (quoted c ++ (codes "},\"interactions\":[" ++ (s ++ (codes "],\"provider\":{\"name\":" ++ (quoted p ++ codes "}}"))))) ≡ normal_text (pact_with c p xs)
+unfolding escape_byte serde_json_on_literals
+pact_text c p s xs h =
+    let items = items_text false (items_of (map interaction_data xs)) in
+    let last = codes ",\"provider\":{\"name\":" ++ ((quoted p ++ codes "}") ++ codes "}") in
+    let end = ap (λ t. codes ",\"provider\":{\"name\":" ++ t) (sym (append_assoc (quoted p) (codes "}") (codes "}"))) in
+    let middle = ap (λ t. s ++ (codes "]" ++ t)) end ∙ sym (append_assoc s (codes "]") last) ∙ ap (λ t. t ++ last) h in
+    ap (λ t. codes "{\"consumer\":{\"name\":" ++ (quoted c ++ (codes "},\"interactions\":[" ++ t))) middle
+    ∙ ap (λ t. codes "{\"consumer\":{\"name\":" ++ t) (sym (append_assoc (quoted c) (codes "}") (codes ",\"interactions\":[" ++ (items ++ last))))
+
+-- ---- lengths
+
+pub item_first : (i : ℕ) (text : List ℕ) → i ≡ 0 → item_length i text ≡ length text
+item_first i text h = ap (λ j. item_length j text) h
+
+pub item_later : (i : ℕ) (text : List ℕ) → 0 < i → item_length i text ≡ length text + 1
+item_later zero text h = absurd (omega (arith, h))
+item_later (suc i) text h = omega arith
+
+pub item_least : (i : ℕ) (text : List ℕ) → length text ≤ item_length i text
+item_least zero text = omega arith
+item_least (suc i) text = omega arith
+
+one_more : (n a b : ℕ) → n ≡ a + b → suc n ≡ suc a + b
+one_more n a b h = omega (arith, h)
+
+-- what an item adds to those behind it
+pub adds : (i : ℕ) (xs : List Interaction) (x : Interaction) (more : List Interaction) → xs ≡ x ∷ more
+    → length (left i xs) ≡ item_length i (compact_text (interaction_data x)) + length (left (i + 1) more)
+adds i xs x more is = rw add-one (ap (λ ys. length (left i ys)) is ∙ step i) where
+  step : (i : ℕ) → length (left i (x ∷ more)) ≡ item_length i (compact_text (interaction_data x)) + length (left (suc i) more)
+  step zero = length-append (compact_text (interaction_data x)) (left 1 more)
+  step (suc i) = one_more _ (length (compact_text (interaction_data x))) (length (left 1 more)) (length-append (compact_text (interaction_data x)) (left 1 more))
+
+pub adds_end : (i : ℕ) (xs : List Interaction) → xs ≡ [] → length (left i xs) ≡ 1
+adds_end i xs is = ap (λ ys. length (left i ys)) is ∙ ap length (nothing i)
+
+some_later : (ds : Items) → 1 ≤ length (items_text true ds)
+some_later no_items = omega arith
+some_later (item d ds) = omega (arith, length-append (compact_text d) (items_text true ds), some_later ds)
+
+some_first : (ds : Items) → 1 ≤ length (items_text false ds)
+some_first no_items = omega arith
+some_first (item d ds) = omega (arith, length-append (compact_text d) (items_text true ds), some_later ds)
+
+pub some_bytes : (i : ℕ) (xs : List Interaction) → 1 ≤ length (left i xs)
+some_bytes zero xs = some_first (items_of (map interaction_data xs))
+some_bytes (suc i) xs = some_later (items_of (map interaction_data xs))
+
+-- the length of a normal text
+pub text_length : (c p : List ℕ) (xs : List Interaction) → length (normal_text (pact_with c p xs)) ≡ pact_length (quoted c) (quoted p) xs
+unfolding escape_byte serde_json_on_literals
+text_length c p xs =
+    let items = interactions_text xs in
+    let last = codes ",\"provider\":{\"name\":" ++ ((quoted p ++ codes "}") ++ codes "}") in
+    let behind = codes ",\"interactions\":[" ++ (items ++ last) in
+    let whole : normal_text (pact_with c p xs) ≡ codes "{\"consumer\":{\"name\":" ++ ((quoted c ++ codes "}") ++ behind) = refl in
+    ap length whole
+    ∙ omega (arith, length-append (quoted c ++ codes "}") behind, length-append (quoted c) (codes "}"), length-append items last, length-append (quoted p ++ codes "}") (codes "}"), length-append (quoted p) (codes "}"))
+
+short : (n : ℕ) → n ≤ most_bytes → nat_le n most_bytes ≡ true
+short n h = grind (arith, nat_tests)
+
+long : (n : ℕ) → most_bytes < n → nat_le n most_bytes ≡ false
+long n h = grind (arith, nat_tests)
+
+length_by : (c p q r : List ℕ) (xs : List Interaction) → q ≡ quoted c → r ≡ quoted p → length (normal_text (pact_with c p xs)) ≡ pact_length q r xs
+length_by c p q r xs h k = text_length c p xs ∙ ap (λ a. pact_length a (quoted p) xs) (sym h) ∙ ap (λ a. pact_length q a xs) (sym k)
+
+pub has_room : (c p q r : List ℕ) (xs : List Interaction) → q ≡ quoted c → r ≡ quoted p → pact_length q r xs ≤ most_bytes → true ≡ nat_le (length (normal_text (pact_with c p xs))) most_bytes
+has_room c p q r xs h k fits = sym (ap (λ n. nat_le n most_bytes) (length_by c p q r xs h k) ∙ short (pact_length q r xs) fits)
+
+pub lacks_room : (c p q r : List ℕ) (xs : List Interaction) → q ≡ quoted c → r ≡ quoted p → most_bytes < pact_length q r xs → false ≡ nat_le (length (normal_text (pact_with c p xs))) most_bytes
+lacks_room c p q r xs h k over = sym (ap (λ n. nat_le n most_bytes) (length_by c p q r xs h k) ∙ long (pact_length q r xs) over)
+
+left_of : (o : Option ℕ) (c p room size : ℕ) → c + (p + room) + 61 ≡ most_bytes → MatchOption o (room + 1 < size) (λ rest. rest + size ≡ room + 1)
+    → MatchOption o (most_bytes < 60 + (c + (p + size))) (λ _. 60 + (c + (p + size)) ≤ most_bytes)
+left_of None c p room size is h = omega (arith, is, h)
+left_of (Some rest) c p room size is h = omega (arith, is, h)
+
+pub room_for_all : (o : Option ℕ) (c p : List ℕ) (xs : List Interaction) (room : ℕ) → length c + (length p + room) + 61 ≡ most_bytes
+    → MatchOption o (room + 1 < length (interactions_text xs)) (λ rest. rest + length (interactions_text xs) ≡ room + 1) → MatchOption o (most_bytes < pact_length c p xs) (λ _. pact_length c p xs ≤ most_bytes)
+room_for_all o c p xs room is h = left_of o (length c) (length p) room (length (interactions_text xs)) is h

@@ -1,0 +1,9 @@
+use Rattle.std.proofs.Common.{rules}
+use Rattle.std.proofs.lemmas.List.Sorted.{ranks_by, answers_always}
+use Rattle.std.specs.Ordering.{is_lt}
+use Rattle.pact_file.specs.Pact.{name_cmp}
+use Rattle.pact_file.proofs.HeaderSets.{name_total}
+use Rattle.pact_file.proofs.headers.sort_by_name.Goals as goal
+
+pub returns-clause-sorted : goal.returns-clause-sorted
+returns-clause-sorted c = c.sort_unstable_by.ensures.sorted (λ x y. is_lt (name_cmp x y)) (ranks_by name_total (λ h. h)) (answers_always _ _ _ (λ f a r g called. search rules))

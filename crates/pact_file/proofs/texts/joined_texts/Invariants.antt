@@ -1,0 +1,9 @@
+use Rattle.std.proofs.Common.{◌≡◌, ◌++◌, map, drop, false, string_bytes}
+use Rattle.serde_json.specs.View.{items_of}
+use Rattle.serde_json.specs.Written.{items_text}
+use Rattle.pact_file.specs.Pact.{interaction_data}
+use Rattle.pact_file.proofs.NormalTexts.{left}
+use Rattle.pact_file.proofs.texts.joined_texts.Given as goal
+
+abbrev pub invariant-loop-index : goal.invariant-loop-index
+invariant-loop-index l = string_bytes l.texts ++ left l.index (drop l.index l.interactions) ≡ items_text false (items_of (map interaction_data l.interactions))

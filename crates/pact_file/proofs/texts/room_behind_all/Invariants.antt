@@ -1,0 +1,8 @@
+use Rattle.std.proofs.Common.{◌≡◌, ◌+◌, drop, length}
+use Rattle.pact_file.specs.Texts.{interactions_text}
+use Rattle.pact_file.proofs.NormalTexts.{left}
+use Rattle.pact_file.proofs.texts.room_behind_all.Given as goal
+
+-- what is taken of the room is what the texts before the place add
+abbrev pub invariant-loop-index : goal.invariant-loop-index
+invariant-loop-index l = l.rest + length (interactions_text l.interactions) ≡ l.room + length (left l.index (drop l.index l.interactions))

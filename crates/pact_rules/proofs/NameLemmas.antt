@@ -1,0 +1,130 @@
+-- The entry of a header by a search among names in lower case.
+use Rattle.std.proofs.Common.{◌≡◌, ℕ, zero, suc, ◌+◌, ◌≤◌, ◌<◌, List, [], ◌∷◌, Bool, true, false, cond, nat_lt, Ordering, Less, Equal, Greater, nat_cmp, Option, Some, None, option_map, map, get_or, length, bytes_eq, refl, sym, ap, ◌∙◌, subst, true≢false, arith}
+use Rattle.std.proofs.lemmas.Bool.Decides.{nat_tests}
+use Rattle.std.proofs.lemmas.Cmp.{nat_list_cmp_total}
+use Rattle.std.proofs.lemmas.List.Sorted.{searchable_from_sorted}
+use Rattle.std.proofs.lemmas.Map.Text.{is_eq-slice_cmp}
+use Rattle.std.proofs.lemmas.Slice.Eq.{bytes_eq-Decides}
+use Rattle.std.specs.Char.{to_ascii_lowercase}
+use Rattle.std.specs.Cmp.Lexicographic.{slice_cmp}
+use Rattle.std.specs.List.{AllByRecursion, find}
+use Rattle.std.specs.List.Sorted.{IsSortedBy, IsNonDecreasingBy, IsPartitionPoint}
+use Rattle.std.specs.Ordering.{is_lt, is_eq, is_ne, ordering_index, ordering_reverse, ordering_then}
+use Rattle.std.specs.Str.{str_to_ascii_lowercase, str_eq_ignore_ascii_case}
+use Rattle.pact_rules.specs.Rules as rules
+use Rattle.pact_rules.specs.Rules.{IsBefore, IsOrderedBy, name_key}
+use Rattle.pact_rules.specs.RuleViews.{header_view, entry_view}
+use Rattle.pact_rules.specs.Tables.{header_entry}
+use Rattle.pact_rules.specs.declared.table.HeaderRule.{HeaderRule}
+
+-- ---- texts in lower case, byte by byte
+
+abbrev pub lower_cmp : List ℕ → List ℕ → Ordering
+lower_cmp xs ys = slice_cmp nat_cmp (map to_ascii_lowercase xs) (map to_ascii_lowercase ys)
+
+pub longer : (xs ys more : List ℕ) (x : ℕ) → xs ≡ x ∷ more → ys ≡ [] → lower_cmp xs ys ≡ Greater
+longer xs ys more x h k = ap (λ zs. lower_cmp zs ys) h ∙ ap (lower_cmp (x ∷ more)) k
+
+pub shorter : (xs ys more : List ℕ) (y : ℕ) → xs ≡ [] → ys ≡ y ∷ more → lower_cmp xs ys ≡ Less
+shorter xs ys more y h k = ap (λ zs. lower_cmp zs ys) h ∙ ap (lower_cmp []) k
+
+pub both_end : (xs ys : List ℕ) → xs ≡ [] → ys ≡ [] → lower_cmp xs ys ≡ Equal
+both_end xs ys h k = ap (λ zs. lower_cmp zs ys) h ∙ ap (lower_cmp []) k
+
+decided : (o rest : Ordering) → is_ne o ≡ true → ordering_then o rest ≡ o
+decided Less rest h = refl
+decided Equal rest h = absurd (true≢false (sym h))
+decided Greater rest h = refl
+
+undecided : (o rest : Ordering) → is_ne o ≡ false → ordering_then o rest ≡ rest
+undecided Less rest h = absurd (true≢false h)
+undecided Equal rest h = refl
+undecided Greater rest h = absurd (true≢false h)
+
+parts : (xs ys left right : List ℕ) (x y : ℕ) → xs ≡ x ∷ left → ys ≡ y ∷ right → lower_cmp xs ys ≡ ordering_then (nat_cmp (to_ascii_lowercase x) (to_ascii_lowercase y)) (lower_cmp left right)
+parts xs ys left right x y h k = ap (λ zs. lower_cmp zs ys) h ∙ ap (lower_cmp (x ∷ left)) k
+
+pub differs : (xs ys left right : List ℕ) (x y : ℕ) (o : Ordering) → xs ≡ x ∷ left → ys ≡ y ∷ right → o ≡ nat_cmp (to_ascii_lowercase x) (to_ascii_lowercase y) → is_ne o ≡ true
+    → lower_cmp xs ys ≡ o
+differs xs ys left right x y o h k is ne =
+    parts xs ys left right x y h k ∙ ap (λ p. ordering_then p (lower_cmp left right)) (sym is) ∙ decided o (lower_cmp left right) ne
+
+pub goes_on : (xs ys left right : List ℕ) (x y : ℕ) (o : Ordering) → xs ≡ x ∷ left → ys ≡ y ∷ right → o ≡ nat_cmp (to_ascii_lowercase x) (to_ascii_lowercase y) → is_ne o ≡ false
+    → lower_cmp xs ys ≡ lower_cmp left right
+goes_on xs ys left right x y o h k is same =
+    parts xs ys left right x y h k ∙ ap (λ p. ordering_then p (lower_cmp left right)) (sym is) ∙ undecided o (lower_cmp left right) same
+
+-- ---- entries in the order of their names
+
+abbrev pub key : HeaderRule → List ℕ
+key h = name_key (header_view h)
+
+abbrev pub by_name : List ℕ → HeaderRule → Ordering
+by_name name h = slice_cmp nat_cmp (key h) (str_to_ascii_lowercase name)
+
+abbrev AreOrdered : List HeaderRule → Type 0
+AreOrdered xs = IsOrderedBy name_key (map header_view xs)
+
+before_at : (x : HeaderRule) (xs : List HeaderRule) (k : ℕ) (d : HeaderRule) → AllByRecursion (λ y. IsBefore (key x) (name_key y)) (map header_view xs) → k < length xs
+    → slice_cmp nat_cmp (key x) (key (get_or xs k d)) ≡ Less
+before_at x [] k d all h = absurd (omega (arith, h))
+before_at x (y ∷ ys) zero d all h = all.0
+before_at x (y ∷ ys) (suc k) d all h = before_at x ys k d all.1 (omega (arith, h))
+
+next : (x : HeaderRule) (xs : List HeaderRule) (k : ℕ) (d : HeaderRule) → get_or (x ∷ xs) (suc k + 1) d ≡ get_or xs (k + 1) d
+next x xs k d = let e : suc k + 1 ≡ suc (k + 1) = omega arith in ap (λ i. get_or (x ∷ xs) i d) e
+
+neighbours : (xs : List HeaderRule) (k : ℕ) (d : HeaderRule) → k + 1 < length xs → AreOrdered xs → slice_cmp nat_cmp (key (get_or xs k d)) (key (get_or xs (k + 1) d)) ≡ Less
+neighbours [] k d h o = absurd (omega (arith, h))
+neighbours (x ∷ []) k d h o = absurd (omega (arith, h))
+neighbours (x ∷ y ∷ ys) zero d h o = o.0.0
+neighbours (x ∷ y ∷ ys) (suc k) d h o =
+    subst (λ z. slice_cmp nat_cmp (key (get_or (y ∷ ys) k d)) (key z) ≡ Less) (sym (next x (y ∷ ys) k d)) (neighbours (y ∷ ys) k d (omega (arith, h)) o.1)
+
+sorted : (xs : List HeaderRule) → AreOrdered xs → IsSortedBy (λ a b. is_lt (slice_cmp nat_cmp (key a) (key b))) xs
+sorted xs o k d low below =
+    ap is_lt (nat_list_cmp_total.antisymm (key (get_or xs (k + 1) d)) (key (get_or xs k d)) ∙ ap ordering_reverse (neighbours xs k d below o))
+
+-- ---- the entry of a name
+
+equal_texts : (a b : List ℕ) → slice_cmp nat_cmp a b ≡ Equal → a ≡ b
+equal_texts a b e = (bytes_eq-Decides a b).0 (sym (is_eq-slice_cmp a b) ∙ ap is_eq e)
+
+tested : (a b : List ℕ) (o : Ordering) → slice_cmp nat_cmp a b ≡ o → bytes_eq a b ≡ is_eq o
+tested a b o e = sym (is_eq-slice_cmp a b) ∙ ap is_eq e
+
+abbrev first_or : List ℕ → HeaderRule → List HeaderRule → Bool → Option rules.Entry
+first_or name x xs b =
+    option_map (λ (h : rules.HeaderRule). h.entry) (cond b (Some (header_view x)) (find (λ (h : rules.HeaderRule). str_eq_ignore_ascii_case h.name name) (map header_view xs)))
+
+pub has_entry : (xs : List HeaderRule) (i : ℕ) (d : HeaderRule) (name : List ℕ) → AreOrdered xs → i < length xs → by_name name (get_or xs i d) ≡ Equal
+    → header_entry (map header_view xs) name ≡ Some (entry_view (get_or xs i d).entry)
+has_entry [] i d name o h e = absurd (omega (arith, h))
+has_entry (x ∷ xs) zero d name o h e = ap (first_or name x xs) (tested (key x) (str_to_ascii_lowercase name) Equal e)
+has_entry (x ∷ xs) (suc i) d name o h e =
+    let same : key (get_or xs i d) ≡ str_to_ascii_lowercase name = equal_texts _ _ e in
+    let less : slice_cmp nat_cmp (key x) (str_to_ascii_lowercase name) ≡ Less = subst (λ s. slice_cmp nat_cmp (key x) s ≡ Less) same (before_at x xs i d o.0 (omega (arith, h))) in
+    ap (first_or name x xs) (tested (key x) (str_to_ascii_lowercase name) Less less) ∙ has_entry xs i d name o.1 (omega (arith, h)) e
+
+none_of : (xs : List HeaderRule) (name : List ℕ) → ((k : ℕ) (d : HeaderRule) → k < length xs → is_eq (by_name name (get_or xs k d)) ≡ false) → header_entry (map header_view xs) name ≡ None
+none_of [] name f = refl
+none_of (x ∷ xs) name f =
+    ap (first_or name x xs) (sym (is_eq-slice_cmp (key x) (str_to_ascii_lowercase name)) ∙ f 0 x (omega arith)) ∙ none_of xs name (λ k d h. f (suc k) d (omega (arith, h)))
+
+by_test : {B : Type 0} (b : Bool) → (b ≡ true → B) → (b ≡ false → B) → B
+by_test true is isnt = is refl
+by_test false is isnt = isnt refl
+
+below : (k i : ℕ) → nat_lt k i ≡ true → k < i
+below k i h = grind (arith, nat_tests)
+
+not_under : (k i : ℕ) → nat_lt k i ≡ false → i ≤ k
+not_under k i h = grind (arith, nat_tests)
+
+pub has_none : (xs : List HeaderRule) (name : List ℕ) (i : ℕ) → AreOrdered xs
+    → (IsNonDecreasingBy (λ h. ordering_index (by_name name h)) xs → IsPartitionPoint (λ h. by_name name h ≡ Less) (λ h. by_name name h ≡ Greater) xs i)
+    → header_entry (map header_view xs) name ≡ None
+has_none xs name i o split =
+    let p = split (searchable_from_sorted nat_list_cmp_total key xs (str_to_ascii_lowercase name) (sorted xs o)) in
+    none_of xs name (λ k d h.
+    by_test (nat_lt k i) (λ t. ap is_eq (p.0 k d (omega arith) (below k i t))) (λ t. ap is_eq (p.1 k d (not_under k i t) h)))
