@@ -1,9 +1,9 @@
 -- The last row that passes a test stands at the place of its number.
-use Rattle.std.proofs.Common.{◌≡◌, ◌⊎◌, ◌==◌, ◌+◌, ◌-◌, inl, inr, ℕ, suc, List, [], ◌∷◌, filter, Bool, true, false, ◌&&◌, cond, refl, sym, ap, ◌∙◌, slice_get, Some, None, Option, arith}
-use Rattle.std.specs.Prelude.{if◌then◌else◌, option_map}
+use Rattle.std.proofs.Common.{◌≡◌, ◌⊎◌, ◌==◌, ◌+◌, ◌-◌, inl, inr, ℕ, suc, List, [], ◌∷◌, filter, Bool, true, false, ◌&&◌, cond, sym, ap, ◌∙◌, slice_get, Some, None, Option, arith}
+use Rattle.std.specs.Prelude.{if◌then◌else◌}
 use Rattle.std.specs.List.{last_or, enumerate_from}
 use Rattle.std.proofs.lemmas.Bool.{ne_eqb}
-use Rattle.broker_core.specs.State.{State as Broker, Verification, last_row, latest_result, latest, said_by}
+use Rattle.broker_core.specs.State.{State as Broker, Verification, last_row, latest_result}
 use Rattle.broker_core.specs.Text.{same_version}
 use Rattle.broker_core.specs.declared.command.Version.{Version}
 use Rattle.contract_tables.specs.Verified.{result_with}
@@ -37,11 +37,3 @@ module _ {X : Type 0} (test : X → Bool) where
 -- the latest result is the one with its number
 pub latest_with : (s : Broker) (content : ℕ) (v : Version) (e : ℕ × Verification) → latest_result s content v ≡ Some e → result_with s e.0 ≡ Some e.1
 latest_with s content v e is = last_stands (λ r. r.content == content && same_version r.version v) s.results e is
-
--- and says what the latest one says
-pub said_latest : (s : Broker) (content : ℕ) (v : Version) (n : ℕ) → Some n ≡ option_map (λ e. e.0) (latest_result s content v) → option_map said_by (result_with s n) ≡ latest s content v
-said_latest s content v n is = go (latest_result s content v) refl is
-  where
-    go : (o : Option (ℕ × Verification)) → latest_result s content v ≡ o → Some n ≡ option_map (λ e. e.0) o → option_map said_by (result_with s n) ≡ option_map (λ e. said_by e.1) o
-    go None found same = absurd cc
-    go (Some e) found same = let n_is : n ≡ e.0 = cc in ap (λ k. option_map said_by (result_with s k)) n_is ∙ ap (option_map said_by) (latest_with s content v e found)

@@ -8,3 +8,8 @@ pub mod VerifiedList
 pub mod LastRow
 pub mod ResultLookups
 pub mod RunLookup
+pub mod Rising
+pub mod VersionResults
+pub mod QueryLemmas
+pub mod JoinRows
+pub mod LatestPass

@@ -39,7 +39,7 @@ module _ (db : Database) (broker : IsBroker db) where
   pub numbered_rows : IsNumbered (db.trees 17)
   numbered_rows = at_has _ db.schema.tables results broker.kept.numbered (has_place _ 9 results (results_there db broker))
 
-  marked_rows : IsNumbered (db.trees 25)
+  pub marked_rows : IsNumbered (db.trees 25)
   marked_rows = at_has _ db.schema.tables checked_results broker.kept.numbered (has_place _ 13 checked_results (checked_results_there db broker))
 
 -- WHERE the number is the parameter

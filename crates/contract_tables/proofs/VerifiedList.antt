@@ -59,7 +59,7 @@ abbrev newest : Broker → ℕ → Version → Option ℕ
 newest s content v = option_map (λ e. e.0) (latest_result s content v)
 
 -- what the state has is what the row has
-held_latest : (db : Database) (s : Broker) (v : Version) (k content : ℕ) → Holds db s → number_of s.versions v ≡ Some k → latest_at (db.trees 19) content k ≡ option_map pos (newest s content v)
+pub held_latest : (db : Database) (s : Broker) (v : Version) (k content : ℕ) → Holds db s → number_of s.versions v ≡ Some k → latest_at (db.trees 19) content k ≡ option_map pos (newest s content v)
 held_latest db s v k content held is = sym (ap (option_and_then (λ n. latest_at (db.trees 19) content n)) is) ∙ held.latest content v ∙ twice (latest_result s content v)
 
 -- ---- the versions of a provider
@@ -184,7 +184,7 @@ contents_text = record { is = refl; plain = (refl, refl); unlisted = refl }
 pub contents_means : (db : Database) → IsBroker db → Means db.schema contents_sql contents_command
 contents_means db broker = meant db broker contents_sql contents_text
 
-less_nat : (a b : ℕ) → int_cmp (pos a) (pos b) ≡ Less → nat_cmp a b ≡ Less
+pub less_nat : (a b : ℕ) → int_cmp (pos a) (pos b) ≡ Less → nat_cmp a b ≡ Less
 less_nat a b h = go (nat_lt a b) (nat_lt b a) (a == b) h
   where
     go : (t u e : Bool) → cond t Less (cond u Greater Equal) ≡ Less → cond t Less (cond e Equal Greater) ≡ Less

@@ -54,6 +54,16 @@ cells_of number content version pass =
 abbrev pub ReadsAsResult : Row → Type 0
 ReadsAsResult row = IsNumberAt 0 row × IsNumberAt 1 row × IsNumberAt 2 row × IsTruthAt 3 row
 
+-- the columns that tell a result's number, and whether it is a pass
+abbrev pub PassCells : Type 0
+PassCells = Value × Bool
+
+abbrev pub pass_cells : Row → PassCells
+pass_cells row = (column row 0, truth 1 row)
+
+abbrev pub pass_of : ℕ → Bool → PassCells
+pass_of number pass = (value.Int (pos number), pass)
+
 -- a result by numbers: its own, its content's and its version's, and whether it is a pass
 abbrev pub ByNumbers : Type 0
 ByNumbers = ℕ × ℕ × Option ℕ × Bool
@@ -63,6 +73,16 @@ by_numbers versions e = (e.0, e.1.content, number_of versions e.1.version, e.1.p
 
 abbrev pub numbers_are : ℕ → ℕ → ℕ → Bool → ByNumbers
 numbers_are number content version pass = (number, content, Some version, pass)
+
+-- by its own number alone, and whether it is a pass
+abbrev pub Passed : Type 0
+Passed = ℕ × Bool
+
+abbrev pub passed_of : ℕ × Verification → Passed
+passed_of e = (e.0, e.1.pass)
+
+abbrev pub passed_as : ℕ → Bool → Passed
+passed_as number pass = (number, pass)
 
 -- with the mark whether the broker checked it
 abbrev pub Told : Type 0

@@ -21,6 +21,7 @@ mod lookups;
 mod making;
 mod migration;
 mod results;
+mod version_results;
 
 pub use contracts::{add_contract, contract_of};
 pub use listings::{
@@ -31,3 +32,4 @@ pub use lookups::{ResultRow, latest_number, latest_of, result_count, result_of_r
 pub use making::{make_checked_results, make_indexes, make_tables};
 pub use migration::to_format_2;
 pub use results::record_result;
+pub use version_results::{LatestResult, latest_among, latest_results};

@@ -6,7 +6,8 @@ ghost use Rattle.broker_core.specs.Change.{result_of_run as run_result};
 ghost use Rattle.broker_tables.specs.Numbers.{number_of as number_in};
 ghost use Rattle.broker_tables.specs.Holds.{QueriesInPlace};
 ghost use Rattle.sqlite.specs.Order.{Row as SqlRow};
-ghost use Rattle.contract_tables.specs.Verified.{result_with, cells, cells_of, ReadsAsResult, by_numbers, numbers_are, told_of, told};
+ghost use Rattle.contract_tables.specs.Verified.{result_with, cells, cells_of, ReadsAsResult, pass_cells, pass_of, passed_of, passed_as, by_numbers, numbers_are, told_of, told};
+ghost use Rattle.contract_tables.specs.VersionResults.{ReadsAsPass};
 
 use broker_core::need::Latest;
 use broker_tables::{truth_at, truth_of};
@@ -93,6 +94,54 @@ pub fn result_said<S: Alter>(
     }
 }
 
+/// A result by its number, and whether it is a pass.
+#[derive(Clone, Copy)]
+struct NumberedPass {
+    number: u32,
+    pass: bool,
+}
+
+/// The number and the truth value in a row. `StoreFault::Store` where one of them isn't there.
+fn read_pass(row: &Row) -> Result<NumberedPass, StoreFault>
+    ensures ok { IfOk result (λ r. pass_of r.number r.pass ≡ pass_cells row.now) }
+    ensures cause { IfErr result (λ f. (f ≡ StoreFault.Store) × (¬ ReadsAsPass row.now)) }
+{
+    let number = number_at(row, 0)?;
+    let pass = truth_at(row, 1)?;
+    Ok(NumberedPass { number, pass })
+}
+
+/// The number and the truth value in the first row, if there is a row. `StoreFault::Store` where that doesn't read.
+fn first_pass(rows: &[Row]) -> Result<Option<NumberedPass>, StoreFault>
+    ensures ok { IfOk result
+        (λ found. option_map (λ r. pass_of r.number r.pass) found ≡ option_map pass_cells (slice_get rows.now 0)) }
+    ensures cause { IfErr result (λ f. (f ≡ StoreFault.Store)
+        × (row : SqlRow) × (slice_get rows.now 0 ≡ Some row) × (¬ ReadsAsPass row)) }
+{
+    match rows.first() {
+        None => Ok(None),
+        Some(row) => Ok(Some(done!(read_pass(row)))),
+    }
+}
+
+/// The latest result for a content and the version of this number: its own number, and whether it is a pass.
+fn latest_pass<S: Alter>(
+    conn: &mut Connection<S>,
+    content: u32,
+    provider_version: u32,
+) -> Result<Option<NumberedPass>, StoreFault>
+    ensures { QueriesInPlace S.Store conn.old conn.new result
+        (λ found s. (v : VersionModel) → number_in s.versions v ≡ Some provider_version →
+        option_map (λ r. passed_as r.number r.pass) found ≡ option_map passed_of (latest_result s content v)) }
+{
+    let rows = done!(select(
+        conn,
+        "SELECT r.number, r.pass FROM latest l JOIN results r ON r.number = l.result WHERE l.content = ?1 AND l.provider_version = ?2",
+        params![content, provider_version],
+    ));
+    first_pass(&rows)
+}
+
 /// What the latest result for a content and the version of this number says, or `None` where there is none.
 ///
 /// # Errors
@@ -106,8 +155,14 @@ pub fn latest_of<S: Alter>(
         (λ found s. (v : VersionModel) → number_in s.versions v ≡ Some version_number →
         found ≡ latest s content v) }
 {
-    match done!(latest_number(conn, content, version_number)) {
-        Some(number) => result_said(conn, number),
+    match done!(latest_pass(conn, content, version_number)) {
+        Some(found) => {
+            let checked = done!(is_checked(conn, found.number));
+            Ok(Some(Latest {
+                pass: found.pass,
+                checked,
+            }))
+        },
         None => Ok(None),
     }
 }

@@ -108,7 +108,7 @@ by_key_total : IsTotalOrder by_key
 by_key_total = on_total (λ (q : Pair). (text 2 q.0, text 3 q.0)) pairs_total
 
 -- a column that names a version
-named : (vs : List Version) (p : Words) (z : ℤ) (o : Option Words) → Some (Some z) ≡ option_map (λ name. option_map pos (number_of vs (version p name))) o → (name : Words) × (o ≡ Some name) × ((k : ℕ) × (number_of vs (version p name) ≡ Some k) × (z ≡ pos k))
+pub named : (vs : List Version) (p : Words) (z : ℤ) (o : Option Words) → Some (Some z) ≡ option_map (λ name. option_map pos (number_of vs (version p name))) o → (name : Words) × (o ≡ Some name) × ((k : ℕ) × (number_of vs (version p name) ≡ Some k) × (z ≡ pos k))
 named vs p z None h = absurd cc
 named vs p z (Some name) h = (name, refl, go (number_of vs (version p name)) (let inner : Some z ≡ option_map pos (number_of vs (version p name)) = cc in inner))
   where
@@ -117,7 +117,7 @@ named vs p z (Some name) h = (name, refl, go (number_of vs (version p name)) (le
     go (Some k) e = (k, refl, cc)
 
 -- a number that stands in a column
-valued : (value : Option ℤ) (o : Option ℕ) → option_map Some value ≡ Some (option_map pos o) → (k : ℕ) × (value ≡ Some (pos k)) × (o ≡ Some k)
+pub valued : (value : Option ℤ) (o : Option ℕ) → option_map Some value ≡ Some (option_map pos o) → (k : ℕ) × (value ≡ Some (pos k)) × (o ≡ Some k)
 valued None o h = absurd cc
 valued (Some z) None h = absurd (let inner : Some z ≡ None = cc in cc)
 valued (Some z) (Some k) h = (k, (let inner : Some z ≡ Some (pos k) = cc in inner), refl)

@@ -4,10 +4,10 @@ pub mod VersionRows
 pub mod DeployedList
 pub mod ReleasedList
 pub mod ReleasedRows
+pub mod ContractsThere
 pub mod NeedLemmas
 pub mod NeedOrders
-pub mod ConsumerLoop
-pub mod QueryLemmas
+pub mod NeedLoop
 pub mod StandingLemmas
 pub mod MatrixLemmas
 pub mod MatrixOrders

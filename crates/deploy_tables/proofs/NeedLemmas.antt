@@ -23,7 +23,7 @@ use Rattle.deploy_tables.specs.declared.pairs.ConsumerContract.{ConsumerContract
 use Rattle.deploy_tables.specs.declared.pairs.Partner.{Partner}
 use Rattle.deploy_tables.specs.declared.pairs.Pair.{Pair}
 use Rattle.contract_tables.specs.Listings.{contract_cmp}
-use Rattle.deploy_tables.specs.Needs.{IsStanding, AreNumbered, HaveNumbers, standing_cmp, IsOwnContract, IsConsumerContract, consumer_in, with_partner, without_partner, or_one, consumed, provided, pairs_among, partner_cmp, pair_cmp, IsNumberedPair, AreNumberedPairs, need_in, need_cmp}
+use Rattle.deploy_tables.specs.Needs.{IsStanding, AreNumbered, AllStand, standing_cmp, IsOwnContract, IsConsumerContract, consumer_in, with_partner, without_partner, or_one, consumed, provided, pairs_among, partner_cmp, pair_cmp, IsNumberedPair, AreNumberedPairs, need_in, need_cmp}
 
 -- ---- lists
 
@@ -295,9 +295,9 @@ consumers_are s v e standing stand numbered c = (
 
 pub needs_read : (s : State) (v : Version) (n : ℕ) (e : Text) (own : List Contract) (standing : List StandingVersion) (consumers : List ConsumerContract)
     → Lists standing_cmp (IsStanding s e) standing × AreNumbered s e → ((w : Version) → number_of s.versions w ≡ Some n → Lists contract_cmp (IsOwnContract s w) own)
-    → (HaveNumbers s standing → consumers ≡ filter_map (consumer_in s v.pacticipant) standing)
+    → (AllStand s e standing → consumers ≡ filter_map (consumer_in s v.pacticipant) standing)
     → (pairs : List Pair) → Lists pair_cmp (Contains (pairs_among v n own standing consumers)) pairs → number_of s.versions v ≡ Some n → AreNumberedPairs s pairs × Lists need_cmp (IsNeed s v e) (map (need_in s) pairs)
 needs_read s v n e own standing consumers there mine theirs pairs listed number =
-    let found = theirs (λ x c. ((there.0.exactly x).0 c).1) in
+    let found = theirs (λ x c. (there.0.exactly x).0 c) in
     needs_are s v n e own standing consumers number there.0.exactly there.1 (mine v number).exactly
     (λ c. subst (λ xs. Contains xs c ↔ IsConsumerContract s v e c) (sym found) (consumers_are s v e standing there.0.exactly there.1 c)) pairs listed

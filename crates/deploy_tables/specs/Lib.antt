@@ -1,5 +1,6 @@
 pub mod Deployments
 pub mod Listings
+pub mod ContractsThere
 pub mod Needs
 pub mod Matrix
 pub mod Releases

@@ -8,9 +8,11 @@ use Rattle.std.specs.Ordering.{ordering_then, nat_cmp}
 use Rattle.std.specs.Option.{option_cmp}
 use Rattle.broker_core.specs.declared.command.Version.{Version}
 use Rattle.broker_core.specs.declared.need.Need.{Need}
+use Rattle.broker_core.specs.declared.need.Latest.{Latest}
 use Rattle.broker_core.specs.Text.{Text, text_cmp, same_text, version}
 use Rattle.broker_core.specs.State.{State, latest}
 use Rattle.broker_core.specs.Gate.{Stands}
+use Rattle.broker_core.specs.Listing.{Lists}
 use Rattle.broker_tables.specs.Numbers.{number_of}
 use Rattle.table_access.specs.declared.StoreFault.{StoreFault}
 use Rattle.table_access.specs.declared.StoreFault.TheVariants.{Store}
@@ -18,6 +20,8 @@ use Rattle.table_access.specs.Reading.{IsNumberRow}
 use Rattle.broker_tables.specs.Names.{IsNameAt}
 use Rattle.deploy_tables.specs.declared.standing_versions.StandingVersion.{StandingVersion}
 use Rattle.contract_tables.specs.declared.listings.Contract.{Contract}
+use Rattle.contract_tables.specs.declared.version_results.LatestResult.{LatestResult}
+use Rattle.contract_tables.specs.VersionResults.{latest_cmp}
 use Rattle.deploy_tables.specs.declared.pairs.ConsumerContract.{ConsumerContract}
 use Rattle.deploy_tables.specs.declared.pairs.Partner.{Partner}
 use Rattle.deploy_tables.specs.declared.pairs.Pair.{Pair}
@@ -81,10 +85,9 @@ abbrev pub IsConsumerContract : State → Version → Text → ConsumerContract 
 IsConsumerContract s v e c = (c.consumer ≢ v.pacticipant) × Stands s e (version c.consumer c.consumer_version)
     × (s.contracts (version c.consumer c.consumer_version, v.pacticipant) ≡ Some c.content)
 
--- their numbers are right
-abbrev pub HaveNumbers : State → List StandingVersion → Type 0
-HaveNumbers s standing = (x : StandingVersion) → Contains standing x
-    → number_of s.versions (version x.pacticipant x.name) ≡ Some x.number
+-- each of them stands there, and has its number
+abbrev pub AllStand : State → Text → List StandingVersion → Type 0
+AllStand s e standing = (x : StandingVersion) → Contains standing x → IsStanding s e x
 
 -- the contract that this version has with the pacticipant, where it is a version of another
 abbrev pub consumer_in : State → Text → StandingVersion → Option ConsumerContract
@@ -153,6 +156,15 @@ IsNumberedPair s p = MatchOption p.partner ⊤ (λ w. number_of s.versions (vers
 abbrev pub AreNumberedPairs : State → List Pair → Type 0
 AreNumberedPairs s pairs = (p : Pair) → Contains pairs p → IsNumberedPair s p
 
+-- these are the latest results of the version of this number, for each content that has one
+abbrev pub AreLatestOf : State → ℕ → List LatestResult → Type 0
+AreLatestOf s n results = (v : Version) → number_of s.versions v ≡ Some n
+    → Lists latest_cmp (λ x. latest s x.content v ≡ Some x.latest) results
+
+-- what the latest result between the two says; none where the provider is absent
+abbrev pub latest_between : State → Pair → Option Latest
+latest_between s p = option_and_then (λ w. latest s p.content (version p.provider w.name)) p.partner
+
 -- the need that a pair is in a state
 abbrev pub need_in : State → Pair → Need
 need_in s p = record {
@@ -160,7 +172,7 @@ need_in s p = record {
   consumer_version = p.consumer_version;
   provider = p.provider;
   provider_version = option_map (λ w. w.name) p.partner;
-  latest = option_and_then (λ w. latest s p.content (version p.provider w.name)) p.partner;
+  latest = latest_between s p;
 }
 
 -- needs in the order of their names, none first

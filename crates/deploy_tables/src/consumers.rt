@@ -1,24 +1,21 @@
 //! The contracts of other pacticipants' versions with one pacticipant.
-ghost use Rattle.std.specs.Prelude.{◌≡◌, ◌++◌, [], IfOk, Some, option_map, filter_map};
-ghost use Rattle.std.specs.List.{cons_option};
-ghost use Rattle.broker_core.specs.Text.{version as version_named};
-ghost use Rattle.broker_tables.specs.Numbers.{number_of as number_in};
-ghost use Rattle.broker_tables.specs.Holds.{Queries};
-ghost use Rattle.deploy_tables.specs.Needs.{HaveNumbers, consumer_in};
+ghost use Rattle.std.specs.Prelude.{◌≡◌, IfOk, option_map, filter_map};
+ghost use Rattle.broker_core.specs.State.{State};
+ghost use Rattle.broker_core.specs.Text.{Text};
+ghost use Rattle.deploy_tables.specs.ContractsThere.{AreContractsThere};
+ghost use Rattle.deploy_tables.specs.Needs.{IsStanding, AllStand, consumer_in};
 
+use crate::contracts_there::{NumberedContract, content_among};
 use crate::pairs::ConsumerContract;
 use crate::standing_versions::StandingVersion;
 use broker_core::name::Name;
-use contract_tables::contract_of;
-use sqlite::{Alter, Connection};
-use std::alloc::Global;
-use table_access::StoreFault;
+use std::alloc::{AllocError, Global};
 
-/// A contract of this version, or none. An `Err` is out of memory.
+/// A contract of this version, or none.
 fn consumer_contract(
     other: &StandingVersion,
     content: Option<u32>,
-) -> Result<Option<ConsumerContract>, StoreFault>
+) -> Result<Option<ConsumerContract>, AllocError>
     ensures { IfOk result
         (λ found. found ≡ option_map
         (λ content. record {
@@ -30,67 +27,46 @@ fn consumer_contract(
     let Some(content) = content else {
         return Ok(None);
     };
-    match (other.pacticipant.clone(), other.name.clone()) {
-        (Ok(consumer), Ok(consumer_version)) => Ok(Some(ConsumerContract {
-            consumer,
-            consumer_version,
-            content,
-        })),
-        _ => Err(StoreFault::Memory),
-    }
+    Ok(Some(ConsumerContract {
+        consumer: other.pacticipant.clone()?,
+        consumer_version: other.name.clone()?,
+        content,
+    }))
 }
 
-/// The contract that this version has with the pacticipant, where it is a version of another.
-fn contract_with<S: Alter>(
-    conn: &mut Connection<S>,
+/// The contract that this version, which stands in the environment, has with the pacticipant, where it is a version of another: found among all contracts with it that stand there.
+fn contract_with(
     pacticipant: &Name,
     other: &StandingVersion,
-) -> Result<Option<ConsumerContract>, StoreFault>
-    ensures { Queries S.Store conn.old conn.new result
-        (λ found s. number_in s.versions (version_named other.now.pacticipant other.now.name)
-        ≡ Some other.now.number → found ≡ consumer_in s pacticipant.now other.now) }
+    contracts: &[NumberedContract],
+) -> Result<Option<ConsumerContract>, AllocError>
+    ensures { IfOk result
+        (λ found. (s : State) (e : Text) → AreContractsThere s e pacticipant.now contracts.now →
+        IsStanding s e other.now → found ≡ consumer_in s pacticipant.now other.now) }
 {
     if other.pacticipant == *pacticipant {
         return Ok(None);
     }
-    let content = done!(contract_of(conn, other.number, pacticipant.as_str()));
+    let content = content_among(contracts, other.number);
     consumer_contract(other, content)
 }
 
-/// Puts the contract at the end, where there is one.
-fn keep(
-    found: &mut Vec<ConsumerContract>,
-    contract: Option<ConsumerContract>,
-) -> Result<(), StoreFault>
-    ensures { IfOk result (λ _. found.new.items ≡ found.old.items ++ cons_option contract []) }
-{
-    match contract {
-        Some(contract) => match found.push(contract) {
-            Ok(()) => Ok(()),
-            Err(_) => Err(StoreFault::Memory),
-        },
-        None => Ok(()),
-    }
-}
-
-/// The contracts that these versions have with the pacticipant, its own aside.
-///
-/// # Errors
-/// `StoreFault::Memory` where the database is out of memory, or there is none for the answer; `StoreFault::Store` where it refused a query.
-pub(crate) fn consumer_contracts<S: Alter>(
+/// The contracts that these versions, which stand in the environment, have with the pacticipant, its own aside: found among all contracts with it that stand there.
+pub(crate) fn consumer_contracts(
     alloc: Global,
-    conn: &mut Connection<S>,
     pacticipant: &Name,
     standing: &[StandingVersion],
-) -> Result<Vec<ConsumerContract>, StoreFault>
-    ensures { Queries S.Store conn.old conn.new result
-        (λ found s. HaveNumbers s standing.now →
-        found.items ≡ filter_map (consumer_in s pacticipant.now) standing.now) }
+    contracts: &[NumberedContract],
+) -> Result<Vec<ConsumerContract>, AllocError>
+    ensures { IfOk result
+        (λ found. (s : State) (e : Text) → AreContractsThere s e pacticipant.now contracts.now →
+        AllStand s e standing.now → found.items ≡ filter_map (consumer_in s pacticipant.now) standing.now) }
 {
     let mut found = Vec::new(alloc);
     for other in standing {
-        let contract = done!(contract_with(conn, pacticipant, other));
-        done!(keep(&mut found, contract));
+        if let Some(contract) = contract_with(pacticipant, other, contracts)? {
+            found.push(contract)?;
+        }
     }
     Ok(found)
 }

@@ -1,95 +1,151 @@
 //! What the gate asks: the needs of a version in an environment, each with what the latest result says.
-ghost use Rattle.std.specs.Prelude.{◌≡◌, Some, IfOk, map, option_map, option_and_then};
-ghost use Rattle.broker_core.specs.Text.{version as version_named};
+ghost use Rattle.std.specs.Prelude.{◌≡◌, Some, map, filter_map, option_map};
+ghost use Rattle.broker_core.specs.declared.command.Version.{Version as VersionModel};
 ghost use Rattle.broker_core.specs.State.{latest as latest_in};
 ghost use Rattle.broker_core.specs.Listing.{Lists};
 ghost use Rattle.broker_core.specs.Gate.{IsNeed};
 ghost use Rattle.broker_tables.specs.Numbers.{number_of as number_in};
 ghost use Rattle.broker_tables.specs.Holds.{Queries, QueriesInPlace};
-ghost use Rattle.deploy_tables.specs.Needs.{IsNumberedPair, AreNumberedPairs, need_in, need_cmp};
+ghost use Rattle.deploy_tables.specs.Needs.{AllStand, consumer_in, AreLatestOf, IsNumberedPair, AreNumberedPairs, latest_between, need_in, need_cmp};
 
 use crate::consumers::consumer_contracts;
-use crate::pairs::{Pair, Partner, pairs_of};
-use crate::standing_versions::standing;
+use crate::contracts_there::contracts_there;
+use crate::pairs::{ConsumerContract, Pair, Partner, pairs_of};
+use crate::standing_versions::{StandingVersion, standing};
 use broker_core::command::Version;
 use broker_core::name::Name;
 use broker_core::need::{Latest, Need};
-use contract_tables::{contracts_of, latest_of};
+use contract_tables::{LatestResult, contracts_of, latest_among, latest_of, latest_results};
 use sqlite::{Alter, Connection};
-use std::alloc::{AllocError, Global};
+use std::alloc::Global;
 use table_access::StoreFault;
 
-/// What the latest result for a pair says; `None` where there is none, or no version of the provider.
-fn latest_for<S: Alter>(conn: &mut Connection<S>, pair: &Pair) -> Result<Option<Latest>, StoreFault>
+/// What the latest result for a content and a version of its provider says: found among these where it is the version of this number, whose latest results they are.
+fn latest_with<S: Alter>(
+    conn: &mut Connection<S>,
+    number: u32,
+    results: &[LatestResult],
+    content: u32,
+    partner: &Partner,
+) -> Result<Option<Latest>, StoreFault>
     ensures { QueriesInPlace S.Store conn.old conn.new result
-        (λ found s. IsNumberedPair s pair.now → found ≡ option_and_then
-        (λ w. latest_in s pair.now.content (version_named pair.now.provider w.name)) pair.now.partner) }
+        (λ found s. AreLatestOf s number results.now → (v : VersionModel) →
+        number_in s.versions v ≡ Some partner.now.number → found ≡ latest_in s content v) }
+{
+    if partner.number == number {
+        Ok(latest_among(results, content))
+    } else {
+        latest_of(conn, content, partner.number)
+    }
+}
+
+/// What the latest result for a pair says; `None` where there is none, or no version of the provider. These are the latest results of the version of this number.
+fn latest_for<S: Alter>(
+    conn: &mut Connection<S>,
+    number: u32,
+    results: &[LatestResult],
+    pair: &Pair,
+) -> Result<Option<Latest>, StoreFault>
+    ensures { QueriesInPlace S.Store conn.old conn.new result
+        (λ found s. AreLatestOf s number results.now → IsNumberedPair s pair.now →
+        found ≡ latest_between s pair.now) }
 {
     match &pair.partner {
-        Some(partner) => latest_of(conn, pair.content, partner.number),
+        Some(partner) => latest_with(conn, number, results, pair.content, partner),
         None => Ok(None),
     }
 }
 
 /// The name of a version of a provider, or none.
-fn name_of(partner: &Option<Partner>) -> Result<Option<Name>, AllocError>
-    ensures { IfOk result (λ name. name ≡ option_map (λ w. w.name) partner.now) }
+fn name_of(partner: Option<Partner>) -> Option<Name>
+    ensures { result ≡ option_map (λ w. w.name) partner }
 {
     match partner {
-        Some(partner) => Ok(Some(partner.name.clone()?)),
-        None => Ok(None),
+        Some(Partner { name, number: _ }) => Some(name),
+        None => None,
     }
 }
 
 /// The need that a pair is, with what its latest result says.
-fn need_with(pair: &Pair, latest: Option<Latest>) -> Result<Need, AllocError>
-    ensures { IfOk result (λ need. need ≡ record {
-      consumer = pair.now.consumer;
-      consumer_version = pair.now.consumer_version;
-      provider = pair.now.provider;
-      provider_version = option_map (λ w. w.name) pair.now.partner;
+fn need_with(pair: Pair, latest: Option<Latest>) -> Need
+    ensures { result ≡ record {
+      consumer = pair.consumer;
+      consumer_version = pair.consumer_version;
+      provider = pair.provider;
+      provider_version = option_map (λ w. w.name) pair.partner;
       latest = latest;
-    }) }
+    } }
 {
-    Ok(Need {
-        consumer: pair.consumer.clone()?,
-        consumer_version: pair.consumer_version.clone()?,
-        provider: pair.provider.clone()?,
-        provider_version: name_of(&pair.partner)?,
+    let Pair {
+        consumer,
+        consumer_version,
+        provider,
+        partner,
+        content: _,
+    } = pair;
+    Need {
+        consumer,
+        consumer_version,
+        provider,
+        provider_version: name_of(partner),
         latest,
-    })
-}
-
-/// The need that a pair is.
-fn need_of<S: Alter>(conn: &mut Connection<S>, pair: &Pair) -> Result<Need, StoreFault>
-    ensures { Queries S.Store conn.old conn.new result
-        (λ need s. IsNumberedPair s pair.now → need ≡ need_in s pair.now) }
-{
-    let latest = done!(latest_for(conn, pair));
-    match need_with(pair, latest) {
-        Ok(need) => Ok(need),
-        Err(_) => Err(StoreFault::Memory),
     }
 }
 
-/// The needs that these pairs are.
+/// The need that a pair is. These are the latest results of the version of this number.
+fn need_of<S: Alter>(
+    conn: &mut Connection<S>,
+    number: u32,
+    results: &[LatestResult],
+    pair: Pair,
+) -> Result<Need, StoreFault>
+    ensures { Queries S.Store conn.old conn.new result
+        (λ need s. AreLatestOf s number results.now → IsNumberedPair s pair → need ≡ need_in s pair) }
+{
+    let latest = done!(latest_for(conn, number, results, &pair));
+    Ok(need_with(pair, latest))
+}
+
+/// The needs that these pairs are. These are the latest results of the version of this number.
 fn with_latest<S: Alter>(
     alloc: Global,
     conn: &mut Connection<S>,
-    pairs: &[Pair],
+    number: u32,
+    results: &[LatestResult],
+    pairs: Vec<Pair>,
 ) -> Result<Vec<Need>, StoreFault>
     ensures { Queries S.Store conn.old conn.new result
-        (λ needs s. AreNumberedPairs s pairs.now → needs.items ≡ map (need_in s) pairs.now) }
+        (λ needs s. AreLatestOf s number results.now → AreNumberedPairs s pairs.items →
+        needs.items ≡ map (need_in s) pairs.items) }
 {
     let mut needs = Vec::new(alloc);
     for pair in pairs {
-        let need = done!(need_of(conn, pair));
+        let need = done!(need_of(conn, number, results, pair));
         match needs.push(need) {
             Ok(()) => {}
             Err(_) => return Err(StoreFault::Memory),
         }
     }
     Ok(needs)
+}
+
+/// The contracts that these versions, which stand in the environment, have with the pacticipant, its own aside.
+fn contracts_with<S: Alter>(
+    alloc: Global,
+    conn: &mut Connection<S>,
+    pacticipant: &Name,
+    environment: &str,
+    standing: &[StandingVersion],
+) -> Result<Vec<ConsumerContract>, StoreFault>
+    ensures { Queries S.Store conn.old conn.new result
+        (λ found s. AllStand s environment.now standing.now →
+        found.items ≡ filter_map (consumer_in s pacticipant.now) standing.now) }
+{
+    let contracts = done!(contracts_there(alloc, conn, environment, pacticipant.as_str(),));
+    match consumer_contracts(alloc, pacticipant, standing, &contracts) {
+        Ok(found) => Ok(found),
+        Err(_) => Err(StoreFault::Memory),
+    }
 }
 
 /// The pairs of the version of this number, each once, in the order of their names.
@@ -106,7 +162,7 @@ fn find_pairs<S: Alter>(
 {
     let there = done!(standing(alloc, conn, environment));
     let own = done!(contracts_of(alloc, conn, number));
-    let consumers = done!(consumer_contracts(alloc, conn, &version.pacticipant, &there));
+    let consumers = done!(contracts_with(alloc, conn, &version.pacticipant, environment, &there));
     pairs_of(alloc, version, number, &own, &there, &consumers)
 }
 
@@ -126,5 +182,6 @@ pub fn needs<S: Alter>(
         Lists need_cmp (IsNeed s version.now environment.now) found.items) }
 {
     let pairs = done!(find_pairs(alloc, conn, number, version, environment));
-    with_latest(alloc, conn, &pairs)
+    let results = done!(latest_results(alloc, conn, number));
+    with_latest(alloc, conn, number, &results, pairs)
 }

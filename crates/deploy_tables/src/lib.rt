@@ -16,6 +16,7 @@ macro_rules! done {
 }
 
 mod consumers;
+mod contracts_there;
 mod deployments;
 mod entries;
 mod gate;

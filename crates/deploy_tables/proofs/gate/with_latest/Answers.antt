@@ -1,25 +1,28 @@
-use Rattle.std.proofs.Common.{◌∙◌, ap, arith, Some}
-use Rattle.std.specs.Prelude.{filter_map}
-use Rattle.std.proofs.lemmas.List.{take_all}
+use Rattle.std.proofs.Common.{◌≡◌, ◌∙◌, ap, sym, subst, map, map-id, rules}
+use Rattle.std.specs.Prelude.{Contains}
+use Rattle.std.proofs.lemmas.Iterator.Consumers.{YieldsList-end}
+use Rattle.std.proofs.lemmas.Iterator.Adapters.{YieldsList-from_vec}
 use Rattle.sqlite.specs.Held.{state}
 use Rattle.table_access.proofs.CallLemmas.{failed_then, then_ok}
-use Rattle.deploy_tables.specs.Needs.{IsNumberedPair, need_in}
-use Rattle.deploy_tables.proofs.ConsumerLoop.{one_more, no_room, filter_map_some}
+use Rattle.deploy_tables.specs.Needs.{AreLatestOf, IsNumberedPair, need_in}
+use Rattle.deploy_tables.proofs.NeedLoop.{one_more, no_room}
 use Rattle.deploy_tables.proofs.gate.with_latest.Goals as goal
 
 pub loop-pair-preserved : goal.loop-pair-preserved
 loop-pair-preserved g c =
     let mid = state g.S.Store c.loop-pair.conn in
     let new = state g.S.Store c.need_of.new.conn in
-    one_more (λ v. v.items) (λ s p. Some (need_in s p)) IsNumberedPair c.args.pairs.now
-    (state g.S.Store c.args.conn.now) mid new c.loop-pair.pair-index c.pair-item.result c.loop-pair.needs _ (Some c.in-Ok.value)
-    c.loop-pair-test.true c.pair-item.is c.in-Ok-push.ensures.items c.loop-pair.invariant
-    (then_ok mid new c.in-Ok.value (Some c.in-Ok.value) _ _ (λ told s held. (λ right. ap Some ((told s held).0 right), (told s held).1)) c.in-Ok.ensures)
+    one_more (λ v. v.items) need_in (λ s p. AreLatestOf s c.args.number c.args.results.now × IsNumberedPair s p) (state g.S.Store c.args.conn.now) mid new c.loop-pair.yielded c.in-Some.pair c.loop-pair.needs _ c.in-Ok.value
+    c.in-Ok-push.ensures.items c.loop-pair.invariant
+    (then_ok mid new c.in-Ok.value c.in-Ok.value _ _ (λ told s held. (λ right. (told s held).0 right.0 right.1, (told s held).1)) c.in-Ok.ensures)
 
 pub returns : goal.returns
 returns g c =
+    let end = YieldsList-end (YieldsList-from_vec {s = c.into_iter-pair-iterator.result} c.args.pairs.items (search rules) (search rules))
+    c.loop-pair.yielded c.loop-pair.pair-iterator c.loop-pair.yielded_by c.next.result c.next.new.self c.in-None.is c.next.ensures.steps in
+    let all : c.loop-pair.yielded ≡ c.args.pairs.items = sym (map-id c.loop-pair.yielded) ∙ end.0 in
     then_ok (state g.S.Store c.args.conn.now) (state g.S.Store c.loop-pair.conn) c.loop-pair.needs c.loop-pair.needs _ _ (λ told s held. (
-      λ right. (told s held).0 right ∙ ap (filter_map (λ p. Some (need_in s p))) (take_all c.loop-pair.pair-index c.args.pairs.now (omega arith)) ∙ filter_map_some (need_in s) c.args.pairs.now,
+      λ listed right. (told s held).0 (λ p has. (listed, right p (subst (λ ps. Contains ps p) all has))) ∙ ap (map (need_in s)) all,
       (told s held).1,
     )) c.loop-pair.invariant
 
@@ -30,5 +33,5 @@ pub returns-in-Err-push : goal.returns-in-Err-push
 returns-in-Err-push g c =
     let mid = state g.S.Store c.loop-pair.conn in
     let new = state g.S.Store c.need_of.new.conn in
-    no_room (λ v. v.items) (λ s p. Some (need_in s p)) IsNumberedPair c.args.pairs.now (state g.S.Store c.args.conn.now) mid new c.loop-pair.pair-index c.pair-item.result c.loop-pair.needs (Some c.in-Ok.value) _ _
-    c.loop-pair.invariant (then_ok mid new c.in-Ok.value (Some c.in-Ok.value) _ _ (λ told s held. (λ right. ap Some ((told s held).0 right), (told s held).1)) c.in-Ok.ensures)
+    no_room (λ v. v.items) need_in (λ s p. AreLatestOf s c.args.number c.args.results.now × IsNumberedPair s p) (state g.S.Store c.args.conn.now) mid new c.loop-pair.yielded c.in-Some.pair c.loop-pair.needs c.in-Ok.value _ _
+    c.loop-pair.invariant (then_ok mid new c.in-Ok.value c.in-Ok.value _ _ (λ told s held. (λ right. (told s held).0 right.0 right.1, (told s held).1)) c.in-Ok.ensures)

@@ -4,7 +4,7 @@ use Rattle.sqlite.specs.Held.{state}
 use Rattle.contract_tables.specs.Listings.{contract_cmp}
 use Rattle.deploy_tables.specs.Matrix.{IsOfContract}
 use Rattle.deploy_tables.proofs.MatrixLemmas.{of_listed}
-use Rattle.deploy_tables.proofs.QueryLemmas.{query_then}
+use Rattle.contract_tables.proofs.QueryLemmas.{query_then}
 use Rattle.deploy_tables.proofs.matrix_rows.consumed.Goals as goal
 
 pub returns : goal.returns

@@ -3,7 +3,7 @@ use Rattle.sqlite.specs.Held.{state}
 use Rattle.table_access.specs.Reading.{AreRead}
 use Rattle.deploy_tables.specs.Matrix.{IsToldAs}
 use Rattle.deploy_tables.proofs.MatrixLemmas.{rows_are}
-use Rattle.deploy_tables.proofs.QueryLemmas.{query_then}
+use Rattle.contract_tables.proofs.QueryLemmas.{query_then}
 use Rattle.deploy_tables.proofs.matrix_rows.matrix.Goals as goal
 
 pub returns : goal.returns

@@ -3,7 +3,7 @@ use Rattle.sqlite.specs.Held.{state}
 use Rattle.contract_tables.specs.Listings.{content_cmp}
 use Rattle.deploy_tables.specs.Matrix.{IsNewest, IsOfContent}
 use Rattle.deploy_tables.proofs.MatrixLemmas.{of_listed}
-use Rattle.deploy_tables.proofs.QueryLemmas.{query_then}
+use Rattle.contract_tables.proofs.QueryLemmas.{query_then}
 use Rattle.deploy_tables.proofs.matrix_rows.provided.Goals as goal
 
 pub returns : goal.returns

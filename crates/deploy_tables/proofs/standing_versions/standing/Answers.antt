@@ -4,7 +4,7 @@ use Rattle.sqlite.specs.Held.{state}
 use Rattle.broker_core.specs.Listing.{Lists}
 use Rattle.deploy_tables.specs.declared.standing_versions.StandingVersion.{StandingVersion}
 use Rattle.deploy_tables.specs.Needs.{IsDeployedThere, AreDeployedNumbered, IsReleasedThere, AreReleasedNumbered, standing_cmp}
-use Rattle.deploy_tables.proofs.QueryLemmas.{query_then, computed}
+use Rattle.contract_tables.proofs.QueryLemmas.{query_then, computed}
 use Rattle.deploy_tables.proofs.StandingLemmas.{standing_are}
 use Rattle.deploy_tables.proofs.standing_versions.standing.Goals as goal
 

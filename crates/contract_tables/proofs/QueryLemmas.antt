@@ -1,9 +1,10 @@
--- QueriesBetween one after another, and a computation after a query, over the state that the database holds.
+-- One query after another, a computation after a query, and an answer without one, over the state that the database
+-- holds.
 use Rattle.std.proofs.Common.{Ok, Err, Result, IfOk}
 use Rattle.sqlite.specs.State.{State}
 use Rattle.table_access.specs.declared.StoreFault.{StoreFault}
-use Rattle.table_access.specs.Calls.{CallsTablesBetween}
-use Rattle.table_access.proofs.CallLemmas.{seq, then_ok, then_stop}
+use Rattle.table_access.specs.Calls.{CallsTablesBetween, CallsStoreBetween}
+use Rattle.table_access.proofs.CallLemmas.{seq, then_ok, then_stop, idle, memory_ok}
 use Rattle.broker_core.specs.State.{State as Broker}
 use Rattle.broker_tables.specs.Holds.{IsRead}
 
@@ -19,3 +20,7 @@ pub computed : {A B : Type 0} (old new : State) (a : A) (r : Result B StoreFault
     → IfOk r L → CallsTablesBetween old new (Ok a) (IsRead old new P) → CallsTablesBetween old new r (IsRead old new R)
 computed old new a (Ok b) P L R more is one = then_ok old new a b (IsRead old new P) (IsRead old new R) (λ first s held. let f = first s held in (more s f.0 b is, f.1)) one
 computed old new a (Err e) P L R more is one = then_stop old new a e (IsRead old new P) (IsRead old new R) one
+
+-- an answer that needs no statement
+pub known : {A : Type 0} (now : State) (a : A) (P : A → Broker → Type 0) → ((s : Broker) → P a s) → CallsStoreBetween now now (Ok a) (IsRead now now P)
+known now a P told = record { call = idle now (Ok a) (IsRead now now P) (λ s held. (told s, held)); memory = memory_ok now now a }

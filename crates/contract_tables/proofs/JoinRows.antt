@@ -1,0 +1,36 @@
+-- The rows that a JOIN shows, in whatever order: one of each pair that it keeps.
+use Rattle.std.proofs.Common.{◌≡◌, ℕ, List, [], ◌∷◌, map, filter, sym, subst, ◌∙◌}
+use Rattle.std.specs.List.{flat_map}
+use Rattle.std.specs.List.Sorted.{IsPermutation}
+use Rattle.std.proofs.lemmas.List.Sorted.{Contains-permutation, IsPermutation-sym}
+use Rattle.sqlite.specs.Order.{Row}
+use Rattle.sqlite.specs.Term.{Term, eval_all}
+use Rattle.sqlite.specs.Effect.{Database, Answers}
+use Rattle.sqlite_keyed.proofs.ListLemmas.{map-map, map-flat_map, flat_map_same_on}
+use Rattle.sqlite_rules.specs.Lists.{Has}
+use Rattle.sqlite_value.specs.declared.keys.Key.{Key}
+use Rattle.table_access.specs.Statements.{from_both, keeps_both, pairs_kept}
+use Rattle.table_access.proofs.Joins.{joined}
+use Rattle.table_access.proofs.Members.{contains_has, has_contains, has_map, map_has}
+
+module _ (db : Database) (params : Row) (t u : ℕ) (terms project : List Term) (order : List (Term × Key)) (rows : List Row) (h : Answers db (record { lets = []; body = from_both t u terms project order }) params rows) where
+  abbrev kept : List (Row × Row)
+  kept = pairs_kept terms params (db.trees t) (db.trees u)
+
+  abbrev pub shown_of : Row × Row → Row
+  shown_of q = eval_all project (params ∷ q.0 ∷ q.1 ∷ [])
+
+  moved : IsPermutation (map shown_of kept) rows
+  moved =
+      let list : map shown_of kept ≡ flat_map (λ r. map (λ s. eval_all project (params ∷ r ∷ s ∷ [])) (filter (keeps_both terms params r) (db.trees u))) (db.trees t) =
+      map-flat_map shown_of (λ r. map (λ s. (r, s)) (filter (keeps_both terms params r) (db.trees u))) (db.trees t)
+      ∙ flat_map_same_on _ _ (λ r. map-map shown_of (λ s. (r, s)) (filter (keeps_both terms params r) (db.trees u))) (db.trees t) in
+      subst (λ xs. IsPermutation xs rows) (sym list) (joined db params t u terms project order rows h)
+
+  -- each row is that of a pair that is kept
+  pub row_shown : (row : Row) → Has rows row → (q : Row × Row) × Has kept q × (row ≡ shown_of q)
+  row_shown row has = map_has shown_of kept row (contains_has (map shown_of kept) row (Contains-permutation rows (map shown_of kept) row (IsPermutation-sym (map shown_of kept) rows moved) (has_contains rows row has)))
+
+  -- and each pair that is kept has a row
+  pub pair_shown : (q : Row × Row) → Has kept q → Has rows (shown_of q)
+  pair_shown q has = contains_has rows (shown_of q) (Contains-permutation (map shown_of kept) rows (shown_of q) moved (has_contains (map shown_of kept) (shown_of q) (has_map shown_of kept q has)))

@@ -1,0 +1,165 @@
+//! The latest results of one version of a provider, for every content at once.
+ghost use Rattle.std.specs.Prelude.{◌≡◌, Some, IfOk, map, option_map, pos, true};
+ghost use Rattle.std.specs.List.Sorted.{IsStrictlySortedBy};
+ghost use Rattle.std.specs.Ordering.{nat_cmp};
+ghost use Rattle.sqlite.specs.Order.{column};
+ghost use Rattle.sqlite.specs.declared.types.Value.TheVariants.{Int};
+ghost use Rattle.table_access.specs.Reading.{TellsNumber};
+ghost use Rattle.broker_core.specs.declared.command.Version.{Version as VersionModel};
+ghost use Rattle.broker_core.specs.Listing.{Lists};
+ghost use Rattle.broker_core.specs.State.{State as Broker, latest_result, latest};
+ghost use Rattle.broker_tables.specs.Numbers.{number_of as number_known};
+ghost use Rattle.broker_tables.specs.Holds.{Queries};
+ghost use Rattle.contract_tables.specs.VersionResults.{pass_cmp, latest_cmp, IsPassRow, FailsAsPass, is_among, marked};
+
+use broker_core::need::Latest;
+use broker_tables::truth_at;
+use sqlite::{Alter, Connection, Row, params};
+use std::alloc::{AllocError, Global};
+use table_access::{ReadRow, StoreFault, list_of, number_in};
+
+/// A content for which a version has a result, and what the latest of them says.
+#[derive(Clone, Copy, Debug)]
+pub struct LatestResult {
+    pub content: u32,
+    pub latest: Latest,
+}
+
+/// A content for which a version has a result, and whether the latest of them is a pass.
+#[derive(Clone, Copy)]
+struct ContentPass {
+    content: u32,
+    pass: bool,
+}
+
+/// A content and a truth value.
+struct PassRow;
+
+impl ReadRow for PassRow {
+    type Item = ContentPass;
+
+    ghost reads_as = { IsPassRow };
+
+    ghost fails_as = { FailsAsPass };
+
+    fn read(_alloc: Global, row: &Row) -> Result<ContentPass, StoreFault> {
+        let content = number_in(row)?;
+        let pass = truth_at(row, 1)?;
+        Ok(ContentPass { content, pass })
+    }
+}
+
+/// A number.
+struct NumberRow;
+
+impl ReadRow for NumberRow {
+    type Item = u32;
+
+    ghost reads_as = { λ row number. column row 0 ≡ Int (pos number) };
+
+    ghost fails_as = { TellsNumber };
+
+    fn read(_alloc: Global, row: &Row) -> Result<u32, StoreFault> {
+        number_in(row)
+    }
+}
+
+/// The contents for which the version of this number has a result, each once, in the order of their numbers, with whether the latest one is a pass.
+fn passes_of<S: Alter>(
+    alloc: Global,
+    conn: &mut Connection<S>,
+    version_number: u32,
+) -> Result<Vec<ContentPass>, StoreFault>
+    ensures { Queries S.Store conn.old conn.new result
+        (λ found s. (v : VersionModel) → number_known s.versions v ≡ Some version_number →
+        Lists pass_cmp
+        (λ x. option_map (λ e. e.1.pass) (latest_result s x.content v) ≡ Some x.pass) found.items) }
+{
+    list_of::<PassRow, S>(
+        alloc,
+        conn,
+        "SELECT l.content, r.pass FROM latest l JOIN results r ON r.number = l.result WHERE l.provider_version = ?1 ORDER BY l.content",
+        params![version_number],
+    )
+}
+
+/// The contents for which the version of this number has a result, and the broker checked the latest one: each once, in the order of their numbers.
+fn checked_of<S: Alter>(
+    alloc: Global,
+    conn: &mut Connection<S>,
+    version_number: u32,
+) -> Result<Vec<u32>, StoreFault>
+    ensures { Queries S.Store conn.old conn.new result
+        (λ found s. (v : VersionModel) → number_known s.versions v ≡ Some version_number →
+        Lists nat_cmp
+        (λ content. option_map (λ e. e.1.checked) (latest_result s content v) ≡ Some true) found.items) }
+{
+    list_of::<NumberRow, S>(
+        alloc,
+        conn,
+        "SELECT l.content FROM latest l JOIN checked_results c ON c.result = l.result WHERE l.provider_version = ?1 ORDER BY l.content",
+        params![version_number],
+    )
+}
+
+/// Whether the content is one of these, which rise.
+fn is_among(contents: &[u32], content: u32) -> bool
+    ensures { IsStrictlySortedBy nat_cmp contents.now → result ≡ is_among contents.now content }
+{
+    contents.binary_search(&content).is_ok()
+}
+
+/// What the results say: whether each is a pass, and whether its content is one of those that were checked, which rise.
+fn with_marks(
+    alloc: Global,
+    passes: &[ContentPass],
+    checked: &[u32],
+) -> Result<Vec<LatestResult>, AllocError>
+    ensures { IfOk result
+        (λ found. IsStrictlySortedBy nat_cmp checked.now → found.items ≡ map (marked checked.now) passes.now) }
+{
+    let mut found = Vec::new(alloc);
+    for one in passes {
+        let latest = Latest {
+            pass: one.pass,
+            checked: is_among(checked, one.content),
+        };
+        found.push(LatestResult {
+            content: one.content,
+            latest,
+        })?;
+    }
+    Ok(found)
+}
+
+/// The contents for which the version of this number has a result, each once, in the order of their numbers, with what the latest result says.
+///
+/// # Errors
+/// `StoreFault::Memory` where the database is out of memory, or there is none for the answer; `StoreFault::Store` where it refused a query, or where a row doesn't read.
+pub fn latest_results<S: Alter>(
+    alloc: Global,
+    conn: &mut Connection<S>,
+    version_number: u32,
+) -> Result<Vec<LatestResult>, StoreFault>
+    ensures { Queries S.Store conn.old conn.new result
+        (λ found s. (v : VersionModel) → number_known s.versions v ≡ Some version_number →
+        Lists latest_cmp (λ x. latest s x.content v ≡ Some x.latest) found.items) }
+{
+    let passes = done!(passes_of(alloc, conn, version_number));
+    let checked = done!(checked_of(alloc, conn, version_number));
+    match with_marks(alloc, &passes, &checked) {
+        Ok(found) => Ok(found),
+        Err(_) => Err(StoreFault::Memory),
+    }
+}
+
+/// What the latest result for the content says, found among all of a version: the list that `latest_results` answers.
+pub fn latest_among(results: &[LatestResult], content: u32) -> Option<Latest>
+    ensures { (s : Broker) (v : VersionModel) →
+        Lists latest_cmp (λ x. latest s x.content v ≡ Some x.latest) results.now → result ≡ latest s content v }
+{
+    match results.binary_search_by_key(&content, |one| one.content) {
+        Ok(at) => Some(results[at].latest),
+        Err(_) => None,
+    }
+}

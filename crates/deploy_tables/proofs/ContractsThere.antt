@@ -1,0 +1,217 @@
+-- The contracts with a provider of the versions that stand in an environment: rows of deployed and of released, each
+-- joined with the contracts of its version.
+use Rattle.std.proofs.Common.{◌≡◌, ◌++◌, inl, inr, ℕ, pos, codes, List, [], ◌∷◌, Bool, true, false, refl, sym, ap, subst, ◌∙◌, Some, None, Option}
+use Rattle.std.specs.Prelude.{Contains, option_map, ◌↔◌}
+use Rattle.std.specs.Option.{option_map_or}
+use Rattle.std.specs.Ordering.{eq_by_cmp, int_cmp}
+use Rattle.std.specs.Cmp.{eq_by_cmp_equiv, Equal-is}
+use Rattle.std.proofs.lemmas.List.Elements.{Contains-append_cases, Contains-append_left, Contains-append_right}
+use Rattle.sqlite.specs.Edit.{id_in}
+use Rattle.sqlite.specs.declared.types.Value.TheVariants.{Int, Text}
+use Rattle.sqlite.specs.Order.{Row, column}
+use Rattle.sqlite.specs.Term.{Term, col, op2, eval_all}
+use Rattle.sqlite_sql.specs.declared.ops.BinaryOp.TheVariants.{Compare}
+use Rattle.sqlite_sql.specs.declared.ops.CompareOp.TheVariants.{Eq}
+use Rattle.sqlite_sql.specs.Ops.{binary, is_true}
+use Rattle.sqlite.specs.Collation.TheVariants.{Binary}
+use Rattle.sqlite.specs.Command.{Command}
+use Rattle.sqlite.specs.Command.TheVariants.{Select}
+use Rattle.sqlite.specs.Effect.{Database, Answers}
+use Rattle.sqlite.specs.Listing.{understood}
+use Rattle.sqlite_rules.specs.Lists.{Has}
+use Rattle.sqlite_tied.specs.Compute.{everything}
+use Rattle.table_access.specs.Columns.{text, text_cmp, whole_at, by_both}
+use Rattle.table_access.specs.Statements.{from_both, keeps_both}
+use Rattle.table_access.specs.Reading.{AreRead}
+use Rattle.table_access.proofs.Steps.{Means}
+use Rattle.table_access.proofs.SoundLemmas.{any_of}
+use Rattle.table_access.proofs.Maps.{find_has, has_find}
+use Rattle.table_access.proofs.Members.{any_has, pair_has, has_pair}
+use Rattle.broker_core.specs.declared.command.Version.{Version}
+use Rattle.broker_core.specs.Text.{Text as Words, version}
+use Rattle.broker_core.specs.State.{State as Broker}
+use Rattle.broker_core.specs.Gate.{Stands}
+use Rattle.broker_tables.specs.Schema.{broker_schema}
+use Rattle.broker_tables.specs.Rows.{value_at, stands_at}
+use Rattle.broker_tables.specs.Numbers.{number_of}
+use Rattle.broker_tables.specs.Holds.{Holds, IsBroker}
+use Rattle.broker_tables.proofs.Frames.{meant}
+use Rattle.broker_tables.proofs.Listed.{read_has, has_read}
+use Rattle.broker_tables.proofs.NumberLemmas.{one_version}
+use Rattle.broker_tables.proofs.Orders.{triples_total, exact_triple, placed_total, exact_placed, marked_total, exact_marked}
+use Rattle.broker_tables.proofs.VersionRows.{whole_test, text_test, all_three}
+use Rattle.contract_tables.proofs.ContractRows as contract_rows
+use Rattle.contract_tables.proofs.JoinRows.{row_shown, pair_shown}
+use Rattle.deploy_tables.specs.declared.contracts_there.NumberedContract.{NumberedContract}
+use Rattle.deploy_tables.specs.ContractsThere.{IsDeployedIn, IsReleasedIn, TellsContracts, AreContractsThere, IsNumberedRow}
+use Rattle.deploy_tables.proofs.DeployedRows as deployed_rows
+use Rattle.deploy_tables.proofs.DeployedList.{named, valued}
+use Rattle.deploy_tables.proofs.ReleasedList as released_rows
+use Rattle.deploy_tables.proofs.VersionRows.{same_some, same_pos}
+
+-- ---- the two statements
+
+-- ON the contract's version is the one at this place, WHERE the environment and the provider are the parameters
+abbrev terms : ℕ → List Term
+terms place = op2 (Compare Eq Binary) (col 2 1) (col 1 place) ∷ op2 (Compare Eq Binary) (col 1 1) (col 0 0) ∷ op2 (Compare Eq Binary) (col 2 2) (col 0 1) ∷ []
+
+abbrev project : List Term
+project = col 2 1 ∷ col 2 3 ∷ []
+
+abbrev pub deployed_sql : List ℕ
+deployed_sql = codes "SELECT c.version_number, c.content FROM deployed d JOIN contracts c ON c.version_number = d.version_number WHERE d.environment = ?1 AND c.provider = ?2"
+
+abbrev pub deployed_command : Command
+deployed_command = Select (record { lets = []; body = from_both 21 15 (terms 4) project [] }) (codes "version_number" ∷ codes "content" ∷ [])
+
+deployed_text : Means broker_schema deployed_sql deployed_command
+unfolding understood everything
+deployed_text = record { is = refl; plain = (refl, refl); unlisted = refl }
+
+pub deployed_means : (db : Database) → IsBroker db → Means db.schema deployed_sql deployed_command
+deployed_means db broker = meant db broker deployed_sql deployed_text
+
+abbrev pub released_sql : List ℕ
+released_sql = codes "SELECT c.version_number, c.content FROM released r JOIN contracts c ON c.version_number = r.version_number WHERE r.environment = ?1 AND c.provider = ?2"
+
+abbrev pub released_command : Command
+released_command = Select (record { lets = []; body = from_both 23 15 (terms 2) project [] }) (codes "version_number" ∷ codes "content" ∷ [])
+
+released_text : Means broker_schema released_sql released_command
+unfolding understood everything
+released_text = record { is = refl; plain = (refl, refl); unlisted = refl }
+
+pub released_means : (db : Database) → IsBroker db → Means db.schema released_sql released_command
+released_means db broker = meant db broker released_sql released_text
+
+-- ---- rows of a table that name an environment and a version, joined with the contracts
+
+module _ (db : Database) (s : Broker) (held : Holds db s) (e p : Words) where
+  abbrev params : Row
+  params = Text e ∷ Text p ∷ []
+
+  -- the row of a contract of a version that has a number
+  contract_row : (w : Version) (n content : ℕ) → number_of s.versions w ≡ Some n → s.contracts (w, p) ≡ Some content → (c : Row) × Has (db.trees 15) c × (whole_at 1 c ≡ pos n) × (text 2 c ≡ p) × (whole_at 3 c ≡ pos content)
+  contract_row w n content known is =
+      let d = find_has marked_total exact_marked contract_rows.key (whole_at 3) (pos n, p) (pos content) (db.trees 15) (contract_rows.held_content db s w n p held known ∙ ap (option_map pos) is) in
+      (d.0, d.1, sym (ap (λ k. k.0) d.2), sym (ap (λ k. k.1) d.2), d.3)
+
+  -- and what such a row tells
+  row_contract : (c : Row) (w : Version) (n content : ℕ) → Has (db.trees 15) c → number_of s.versions w ≡ Some n → whole_at 1 c ≡ pos n → text 2 c ≡ p → whole_at 3 c ≡ pos content → s.contracts (w, p) ≡ Some content
+  row_contract c w n content has known number provider value =
+      let place : (pos n, p) ≡ contract_rows.key c = (λ i. (sym number i, sym provider i)) in
+      let at : contract_rows.content_at (db.trees 15) n p ≡ Some (whole_at 3 c) =
+      ap (value_at (by_both int_cmp text_cmp) contract_rows.key (whole_at 3) (db.trees 15)) place ∙ has_find marked_total exact_marked contract_rows.key (whole_at 3) (db.trees 15) c (contract_rows.keys db held.broker) has in
+      contract_rows.named (s.contracts (w, p)) (Some content) (sym (contract_rows.held_content db s w n p held known) ∙ at ∙ ap Some value)
+
+  module _ (t place : ℕ) (environments : (r : Row) → Has (db.trees t) r → column r 1 ≡ Text (text 1 r)) (numbers : (r : Row) → Has (db.trees t) r → column r place ≡ Int (whole_at place r)) (Is : Version → Type 0)
+      (row_is : (r : Row) (w : Version) (n : ℕ) → Has (db.trees t) r → text 1 r ≡ e → number_of s.versions w ≡ Some n → whole_at place r ≡ pos n → Is w)
+      (is_row : (w : Version) (n : ℕ) → number_of s.versions w ≡ Some n → Is w → (r : Row) × Has (db.trees t) r × (text 1 r ≡ e) × (whole_at place r ≡ pos n)) where
+    abbrev joins : Row → Row → Bool
+    joins = keeps_both (terms place) params
+
+    -- what ON and WHERE test
+    parts_of : (r c : Row) → Has (db.trees t) r → Has (db.trees 15) c → (joins r c ≡ true) ↔ ((whole_at 1 c ≡ whole_at place r) × (text 1 r ≡ e) × (text 2 c ≡ p))
+    parts_of r c hr hc =
+        let one = whole_test (column c 1) (column r place) (whole_at 1 c) (whole_at place r) ((contract_rows.numbers db held.broker).typed c hc) (numbers r hr) in
+        let two = text_test (column r 1) (Text e) (text 1 r) e (environments r hr) refl in
+        let three = text_test (column c 2) (Text p) (text 2 c) p ((contract_rows.providers db held.broker).typed c hc) refl in
+        let all = all_three (is_true (binary (Compare Eq Binary) (column c 1) (column r place))) (is_true (binary (Compare Eq Binary) (column r 1) (Text e))) (is_true (binary (Compare Eq Binary) (column c 2) (Text p))) in
+        (λ h. let it = all.0 h in (one.0 it.0, two.0 it.1, three.0 it.2), λ h. all.1 (one.1 h.0, two.1 h.1, three.1 h.2))
+
+    told : (rows : List Row) (items : List NumberedContract) → Answers db (record { lets = []; body = from_both t 15 (terms place) project [] }) params rows → AreRead IsNumberedRow rows items → TellsContracts s p Is items
+    told rows items h read w n content known = (
+      λ c.
+          let x : NumberedContract = record { number = n; content = content } in
+          let r = read_has IsNumberedRow rows items x read c in
+          let q = row_shown db params t 15 (terms place) project [] rows h r.0 r.1 in
+          let it = pair_has joins (db.trees 15) (db.trees t) q.0 q.1 in
+          let join = (parts_of q.0.0 q.0.1 it.0 it.1).0 it.2 in
+          let shown : IsNumberedRow (eval_all project (params ∷ q.0.0 ∷ q.0.1 ∷ [])) x = subst (λ row. IsNumberedRow row x) q.2 r.2 in
+          let number : whole_at 1 q.0.1 ≡ pos n = ap id_in shown.0 in
+          let value : whole_at 3 q.0.1 ≡ pos content = ap id_in shown.1 in
+          (row_is q.0.0 w n it.0 join.1 known (sym join.0 ∙ number), row_contract q.0.1 w n content it.1 known number join.2 value),
+      λ is.
+          let r = is_row w n known is.0 in
+          let c = contract_row w n content known is.1 in
+          let kept = has_pair joins (db.trees 15) (db.trees t) r.0 c.0 r.1 c.1 ((parts_of r.0 c.0 r.1 c.1).1 (c.2 ∙ sym r.3, r.2, c.3)) in
+          let y = has_read IsNumberedRow rows items (eval_all project (params ∷ r.0 ∷ c.0 ∷ [])) read (pair_shown db params t 15 (terms place) project [] rows h (r.0, c.0) kept) in
+          let number : y.0.number ≡ n = same_pos y.0.number n (sym (ap id_in y.2.0) ∙ c.2) in
+          let value : y.0.content ≡ content = same_pos y.0.content content (sym (ap id_in y.2.1) ∙ c.4) in
+          let same : y.0 ≡ record { number = n; content = content } = (λ i. record { number = number i; content = value i }) in
+          subst (Contains items) same y.1,
+    )
+
+  -- ---- what is deployed
+
+  deployed_is : (r : Row) (w : Version) (n : ℕ) → Has (db.trees 21) r → text 1 r ≡ e → number_of s.versions w ≡ Some n → whole_at 4 r ≡ pos n → IsDeployedIn s e w
+  deployed_is r w n has there known number =
+      let value : value_at (by_both text_cmp (by_both text_cmp text_cmp)) deployed_rows.place_of (whole_at 4) (db.trees 21) (e, (text 2 r, text 3 r)) ≡ Some (whole_at 4 r) =
+      subst (λ f. value_at (by_both text_cmp (by_both text_cmp text_cmp)) deployed_rows.place_of (whole_at 4) (db.trees 21) (f, (text 2 r, text 3 r)) ≡ Some (whole_at 4 r)) there
+      (has_find triples_total exact_triple deployed_rows.place_of (whole_at 4) (db.trees 21) r (deployed_rows.keys db held.broker) has) in
+      let name = named s.versions (text 2 r) (whole_at 4 r) (s.deployed (e, text 2 r, text 3 r)) (sym (ap (option_map Some) value) ∙ held.deployed e (text 2 r) (text 3 r)) in
+      let same : version (text 2 r) name.0 ≡ w = one_version s.versions (version (text 2 r) name.0) w n (name.2.1 ∙ ap Some (same_pos name.2.0 n (sym name.2.2 ∙ number))) known in
+      (text 3 r, subst (λ (v : Version). s.deployed (e, v.pacticipant, text 3 r) ≡ Some v.name) same name.1)
+
+  is_deployed : (w : Version) (n : ℕ) → number_of s.versions w ≡ Some n → IsDeployedIn s e w → (r : Row) × Has (db.trees 21) r × (text 1 r ≡ e) × (whole_at 4 r ≡ pos n)
+  is_deployed w n known there =
+      let at = valued (value_at (by_both text_cmp (by_both text_cmp text_cmp)) deployed_rows.place_of (whole_at 4) (db.trees 21) (e, (w.pacticipant, there.0))) (number_of s.versions (version w.pacticipant w.name))
+      (held.deployed e w.pacticipant there.0 ∙ ap (option_map (λ m. option_map pos (number_of s.versions (version w.pacticipant m)))) there.1) in
+      let d = find_has triples_total exact_triple deployed_rows.place_of (whole_at 4) (e, (w.pacticipant, there.0)) (pos at.0) (db.trees 21) at.1 in
+      (d.0, d.1, sym (ap (λ x. x.0) d.2), d.3 ∙ ap pos (same_some at.0 n (sym at.2 ∙ known)))
+
+  pub deployed_told : (rows : List Row) (items : List NumberedContract) → Answers db (record { lets = []; body = from_both 21 15 (terms 4) project [] }) params rows → AreRead IsNumberedRow rows items → TellsContracts s p (IsDeployedIn s e) items
+  deployed_told = told 21 4 (deployed_rows.environments db held.broker) (deployed_rows.numbers db held.broker) (IsDeployedIn s e) deployed_is is_deployed
+
+  -- ---- what is released
+
+  released_is : (r : Row) (w : Version) (n : ℕ) → Has (db.trees 23) r → text 1 r ≡ e → number_of s.versions w ≡ Some n → whole_at 2 r ≡ pos n → IsReleasedIn s e w
+  released_is r w n has there known number =
+      let place : (e, pos n) ≡ released_rows.place_of r = (λ i. (sym there i, sym number i)) in
+      let stands : stands_at released_rows.placed released_rows.place_of (db.trees 23) (e, pos n) ≡ true =
+      any_of (λ q. eq_by_cmp released_rows.placed (e, pos n) (released_rows.place_of q)) (db.trees 23) r has (ap (eq_by_cmp released_rows.placed (e, pos n)) (sym place) ∙ (eq_by_cmp_equiv placed_total).refl (e, pos n)) in
+      sym (held.released e w) ∙ ap (λ o. option_map_or (λ m. stands_at released_rows.placed released_rows.place_of (db.trees 23) (e, pos m)) o false) known ∙ stands
+
+  is_released : (w : Version) (n : ℕ) → number_of s.versions w ≡ Some n → IsReleasedIn s e w → (r : Row) × Has (db.trees 23) r × (text 1 r ≡ e) × (whole_at 2 r ≡ pos n)
+  is_released w n known there =
+      let stands : stands_at released_rows.placed released_rows.place_of (db.trees 23) (e, pos n) ≡ true =
+      sym (ap (λ o. option_map_or (λ m. stands_at released_rows.placed released_rows.place_of (db.trees 23) (e, pos m)) o false) known) ∙ held.released e w ∙ there in
+      let d = any_has (λ q. eq_by_cmp released_rows.placed (e, pos n) (released_rows.place_of q)) (db.trees 23) stands in
+      let place : (e, pos n) ≡ released_rows.place_of d.0 = exact_placed (e, pos n) (released_rows.place_of d.0) ((Equal-is (released_rows.placed (e, pos n) (released_rows.place_of d.0))).0 d.2) in
+      (d.0, d.1, sym (ap (λ x. x.0) place), sym (ap (λ x. x.1) place))
+
+  pub released_told : (rows : List Row) (items : List NumberedContract) → Answers db (record { lets = []; body = from_both 23 15 (terms 2) project [] }) params rows → AreRead IsNumberedRow rows items → TellsContracts s p (IsReleasedIn s e) items
+  released_told = told 23 2 (released_rows.environments db held.broker) (released_rows.numbers db held.broker) (IsReleasedIn s e) released_is is_released
+
+-- ---- both
+
+pub standing_told : (s : Broker) (e p : Words) (one two all : List NumberedContract) → TellsContracts s p (IsDeployedIn s e) one → TellsContracts s p (IsReleasedIn s e) two
+    → ((x : NumberedContract) → Contains all x ↔ Contains (one ++ two) x) → TellsContracts s p (Stands s e) all
+standing_told s e p one two all is_one is_two same w n content known =
+    let x : NumberedContract = record { number = n; content = content } in (
+      λ c. elim (Contains-append_cases one two x ((same x).0 c)) [
+        | inl first ↦ let it = (is_one w n content known).0 first in (inl it.0, it.1)
+        | inr second ↦ let it = (is_two w n content known).0 second in (inr it.0, it.1)
+      ],
+      λ is. (same x).1 (elim is.0 [
+        | inl there ↦ Contains-append_left one two x ((is_one w n content known).1 (there, is.1))
+        | inr there ↦ Contains-append_right one two x ((is_two w n content known).1 (there, is.1))
+      ]),
+    )
+
+-- ---- one of them
+
+module _ (s : Broker) (e p : Words) (contracts : List NumberedContract) (are : AreContractsThere s e p contracts) (w : Version) (n : ℕ) (known : number_of s.versions w ≡ Some n) where
+  -- one with the version's number is its contract
+  pub found_is : (x : NumberedContract) → Contains contracts x → x.number ≡ n → Some x.content ≡ s.contracts (w, p)
+  found_is x there same =
+      let mine : Contains contracts (record { number = n; content = x.content }) = subst (λ m. Contains contracts (record { number = m; content = x.content })) same there in
+      sym (((are.1 w n x.content known).0 mine).1)
+
+  -- where none has its number, it has none
+  pub none_is : Stands s e w → ((x : NumberedContract) → Contains contracts x → x.number ≡ n → ⊥) → None ≡ s.contracts (w, p)
+  none_is stands apart = go (s.contracts (w, p)) refl
+    where
+      go : (o : Option ℕ) → s.contracts (w, p) ≡ o → None ≡ o
+      go None is = refl
+      go (Some content) is = let x : NumberedContract = record { number = n; content = content } in absurd (apart x ((are.1 w n content known).1 (stands, is)) refl)

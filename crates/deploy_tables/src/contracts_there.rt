@@ -1,0 +1,130 @@
+//! The contracts with one provider of all versions that stand in an environment, by the numbers of the versions.
+ghost use Rattle.std.specs.Prelude.{◌≡◌, ◌++◌, ◌↔◌, IfOk, Some, Contains};
+ghost use Rattle.broker_core.specs.State.{State};
+ghost use Rattle.broker_core.specs.Text.{Text};
+ghost use Rattle.broker_core.specs.Gate.{Stands};
+ghost use Rattle.broker_core.specs.declared.command.Version.{Version};
+ghost use Rattle.broker_tables.specs.Numbers.{number_of as number_known};
+ghost use Rattle.broker_tables.specs.Holds.{Queries};
+ghost use Rattle.contract_tables.specs.Listings.{FailsAsNumbers};
+ghost use Rattle.deploy_tables.specs.declared.contracts_there.NumberedContract.{NumberedContract as NumberedModel};
+ghost use Rattle.deploy_tables.specs.ContractsThere.{IsDeployedIn, IsReleasedIn, TellsContracts, IsByNumber, AreContractsThere, IsNumberedRow};
+
+use sqlite::{Alter, Connection, Row, params};
+use std::alloc::Global;
+use table_access::{ReadRow, StoreFault, list_of, number_at, number_in};
+
+/// The contract of a version with a provider: the version's number, and that of the content.
+#[derive(Clone, Copy, Debug, PartialEq, Eq, PartialOrd, Ord)]
+pub struct NumberedContract {
+    pub number: u32,
+    pub content: u32,
+}
+
+/// A version's number and a content.
+struct NumberedRow;
+
+impl ReadRow for NumberedRow {
+    type Item = NumberedContract;
+
+    ghost reads_as = { IsNumberedRow };
+
+    ghost fails_as = { FailsAsNumbers };
+
+    fn read(_alloc: Global, row: &Row) -> Result<NumberedContract, StoreFault> {
+        let number = number_in(row)?;
+        let content = number_at(row, 1)?;
+        Ok(NumberedContract { number, content })
+    }
+}
+
+/// The contracts with the provider of the versions that are deployed in the environment, in no order. That of a version in two instances stands twice.
+fn deployed_contracts<S: Alter>(
+    alloc: Global,
+    conn: &mut Connection<S>,
+    environment: &str,
+    provider: &str,
+) -> Result<Vec<NumberedContract>, StoreFault>
+    ensures { Queries S.Store conn.old conn.new result
+        (λ found s. TellsContracts s provider.now (IsDeployedIn s environment.now) found.items) }
+{
+    list_of::<NumberedRow, S>(
+        alloc,
+        conn,
+        "SELECT c.version_number, c.content FROM deployed d JOIN contracts c ON c.version_number = d.version_number WHERE d.environment = ?1 AND c.provider = ?2",
+        params![environment, provider],
+    )
+}
+
+/// The contracts with the provider of the versions that are released in the environment, in no order.
+fn released_contracts<S: Alter>(
+    alloc: Global,
+    conn: &mut Connection<S>,
+    environment: &str,
+    provider: &str,
+) -> Result<Vec<NumberedContract>, StoreFault>
+    ensures { Queries S.Store conn.old conn.new result
+        (λ found s. TellsContracts s provider.now (IsReleasedIn s environment.now) found.items) }
+{
+    list_of::<NumberedRow, S>(
+        alloc,
+        conn,
+        "SELECT c.version_number, c.content FROM released r JOIN contracts c ON c.version_number = r.version_number WHERE r.environment = ?1 AND c.provider = ?2",
+        params![environment, provider],
+    )
+}
+
+/// These contracts, in the order of the versions' numbers.
+fn by_number(contracts: Vec<NumberedContract>) -> Vec<NumberedContract>
+    ensures sorted { IsByNumber result.items }
+    ensures same { (x : NumberedModel) → Contains result.items x ↔ Contains contracts.items x }
+{
+    let mut contracts = contracts;
+    contracts.sort_unstable();
+    contracts
+}
+
+/// The contracts of both lists, in the order of the versions' numbers. An `Err` is out of memory.
+fn in_one(
+    deployed: Vec<NumberedContract>,
+    released: Vec<NumberedContract>,
+) -> Result<Vec<NumberedContract>, StoreFault>
+    ensures { IfOk result (λ all. IsByNumber all.items
+        × ((x : NumberedModel) → Contains all.items x ↔ Contains (deployed.items ++ released.items) x)) }
+{
+    let mut all = deployed;
+    let mut released = released;
+    match all.append(&mut released) {
+        Ok(()) => Ok(by_number(all)),
+        Err(_) => Err(StoreFault::Memory),
+    }
+}
+
+/// The contracts with the provider of the versions that stand in the environment, in the order of the versions' numbers.
+///
+/// # Errors
+/// `StoreFault::Memory` where the database is out of memory, or there is none for the answer; `StoreFault::Store` where it refused a query, or where a row doesn't read.
+pub(crate) fn contracts_there<S: Alter>(
+    alloc: Global,
+    conn: &mut Connection<S>,
+    environment: &str,
+    provider: &str,
+) -> Result<Vec<NumberedContract>, StoreFault>
+    ensures { Queries S.Store conn.old conn.new result
+        (λ found s. AreContractsThere s environment.now provider.now found.items) }
+{
+    let deployed = done!(deployed_contracts(alloc, conn, environment, provider));
+    let released = done!(released_contracts(alloc, conn, environment, provider));
+    in_one(deployed, released)
+}
+
+/// The content of the contract of the version of this number, which stands in the environment: found among all contracts of the versions that stand there. `None` where it has none.
+pub(crate) fn content_among(contracts: &[NumberedContract], number: u32) -> Option<u32>
+    ensures { (s : State) (e p : Text) (w : Version) → AreContractsThere s e p contracts.now →
+        Stands s e w → number_known s.versions w ≡ Some number → result ≡ s.contracts (w, p) }
+{
+    match contracts.binary_search_by_key(&number, |one| one.number) {
+        Ok(at) => Some(contracts[at].content),
+        Err(_) => None,
+    }
+}
