@@ -1,5 +1,6 @@
 -- answers as JSON values (this project's own choice): the members of an object stand in the order of their keys' bytes
 use Rattle.std.specs.Prelude.{◌≡◌, String, string_bytes, ℕ, List, [], ◌∷◌, map, Bool, true, false, Option, codes}
+use Rattle.std.specs.Borrow.{Bor}
 use Rattle.std.specs.Option.{option_map_or}
 use Rattle.std.specs.declared.alloc.Global.{Global}
 use Rattle.serde_json.specs.Written.{compact_text}
@@ -27,6 +28,10 @@ items each xs = array (items_of (map each xs))
 
 abbrev pub whole : ℕ → Data
 whole n = number (unsigned n)
+
+-- an object of these members, each under its key
+abbrev pub object_of : {X : Type 0} → (X → Data) → List (Bor Text × X) → Data
+object_of each ms = fields (map (λ m. (m.0.now, each m.1)) ms)
 
 -- null where there is none
 abbrev pub or_null : {X : Type 0} → (X → Data) → Option X → Data

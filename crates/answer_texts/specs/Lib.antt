@@ -1,2 +1,4 @@
 pub mod Data
 pub mod AnswerText
+pub mod Tokens
+pub mod Parts

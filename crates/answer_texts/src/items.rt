@@ -1,15 +1,39 @@
 //! The items of lists in the bodies of answers.
-ghost use Rattle.std.specs.Prelude.{◌≡◌, IfOk, map};
+ghost use Rattle.std.specs.Prelude.{◌≡◌, OnOk};
 ghost use Rattle.serde_json.specs.Data.{string};
-ghost use Rattle.serde_json.specs.View.{view};
 ghost use Rattle.answer_texts.specs.Data as spec;
+ghost use Rattle.answer_texts.specs.Parts.{scalar_data};
+ghost use Rattle.answer_texts.specs.Tokens.{tokens_of, Adds};
 
+use crate::writing::{ToJson, write_object};
 use broker_core::answer::{DeployedItem, MatrixRow, Verified};
 use broker_core::command::Version;
 use broker_core::name::Name;
 use broker_core::need::PairFault;
-use serde_json::{Value, json};
-use std::alloc::{AllocError, Global};
+use json::Writer;
+use std::alloc::AllocError;
+
+/// What stands under a key of an item.
+#[derive(Clone, Copy, Drop)]
+pub(crate) enum Scalar<'a> {
+    Null,
+    Text(&'a str),
+    Number(u64),
+    Truth(bool),
+}
+
+impl ToJson for Scalar<'_> {
+    ghost as_json = { scalar_data };
+
+    fn write(&self, out: &mut Writer) -> Result<(), AllocError> {
+        match self {
+            Scalar::Null => out.null(),
+            Scalar::Text(text) => out.string(text),
+            Scalar::Number(number) => out.u64(*number),
+            Scalar::Truth(truth) => out.boolean(*truth),
+        }
+    }
+}
 
 fn evidence(checked: bool) -> &'static str
     ensures { result.now ≡ spec.evidence checked }
@@ -17,134 +41,110 @@ fn evidence(checked: bool) -> &'static str
     if checked { "checked" } else { "claimed" }
 }
 
-fn name_or_null(alloc: Global, name: &Option<Name>) -> Result<Value, AllocError>
-    ensures { IfOk result (λ v. view v ≡ spec.or_null string name.now) }
+fn name_or_null(name: &Option<Name>) -> Scalar<'_>
+    ensures { scalar_data result ≡ spec.or_null string name.now }
 {
     match name {
-        Some(name) => json!(in alloc; name.as_str()),
-        None => Ok(Value::Null),
+        Some(name) => Scalar::Text(name.as_str()),
+        None => Scalar::Null,
     }
 }
 
-fn fault_value(alloc: Global, fault: &PairFault) -> Result<Value, AllocError>
-    ensures { IfOk result (λ v. view v ≡ spec.pair_fault fault.now) }
-{
-    let provider_version = name_or_null(alloc, &fault.provider_version)?;
-    json!(in alloc; {
-        "consumer": fault.consumer.as_str(),
-        "consumerVersion": fault.consumer_version.as_str(),
-        "kind": fault.kind.as_str(),
-        "provider": fault.provider.as_str(),
-        "providerVersion": provider_version
-    })
-}
+impl ToJson for PairFault {
+    ghost as_json = { spec.pair_fault };
 
-fn deployed_value(alloc: Global, item: &DeployedItem) -> Result<Value, AllocError>
-    ensures { IfOk result (λ v. view v ≡ spec.deployed_item item.now) }
-{
-    json!(in alloc; {
-        "instance": item.instance.as_str(),
-        "pacticipant": item.pacticipant.as_str(),
-        "version": item.version.as_str()
-    })
-}
-
-fn version_value(alloc: Global, version: &Version) -> Result<Value, AllocError>
-    ensures { IfOk result (λ v. view v ≡ spec.version_item version.now) }
-{
-    json!(in alloc; {
-        "pacticipant": version.pacticipant.as_str(),
-        "version": version.name.as_str()
-    })
-}
-
-fn verified_value(alloc: Global, row: &MatrixRow, verified: &Verified) -> Result<Value, AllocError>
-    ensures { IfOk result (λ v. view v ≡ spec.matrix_row
-        (record row.now { verified = Some verified.now })) }
-{
-    json!(in alloc; {
-        "consumer": row.consumer.as_str(),
-        "consumerVersion": row.consumer_version.as_str(),
-        "evidence": evidence(verified.latest.checked),
-        "provider": row.provider.as_str(),
-        "providerVersion": verified.provider_version.as_str(),
-        "result": verified.result,
-        "success": verified.latest.pass
-    })
-}
-
-fn unverified_value(alloc: Global, row: &MatrixRow) -> Result<Value, AllocError>
-    ensures { IfOk result (λ v. view v ≡ spec.matrix_row (record row.now { verified = None })) }
-{
-    json!(in alloc; {
-        "consumer": row.consumer.as_str(),
-        "consumerVersion": row.consumer_version.as_str(),
-        "evidence": null,
-        "provider": row.provider.as_str(),
-        "providerVersion": null,
-        "result": null,
-        "success": null
-    })
-}
-
-fn row_value(alloc: Global, row: &MatrixRow) -> Result<Value, AllocError>
-    ensures { IfOk result (λ v. view v ≡ spec.matrix_row row.now) }
-{
-    match &row.verified {
-        Some(verified) => verified_value(alloc, row, verified),
-        None => unverified_value(alloc, row),
+    fn write(&self, out: &mut Writer) -> Result<(), AllocError> {
+        let members = [
+            ("consumer", Scalar::Text(self.consumer.as_str())),
+            (
+                "consumerVersion",
+                Scalar::Text(self.consumer_version.as_str()),
+            ),
+            ("kind", Scalar::Text(self.kind.as_str())),
+            ("provider", Scalar::Text(self.provider.as_str())),
+            ("providerVersion", name_or_null(&self.provider_version)),
+        ];
+        write_object(out, &members)
     }
 }
 
-pub(crate) fn fault_list(alloc: Global, faults: &[PairFault]) -> Result<Vec<Value>, AllocError>
-    ensures { IfOk result (λ v. map view v.items ≡ map spec.pair_fault faults.now) }
-{
-    let mut list = Vec::new(alloc);
-    for one in faults {
-        list.push(fault_value(alloc, one)?)?;
+impl ToJson for DeployedItem {
+    ghost as_json = { spec.deployed_item };
+
+    fn write(&self, out: &mut Writer) -> Result<(), AllocError> {
+        let members = [
+            ("instance", Scalar::Text(self.instance.as_str())),
+            ("pacticipant", Scalar::Text(self.pacticipant.as_str())),
+            ("version", Scalar::Text(self.version.as_str())),
+        ];
+        write_object(out, &members)
     }
-    Ok(list)
 }
 
-pub(crate) fn place_list(alloc: Global, places: &[u64]) -> Result<Vec<Value>, AllocError>
-    ensures { IfOk result (λ v. map view v.items ≡ map spec.whole places.now) }
-{
-    let mut list = Vec::new(alloc);
-    for one in places {
-        list.push(Value::from(*one))?;
+impl ToJson for Version {
+    ghost as_json = { spec.version_item };
+
+    fn write(&self, out: &mut Writer) -> Result<(), AllocError> {
+        let members = [
+            ("pacticipant", Scalar::Text(self.pacticipant.as_str())),
+            ("version", Scalar::Text(self.name.as_str())),
+        ];
+        write_object(out, &members)
     }
-    Ok(list)
 }
 
-pub(crate) fn deployed_list(
-    alloc: Global,
-    deployed: &[DeployedItem],
-) -> Result<Vec<Value>, AllocError>
-    ensures { IfOk result (λ v. map view v.items ≡ map spec.deployed_item deployed.now) }
+fn write_verified<'a>(
+    out: &mut Writer,
+    row: &'a MatrixRow,
+    verified: &'a Verified,
+) -> Result<(), AllocError>
+    ensures { OnOk result (Adds (tokens_of (spec.matrix_row
+        (record row.now { verified = Some verified.now }))) out.old out.new) }
 {
-    let mut list = Vec::new(alloc);
-    for one in deployed {
-        list.push(deployed_value(alloc, one)?)?;
-    }
-    Ok(list)
+    let members = [
+        ("consumer", Scalar::Text(row.consumer.as_str())),
+        (
+            "consumerVersion",
+            Scalar::Text(row.consumer_version.as_str()),
+        ),
+        ("evidence", Scalar::Text(evidence(verified.latest.checked))),
+        ("provider", Scalar::Text(row.provider.as_str())),
+        (
+            "providerVersion",
+            Scalar::Text(verified.provider_version.as_str()),
+        ),
+        ("result", Scalar::Number(verified.result)),
+        ("success", Scalar::Truth(verified.latest.pass)),
+    ];
+    write_object(out, &members)
 }
 
-pub(crate) fn version_list(alloc: Global, versions: &[Version]) -> Result<Vec<Value>, AllocError>
-    ensures { IfOk result (λ v. map view v.items ≡ map spec.version_item versions.now) }
+fn write_unverified(out: &mut Writer, row: &MatrixRow) -> Result<(), AllocError>
+    ensures { OnOk result (Adds (tokens_of (spec.matrix_row
+        (record row.now { verified = None }))) out.old out.new) }
 {
-    let mut list = Vec::new(alloc);
-    for one in versions {
-        list.push(version_value(alloc, one)?)?;
-    }
-    Ok(list)
+    let members = [
+        ("consumer", Scalar::Text(row.consumer.as_str())),
+        (
+            "consumerVersion",
+            Scalar::Text(row.consumer_version.as_str()),
+        ),
+        ("evidence", Scalar::Null),
+        ("provider", Scalar::Text(row.provider.as_str())),
+        ("providerVersion", Scalar::Null),
+        ("result", Scalar::Null),
+        ("success", Scalar::Null),
+    ];
+    write_object(out, &members)
 }
 
-pub(crate) fn row_list(alloc: Global, rows: &[MatrixRow]) -> Result<Vec<Value>, AllocError>
-    ensures { IfOk result (λ v. map view v.items ≡ map spec.matrix_row rows.now) }
-{
-    let mut list = Vec::new(alloc);
-    for one in rows {
-        list.push(row_value(alloc, one)?)?;
+impl ToJson for MatrixRow {
+    ghost as_json = { spec.matrix_row };
+
+    fn write(&self, out: &mut Writer) -> Result<(), AllocError> {
+        match &self.verified {
+            Some(verified) => write_verified(out, self, verified),
+            None => write_unverified(out, self),
+        }
     }
-    Ok(list)
 }

@@ -3,6 +3,8 @@
 
 mod answer;
 mod items;
+mod parts;
 mod texts;
+mod writing;
 
 pub use answer::Answer;

@@ -1,82 +1,62 @@
 //! The bodies of answers as texts.
-ghost use Rattle.std.specs.Prelude.{◌≡◌, IfOk, false, [], ◌∷◌, codes, string_bytes};
+ghost use Rattle.std.specs.Prelude.{◌≡◌, IfOk, [], ◌∷◌, codes, string_bytes};
 ghost use Rattle.serde_json.specs.Data.{string};
-ghost use Rattle.serde_json.specs.View.{view};
-ghost use Rattle.serde_json.specs.Written.{has_float, compact_text};
+ghost use Rattle.serde_json.specs.Written.{compact_text};
 ghost use Rattle.broker_core.specs.Words.{fault_text};
 ghost use Rattle.answer_texts.specs.Data as spec;
 ghost use Rattle.answer_texts.specs.AnswerText as bodies;
 ghost use Rattle.answer_texts.specs.Data.{IsJsonText};
 
-use crate::items::{deployed_list, fault_list, place_list, row_list, version_list};
+use crate::parts::Part;
+use crate::writing::object_text;
 use broker_core::answer::{DeployedItem, Detail, MatrixRow, Shown};
 use broker_core::command::{FormFault, Marks, Version};
 use broker_core::need::PairFault;
-use serde_json::{Value, json};
 use std::alloc::{AllocError, Global};
-
-/// The compact text of a value.
-fn text_of(alloc: Global, value: Value) -> Result<String, AllocError>
-    requires { has_float (view value) ≡ false }
-    ensures { IfOk result (IsJsonText (view value)) }
-{
-    value.to_string(alloc)
-}
 
 pub(crate) fn plain_text(alloc: Global, word: &str) -> Result<String, AllocError>
     ensures { IfOk result (IsJsonText (spec.says word.now [])) }
 {
-    text_of(alloc, json!(in alloc; { "answer": word })?)
+    object_text(alloc, &[("answer", Part::Text(word))])
 }
 
 fn content_text(alloc: Global, word: &str, content: u64) -> Result<String, AllocError>
     ensures { IfOk result (IsJsonText (spec.detail_data word.now (Detail.Content content))) }
 {
-    text_of(
-        alloc,
-        json!(in alloc; { "answer": word, "content": content })?,
-    )
+    let members = [
+        ("answer", Part::Text(word)),
+        ("content", Part::Number(content)),
+    ];
+    object_text(alloc, &members)
 }
 
 fn result_text(alloc: Global, word: &str, number: u64) -> Result<String, AllocError>
     ensures { IfOk result (IsJsonText (spec.detail_data word.now (Detail.Result number))) }
 {
-    text_of(
-        alloc,
-        json!(in alloc; { "answer": word, "result": number })?,
-    )
+    let members = [
+        ("answer", Part::Text(word)),
+        ("result", Part::Number(number)),
+    ];
+    object_text(alloc, &members)
 }
 
-fn replies_value(
+fn replies_text<'a>(
     alloc: Global,
-    word: &str,
-    failing: &[u64],
-    number: u64,
-    success: bool,
-) -> Result<Value, AllocError>
-    ensures { IfOk result (λ v. view v ≡ spec.detail_data word.now
-        (Detail.Replies failing.now number success)) }
-{
-    let failing = place_list(alloc, failing)?;
-    json!(in alloc; {
-        "answer": word,
-        "failing": failing,
-        "result": number,
-        "success": success
-    })
-}
-
-fn replies_text(
-    alloc: Global,
-    word: &str,
-    failing: &[u64],
+    word: &'a str,
+    failing: &'a [u64],
     number: u64,
     success: bool,
 ) -> Result<String, AllocError>
     ensures { IfOk result (IsJsonText
         (spec.detail_data word.now (Detail.Replies failing.now number success))) }
 {
-    text_of(alloc, replies_value(alloc, word, failing, number, success)?)
+    let members = [
+        ("answer", Part::Text(word)),
+        ("failing", Part::Places(failing)),
+        ("result", Part::Number(number)),
+        ("success", Part::Truth(success)),
+    ];
+    object_text(alloc, &members)
 }
 
 pub(crate) fn detail_text(alloc: Global, word: &str, detail: &Detail) -> Result<String, AllocError>
@@ -97,16 +77,15 @@ pub(crate) fn detail_text(alloc: Global, word: &str, detail: &Detail) -> Result<
 pub(crate) fn rule_text(alloc: Global, rule: &str) -> Result<String, AllocError>
     ensures { IfOk result (IsJsonText (spec.word_data (codes "denied") (codes "rule") rule.now)) }
 {
-    text_of(
-        alloc,
-        json!(in alloc; { "answer": "denied", "rule": rule })?,
-    )
+    let members = [("answer", Part::Text("denied")), ("rule", Part::Text(rule))];
+    object_text(alloc, &members)
 }
 
 pub(crate) fn what_text(alloc: Global, word: &str, what: &str) -> Result<String, AllocError>
     ensures { IfOk result (IsJsonText (spec.word_data word.now (codes "what") what.now)) }
 {
-    text_of(alloc, json!(in alloc; { "answer": word, "what": what })?)
+    let members = [("answer", Part::Text(word)), ("what", Part::Text(what))];
+    object_text(alloc, &members)
 }
 
 pub(crate) fn form_text(alloc: Global, fault: &FormFault) -> Result<String, AllocError>
@@ -114,131 +93,79 @@ pub(crate) fn form_text(alloc: Global, fault: &FormFault) -> Result<String, Allo
         (spec.says (codes "bad form") ((codes "fault", string (fault_text fault.now)) ∷ []))) }
 {
     let fault = fault.to_string(alloc)?;
-    text_of(
-        alloc,
-        json!(in alloc; { "answer": "bad form", "fault": &fault })?,
-    )
-}
-
-fn faults_value(alloc: Global, faults: &[PairFault]) -> Result<Value, AllocError>
-    ensures { IfOk result (λ v. view v ≡ spec.faults_data faults.now) }
-{
-    let faults = fault_list(alloc, faults)?;
-    json!(in alloc; { "answer": "not permitted", "faults": faults })
+    let members = [
+        ("answer", Part::Text("bad form")),
+        ("fault", Part::Text(fault.as_str())),
+    ];
+    object_text(alloc, &members)
 }
 
 pub(crate) fn faults_text(alloc: Global, faults: &[PairFault]) -> Result<String, AllocError>
     ensures { IfOk result (IsJsonText (spec.faults_data faults.now)) }
 {
-    text_of(alloc, faults_value(alloc, faults)?)
-}
-
-fn matrix_value(alloc: Global, rows: &[MatrixRow]) -> Result<Value, AllocError>
-    ensures { IfOk result (λ v. view v ≡ spec.matrix_data rows.now) }
-{
-    let rows = row_list(alloc, rows)?;
-    json!(in alloc; { "answer": "shown", "rows": rows })
+    let members = [
+        ("answer", Part::Text("not permitted")),
+        ("faults", Part::Faults(faults)),
+    ];
+    object_text(alloc, &members)
 }
 
 fn matrix_text(alloc: Global, rows: &[MatrixRow]) -> Result<String, AllocError>
     ensures { IfOk result (IsJsonText (spec.matrix_data rows.now)) }
 {
-    text_of(alloc, matrix_value(alloc, rows)?)
+    let members = [("answer", Part::Text("shown")), ("rows", Part::Rows(rows))];
+    object_text(alloc, &members)
 }
 
-/// The value of an environment; `strict` stands in it where the environment is strict.
-fn environment_value(
+/// The text of an environment; `strict` stands in it where the environment is strict.
+fn environment_text<'a>(
     alloc: Global,
-    environment: &str,
+    environment: &'a str,
     marks: Marks,
-    deployed: &[DeployedItem],
-    released: &[Version],
-) -> Result<Value, AllocError>
-    ensures { IfOk result (λ v. view v ≡ spec.environment_data environment.now marks deployed.now
-        released.now) }
-{
-    let deployed = deployed_list(alloc, deployed)?;
-    let released = version_list(alloc, released)?;
-    if marks.strict {
-        json!(in alloc; {
-            "answer": "shown",
-            "deployed": deployed,
-            "environment": environment,
-            "gated": marks.gated,
-            "released": released,
-            "strict": true
-        })
-    } else {
-        json!(in alloc; {
-            "answer": "shown",
-            "deployed": deployed,
-            "environment": environment,
-            "gated": marks.gated,
-            "released": released
-        })
-    }
-}
-
-fn environment_text(
-    alloc: Global,
-    environment: &str,
-    marks: Marks,
-    deployed: &[DeployedItem],
-    released: &[Version],
+    deployed: &'a [DeployedItem],
+    released: &'a [Version],
 ) -> Result<String, AllocError>
     ensures { IfOk result (IsJsonText
         (spec.environment_data environment.now marks deployed.now released.now)) }
 {
-    text_of(
-        alloc,
-        environment_value(alloc, environment, marks, deployed, released)?,
-    )
-}
-
-/// The value of a judgement; `strict` stands in it where the environment is strict.
-fn gate_value(
-    alloc: Global,
-    environment: &str,
-    marks: Marks,
-    permitted: bool,
-    faults: &[PairFault],
-) -> Result<Value, AllocError>
-    ensures { IfOk result (λ v. view v ≡ spec.gate_data environment.now marks permitted faults.now) }
-{
-    let faults = fault_list(alloc, faults)?;
+    let listing = [
+        ("answer", Part::Text("shown")),
+        ("deployed", Part::Deployed(deployed)),
+        ("environment", Part::Text(environment)),
+        ("gated", Part::Truth(marks.gated)),
+        ("released", Part::Released(released)),
+        ("strict", Part::Truth(true)),
+    ];
     if marks.strict {
-        json!(in alloc; {
-            "answer": "shown",
-            "environment": environment,
-            "faults": faults,
-            "gated": marks.gated,
-            "permitted": permitted,
-            "strict": true
-        })
+        object_text(alloc, &listing)
     } else {
-        json!(in alloc; {
-            "answer": "shown",
-            "environment": environment,
-            "faults": faults,
-            "gated": marks.gated,
-            "permitted": permitted
-        })
+        object_text(alloc, &listing[..5])
     }
 }
 
-fn gate_text(
+/// The text of a judgement; `strict` stands in it where the environment is strict.
+fn gate_text<'a>(
     alloc: Global,
-    environment: &str,
+    environment: &'a str,
     marks: Marks,
     permitted: bool,
-    faults: &[PairFault],
+    faults: &'a [PairFault],
 ) -> Result<String, AllocError>
     ensures { IfOk result (IsJsonText (spec.gate_data environment.now marks permitted faults.now)) }
 {
-    text_of(
-        alloc,
-        gate_value(alloc, environment, marks, permitted, faults)?,
-    )
+    let judgement = [
+        ("answer", Part::Text("shown")),
+        ("environment", Part::Text(environment)),
+        ("faults", Part::Faults(faults)),
+        ("gated", Part::Truth(marks.gated)),
+        ("permitted", Part::Truth(permitted)),
+        ("strict", Part::Truth(true)),
+    ];
+    if marks.strict {
+        object_text(alloc, &judgement)
+    } else {
+        object_text(alloc, &judgement[..5])
+    }
 }
 
 pub(crate) fn shown_text(alloc: Global, shown: &Shown) -> Result<String, AllocError>

@@ -14,7 +14,8 @@ use broker_service::{Answer, Broker};
 use http_messages::head::{Head, Refused};
 use http_requests::{Request, read_request};
 use http_responses::{
-    HEAD_CAPACITY, WriteFault, write_answer, write_no_method, write_no_route, write_refusal,
+    HEAD_CAPACITY, RESPONSE_CAPACITY, WriteFault, write_answer, write_no_method, write_no_route,
+    write_refusal,
 };
 use http_routes::RouteTable;
 use sqlite::Alter;
@@ -38,7 +39,7 @@ fn apply<S: Alter>(
 
 /// Answers what a message asks, and tells whether the response closes the stream.
 ///
-/// The head of the response goes through the empty buffer, so that nothing grows behind the command.
+/// The response goes through the empty buffer, its head whole, so that nothing grows behind the command.
 fn respond<S: Alter, W: Write>(
     alloc: Global,
     broker: &mut Broker<S>,
@@ -93,7 +94,7 @@ pub(crate) fn answer<S: Alter, W: Write>(
     ensures fault { IfErr result (ExchangeCut (ByBroker (state S.Store)) broker.old (message text.now body.now)
         broker.new (W.contents writer.old) (W.contents writer.new)) }
 {
-    let Ok(head_buffer) = Vec::with_capacity(alloc, HEAD_CAPACITY) else {
+    let Ok(head_buffer) = Vec::with_capacity(alloc, RESPONSE_CAPACITY) else {
         return Err(ServeFault::Memory);
     };
     let Ok(request) = read_request(alloc, routes, text, head, body) else {

@@ -6,7 +6,8 @@ ghost use Rattle.broker_http.specs.Calls.{IsAnswered, IsServed};
 use crate::exchange::answer;
 use crate::served::{Ended, ServeFault, Served};
 use broker_service::Broker;
-use http_messages::reading::{ReadOutcome, drop_front, read_message};
+use http_messages::buffer::{Buffer, drop_front};
+use http_messages::reading::{ReadOutcome, read_message};
 use http_routes::RouteTable;
 use sqlite::Alter;
 use std::alloc::Global;
@@ -36,7 +37,7 @@ fn serve_all<R: Read, W: Write, S: Alter>(
         (R.remaining reader.old) (R.remaining reader.new)
         (W.contents writer.old) (W.contents writer.new) result }
 {
-    let mut buffer = Vec::new(alloc);
+    let mut buffer = Buffer::new(alloc);
     for answered in 0..u64::MAX {
         let (head_len, body_len, head) = match read_message(reader, &mut buffer)? {
             ReadOutcome::Message {

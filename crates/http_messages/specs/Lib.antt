@@ -1,3 +1,4 @@
+pub mod Buffer
 pub mod Message
 pub mod Lines
 pub mod Fields

@@ -1,10 +1,10 @@
 //! The head of a message.
-ghost use Rattle.std.specs.Prelude.{All, codes, ◌≡◌, ℕ, ◌≤◌, ◌==◌, Bool, true, List, length, take, map, Option, Ok, Err, false, IfOk, IfErr, IfSome, IfNone, is_some};
+ghost use Rattle.std.specs.Prelude.{All, codes, ◌≡◌, ℕ, ◌≤◌, ◌==◌, Bool, true, List, length, take, map, Option, Ok, Err, false, IfOk, IfErr, IfSome, IfNone, is_some, Some};
 ghost use Rattle.httparse.specs.Grammar.{RequestHead};
 ghost use Rattle.httparse.specs.Spans.{IsHeaderWithin, header_bytes, IsRequestAt, IsRequestWithin};
 ghost use Rattle.http_messages.specs.Fields.{IsField, values_named};
 ghost use Rattle.http_messages.specs.Heads.{known_method, body_length, AreChecked, IsHeadText, is_too_large, is_last, unread};
-ghost use Rattle.http_messages.specs.Views.{judgement_of, IsHeadRead, announced};
+ghost use Rattle.http_messages.specs.Views.{judgement_of, length_found, IsHeadRead, announced};
 
 use crate::fields::{Field, field_of, short_number};
 use crate::lines::{head_len, line_count};
@@ -75,7 +75,7 @@ fn body_length(field: Field<'_>) -> Result<usize, Refusal>
     }
 }
 
-/// The checks on the parts of a head.
+/// The checks on the parts of a head, and what they find: its method, and the length of the body.
 #[tactic(auto, unfolding(crate::specs::Heads::judge))]
 fn judge(
     method: &[u8],
@@ -84,9 +84,10 @@ fn judge(
     host: Field<'_>,
     coding: Field<'_>,
     length: Field<'_>,
-) -> Result<usize, Refusal>
-    ensures judged { AreChecked method.now target.now minor host.entry coding.entry length.entry result }
-    ensures small { IfOk result (λ n. n ≤ BODY_LIMIT) }
+) -> Result<(Method, usize), Refusal>
+    ensures judged { AreChecked method.now target.now minor host.entry coding.entry length.entry (length_found result) }
+    ensures known { IfOk result (λ found. known_method method.now ≡ Some found.0) }
+    ensures small { IfOk result (λ found. found.1 ≤ BODY_LIMIT) }
 {
     if target.is_empty() || target[0] != b'/' {
         return Err(Refusal::BadRequest);
@@ -94,10 +95,16 @@ fn judge(
     if minor == 1 && !matches!(host, Field::Once(_)) {
         return Err(Refusal::BadRequest);
     }
-    if method_of(method).is_none() || !matches!(coding, Field::Absent) {
+    let Some(known) = method_of(method) else {
+        return Err(Refusal::NotImplemented);
+    };
+    if !matches!(coding, Field::Absent) {
         return Err(Refusal::NotImplemented);
     }
-    body_length(length)
+    match body_length(length) {
+        Ok(body_len) => Ok((known, body_len)),
+        Err(refusal) => Err(refusal),
+    }
 }
 
 /// Parses a head that is the whole text.
@@ -118,6 +125,7 @@ fn parse_head(text: &[u8], spans: &mut [HeaderSpan; FIELD_LIMIT]) -> Option<Requ
 pub struct Head {
     pub parsed: RequestSpans,
     pub spans: [HeaderSpan; FIELD_LIMIT],
+    pub method: Method,
     /// How many bytes of body follow.
     pub body_len: usize,
     /// Whether the connection closes behind the answer.
@@ -186,9 +194,10 @@ pub fn read_head(text: &[u8]) -> Result<Head, Refused>
     );
     let closes = is_last(text, parsed.version, fields);
     match judged {
-        Ok(body_len) => Ok(Head {
+        Ok((known, body_len)) => Ok(Head {
             parsed,
             spans,
+            method: known,
             body_len,
             closes,
         }),

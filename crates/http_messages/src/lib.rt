@@ -2,6 +2,7 @@
 //! one message from a device.
 #![tactic(auto)]
 
+pub mod buffer;
 pub mod fields;
 pub mod head;
 mod lines;

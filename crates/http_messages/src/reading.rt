@@ -5,13 +5,17 @@ ghost use Rattle.http_messages.specs.Messages.{HasNoHead, IsHeadFound};
 ghost use Rattle.http_messages.specs.Reading.{Gains, LeavesAtFault, ReadsMessage, FailsToRead};
 ghost use Rattle.http_messages.specs.Views.{announced};
 
+use crate::buffer::Buffer;
 use crate::head::{BODY_LIMIT, Head, Refused, read_head};
 use crate::messages::{HEAD_LIMIT, whole_head};
 use std::io::Read;
 use thiserror::Error;
 
-/// How many bytes one read takes at most.
+/// How many bytes one read of a head takes at most, with what follows it.
 const PIECE: usize = 4096;
+
+/// How many bytes one read of a body takes at most, where more of them are wanted than `PIECE`.
+const LARGE_PIECE: usize = 32_768;
 
 /// Why no message could be read.
 #[derive(Clone, Copy, Debug, PartialEq, Eq, Error)]
@@ -47,8 +51,45 @@ fn announced(head: &Result<Head, Refused>) -> usize
     }
 }
 
-/// Reads once, at most so many bytes, to the end of the buffer. It gets none only at the reader's end.
-fn read_more<R: Read>(reader: &mut R, buffer: &mut Vec<u8>, most: usize) -> Result<usize, ReadFault>
+/// Reads once, at most so many bytes and `SIZE`, to the end of the buffer. It gets none only at the reader's end.
+fn read_piece<R: Read, const SIZE: usize>(
+    reader: &mut R,
+    buffer: &mut Buffer,
+    most: usize,
+) -> Result<usize, ReadFault>
+    requires size { (0 < SIZE) × (SIZE ≤ LARGE_PIECE) }
+    requires wanted { 0 < most }
+    ensures ok { OnOk result
+        (Gains (R.remaining reader.old) (R.remaining reader.new)
+        buffer.old.items buffer.new.items) }
+    ensures count { IfOk result (λ n. (length buffer.new.items ≡ length buffer.old.items + n) × (n ≤ most)) }
+    ensures end { IfOk result (λ n. n ≡ 0 → IsAtEnd (R.remaining reader.new)) }
+    ensures err { IfErr result
+        (LeavesAtFault (R.remaining reader.old) (R.remaining reader.new)
+        buffer.old.items buffer.new.items) }
+    ensures kept { OnErr result (buffer.new.items ≡ buffer.old.items) }
+{
+    let mut piece = [0u8; SIZE];
+    let most = most.min(SIZE);
+    let count = match reader.read(&mut piece[..most]) {
+        Ok(count) => count,
+        Err(_) => return Err(ReadFault::Reader),
+    };
+    if count == 0 {
+        return Ok(0);
+    }
+    match buffer.extend(&piece[..count]) {
+        Ok(()) => Ok(count),
+        Err(_) => Err(ReadFault::Memory),
+    }
+}
+
+/// Reads once of a body of which so many bytes are wanted, at most as many, in a large piece where it pays.
+fn read_body_piece<R: Read>(
+    reader: &mut R,
+    buffer: &mut Buffer,
+    most: usize,
+) -> Result<usize, ReadFault>
     requires { 0 < most }
     ensures ok { OnOk result
         (Gains (R.remaining reader.old) (R.remaining reader.new)
@@ -60,26 +101,15 @@ fn read_more<R: Read>(reader: &mut R, buffer: &mut Vec<u8>, most: usize) -> Resu
         buffer.old.items buffer.new.items) }
     ensures kept { OnErr result (buffer.new.items ≡ buffer.old.items) }
 {
-    let mut piece = [0u8; PIECE];
-    let most = most.min(PIECE);
-    let count = match reader.read(&mut piece[..most]) {
-        Ok(count) => count,
-        Err(_) => return Err(ReadFault::Reader),
-    };
-    if count == 0 {
-        return Ok(0);
-    }
-    match buffer.extend_from_slice(&piece[..count]) {
-        Ok(()) => Ok(count),
-        Err(_) => Err(ReadFault::Memory),
+    if most > PIECE {
+        read_piece::<R, LARGE_PIECE>(reader, buffer, most)
+    } else {
+        read_piece::<R, PIECE>(reader, buffer, most)
     }
 }
 
 /// Reads until the buffer begins with a whole head, and gives its length: none where the reader ends before.
-fn read_head_bytes<R: Read>(
-    reader: &mut R,
-    buffer: &mut Vec<u8>,
-) -> Result<Option<usize>, ReadFault>
+fn read_head_bytes<R: Read>(reader: &mut R, buffer: &mut Buffer) -> Result<Option<usize>, ReadFault>
     ensures ok { OnOk result
         (Gains (R.remaining reader.old) (R.remaining reader.new)
         buffer.old.items buffer.new.items) }
@@ -92,17 +122,17 @@ fn read_head_bytes<R: Read>(
     ensures bound { length buffer.new.items ≤ max (length buffer.old.items) HEAD_LIMIT }
 {
     loop {
-        if let Some(head_len) = whole_head(buffer) {
+        if let Some(head_len) = whole_head(buffer.as_slice()) {
             return Ok(Some(head_len));
         }
-        if read_more(reader, buffer, HEAD_LIMIT - buffer.len())? == 0 {
+        if read_piece::<R, PIECE>(reader, buffer, HEAD_LIMIT - buffer.len())? == 0 {
             return Ok(None);
         }
     }
 }
 
 /// Reads until the buffer has so many bytes, and tells whether it has them: not where the reader ends before.
-fn read_up_to<R: Read>(reader: &mut R, buffer: &mut Vec<u8>, len: usize) -> Result<bool, ReadFault>
+fn read_up_to<R: Read>(reader: &mut R, buffer: &mut Buffer, len: usize) -> Result<bool, ReadFault>
     ensures ok { OnOk result
         (Gains (R.remaining reader.old) (R.remaining reader.new)
         buffer.old.items buffer.new.items) }
@@ -116,7 +146,7 @@ fn read_up_to<R: Read>(reader: &mut R, buffer: &mut Vec<u8>, len: usize) -> Resu
     ensures bound { length buffer.new.items ≤ max (length buffer.old.items) len }
 {
     while buffer.len() < len {
-        if read_more(reader, buffer, len - buffer.len())? == 0 {
+        if read_body_piece(reader, buffer, len - buffer.len())? == 0 {
             return Ok(false);
         }
     }
@@ -127,7 +157,7 @@ fn read_up_to<R: Read>(reader: &mut R, buffer: &mut Vec<u8>, len: usize) -> Resu
 ///
 /// Each read asks for no more than what the head may still want, or the body still wants, so that the
 /// buffer never gets more than one head and one body. The head is parsed once.
-pub fn read_message<R: Read>(reader: &mut R, buffer: &mut Vec<u8>) -> Result<ReadOutcome, ReadFault>
+pub fn read_message<R: Read>(reader: &mut R, buffer: &mut Buffer) -> Result<ReadOutcome, ReadFault>
     ensures ok { IfOk result (ReadsMessage (R.remaining reader.old) (R.remaining reader.new)
         buffer.old.items buffer.new.items) }
     ensures err { IfErr result (FailsToRead (R.remaining reader.old) (R.remaining reader.new)
@@ -137,7 +167,7 @@ pub fn read_message<R: Read>(reader: &mut R, buffer: &mut Vec<u8>) -> Result<Rea
     let Some(head_len) = read_head_bytes(reader, buffer)? else {
         return Ok(ReadOutcome::End);
     };
-    let head = read_head(&buffer[..head_len]);
+    let head = read_head(&buffer.as_slice()[..head_len]);
     let body_len = announced(&head);
     if read_up_to(reader, buffer, head_len + body_len)? {
         Ok(ReadOutcome::Message {
@@ -148,12 +178,4 @@ pub fn read_message<R: Read>(reader: &mut R, buffer: &mut Vec<u8>) -> Result<Rea
     } else {
         Ok(ReadOutcome::End)
     }
-}
-
-/// Takes the first bytes away, of which there are as many.
-pub fn drop_front(buffer: &mut Vec<u8>, count: usize)
-    requires { count ≤ vec_len buffer.old }
-    ensures { buffer.new.items ≡ drop count buffer.old.items }
-{
-    buffer.drain(..count);
 }

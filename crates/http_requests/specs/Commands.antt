@@ -13,6 +13,7 @@ use Rattle.broker_core.specs.declared.command.Report.{Report}
 use Rattle.broker_core.specs.declared.command.Version.{Version}
 use Rattle.http_routes.specs.declared.Operation.{Operation}
 use Rattle.http_routes.specs.declared.Operation.TheVariants as operation
+use Rattle.http_routes.specs.declared.places.TheConstants.{OWN_NAME, VERSION, GRANTED_TEAM, GRANTED_ENVIRONMENT, PROVIDER, CONSUMER, PACT_VERSION, PACT_BRANCH}
 use Rattle.http_requests.specs.Names.{IsPathName}
 use Rattle.http_requests.specs.Queries.{IsQueryName}
 use Rattle.http_requests.specs.Bodies.{IsObject, or_empty, IsNameField, IsOptionalName, IsTokenField, truth_field, optional_truth}
@@ -55,9 +56,9 @@ report version run = record { provider_version = version; run = run }
 -- the contract that the path names: provider, consumer, version
 abbrev pub IsPactPath : Text → Result PactPath FormFault → Type 0
 IsPactPath path =
-    AndThen (IsPathName 3 path) (λ provider.
-    AndThen (IsPathName 5 path) (λ consumer.
-    AndThen (IsPathName 7 path) (λ v.
+    AndThen (IsPathName PROVIDER path) (λ provider.
+    AndThen (IsPathName CONSUMER path) (λ consumer.
+    AndThen (IsPathName PACT_VERSION path) (λ v.
     IsMade (pact_path provider consumer v))))
 
 -- the version that the body's fields name
@@ -76,21 +77,21 @@ IsVersionQuery query =
 
 abbrev pub IsPutTeam : Text → Text → Result Command FormFault → Type 0
 IsPutTeam path body =
-    AndThen (IsPathName 2 path) (λ team.
+    AndThen (IsPathName OWN_NAME path) (λ team.
     WithFields body (λ fields.
     AndThen (IsTokenField fields) (λ token.
     IsMade (command.PutTeam team token))))
 
 abbrev pub IsPutPacticipant : Text → Text → Result Command FormFault → Type 0
 IsPutPacticipant path body =
-    AndThen (IsPathName 2 path) (λ pacticipant.
+    AndThen (IsPathName OWN_NAME path) (λ pacticipant.
     WithFields body (λ fields.
     AndThen (IsNameField (codes "team") fields) (λ team.
     IsMade (command.PutPacticipant pacticipant team))))
 
 abbrev pub IsPutEnvironment : Text → Text → Result Command FormFault → Type 0
 IsPutEnvironment path body =
-    AndThen (IsPathName 2 path) (λ environment.
+    AndThen (IsPathName OWN_NAME path) (λ environment.
     WithFields body (λ fields.
     AndThen (IsTruthField (codes "gated") fields) (λ gated.
     AndThen (IsOptionalTruth (codes "strict") fields) (λ strict.
@@ -99,14 +100,14 @@ IsPutEnvironment path body =
 -- a grant that is given or taken
 abbrev pub IsGrant : (Text → Text → Command) → Text → Result Command FormFault → Type 0
 IsGrant make path =
-    AndThen (IsPathName 3 path) (λ team.
-    AndThen (IsPathName 5 path) (λ environment.
+    AndThen (IsPathName GRANTED_TEAM path) (λ team.
+    AndThen (IsPathName GRANTED_ENVIRONMENT path) (λ environment.
     IsMade (make team environment)))
 
 abbrev pub IsPutVersion : Text → Text → Result Command FormFault → Type 0
 IsPutVersion path body =
-    AndThen (IsPathName 2 path) (λ pacticipant.
-    AndThen (IsPathName 4 path) (λ v.
+    AndThen (IsPathName OWN_NAME path) (λ pacticipant.
+    AndThen (IsPathName VERSION path) (λ v.
     WithFields (or_empty body) (λ fields.
     AndThen (IsOptionalName (codes "branch") fields) (λ branch.
     IsMade (command.PutVersion (version pacticipant v) branch)))))
@@ -119,9 +120,9 @@ IsGetPact path = AndThen (IsPactPath path) (λ of. IsMade (command.GetPact of))
 
 abbrev pub IsGetBranchPact : Text → Result Command FormFault → Type 0
 IsGetBranchPact path =
-    AndThen (IsPathName 3 path) (λ provider.
-    AndThen (IsPathName 5 path) (λ consumer.
-    AndThen (IsPathName 7 path) (λ branch.
+    AndThen (IsPathName PROVIDER path) (λ provider.
+    AndThen (IsPathName CONSUMER path) (λ consumer.
+    AndThen (IsPathName PACT_BRANCH path) (λ branch.
     IsMade (command.GetBranchPact provider consumer branch))))
 
 abbrev pub IsPostResult : Text → Text → Result Command FormFault → Type 0
@@ -144,7 +145,7 @@ IsPostReplies path body =
 -- what a version does in an environment's instance
 abbrev pub IsMove : (Text → Version → Option Text → Command) → Text → Text → Result Command FormFault → Type 0
 IsMove make path body =
-    AndThen (IsPathName 2 path) (λ environment.
+    AndThen (IsPathName OWN_NAME path) (λ environment.
     WithFields body (λ fields.
     AndThen (IsVersionFields fields) (λ v.
     AndThen (IsOptionalName (codes "instance") fields) (λ instance.
@@ -153,13 +154,13 @@ IsMove make path body =
 -- what is said of a version in an environment
 abbrev pub IsSupport : (Text → Version → Command) → Text → Text → Result Command FormFault → Type 0
 IsSupport make path body =
-    AndThen (IsPathName 2 path) (λ environment.
+    AndThen (IsPathName OWN_NAME path) (λ environment.
     WithFields body (λ fields.
     AndThen (IsVersionFields fields) (λ v.
     IsMade (make environment v))))
 
 abbrev pub IsGetEnvironment : Text → Result Command FormFault → Type 0
-IsGetEnvironment path = AndThen (IsPathName 2 path) (λ environment. IsMade (command.GetEnvironment environment))
+IsGetEnvironment path = AndThen (IsPathName OWN_NAME path) (λ environment. IsMade (command.GetEnvironment environment))
 
 abbrev pub IsCanIDeploy : Text → Result Command FormFault → Type 0
 IsCanIDeploy query =

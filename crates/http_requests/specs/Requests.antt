@@ -35,9 +35,12 @@ abbrev pub operation_asked : Resource → Option Method → Option Operation
 operation_asked resource None = None
 operation_asked resource (Some method) = operation_at resource method
 
--- the code's head is this one: its parts stand so in the text, and it closes the connection where this one does
+-- the code's head is this one: its parts stand so in the text, it closes the connection where this one does, and
+-- has its method
 abbrev pub IsReadFrom : List ℕ → Head → RequestHead → Type 0
-IsReadFrom text head h = IsRequestAt text head.spans head.parsed h × (head.closes ≡ is_last_head h)
+IsReadFrom text head h =
+    IsRequestAt text head.spans head.parsed h × (head.closes ≡ is_last_head h)
+    × (known_method h.method ≡ Some head.method)
 
 module _ (h : RequestHead) (body : List ℕ) where
   -- a command and its caller's token

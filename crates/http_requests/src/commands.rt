@@ -12,7 +12,7 @@ use crate::names::{Parsed, path_name};
 use crate::queries::query_name;
 use broker_core::command::{Command, FormFault, Marks, PactPath, Report, Version};
 use broker_core::name::Body;
-use http_routes::Operation;
+use http_routes::{Operation, places};
 use std::alloc::{AllocError, Global};
 
 /// Gives the part that is read. A fault in it is the fault of the whole, and nothing more is read.
@@ -28,9 +28,9 @@ macro_rules! part {
 fn pact_path(alloc: Global, path: &[u8]) -> Parsed<PactPath>
     ensures { IfOk result (IsPactPath path.now) }
 {
-    let provider = part!(path_name(alloc, path, 3));
-    let consumer = part!(path_name(alloc, path, 5));
-    let version = part!(path_name(alloc, path, 7));
+    let provider = part!(path_name(alloc, path, places::PROVIDER));
+    let consumer = part!(path_name(alloc, path, places::CONSUMER));
+    let version = part!(path_name(alloc, path, places::PACT_VERSION));
     Ok(Ok(PactPath {
         provider,
         consumer,
@@ -57,7 +57,7 @@ fn version_query(alloc: Global, query: &[u8]) -> Parsed<Version>
 fn put_team(alloc: Global, path: &[u8], body: &[u8]) -> Parsed<Command>
     ensures { IfOk result (IsPutTeam path.now body.now) }
 {
-    let team = part!(path_name(alloc, path, 2));
+    let team = part!(path_name(alloc, path, places::OWN_NAME));
     let fields = Fields::read(alloc, body)?;
     let token = part!(fields.token(alloc));
     Ok(Ok(Command::PutTeam { team, token }))
@@ -66,7 +66,7 @@ fn put_team(alloc: Global, path: &[u8], body: &[u8]) -> Parsed<Command>
 fn put_pacticipant(alloc: Global, path: &[u8], body: &[u8]) -> Parsed<Command>
     ensures { IfOk result (IsPutPacticipant path.now body.now) }
 {
-    let pacticipant = part!(path_name(alloc, path, 2));
+    let pacticipant = part!(path_name(alloc, path, places::OWN_NAME));
     let fields = Fields::read(alloc, body)?;
     let team = part!(fields.name(alloc, "team"));
     Ok(Ok(Command::PutPacticipant { pacticipant, team }))
@@ -75,7 +75,7 @@ fn put_pacticipant(alloc: Global, path: &[u8], body: &[u8]) -> Parsed<Command>
 fn put_environment(alloc: Global, path: &[u8], body: &[u8]) -> Parsed<Command>
     ensures { IfOk result (IsPutEnvironment path.now body.now) }
 {
-    let environment = part!(path_name(alloc, path, 2));
+    let environment = part!(path_name(alloc, path, places::OWN_NAME));
     let fields = Fields::read(alloc, body)?;
     let gated = part!(fields.truth(alloc, "gated"));
     let strict = part!(fields.optional_truth(alloc, "strict"));
@@ -88,24 +88,24 @@ fn put_environment(alloc: Global, path: &[u8], body: &[u8]) -> Parsed<Command>
 fn put_grant(alloc: Global, path: &[u8]) -> Parsed<Command>
     ensures { IfOk result (IsGrant Command.PutGrant path.now) }
 {
-    let team = part!(path_name(alloc, path, 3));
-    let environment = part!(path_name(alloc, path, 5));
+    let team = part!(path_name(alloc, path, places::GRANTED_TEAM));
+    let environment = part!(path_name(alloc, path, places::GRANTED_ENVIRONMENT));
     Ok(Ok(Command::PutGrant { team, environment }))
 }
 
 fn delete_grant(alloc: Global, path: &[u8]) -> Parsed<Command>
     ensures { IfOk result (IsGrant Command.DeleteGrant path.now) }
 {
-    let team = part!(path_name(alloc, path, 3));
-    let environment = part!(path_name(alloc, path, 5));
+    let team = part!(path_name(alloc, path, places::GRANTED_TEAM));
+    let environment = part!(path_name(alloc, path, places::GRANTED_ENVIRONMENT));
     Ok(Ok(Command::DeleteGrant { team, environment }))
 }
 
 fn put_version(alloc: Global, path: &[u8], body: &[u8]) -> Parsed<Command>
     ensures { IfOk result (IsPutVersion path.now body.now) }
 {
-    let pacticipant = part!(path_name(alloc, path, 2));
-    let name = part!(path_name(alloc, path, 4));
+    let pacticipant = part!(path_name(alloc, path, places::OWN_NAME));
+    let name = part!(path_name(alloc, path, places::VERSION));
     let fields = Fields::read(alloc, or_empty(body))?;
     let branch = part!(fields.optional_name(alloc, "branch"));
     Ok(Ok(Command::PutVersion {
@@ -132,9 +132,9 @@ fn get_pact(alloc: Global, path: &[u8]) -> Parsed<Command>
 fn get_branch_pact(alloc: Global, path: &[u8]) -> Parsed<Command>
     ensures { IfOk result (IsGetBranchPact path.now) }
 {
-    let provider = part!(path_name(alloc, path, 3));
-    let consumer = part!(path_name(alloc, path, 5));
-    let branch = part!(path_name(alloc, path, 7));
+    let provider = part!(path_name(alloc, path, places::PROVIDER));
+    let consumer = part!(path_name(alloc, path, places::CONSUMER));
+    let branch = part!(path_name(alloc, path, places::PACT_BRANCH));
     Ok(Ok(Command::GetBranchPact {
         provider,
         consumer,
@@ -181,7 +181,7 @@ fn post_replies(alloc: Global, path: &[u8], body: &[u8]) -> Parsed<Command>
 fn deploy(alloc: Global, path: &[u8], body: &[u8]) -> Parsed<Command>
     ensures { IfOk result (IsMove Command.Deploy path.now body.now) }
 {
-    let environment = part!(path_name(alloc, path, 2));
+    let environment = part!(path_name(alloc, path, places::OWN_NAME));
     let fields = Fields::read(alloc, body)?;
     let version = part!(version_fields(alloc, &fields));
     let instance = part!(fields.optional_name(alloc, "instance"));
@@ -195,7 +195,7 @@ fn deploy(alloc: Global, path: &[u8], body: &[u8]) -> Parsed<Command>
 fn undeploy(alloc: Global, path: &[u8], body: &[u8]) -> Parsed<Command>
     ensures { IfOk result (IsMove Command.Undeploy path.now body.now) }
 {
-    let environment = part!(path_name(alloc, path, 2));
+    let environment = part!(path_name(alloc, path, places::OWN_NAME));
     let fields = Fields::read(alloc, body)?;
     let version = part!(version_fields(alloc, &fields));
     let instance = part!(fields.optional_name(alloc, "instance"));
@@ -209,7 +209,7 @@ fn undeploy(alloc: Global, path: &[u8], body: &[u8]) -> Parsed<Command>
 fn release(alloc: Global, path: &[u8], body: &[u8]) -> Parsed<Command>
     ensures { IfOk result (IsSupport Command.Release path.now body.now) }
 {
-    let environment = part!(path_name(alloc, path, 2));
+    let environment = part!(path_name(alloc, path, places::OWN_NAME));
     let fields = Fields::read(alloc, body)?;
     let version = part!(version_fields(alloc, &fields));
     Ok(Ok(Command::Release {
@@ -221,7 +221,7 @@ fn release(alloc: Global, path: &[u8], body: &[u8]) -> Parsed<Command>
 fn end_support(alloc: Global, path: &[u8], body: &[u8]) -> Parsed<Command>
     ensures { IfOk result (IsSupport Command.EndSupport path.now body.now) }
 {
-    let environment = part!(path_name(alloc, path, 2));
+    let environment = part!(path_name(alloc, path, places::OWN_NAME));
     let fields = Fields::read(alloc, body)?;
     let version = part!(version_fields(alloc, &fields));
     Ok(Ok(Command::EndSupport {
@@ -233,7 +233,7 @@ fn end_support(alloc: Global, path: &[u8], body: &[u8]) -> Parsed<Command>
 fn get_environment(alloc: Global, path: &[u8]) -> Parsed<Command>
     ensures { IfOk result (IsGetEnvironment path.now) }
 {
-    let environment = part!(path_name(alloc, path, 2));
+    let environment = part!(path_name(alloc, path, places::OWN_NAME));
     Ok(Ok(Command::GetEnvironment { environment }))
 }
 

@@ -5,7 +5,7 @@ ghost use Rattle.httparse.specs.Spans.{IsRequestWithin};
 ghost use Rattle.http_messages.specs.Message.{message};
 ghost use Rattle.http_messages.specs.Views.{IsHeadRead};
 ghost use Rattle.http_routes.specs.Routes.{resource_of};
-ghost use Rattle.http_requests.specs.Requests.{operation_asked, path_of, ByResource, ByOperation, IsReadFrom, IsRequest};
+ghost use Rattle.http_requests.specs.Requests.{path_of, query_of, ByResource, ByOperation, IsReadFrom, IsRequest};
 
 use crate::commands::command_of;
 use crate::target::split_target;
@@ -13,7 +13,7 @@ use crate::tokens::caller_token;
 use broker_core::command::Command;
 use broker_core::name::Token;
 use http_messages::fields::field_of;
-use http_messages::head::{Head, Method, Refusal, Refused, method_of};
+use http_messages::head::{Head, Refusal, Refused};
 use http_routes::{Operation, Resource, RouteTable, operation_at};
 use std::alloc::{AllocError, Global};
 
@@ -43,29 +43,21 @@ pub enum Request {
     },
 }
 
-/// The operation that the method asks of the resource.
-fn operation_asked(resource: Resource, method: Option<Method>) -> Option<Operation>
-    ensures { result ≡ operation_asked resource method }
-{
-    match method {
-        Some(method) => operation_at(resource, method),
-        None => None,
-    }
-}
-
-/// The command that an operation asks, with the token of its caller.
+/// The command that an operation asks of the target's two parts, with the token of its caller.
 fn command_request(
     alloc: Global,
     text: &[u8],
     head: Head,
+    path: &[u8],
+    query: &[u8],
     body: &[u8],
     operation: Operation,
 ) -> Result<Request, AllocError>
     requires { IsRequestWithin text.now head.spans head.parsed }
-    ensures { (h : RequestHead) → IsReadFrom text.now head h → IfOk result (ByOperation h body.now operation) }
+    ensures { (h : RequestHead) → IsReadFrom text.now head h → path.now ≡ path_of h.target
+        → query.now ≡ query_of h.target → IfOk result (ByOperation h body.now operation) }
 {
     let closes = head.closes;
-    let (path, query) = split_target(head.parsed.path.of(text));
     let command = command_of(alloc, operation, path, query, body)?;
     let fields = &head.spans[..head.parsed.headers];
     let token = caller_token(alloc, field_of(text, fields, b"authorization"))?;
@@ -99,13 +91,12 @@ fn request_of(
         → IfOk result (ByResource h body.now (resource_of (path_of h.target))) }
 {
     let closes = head.closes;
-    let (path, _) = split_target(head.parsed.path.of(text));
+    let (path, query) = split_target(head.parsed.path.of(text));
     let Some(resource) = resource_of(routes, path) else {
         return Ok(Request::NoRoute { closes });
     };
-    let method = method_of(head.parsed.method.of(text));
-    match operation_asked(resource, method) {
-        Some(operation) => command_request(alloc, text, head, body, operation),
+    match operation_at(resource, head.method) {
+        Some(operation) => command_request(alloc, text, head, path, query, body, operation),
         None => Ok(Request::NoMethod { resource, closes }),
     }
 }

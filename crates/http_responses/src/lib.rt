@@ -6,5 +6,7 @@ mod responses;
 mod writing;
 
 pub use head::HEAD_CAPACITY;
-pub use responses::{write_answer, write_no_method, write_no_route, write_refusal};
+pub use responses::{
+    RESPONSE_CAPACITY, write_answer, write_no_method, write_no_route, write_refusal,
+};
 pub use writing::{WriteFault, write_whole};

@@ -1,5 +1,5 @@
 //! The responses to messages: the answers of the broker, and the refusals by HTTP.
-ghost use Rattle.std.specs.Prelude.{◌≡◌, ◌<◌, ◌≤◌, ℕ, [], ◌++◌, length, take, vec_capacity, IfErr, OnErr, OnOk};
+ghost use Rattle.std.specs.Prelude.{◌≡◌, ◌<◌, ◌≤◌, ℕ, [], ◌++◌, length, take, vec_len, vec_capacity, IfErr, OnErr, OnOk};
 ghost use Rattle.std.specs.Io.KnownBytes.{Appends};
 ghost use Rattle.http_responses.specs.Responses.{refusal_status, refusal_text, refusal_response, sent_part, no_route_response, no_method_response, answer_response, response_of, Writes};
 
@@ -9,6 +9,9 @@ use answer_texts::Answer;
 use http_messages::head::Refusal;
 use http_routes::{ALLOW_LIMIT, Resource, allow};
 use std::io::Write;
+
+/// How many bytes of buffer a response is best given: most responses fit, and so go out by one call of the writer.
+pub const RESPONSE_CAPACITY: usize = 8192;
 
 /// How a response goes out.
 #[derive(Clone, Copy, Debug)]
@@ -30,18 +33,30 @@ fn sent_part(is_bodiless: bool, body: &str) -> &str
     if is_bodiless { "" } else { body }
 }
 
-/// Writes the two parts of a response.
-fn write_parts<W: Write>(writer: &mut W, head: &[u8], body: &str) -> Result<(), WriteFault>
-    ensures ok { OnOk result (Appends (W.contents writer.old) (W.contents writer.new) (head.now ++ body.now)) }
-    ensures err { OnErr result ((n : ℕ) × (n < length (head.now ++ body.now))
-        × Appends (W.contents writer.old) (W.contents writer.new) (take n (head.now ++ body.now))) }
+/// Appends as much of a body as the capacity has room for, which takes no memory, and gives the rest of it.
+fn append_front<'a>(text: &mut Vec<u8>, body: &'a [u8]) -> &'a [u8]
+    ensures whole { text.new.items ++ result.now ≡ text.old.items ++ body.now }
+    ensures full { 0 < length result.now → vec_len text.new ≡ vec_capacity text.old }
 {
-    write_whole(writer, head)?;
-    write_whole(writer, body.as_bytes())
+    let room = text.capacity() - text.len();
+    let (front, rest) = body.split_at(room.min(body.len()));
+    let _ = text.extend_from_slice(front);
+    rest
+}
+
+/// Writes the two parts of a response, the second by no call where it is empty.
+fn write_parts<W: Write>(writer: &mut W, front: &[u8], rest: &[u8]) -> Result<(), WriteFault>
+    ensures ok { OnOk result (Appends (W.contents writer.old) (W.contents writer.new) (front.now ++ rest.now)) }
+    ensures err { OnErr result ((n : ℕ) × (n < length (front.now ++ rest.now))
+        × Appends (W.contents writer.old) (W.contents writer.new) (take n (front.now ++ rest.now))) }
+{
+    write_whole(writer, front)?;
+    write_whole(writer, rest)
 }
 
 /// Writes a response and tells whether the connection closes behind it. Its head goes through the empty
-/// buffer, which has the capacity for it.
+/// buffer, which has the capacity for it, and with it what the buffer has room for of the body: so a response
+/// that fits goes out by one call of the writer, and the rest of one that doesn't by another.
 fn write_response<W: Write>(
     writer: &mut W,
     head_buffer: Vec<u8>,
@@ -54,15 +69,17 @@ fn write_response<W: Write>(
     ensures { Writes (W.contents writer.old) (W.contents writer.new)
         (response_of form.status form.methods.now form.closes form.is_bodiless body.now) result }
 {
-    let mut head = head_buffer;
+    let mut front = head_buffer;
     write_head(
-        &mut head,
+        &mut front,
         form.status,
         form.methods,
         form.closes,
         body.len(),
     );
-    match write_parts(writer, head.as_slice(), sent_part(form.is_bodiless, body)) {
+    let sent = sent_part(form.is_bodiless, body);
+    let rest = append_front(&mut front, sent.as_bytes());
+    match write_parts(writer, front.as_slice(), rest) {
         Ok(()) => Ok(form.closes),
         Err(fault) => Err(fault),
     }

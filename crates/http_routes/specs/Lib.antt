@@ -1,3 +1,4 @@
 pub mod Routes
 pub mod Methods
 pub mod Table
+pub mod Places

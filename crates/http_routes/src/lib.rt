@@ -5,6 +5,8 @@ ghost use Rattle.std.specs.Prelude.{◌≡◌, ◌≤◌, length};
 ghost use Rattle.http_routes.specs.Methods.{allow, operation_at};
 ghost use Rattle.http_routes.specs.Routes.{segment};
 
+pub mod laws;
+pub mod places;
 mod table;
 
 use http_messages::head::Method;

@@ -1,5 +1,5 @@
-use Rattle.std.proofs.Common.{◌≡◌, ◌≢◌, ◌+◌, ◌++◌, length, drop, vec_len, [], ◌∷◌, refl, sym, ◌∙◌, subst, arith, eqb-true, length-append}
-use Rattle.std.proofs.KnownBytes.{Consumes-trans, Appends-trans}
+use Rattle.std.proofs.Common.{◌≢◌, ◌+◌, ◌++◌, length, drop, [], ◌∷◌, refl, sym, ◌∙◌, subst, arith, eqb-true, length-append}
+use Rattle.std.proofs.KnownBytes.{Consumes-nil, Consumes-trans, Appends-nil, Appends-trans}
 use Rattle.std.proofs.lemmas.Result.{err_from_is_err_and}
 use Rattle.std.proofs.lemmas.Bool.{eqb-false}
 use Rattle.std.specs.Io.KnownBytes.{Appends}
@@ -10,6 +10,10 @@ use Rattle.broker_http.specs.Stream.{texts}
 use Rattle.broker_http.proofs.ResponsesLemmas.{Responses-came, Responses-answered, Responses-broken, Responses-unread, AllOpen-then, texts-then, StreamEnds-at_end, StreamEnds-rest}
 use Rattle.broker_http.proofs.serving.serve_all.Goals.{then-is_empty, else-is_empty}
 use Rattle.broker_http.proofs.serving.serve_all.Goals as goal
+
+pub loop-answered-init : goal.loop-answered-init
+loop-answered-init g c =
+    ([], [], Consumes-nil _, (refl, c.new-buffer.ensures), tt, refl, Appends-nil _)
 
 pub returns-in_err-head_len : goal.returns-in_err-head_len
 returns-in_err-head_len g c =
@@ -28,7 +32,7 @@ returns-in-End g c =
     let came = c.in_ok-head_len.ensures.ok.gains in
     let bytes = c.read_message.new.buffer.items in
     let none = subst (IsOutcome bytes) c.in-End.is c.in_ok-head_len.ensures.ok.outcome in
-    let long : vec_len c.read_message.new.buffer ≡ length bytes = c.read_message.new.buffer.ok.0 in record {
+    record {
       ok = (
         so_far.0 ++ came.0,
         so_far.1,
@@ -36,9 +40,9 @@ returns-in-End g c =
         Consumes-trans _ _ _ so_far.0 came.0 so_far.2 came.1,
         Responses-came (ByBroker (state g.S.Store)) _ so_far.0 so_far.1 _ c.loop-answered.buffer.items came.0 bytes so_far.3 came.2,
         elim c.if-is_empty.branch [
-          | then-is_empty w ↦ StreamEnds-at_end _ so_far.1 bytes w.ended-is so_far.4 (sym long ∙ eqb-true (vec_len c.read_message.new.buffer) 0 (sym c.is_empty.ensures ∙ w.if-is_empty.true))
+          | then-is_empty w ↦ StreamEnds-at_end _ so_far.1 bytes w.ended-is so_far.4 (eqb-true (length bytes) 0 (sym c.is_empty.ensures ∙ w.if-is_empty.true))
           | else-is_empty w ↦ StreamEnds-rest _ so_far.1 bytes w.ended-is so_far.4
-              (let some : vec_len c.read_message.new.buffer ≢ 0 = eqb-false (vec_len c.read_message.new.buffer) 0 (sym c.is_empty.ensures ∙ w.if-is_empty.false) in omega (arith, long)) none
+              (let some : length bytes ≢ 0 = eqb-false (length bytes) 0 (sym c.is_empty.ensures ∙ w.if-is_empty.false) in omega arith) none
         ],
         so_far.5,
         so_far.6,
@@ -57,7 +61,7 @@ returns-in_err-answer g c =
     let broken = Responses-broken exchange _ (so_far.0 ++ came.0) so_far.1 _ bytes _ _ _ _ _ _ _
     (Responses-came exchange _ so_far.0 so_far.1 _ c.loop-answered.buffer.items came.0 bytes so_far.3 came.2)
     so_far.4 so_far.6 begins.2
-    (rw (c.message_parts.ensures.head, c.message_parts.ensures.body, c.as_slice.ensures.value) at c.in_err-answer.ensures.fault) in
+    (rw (c.message_parts.ensures.head, c.message_parts.ensures.body, c.as_slice.ensures) at c.in_err-answer.ensures.fault) in
     let p = err_from_is_err_and c.from_residual-in_err-answer.result c.from_residual-in_err-answer.ensures.1 in
     rw (p.1, p.2) (record {
       ok = tt;
@@ -89,7 +93,7 @@ returns-then-branch g c =
         Consumes-trans _ _ _ so_far.0 came.0 so_far.2 came.1,
         Responses-answered exchange _ so_far.0 so_far.1 _ c.loop-answered.buffer.items came.0 bytes c.in_ok-head_len.field-0
             c.in-Message.head_len c.in-Message.body_len c.in-Message.head response _ so_far.3 came.2 c.in_ok-head_len.ensures.ok.outcome c.in-Message.is
-            (rw (c.message_parts.ensures.head, c.message_parts.ensures.body, c.as_slice.ensures.value) at answered.1),
+            (rw (c.message_parts.ensures.head, c.message_parts.ensures.body, c.as_slice.ensures) at answered.1),
         (so_far.1, response, refl, so_far.4, answered.2 ∙ c.if-branch.true),
         omega (arith, so_far.5, length-append so_far.1 (response ∷ [])),
         subst (Appends _ _) (sym (texts-then so_far.1 response))
@@ -113,7 +117,7 @@ loop-answered-preserved g c =
       rw c.drop_front.ensures
           (Responses-answered exchange _ so_far.0 so_far.1 _ c.loop-answered.buffer.items came.0 bytes c.in_ok-head_len.field-0
           c.in-Message.head_len c.in-Message.body_len c.in-Message.head response _ so_far.3 came.2 c.in_ok-head_len.ensures.ok.outcome c.in-Message.is
-          (rw (c.message_parts.ensures.head, c.message_parts.ensures.body, c.as_slice.ensures.value) at answered.1)),
+          (rw (c.message_parts.ensures.head, c.message_parts.ensures.body, c.as_slice.ensures) at answered.1)),
       AllOpen-then so_far.1 response so_far.4 (answered.2 ∙ c.if-branch.false),
       omega (arith, so_far.5, length-append so_far.1 (response ∷ [])),
       subst (Appends _ _) (sym (texts-then so_far.1 response))

@@ -6,17 +6,17 @@ use Rattle.http_messages.proofs.reading.read_head_bytes.Goals as goal
 pub returns-in-Some-clause-found : goal.returns-in-Some-clause-found
 returns-in-Some-clause-found g c =
     let bytes = c.loop-head_len.buffer.items in
-    let within : c.in-Some.head_len ≤ length bytes = rw c.deref.ensures.value at c.in-Some.ensures.within in
-    let found : IsHeadOf bytes (take c.in-Some.head_len bytes) = rw c.deref.ensures.value at c.in-Some.ensures.found in
+    let within : c.in-Some.head_len ≤ length bytes = rw c.as_slice.ensures at c.in-Some.ensures.within in
+    let found : IsHeadOf bytes (take c.in-Some.head_len bytes) = rw c.as_slice.ensures at c.in-Some.ensures.found in
     (within, c.in-Some.ensures.small, found)
 
-pub returns-in_err-read_more-clause-none : goal.returns-in_err-read_more-clause-none
-returns-in_err-read_more-clause-none g c =
-    let looked : HasNoHead c.loop-head_len.buffer.items = rw c.deref.ensures.value at c.in_default.ensures.none in
-    on_err c.from_residual.result (subst HasNoHead (sym c.in_err-read_more.ensures.kept) looked)
+pub returns-in_err-read_piece-clause-none : goal.returns-in_err-read_piece-clause-none
+returns-in_err-read_piece-clause-none g c =
+    let looked : HasNoHead c.loop-head_len.buffer.items = rw c.as_slice.ensures at c.in_default.ensures.none in
+    on_err c.from_residual.result (subst HasNoHead (sym c.in_err-read_piece.ensures.kept) looked)
 
 pub returns-then-branch-eq0-clause-found : goal.returns-then-branch-eq0-clause-found
 returns-then-branch-eq0-clause-found g c =
-    let looked : HasNoHead c.loop-head_len.buffer.items = rw c.deref.ensures.value at c.in_default.ensures.none in
-    let same = Gains-none _ _ _ _ c.in_ok-read_more.ensures.ok (omega (arith, c.in_ok-read_more.ensures.count, c.if-branch-eq0.true)) in
+    let looked : HasNoHead c.loop-head_len.buffer.items = rw c.as_slice.ensures at c.in_default.ensures.none in
+    let same = Gains-none _ _ _ _ c.in_ok-read_piece.ensures.ok (omega (arith, c.in_ok-read_piece.ensures.count, c.if-branch-eq0.true)) in
     subst HasNoHead (sym same) looked

@@ -29,7 +29,7 @@ returns-in_err-read_up_to-clause-err g c =
     let bytes = c.read_head_bytes.new.buffer.items in
     let head_len = c.in-Some.head_len in
     let found : (head_len ≤ length bytes) × (head_len ≤ HEAD_LIMIT) × IsHeadOf bytes (take head_len bytes) = rw c.in-Some.is at c.in_ok-head_len.ensures.found in
-    let read : IsHeadRead (take head_len bytes) c.read_head-head.result = rw c.deref.ensures.value at c.read_head-head.ensures.read in
+    let read : IsHeadRead (take head_len bytes) c.read_head-head.result = rw c.as_slice.ensures at c.read_head-head.ensures.read in
     let short = c.in_err-read_up_to.ensures.lacks in
     let grown = grown_at_fault _ _ _ _ _ c.in_err-read_up_to.ensures.err in
     let p = err_from_is_err_and c.from_residual-in_err-read_up_to.result c.from_residual-in_err-read_up_to.ensures.1 in
@@ -43,7 +43,7 @@ returns-then-branch-clause-ok g c =
     let bytes = c.read_head_bytes.new.buffer.items in
     let head_len = c.in-Some.head_len in
     let found : (head_len ≤ length bytes) × (head_len ≤ HEAD_LIMIT) × IsHeadOf bytes (take head_len bytes) = rw c.in-Some.is at c.in_ok-head_len.ensures.found in
-    let read : IsHeadRead (take head_len bytes) c.read_head-head.result = rw c.deref.ensures.value at c.read_head-head.ensures.read in
+    let read : IsHeadRead (take head_len bytes) c.read_head-head.result = rw c.as_slice.ensures at c.read_head-head.ensures.read in
     let whole = c.in_ok-read_up_to.ensures.whole c.if-branch.true in
     let grown = c.in_ok-read_up_to.ensures.ok in
     record {
@@ -58,7 +58,7 @@ returns-else-branch-clause-ok g c =
     let bytes = c.read_head_bytes.new.buffer.items in
     let head_len = c.in-Some.head_len in
     let found : (head_len ≤ length bytes) × (head_len ≤ HEAD_LIMIT) × IsHeadOf bytes (take head_len bytes) = rw c.in-Some.is at c.in_ok-head_len.ensures.found in
-    let read : IsHeadRead (take head_len bytes) c.read_head-head.result = rw c.deref.ensures.value at c.read_head-head.ensures.read in
+    let read : IsHeadRead (take head_len bytes) c.read_head-head.result = rw c.as_slice.ensures at c.read_head-head.ensures.read in
     let short = c.in_ok-read_up_to.ensures.short c.if-branch.false in
     let grown = c.in_ok-read_up_to.ensures.ok in
     record {

@@ -3,10 +3,10 @@ use Rattle.http_requests.specs.declared.requests.Request.TheVariants.{Asks}
 use Rattle.http_requests.proofs.requests.command_request.Goals as goal
 
 pub returns : goal.returns
-returns c = λ h at. (
+returns c = λ h at path query. (
   c.in_ok-command.command,
   c.in_ok-token.token,
-  rw (c.split_target.ensures.path, c.split_target.ensures.query, c.of.ensures, at.0.path) at c.in_ok-command.ensures,
+  rw (path, query) at c.in_ok-command.ensures,
   rw at.0.fields at (c.in_ok-token.ensures _ c.field_of.ensures),
   ap (λ b. Asks c.in_ok-token.token c.in_ok-command.command b) at.1,
 )

@@ -11,7 +11,7 @@ returns-in-Ok c =
     let head : IsHeadRead c.args.text.now (Ok c.in-Ok.head) = rw c.in-Ok.is at c.requires in
     IfOk-weaker c.request_of.result _ _
     (λ request is. (judge_head head.1, inr (inr (head.0, head.1, head.2, refl)), rw head.3 (head.1, head.2, is)))
-    (c.request_of.ensures head.1 (head.5, head.4))
+    (c.request_of.ensures head.1 (head.6, head.4, head.5))
 
 pub returns-in-Err : goal.returns-in-Err
 unfolding IsRequest

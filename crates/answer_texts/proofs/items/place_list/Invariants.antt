@@ -1,7 +1,0 @@
-use Rattle.std.proofs.Common.{◌≡◌, map, take}
-use Rattle.serde_json.specs.View.{view}
-use Rattle.answer_texts.specs.Data.{whole}
-use Rattle.answer_texts.proofs.items.place_list.Given as goal
-
-abbrev pub invariant-loop-one : goal.invariant-loop-one
-invariant-loop-one l = map view l.list.items ≡ map whole (take l.one-index l.places)
