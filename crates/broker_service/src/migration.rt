@@ -22,10 +22,8 @@ fn add_tables<S: Alter>(conn: &mut Connection<S>) -> Result<(), StoreFault>
         (λ _ old new. (s : BrokerState) → HoldsFormer old.now s
         → HoldsUnmarked format added_tables new.now s) }
 {
-    match contract_tables::to_format_2(conn) {
-        Ok(()) => registry_tables::to_format_2(conn),
-        Err(fault) => Err(fault),
-    }
+    done!(contract_tables::to_format_2(conn));
+    registry_tables::to_format_2(conn)
 }
 
 /// Makes the tables and the indexes that format 1 has not, and sets the format.
@@ -33,10 +31,8 @@ fn add_all<S: Alter>(conn: &mut Connection<S>) -> Result<(), StoreFault>
     ensures { CallsStore S.Store conn.old conn.new result
         (λ _ old new. BringsUp old.now new.now) }
 {
-    match add_tables(conn) {
-        Ok(()) => make_indexes(conn),
-        Err(fault) => Err(fault),
-    }
+    done!(add_tables(conn));
+    make_indexes(conn)
 }
 
 /// Looks for the format, and where it is 1, makes the database one of today's. The answer is the format that was found.
@@ -44,13 +40,12 @@ fn bring_up<S: Alter>(conn: &mut Connection<S>) -> Result<Option<u32>, StoreFaul
     ensures { CallsStore S.Store conn.old conn.new result
         (λ found old new. Finds old.now found × (found ≡ Some former_format → BringsUp old.now new.now)) }
 {
-    match format_of(conn) {
-        Ok(Some(1)) => match add_all(conn) {
-            Ok(()) => Ok(Some(1)),
-            Err(fault) => Err(fault),
+    match done!(format_of(conn)) {
+        Some(1) => {
+            done!(add_all(conn));
+            Ok(Some(1))
         },
-        Ok(found) => Ok(found),
-        Err(fault) => Err(fault),
+        found => Ok(found),
     }
 }
 

@@ -60,13 +60,9 @@ fn make_first<S: Alter>(conn: &mut Connection<S>, digest: &str) -> Result<(), St
         (λ _ old new. IsBlank old.now
         → HasTables (registry_part ++ contents ∷ contract_part) format digest.now new.now) }
 {
-    match registry_tables::make_tables(conn, 2, digest) {
-        Ok(()) => match content_store::make_tables(conn) {
-            Ok(()) => contract_tables::make_tables(conn),
-            Err(fault) => Err(fault),
-        },
-        Err(fault) => Err(fault),
-    }
+    done!(registry_tables::make_tables(conn, 2, digest));
+    done!(content_store::make_tables(conn));
+    contract_tables::make_tables(conn)
 }
 
 /// Makes the tables of what stands where, of evidence and of strict environments.
@@ -74,13 +70,9 @@ fn make_rest<S: Alter>(conn: &mut Connection<S>) -> Result<(), StoreFault>
     ensures { CallsStore S.Store conn.old conn.new result
         (λ _ old new. MakesRest old.now new.now) }
 {
-    match deploy_tables::make_tables(conn) {
-        Ok(()) => match contract_tables::make_checked_results(conn) {
-            Ok(()) => make_strict_environments(conn),
-            Err(fault) => Err(fault),
-        },
-        Err(fault) => Err(fault),
-    }
+    done!(deploy_tables::make_tables(conn));
+    done!(contract_tables::make_checked_results(conn));
+    make_strict_environments(conn)
 }
 
 /// Makes the indexes, once all tables are made.
@@ -89,13 +81,9 @@ pub(crate) fn make_indexes<S: Alter>(conn: &mut Connection<S>) -> Result<(), Sto
         (λ _ old new. old.now.schema ≡ schema_of all_tables
         → MakesIndexes all_indexes old.now new.now) }
 {
-    match content_store::make_index(conn) {
-        Ok(()) => match contract_tables::make_indexes(conn) {
-            Ok(()) => registry_tables::make_index(conn),
-            Err(fault) => Err(fault),
-        },
-        Err(fault) => Err(fault),
-    }
+    done!(content_store::make_index(conn));
+    done!(contract_tables::make_indexes(conn));
+    registry_tables::make_index(conn)
 }
 
 /// Makes all tables, and then the indexes.
@@ -103,13 +91,9 @@ fn make_all<S: Alter>(conn: &mut Connection<S>, digest: &str) -> Result<(), Stor
     ensures { CallsStore S.Store conn.old conn.new result
         (λ _ old new. IsBlank old.now → Holds new.now (opening digest.now)) }
 {
-    match make_first(conn, digest) {
-        Ok(()) => match make_rest(conn) {
-            Ok(()) => make_indexes(conn),
-            Err(fault) => Err(fault),
-        },
-        Err(fault) => Err(fault),
-    }
+    done!(make_first(conn, digest));
+    done!(make_rest(conn));
+    make_indexes(conn)
 }
 
 /// Makes all tables in one transaction.

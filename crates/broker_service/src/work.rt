@@ -136,10 +136,7 @@ fn follow<S: Alter>(
             caller,
             environment,
         ),
-        Command::Malformed(fault) => match bad_form(fault) {
-            Ok(outcome) => Ok(outcome),
-            Err(fault) => Err(fault),
-        },
+        Command::Malformed(fault) => Ok(done!(bad_form(fault))),
     }
 }
 
@@ -152,10 +149,9 @@ fn step_of<S: Alter>(
 ) -> Result<Outcome, StoreFault>
     ensures { Performs S.Store conn.old conn.new result (TokensStep (token_of token.entry) command.now) }
 {
-    match caller_of(alloc, conn, token) {
-        Ok(Some(caller)) => follow(alloc, conn, &caller, command),
-        Ok(None) => Ok(Outcome::Denied(Rule::A1)),
-        Err(fault) => Err(fault),
+    match done!(caller_of(alloc, conn, token)) {
+        Some(caller) => follow(alloc, conn, &caller, command),
+        None => Ok(Outcome::Denied(Rule::A1)),
     }
 }
 
@@ -183,13 +179,8 @@ fn work<S: Alter>(
     ensures performs { Performs S.Store conn.old conn.new result (TokensStep (token_of token.entry) command.now) }
     ensures runs { IfOk result (λ answer. answer ≢ Stopped) }
 {
-    match step_of(alloc, conn, token, command) {
-        Ok(outcome) => match answer_of(alloc, outcome) {
-            Ok(answer) => Ok(answer),
-            Err(fault) => Err(fault),
-        },
-        Err(fault) => Err(fault),
-    }
+    let outcome = done!(step_of(alloc, conn, token, command));
+    Ok(done!(answer_of(alloc, outcome)))
 }
 
 /// Whether something was done, so that there is something to commit.

@@ -110,3 +110,11 @@ where_then_told old mid new x y answer P First Then Next R may f one two =
     then_ok old new y answer _ _ (λ h s held allows. let it = h s held allows in (it.0, f s allows it.1.0 it.0 it.1.1, it.2))
     (seq old mid new x (Ok y) _ _ (λ b. (s : Broker) → Holds old.now s → First s → (t : Broker) × (P x s × Next b s t) × Holds new.now t)
     (λ p b q s held allows. let first = p s held in let next = q s first.1 (may s allows first.0) in (next.0, (first.0, next.1), next.2)) one two.call)
+
+-- a change that answers, and another change
+pub where_told_then : {A : Type 0} (old mid new : State) (x : A) (u : Unit {0}) (answer : Answer) (Allows Takes Then : Broker → Type 0) (Next : A → Broker → Broker → Type 0) (Last : Broker → Broker → Type 0) (Q : Broker → Transition → Type 0)
+    → ((s : Broker) → Allows s → Takes s × ((t : Broker) → Next x s t → Then t × ((w : Broker) → Last t w → Q s (record { answer = answer; state = w }))))
+    → ChangesAndAnswersBetween old mid (Ok x) Takes Next → ChangesAndAnswersBetween mid new (Ok u) Then (λ _. Last) → PerformsWhereBetween old new Allows Q (Ok answer)
+where_told_then old mid new x u answer Allows Takes Then Next Last Q f one two =
+    then_ok old new u answer (λ _. (s : Broker) → Holds old.now s → Allows s → (t : Broker) × Q s (record { answer = answer; state = t }) × Holds new.now t) _ (λ h. h)
+    (seq old mid new x (Ok u) _ _ _ (λ p b q s held allowed. let go = f s allowed in let first = p s held go.0 in let more = go.1 first.0 first.1 in let last = q first.0 first.2 more.0 in (last.0, more.1 last.0 last.1, last.2)) one.call two.call)

@@ -99,6 +99,21 @@ pub fn read_owner<S: Alter>(
     })
 }
 
+/// Whether the pacticipant is there. Nothing is changed.
+///
+/// # Errors
+/// `StoreFault::Memory` if an allocation failed or the database is out of memory; `StoreFault::Store` if the database
+/// refused the query.
+pub fn has_pacticipant<S: Alter>(
+    conn: &mut Connection<S>,
+    pacticipant: &Name,
+) -> Result<bool, StoreFault>
+    ensures { Queries S.Store conn.old conn.new result (λ has s. is_some (s.pacticipants pacticipant.now) ≡ has) }
+{
+    let owner = done!(owner_of(conn, pacticipant.as_str()));
+    Ok(owner.is_some())
+}
+
 /// Whether the caller is a team with a grant for the environment. Nothing is changed.
 ///
 /// # Errors

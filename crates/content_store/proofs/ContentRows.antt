@@ -1,5 +1,5 @@
 -- The statements on contents.
-use Rattle.std.proofs.Common.{◌≡◌, ◌+◌, ◌-◌, ℕ, ℤ, pos, cond, codes, List, [], ◌∷◌, ◌++◌, map, filter, length, true, false, Bool, ◌&&◌, ◌||◌, not, Ordering, refl, sym, ap, subst, ◌∙◌, slice_get, unwrap_or, Some, None, Option, Ok, arith, Less}
+use Rattle.std.proofs.Common.{◌≡◌, ◌+◌, ℕ, ℤ, pos, cond, codes, List, [], ◌∷◌, ◌++◌, map, filter, length, true, false, Bool, ◌&&◌, ◌||◌, not, Ordering, refl, sym, ap, subst, ◌∙◌, slice_get, unwrap_or, Some, None, Option, Ok, arith, Less}
 use Rattle.std.specs.Prelude.{option_map}
 use Rattle.std.specs.List.{AllByRecursion, enumerate_from, position_or_len, find as first}
 use Rattle.std.specs.Cmp.Lexicographic.{nat_list_cmp_total}

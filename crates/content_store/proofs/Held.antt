@@ -1,5 +1,5 @@
 -- The calls on contents, where all were stored by SHA-256 and the database holds a state of the broker.
-use Rattle.std.proofs.Common.{◌≡◌, ℕ, List, [], ◌∷◌, ◌++◌, map, Bool, true, false, not, ◌||◌, cond, codes, refl, sym, ap, subst, ◌∙◌, Result}
+use Rattle.std.proofs.Common.{◌≡◌, ℕ, Option, Some, None, List, [], ◌∷◌, ◌++◌, map, Bool, true, false, not, ◌||◌, cond, codes, refl, sym, ap, subst, ◌∙◌, Result}
 use Rattle.std.specs.Prelude.{⊤}
 use Rattle.std.specs.List.{AllByRecursion}
 use Rattle.sqlite.specs.Table.{Table}
@@ -17,7 +17,7 @@ use Rattle.broker_tables.specs.Rows.{rows_of}
 use Rattle.broker_tables.specs.Numbers.{numbered}
 use Rattle.broker_tables.specs.Holds.{Holds, with_digest, IsRead, QueriesBetween, QueriesInPlaceBetween, ChangesAndAnswersBetween}
 use Rattle.broker_tables.proofs.Frames.{Frame, is_other, contents_change}
-use Rattle.content_store.specs.Contents.{hex_of, ContentsBy, IsReadBy, IsReadByAny, IsPut, IsPutBy}
+use Rattle.content_store.specs.Contents.{hex_of, ContentsBy, IsReadBy, IsReadByAny, IsPut, IsPutBy, IsPutIfRoom, StoresIfRoom}
 
 -- what a state says of contents is that they are stored by SHA-256
 pub contents_held : (db : Database) (s : Broker) → Holds db s → ContentsBy (hex_of sha256) db s.contents
@@ -75,3 +75,16 @@ put_held old new s body number held put = (put.number_is, go (is_stored s body) 
 -- a text that is put gets its number in the state, and the state with this text stored is held afterwards
 pub puts_held : (old new : State) (r : Result ℕ StoreFault) (body : Text) → CallsStoreBetween old new r (IsPutBy (hex_of sha256) body old new) → ChangesAndAnswersBetween old new r (λ s. ⊤) (λ number s t. (number ≡ number_of s body) × (t ≡ stored s body))
 puts_held old new r body = statement_with old new r _ _ (λ number puts s held free. let it = put_held old.now new.now s body number held (puts s.contents (contents_held old.now s held)) in (stored s body, (it.0, refl), it.1))
+
+-- the same where there may be no room for it
+pub puts_if_room_held : (old new : State) (r : Result (Option ℕ) StoreFault) (body : Text) → CallsStoreBetween old new r (IsPutIfRoom (hex_of sha256) body old new) → ChangesAndAnswersBetween old new r (λ s. ⊤) (StoresIfRoom body)
+puts_if_room_held old new r body = statement_with old new r _ _ by_found
+  where
+    by_found : (found : Option ℕ) → IsPutIfRoom (hex_of sha256) body old new found → (s : Broker) → Holds old.now s → ⊤ → (t : Broker) × StoresIfRoom body found s t × Holds new.now t
+    by_found (Some number) puts s held free =
+        let it = puts s.contents (contents_held old.now s held) in
+        let made = put_held old.now new.now s body number held it.1 in
+        (stored s body, (made.0, refl, it.0), made.1)
+    by_found None puts s held free =
+        let it = puts s.contents (contents_held old.now s held) in
+        (s, (refl, it.0), subst (λ d. Holds d s) (sym it.1) held)

@@ -1,10 +1,13 @@
 -- Texts and their numbers.
-use Rattle.std.proofs.Common.{◌≡◌, cond, List, [], ◌∷◌, ◌++◌, length, true, false, Bool, ◌||◌, refl, sym, ap, ◌∙◌, arith}
+use Rattle.std.proofs.Common.{◌≡◌, ◌<◌, ◌↔◌, ℕ, cond, List, [], ◌∷◌, ◌++◌, length, true, false, true≢false, Bool, IsTrue, ◌||◌, refl, sym, ap, subst, ◌∙◌, arith}
+use Rattle.std.proofs.lemmas.Bool.Decides.{nat_tests}
+use Rattle.std.specs.Prelude.{nat_lt}
 use Rattle.std.specs.List.{position_or_len}
 use Rattle.std.specs.Cmp.{eq_by_cmp_equiv, Equal-is}
 use Rattle.std.specs.Cmp.Lexicographic.{texts_ties, nat_list_cmp_total}
 use Rattle.table_access.specs.Columns.{text_cmp}
 use Rattle.broker_core.specs.Text.{Text, same_text}
+use Rattle.broker_core.specs.Limit.{limit, HasRoom, has_room}
 use Rattle.broker_tables.proofs.Orders.{exact_texts}
 use Rattle.content_store.specs.Contents.{is_among, with_text}
 
@@ -28,3 +31,16 @@ none_before (t ∷ texts) body free = go (same_text body t) refl free (none_befo
 -- a text that isn't there comes last
 pub with_new : (texts : List Text) (body : Text) → is_among texts body ≡ false → with_text texts body ≡ texts ++ body ∷ []
 with_new texts body e = ap (λ b. cond b texts (texts ++ body ∷ [])) e
+
+-- ---- the limit
+
+test_lt : (m k : ℕ) → m < k → nat_lt m k ≡ true
+test_lt m k h = grind (arith, nat_tests)
+
+test_ge : (m k : ℕ) → ¬ (m < k) → nat_lt m k ≡ false
+test_ge m k h = grind (arith, nat_tests)
+
+-- whether there is room for one more, by their count
+pub room_is : {X : Type 0} (xs : List X) (count : ℕ) (b : Bool) → IsTrue b ↔ HasRoom count → count ≡ length xs → has_room xs ≡ b
+room_is xs count true h is = test_lt (length xs) limit (subst (λ n. n < limit) is (h.0 refl))
+room_is xs count false h is = test_ge (length xs) limit (λ low. true≢false (sym (h.1 (subst (λ n. n < limit) (sym is) low))))

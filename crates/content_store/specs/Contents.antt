@@ -1,5 +1,5 @@
 -- The contents that a database holds, by any digest, and how a call on them is stated.
-use Rattle.std.specs.Prelude.{◌≡◌, ◌==◌, ◌-◌, ◌+◌, ℕ, List, [], ◌∷◌, ◌++◌, map, Bool, true, false, Option, Some, None, codes, slice_get, length, ⊤, if◌then◌else◌}
+use Rattle.std.specs.Prelude.{◌≡◌, ◌==◌, ◌-◌, ◌+◌, ◌||◌, ℕ, List, [], ◌∷◌, ◌++◌, map, Bool, true, false, Option, Some, None, codes, slice_get, length, MatchOption, if◌then◌else◌}
 use Rattle.std.specs.List.{AllByRecursion, list_any, position_or_len}
 use Rattle.sqlite.specs.Order.{Row}
 use Rattle.sqlite.specs.Effect.{Database}
@@ -7,6 +7,9 @@ use Rattle.sqlite.specs.State.{State}
 use Rattle.hex.specs.Hex.{encode_lower}
 use Rattle.table_access.specs.Columns.{text, whole_at}
 use Rattle.broker_core.specs.Text.{Text, same_text}
+use Rattle.broker_core.specs.State.{State as Broker}
+use Rattle.broker_core.specs.Limit.{has_room}
+use Rattle.broker_core.specs.Change.{number_of, stored}
 use Rattle.broker_tables.specs.Schema.{broker_schema}
 use Rattle.broker_tables.specs.Rows.{rows_of}
 use Rattle.broker_tables.specs.Numbers.{numbered}
@@ -94,3 +97,33 @@ abbrev pub IsPutUnder : (Text → Text) → Text → State → State → ℕ →
 IsPutUnder digest body old new number =
     (texts : List Text) → ContentsBy digest old.now texts → is_among texts body ≡ false
     → number ≡ length texts + 1 → IsPut digest body texts number old.now new.now
+
+-- a text that isn't there is put among them, where they are so many
+abbrev pub IsNewAfter : (Text → Text) → Text → ℕ → State → State → ℕ → Type 0
+IsNewAfter digest body count old new number =
+    (texts : List Text) → ContentsBy digest old.now texts → is_among texts body ≡ false
+    → count ≡ length texts → IsPut digest body texts number old.now new.now
+
+-- a text that isn't there is put among them, or there is no room for one more and nothing changes
+abbrev pub IsNewIfRoom : (Text → Text) → Text → State → State → Option ℕ → Type 0
+IsNewIfRoom digest body old new found =
+    (texts : List Text) → ContentsBy digest old.now texts → is_among texts body ≡ false
+    → MatchOption found ((has_room texts ≡ false) × (new.now ≡ old.now))
+    (λ number. (has_room texts ≡ true) × IsPut digest body texts number old.now new.now)
+
+-- the text is one of them, or there is room for one more
+abbrev pub has_place : List Text → Text → Bool
+has_place texts body = is_among texts body || has_room texts
+
+-- a text is put among the contents, all stored by this digest, or there is no place for it and nothing changes
+abbrev pub IsPutIfRoom : (Text → Text) → Text → State → State → Option ℕ → Type 0
+IsPutIfRoom digest body old new found =
+    (texts : List Text) → ContentsBy digest old.now texts
+    → MatchOption found ((has_place texts body ≡ false) × (new.now ≡ old.now))
+    (λ number. (has_place texts body ≡ true) × IsPut digest body texts number old.now new.now)
+
+-- the same of a state: the text is one of its contents and has this number, or there is no place for it
+abbrev pub StoresIfRoom : Text → Option ℕ → Broker → Broker → Type 0
+StoresIfRoom body (Some number) s t =
+    (number ≡ number_of s body) × (t ≡ stored s body) × (has_place s.contents body ≡ true)
+StoresIfRoom body None s t = (t ≡ s) × (has_place s.contents body ≡ false)

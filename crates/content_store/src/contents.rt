@@ -7,9 +7,10 @@ ghost use Rattle.hex.specs.Hex.{encode_lower};
 ghost use Rattle.table_access.specs.Calls.{CallsTables, CallsStore};
 ghost use Rattle.table_access.specs.Columns.{text};
 ghost use Rattle.broker_core.specs.Text.{Text, same_text};
-ghost use Rattle.content_store.specs.Contents.{hex_of, found_in, text_in, IsReadBy, IsReadByAny, IsPutBy, IsPutUnder, IsNewBy};
+ghost use Rattle.content_store.specs.Contents.{hex_of, found_in, text_in, IsReadBy, IsReadByAny, IsPutBy, IsPutUnder, IsNewBy, IsNewAfter, IsNewIfRoom, IsPutIfRoom};
 
 use crate::digester::{Digester, digest_digits};
+use broker_core::limit::room;
 use broker_tables::next_number;
 use sqlite::types::{ToSql, ValueRef};
 use sqlite::{Alter, Connection, Row, params};
@@ -131,6 +132,24 @@ fn put_under<'a, S: Alter>(
     )
 }
 
+/// Adds a text that isn't there, with this digest, after so many, and answers its number.
+fn add_after<S: Alter>(
+    conn: &mut Connection<S>,
+    count: u64,
+    digest: &[u8],
+    body: &str,
+) -> Result<u32, StoreFault>
+    ensures { CallsStore S.Store conn.old conn.new result
+        (λ number old new. (by : Text → Text) → by body.now ≡ digest.now →
+        IsNewAfter by body.now count old new number) }
+{
+    let Some(number) = next_number(count) else {
+        return Err(StoreFault::Store);
+    };
+    done!(put_under(conn, number, digest, body));
+    Ok(number)
+}
+
 /// Adds a text that isn't there, with this digest, and answers its number, which is the next one.
 fn add<S: Alter>(conn: &mut Connection<S>, digest: &[u8], body: &str) -> Result<u32, StoreFault>
     ensures { CallsStore S.Store conn.old conn.new result
@@ -138,11 +157,25 @@ fn add<S: Alter>(conn: &mut Connection<S>, digest: &[u8], body: &str) -> Result<
         IsNewBy by body.now old new number) }
 {
     let count = done!(content_count(conn));
-    let Some(number) = next_number(count) else {
-        return Err(StoreFault::Store);
-    };
-    done!(put_under(conn, number, digest, body));
-    Ok(number)
+    add_after(conn, count, digest, body)
+}
+
+/// Adds a text that isn't there, with this digest, if there is room for one more, and answers its number.
+fn add_if_room<S: Alter>(
+    conn: &mut Connection<S>,
+    digest: &[u8],
+    body: &str,
+) -> Result<Option<u32>, StoreFault>
+    ensures { CallsStore S.Store conn.old conn.new result
+        (λ found old new. (by : Text → Text) → by body.now ≡ digest.now →
+        IsNewIfRoom by body.now old new found) }
+{
+    let count = done!(content_count(conn));
+    if room(count) {
+        Ok(Some(done!(add_after(conn, count, digest, body))))
+    } else {
+        Ok(None)
+    }
 }
 
 /// The number of the text, which is stored under the next one where it isn't stored yet. Each text that is there was stored by this digester.
@@ -161,5 +194,27 @@ pub fn put<S: Alter, D: Digester>(
     match done!(find_beside(conn, &digest, body)) {
         Some(number) => Ok(u64::from(number)),
         None => Ok(u64::from(done!(add(conn, &digest, body)))),
+    }
+}
+
+/// The number of the text, which is stored under the next one if it isn't stored yet and there is room for one more;
+/// `None` if there is no room, and then nothing changes. Each text that is there was stored by this digester. The text
+/// is hashed once and looked for once, and the newest number is asked for only if it isn't stored.
+///
+/// # Errors
+/// `StoreFault::Memory` if the database is out of memory; `StoreFault::Store` if it refused a statement, or a row has no
+/// number below 2^32.
+pub fn put_if_room<S: Alter, D: Digester>(
+    conn: &mut Connection<S>,
+    digester: &D,
+    body: &str,
+) -> Result<Option<u32>, StoreFault>
+    ensures { CallsStore S.Store conn.old conn.new result
+        (λ found old new. IsPutIfRoom (hex_of D.digest_of) body.now old new found) }
+{
+    let digest = digest_digits(digester, body.as_bytes());
+    match done!(find_beside(conn, &digest, body)) {
+        Some(number) => Ok(Some(number)),
+        None => add_if_room(conn, &digest, body),
     }
 }

@@ -18,6 +18,6 @@ mod contents;
 mod digester;
 mod making;
 
-pub use contents::{content_count, find, get, put};
+pub use contents::{content_count, find, get, put, put_if_room};
 pub use digester::{Digester, Sha256Digester, digest_text};
 pub use making::{make_index, make_tables};

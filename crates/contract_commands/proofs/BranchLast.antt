@@ -1,6 +1,6 @@
 -- The version that a branch shows, from the numbers of versions.
 use Rattle.std.proofs.Common.{◌≡◌, ◌≤◌, ◌<◌, ◌+◌, ℕ, ℤ, pos, List, [], ◌∷◌, map, length, filter, Bool, true, false, cond, ◌&&◌, nat_lt, Option, Some, None, refl, sym, ap, ◌∙◌, subst, arith}
-use Rattle.std.specs.Prelude.{is_some, option_and_then, ◌||◌, Result, Ok, Err}
+use Rattle.std.specs.Prelude.{is_some, option_and_then, Result, Ok, Err}
 use Rattle.std.specs.List.{AllByRecursion, enumerate_from, last_or}
 use Rattle.std.proofs.lemmas.Bool.{ltb-true, ltb-false}
 use Rattle.sqlite.specs.Order.{Row}
@@ -24,11 +24,10 @@ use Rattle.broker_tables.proofs.NumberLemmas.{within, one_version}
 use Rattle.broker_tables.proofs.VersionRows.{row_number, false_if}
 use Rattle.content_store.proofs.TextNumbers.{same_is, same_itself}
 use Rattle.contract_commands.specs.BranchPact.{NoneFrom, IsNextBelow, IsBranchContent, ReachesBranch}
-use Rattle.contract_commands.specs.Pacts.{AreSidesRead, missing_of_branch, owns_side, Admits, ShowsReached}
+use Rattle.contract_commands.specs.Pacts.{AreSidesRead, missing_of_branch, Admits, ShowsReached}
 use Rattle.contract_commands.specs.declared.sides.Sides.{Sides}
 use Rattle.command_facts.specs.Primitives.{broker_primitives}
 use Rattle.command_facts.proofs.CallerSteps.{refuses, acts}
-use Rattle.contract_commands.proofs.PactLemmas.{two_owners}
 
 -- ---- versions that stand where their numbers say
 
@@ -171,16 +170,16 @@ module _ (s : State) (caller : Caller) (provider consumer branch : Text) where
   there None it = ap is_some it
   there (Some n) it = ap is_some it.1
 
-  module _ (found : Sides) (content : Option ℕ) (sides : AreSidesRead s caller A5 provider consumer found) (is : IsBranchContent s provider consumer branch content) where
+  module _ (found : Sides) (content : Option ℕ) (sides : AreSidesRead s caller A5 (provider ∷ consumer ∷ []) provider consumer found) (is : IsBranchContent s provider consumer branch content) where
     -- the command is refused as its sides and its contract say
     branch_refused : refusal s caller (GetBranchPact provider consumer branch)
-        ≡ refused (GetBranchPact provider consumer branch) (missing_of_branch found content) (owns_side found)
+        ≡ refused (GetBranchPact provider consumer branch) (missing_of_branch found content) found.is_allowed
     branch_refused =
-        let may = two_owners (s.pacticipants provider) (s.pacticipants consumer) caller (has_grant s caller None) ∙ (λ i. sides.provider_is.may_is i || sides.consumer_is.may_is i) in
+        let may = sides.may_is (has_grant s caller None) in
         let shown = there content is in
-        λ i. refused (GetBranchPact provider consumer branch) (unless (sides.provider_is.pacticipant_is i) missing.Pacticipant (unless (sides.consumer_is.pacticipant_is i) missing.Pacticipant (unless (shown i) missing.Contract None))) (may i)
+        λ i. refused (GetBranchPact provider consumer branch) (unless (sides.provider_is i) missing.Pacticipant (unless (sides.consumer_is i) missing.Pacticipant (unless (shown i) missing.Contract None))) (may i)
 
-    pub reaches_branch : (r : Result ℕ Answer) → Admits A5 content (missing_of_branch found content) (owns_side found) r → ReachesBranch s caller provider consumer branch r
+    pub reaches_branch : (r : Result ℕ Answer) → Admits A5 content (missing_of_branch found content) found.is_allowed r → ReachesBranch s caller provider consumer branch r
     reaches_branch (Ok n) it = (subst (IsBranchContent s provider consumer branch) it.0 is, branch_refused ∙ it.1 (GetBranchPact provider consumer branch) refl)
     reaches_branch (Err answer) it = branch_refused ∙ it (GetBranchPact provider consumer branch) refl
 

@@ -1,5 +1,6 @@
 pub mod BranchLast
 pub mod CheckLemmas
+pub mod NumberingLemmas
 pub mod PactLemmas
 pub mod ResultLemmas
 pub mod Unread

@@ -1,14 +1,13 @@
 -- What the commands on contracts lead to, from what was read.
-use Rattle.std.proofs.Common.{◌≡◌, ℕ, ◌+◌, ◌≤◌, List, [], ◌∷◌, ◌++◌, length, Bool, true, false, not, ◌&&◌, ◌||◌, cond, is_some, Option, Some, None, MatchOption, IsTrue, refl, sym, ap, ◌∙◌, subst, arith}
-use Rattle.std.proofs.Common.{◌<◌, ◌↔◌, true≢false, if◌then◌else◌}
-use Rattle.std.proofs.lemmas.Bool.Decides.{nat_tests}
-use Rattle.std.specs.List.{cons_option, position_or_len}
+use Rattle.std.proofs.Common.{◌≡◌, ℕ, ◌+◌, ◌≤◌, List, [], ◌∷◌, ◌++◌, length, Bool, true, false, not, ◌&&◌, ◌||◌, cond, is_some, Option, Some, None, MatchOption, refl, sym, ap, ◌∙◌, subst, arith}
+use Rattle.std.proofs.Common.{if◌then◌else◌}
+use Rattle.std.specs.List.{cons_option, position_or_len, list_any}
 use Rattle.std.specs.Option.{option_map_or}
-use Rattle.std.specs.Prelude.{nat_lt, filter_map, option_and_then, Result, Ok, Err}
+use Rattle.std.specs.Prelude.{filter_map, option_and_then, Result, Ok, Err}
 use Rattle.broker_core.specs.Text.{Text, same_text, same_pair, same_version, put_at}
 use Rattle.broker_core.specs.State.{State}
 use Rattle.broker_core.specs.Policy.{allows}
-use Rattle.broker_core.specs.Limit.{limit, HasRoom, has_room}
+use Rattle.broker_core.specs.Limit.{has_room}
 use Rattle.broker_core.specs.Change.{Transition, unchanged_with, put_pact, republished, text_of, can_name, named, stored, is_stored, number_of as content_number}
 use Rattle.broker_core.specs.Request.{consumer_version, unless, unless_contract, refused, refusal, has_grant, is_known, is_allowed, first_missing, target_of}
 use Rattle.broker_core.specs.Machine.{TakesEffect, FindsFault, StepOfCaller, fault_of_reading}
@@ -33,8 +32,9 @@ use Rattle.content_store.proofs.TextNumbers.{same_itself, none_before}
 use Rattle.contract_tables.specs.Verified.{AddsContract}
 use Rattle.pact_reading.specs.declared.reading.ReadFault.TheVariants.{Form}
 use Rattle.command_facts.specs.Owners.{owners_of}
-use Rattle.contract_commands.specs.Pacts.{AreSidesRead, missing_side, missing_part, owns_side, Admits, IsContractRead, IsPlaceRead, AreRoomsRead, CanContract, contracted, Publishes, AsksContract, Reaches, ShowsReached}
-use Rattle.contract_commands.specs.declared.publish.Rooms.{Rooms}
+use Rattle.broker_tables.specs.Numbers.{number_of}
+use Rattle.contract_commands.specs.Pacts.{AreSidesRead, missing_side, missing_part, Admits, IsPlaceRead, CanPublish, CanRecord, contracted, Publishes, AsksContract, Reaches, ShowsReached}
+use Rattle.contract_commands.specs.declared.numbers.VersionNumber.{VersionNumber}
 use Rattle.contract_commands.specs.declared.sides.ContractPlace.{ContractPlace}
 use Rattle.contract_commands.specs.declared.sides.Sides.{Sides}
 use Rattle.command_facts.specs.Primitives.{broker_primitives}
@@ -42,17 +42,16 @@ use Rattle.command_facts.proofs.CallerSteps.{refuses, acts}
 
 -- ---- refusals
 
-sole_owner : (o : Option Text) (caller : Caller) (x : Text) (granted : Bool) → allows A3 caller (filter_map (λ (p : Text). o) (x ∷ [])) granted ≡ allows A3 caller (owners_of o) false
-sole_owner None caller x granted = refl
-sole_owner (Some owner) caller x granted = refl
+pub sole_publisher : (o : Option Text) (caller : Caller) (granted : Bool) → allows A3 caller (cons_option o []) granted ≡ allows A3 caller (owners_of o) false
+sole_publisher None caller granted = refl
+sole_publisher (Some owner) caller granted = refl
 
 module _ (s : State) (caller : Caller) (path : PactPath) (text : Text) where
   -- a publication is refused as its two sides say
-  pub publication_refused : (file : Text) (sides : Sides) → AreSidesRead s caller A3 path.provider path.consumer sides
-      → refusal s caller (PutPact path file) ≡ refused (PutPact path file) (missing_side sides None) sides.consumer.is_allowed
+  pub publication_refused : (file : Text) (sides : Sides) → AreSidesRead s caller A3 (path.consumer ∷ []) path.provider path.consumer sides
+      → refusal s caller (PutPact path file) ≡ refused (PutPact path file) (missing_side sides None) sides.is_allowed
   publication_refused file sides h =
-      let may : allows A3 caller (filter_map s.pacticipants (path.consumer ∷ [])) (has_grant s caller None) ≡ sides.consumer.is_allowed = sole_owner (s.pacticipants path.consumer) caller path.consumer (has_grant s caller None) ∙ h.consumer_is.may_is in
-      λ i. refused (PutPact path file) (unless (h.provider_is.pacticipant_is i) missing.Pacticipant (unless (h.consumer_is.pacticipant_is i) missing.Pacticipant None)) (may i)
+      λ i. refused (PutPact path file) (unless (h.provider_is i) missing.Pacticipant (unless (h.consumer_is i) missing.Pacticipant None)) (h.may_is (has_grant s caller None) i)
 
   own_names : (b c : Bool) → b ≡ true → c ≡ true → ◌≡◌ {A = Option FormFault} None (cond (b && c) None (Some fault.Names))
   own_names b c h k = λ i. cond (sym h i && sym k i) None (Some fault.Names)
@@ -108,11 +107,6 @@ put_first s v provider text b none is =
     sym (ap (λ (q : Option ℕ). option_map_or (λ n. unchanged_with s (republished s text n)) q (first_put s v provider text)) none
     ∙ ap (λ t. cond t (record { answer = Done (Content (content_number s text)); state = published s v provider text }) (unchanged_with s Full)) is)
 
-pub has_place : (s : State) (v : Version) (provider text : Text) (number : Option ℕ) (rooms : Rooms) → IsContractRead s v provider number None → AreRoomsRead s text rooms
-    → (can_name s v && (is_stored s text || has_room s.contents)) ≡ ((is_some number || rooms.for_version) && (rooms.text.is_stored || rooms.text.has_room))
-has_place s v provider text number rooms h k =
-    λ i. (h.known_is i || k.version_is i) && (k.text_is.text_is i || k.text_is.content_is i)
-
 -- the number of a text that is stored is one of those that there are
 position_below : (texts : List Text) (body : Text) → is_among texts body ≡ true → position_or_len (same_text body) texts + 1 ≤ length texts
 position_below [] body e = absurd cc
@@ -123,7 +117,7 @@ position_below (t ∷ texts) body e = go (same_text body t) refl e (position_bel
 
 -- ---- a contract that is asked for
 
-sole_verifier : (o : Option Text) (caller : Caller) (granted : Bool) → allows A4 caller (cons_option o []) granted ≡ allows A4 caller (owners_of o) false
+pub sole_verifier : (o : Option Text) (caller : Caller) (granted : Bool) → allows A4 caller (cons_option o []) granted ≡ allows A4 caller (owners_of o) false
 sole_verifier None caller granted = refl
 sole_verifier (Some owner) caller granted = refl
 
@@ -142,36 +136,22 @@ two_owners None (Some b) (Team t) granted = refl
 two_owners (Some a) None (Team t) granted = or_none (same_text t a || false)
 two_owners (Some a) (Some b) (Team t) granted = or_both (same_text t a) (same_text t b)
 
-module _ (s : State) (caller : Caller) (path : PactPath) (place : ContractPlace) where
-  what_lacks : {rule : Rule} → IsPlaceRead s caller rule path place → unless_contract s path None ≡ missing_part place
-  what_lacks h = λ i. unless (h.0.provider_is.pacticipant_is i) missing.Pacticipant (unless (h.0.consumer_is.pacticipant_is i) missing.Pacticipant (unless (h.1.known_is i) missing.Version (unless (is_some (h.1.content_is i)) missing.Contract None)))
+module _ (s : State) (caller : Caller) (path : PactPath) (rule : Rule) (owned : List Text) (place : ContractPlace) (h : IsPlaceRead s caller rule owned path place) where
+  what_lacks : unless_contract s path None ≡ missing_part place
+  what_lacks = λ i. unless (h.0.provider_is i) missing.Pacticipant (unless (h.0.consumer_is i) missing.Pacticipant (unless (h.1.known_is i) missing.Version (unless (is_some (h.1.content_is i)) missing.Contract None)))
 
-  -- a verifier's command is refused as its sides and its contract say
-  verifier_refused : IsPlaceRead s caller A4 path place → (command : Command) → AsksContract path A4 (path.provider ∷ []) command → refusal s caller command ≡ refused command (missing_part place) place.sides.provider.is_allowed
-  verifier_refused h command asks =
+  -- a command that asks for the contract is refused as its sides and its contract say
+  asker_refused : (command : Command) → AsksContract path rule owned command → refusal s caller command ≡ refused command (missing_part place) place.sides.is_allowed
+  asker_refused command asks =
       let granted = has_grant s caller (target_of command) in
-      let asked : is_allowed s caller command ≡ allows A4 caller (filter_map s.pacticipants (path.provider ∷ [])) granted = λ i. allows (asks.rule_is i) caller (filter_map s.pacticipants (asks.owned_is i)) granted in
-      let may : is_allowed s caller command ≡ place.sides.provider.is_allowed = asked ∙ sole_verifier (s.pacticipants path.provider) caller granted ∙ h.0.provider_is.may_is in
-      let lacks : first_missing s command ≡ missing_part place = asks.missing_is s ∙ what_lacks h in
+      let asked : is_allowed s caller command ≡ allows rule caller (filter_map s.pacticipants owned) granted = λ i. allows (asks.rule_is i) caller (filter_map s.pacticipants (asks.owned_is i)) granted in
+      let may : is_allowed s caller command ≡ place.sides.is_allowed = asked ∙ h.0.may_is granted in
+      let lacks : first_missing s command ≡ missing_part place = asks.missing_is s ∙ what_lacks in
       λ i. refused command (lacks i) (may i)
 
-  -- and so is a reader's, who owns one of the sides
-  reader_refused : IsPlaceRead s caller A5 path place → (command : Command) → AsksContract path A5 (path.provider ∷ path.consumer ∷ []) command → refusal s caller command ≡ refused command (missing_part place) (owns_side place.sides)
-  reader_refused h command asks =
-      let granted = has_grant s caller (target_of command) in
-      let asked : is_allowed s caller command ≡ allows A5 caller (filter_map s.pacticipants (path.provider ∷ path.consumer ∷ [])) granted = λ i. allows (asks.rule_is i) caller (filter_map s.pacticipants (asks.owned_is i)) granted in
-      let owns : allows A5 caller (filter_map s.pacticipants (path.provider ∷ path.consumer ∷ [])) granted ≡ owns_side place.sides = two_owners (s.pacticipants path.provider) (s.pacticipants path.consumer) caller granted ∙ (λ i. h.0.provider_is.may_is i || h.0.consumer_is.may_is i) in
-      let may : is_allowed s caller command ≡ owns_side place.sides = asked ∙ owns in
-      let lacks : first_missing s command ≡ missing_part place = asks.missing_is s ∙ what_lacks h in
-      λ i. refused command (lacks i) (may i)
-
-  pub verifier_reaches : IsPlaceRead s caller A4 path place → (r : Result ℕ Answer) → Admits A4 place.contract.content (missing_part place) place.sides.provider.is_allowed r → Reaches s caller path A4 (path.provider ∷ []) r
-  verifier_reaches h (Ok found) is = (h.1.content_is ∙ is.0, λ command asks. verifier_refused h command asks ∙ is.1 command asks.rule_is)
-  verifier_reaches h (Err answer) is = λ command asks. verifier_refused h command asks ∙ is command asks.rule_is
-
-  pub reader_reaches : IsPlaceRead s caller A5 path place → (r : Result ℕ Answer) → Admits A5 place.contract.content (missing_part place) (owns_side place.sides) r → Reaches s caller path A5 (path.provider ∷ path.consumer ∷ []) r
-  reader_reaches h (Ok found) is = (h.1.content_is ∙ is.0, λ command asks. reader_refused h command asks ∙ is.1 command asks.rule_is)
-  reader_reaches h (Err answer) is = λ command asks. reader_refused h command asks ∙ is command asks.rule_is
+  pub asker_reaches : (r : Result ℕ Answer) → Admits rule place.contract.content (missing_part place) place.sides.is_allowed r → Reaches s caller path rule owned r
+  asker_reaches (Ok found) is = (h.1.content_is ∙ is.0, λ command asks. asker_refused command asks ∙ is.1 command asks.rule_is)
+  asker_reaches (Err answer) is = λ command asks. asker_refused command asks ∙ is command asks.rule_is
 
 -- what a contract shows
 shows_contract : (s : State) (caller : Caller) (path : PactPath) (content : ℕ) (text : Text) → s.contracts (consumer_version path, path.provider) ≡ Some content → refusal s caller (GetPact path) ≡ None → text_of s content ≡ Some text
@@ -205,68 +185,82 @@ module _ (s : State) (v : Version) where
   pub named_contents : (named s v).contents ≡ s.contents
   named_contents = contents_by (is_known s v)
 
-pub number_after : (s : State) (v : Version) (text : Text) → content_number (named s v) text ≡ content_number s text
-number_after s v text = ap (λ (texts : List Text). position_or_len (same_text text) texts + 1) (named_contents s v)
-
-pub now_published : (s : State) (v : Version) (provider text : Text) → contracted (named s v) v provider text ≡ published s v provider text
-now_published s v provider text = λ i. record (stored (named s v) text) {
-  contracts = put_at (same_pair same_version same_text) (named_contracts s v i) (v, provider) (Some (number_after s v text i));
-}
-
 longer : (xs : List Text) (x : Text) → length xs + 1 ≤ length (xs ++ x ∷ [])
 longer [] x = omega arith
 longer (y ∷ xs) x = let more = longer xs x in omega (arith, more)
 
-module _ (s : State) (text : Text) (v : Version) (provider : Text) (number content : ℕ) (h : CanContract s v provider number) (is : content ≡ content_number s text) where
-  adds_by : (b : Bool) → is_stored s text ≡ b → (t : State) → t ≡ (if b then s else record s { contents = s.contents ++ text ∷ [] })
-      → AddsContract number provider content t (record t { contracts = put_at (same_pair same_version same_text) s.contracts (v, provider) (Some (content_number s text)) })
-  adds_by true e t at = subst (λ (u : State). AddsContract number provider content u (record u { contracts = put_at (same_pair same_version same_text) s.contracts (v, provider) (Some (content_number s text)) })) (sym at)
-      (let low : 1 ≤ content_number s text = omega arith in (
-        v,
-        h.number_is,
-        h.fresh,
-        h.owned,
-        subst (λ n. 1 ≤ n) (sym is) low,
-        subst (λ n. n ≤ length s.contents) (sym is) (position_below s.contents text e),
-        λ i. record s { contracts = put_at (same_pair same_version same_text) s.contracts (v, provider) (Some (sym is i)) },
-      ))
-  adds_by false e t at = subst (λ (u : State). AddsContract number provider content u (record u { contracts = put_at (same_pair same_version same_text) s.contracts (v, provider) (Some (content_number s text)) })) (sym at)
-      (let last : content_number s text ≡ length s.contents + 1 = ap (λ n. n + 1) (none_before s.contents text e) in
-      let low : 1 ≤ length s.contents + 1 = omega arith in
-      let first : 1 ≤ content = subst (λ n. 1 ≤ n) (sym (is ∙ last)) low in
-      let high : content ≤ length (s.contents ++ text ∷ []) = subst (λ n. n ≤ length (s.contents ++ text ∷ [])) (sym (is ∙ last)) (longer s.contents text) in (
-        v,
-        h.number_is,
-        h.fresh,
-        h.owned,
-        first,
-        high,
-        λ i. record s { contents = s.contents ++ text ∷ []; contracts = put_at (same_pair same_version same_text) s.contracts (v, provider) (Some (sym is i)) },
-      ))
+module _ (s : State) (text : Text) where
+  abbrev stored_by : Bool → State
+  stored_by b = if b then s else record s { contents = s.contents ++ text ∷ [] }
 
-  pub adds_contract : AddsContract number provider content (stored s text) (contracted s v provider text)
-  adds_contract = adds_by (is_stored s text) refl (stored s text) refl
+  versions_stay : (b : Bool) → (stored_by b).versions ≡ s.versions
+  versions_stay true = refl
+  versions_stay false = refl
+
+  contracts_stay : (b : Bool) → (stored_by b).contracts ≡ s.contracts
+  contracts_stay true = refl
+  contracts_stay false = refl
+
+  fits : (b : Bool) → is_stored s text ≡ b → content_number s text ≤ length (stored_by b).contents
+  fits true e = position_below s.contents text e
+  fits false e =
+      let last : content_number s text ≡ length s.contents + 1 = ap (λ n. n + 1) (none_before s.contents text e) in
+      subst (λ n. n ≤ length (s.contents ++ text ∷ [])) (sym last) (longer s.contents text)
+
+  module _ (path : PactPath) (version : VersionNumber) where
+    stays : (b : Bool) → CanPublish path version s → CanPublish path version (stored_by b)
+    stays true can = can
+    stays false can = (record { number_is = can.0.number_is; known_is = can.0.known_is; owned = can.0.owned }, can.1, can.2)
+
+    -- once the text is stored, its contract may be recorded
+    pub can_record : (content : ℕ) → content ≡ content_number s text → CanPublish path version s → CanRecord path version content (stored s text)
+    can_record content is can =
+        let low : 1 ≤ content_number s text = omega arith in (
+          stays (is_stored s text) can,
+          subst (λ n. 1 ≤ n) (sym is) low,
+          subst (λ n. n ≤ length (stored s text).contents) (sym is) (fits (is_stored s text) refl),
+        )
+
+  module _ (v : Version) where
+    abbrev named_on : State → Bool → State
+    named_on u k = if k then u else record u { versions = u.versions ++ v ∷ [] }
+
+    abbrev stored_on : State → Bool → State
+    stored_on u b = if b then u else record u { contents = u.contents ++ text ∷ [] }
+
+    orders : (b k : Bool) → named_on (stored_on s b) k ≡ stored_on (named_on s k) b
+    orders true true = refl
+    orders true false = refl
+    orders false true = refl
+    orders false false = refl
+
+    -- storing a text and naming a version come to the same in either order
+    commutes : named (stored s text) v ≡ stored (named s v) text
+    commutes =
+        let known : is_known (stored s text) v ≡ is_known s v = ap (λ (vs : List Version). list_any (same_version v) vs) (versions_stay (is_stored s text)) in
+        let is : is_stored s text ≡ is_stored (named s v) text = ap (λ (texts : List Text). list_any (same_text text) texts) (sym (named_contents s v)) in
+        ap (named_on (stored s text)) known ∙ orders (is_stored s text) (is_known s v) ∙ ap (stored_on (named s v)) is
+
+    pub now_published : (provider : Text) (content : ℕ) → content ≡ content_number s text → contracted (named (stored s text) v) v provider content ≡ published s v provider text
+    now_published provider content is =
+        let contracts_are : (named (stored s text) v).contracts ≡ s.contracts = named_contracts (stored s text) v ∙ contracts_stay (is_stored s text) in
+        λ i. record (commutes i) { contracts = put_at (same_pair same_version same_text) (contracts_are i) (v, provider) (Some (is i)) }
+
+-- the contract of a version that is named is added
+pub adds_contract : (s : State) (path : PactPath) (version : VersionNumber) (number content : ℕ) → CanRecord path version content s → number_of (named s (consumer_version path)).versions (consumer_version path) ≡ Some number
+    → AddsContract number path.provider content (named s (consumer_version path)) (contracted (named s (consumer_version path)) (consumer_version path) path.provider content)
+adds_contract s path version number content can numbered =
+    let v = consumer_version path in (
+      v,
+      numbered,
+      ap (λ contracts. contracts (v, path.provider)) (named_contracts s v) ∙ can.0.1,
+      ap (λ table. is_some (table path.provider)) (named_pacticipants s v) ∙ can.0.2.0,
+      can.1,
+      subst (λ (texts : List Text). content ≤ length texts) (sym (named_contents s v)) can.2,
+      refl,
+    )
 
 -- ---- small tests
-
-test_lt : (m k : ℕ) → m < k → nat_lt m k ≡ true
-test_lt m k h = grind (arith, nat_tests)
-
-test_ge : (m k : ℕ) → ¬ (m < k) → nat_lt m k ≡ false
-test_ge m k h = grind (arith, nat_tests)
-
-pub room_is : {X : Type 0} (xs : List X) (count : ℕ) (b : Bool) → IsTrue b ↔ HasRoom count → count ≡ length xs → has_room xs ≡ b
-room_is xs count true h is = test_lt (length xs) limit (subst (λ n. n < limit) is (h.0 refl))
-room_is xs count false h is = test_ge (length xs) limit (λ low. true≢false (sym (h.1 (subst (λ n. n < limit) (sym is) low))))
-
-pub some_found : (b : Bool) (n : ℕ) → is_some (cond b (Some n) None) ≡ b
-some_found true n = refl
-some_found false n = refl
-
-pub room_needed : (known for_version rest : Bool) → ((known || for_version) && rest) ≡ true → known ≡ false → for_version ≡ true
-room_needed true for_version rest h k = absurd cc
-room_needed false true rest h k = refl
-room_needed false false rest h k = absurd cc
 
 pub form_same : (f e : FormFault) → Form f ≡ Form e → f ≡ e
 form_same f e h = cc

@@ -1,5 +1,5 @@
 -- What the commands on results lead to, from what was read.
-use Rattle.std.proofs.Common.{◌≡◌, ℕ, ◌+◌, ◌==◌, List, [], ◌∷◌, ◌++◌, length, Bool, true, false, ◌&&◌, ◌||◌, is_some, Option, Some, None, refl, sym, ap, ◌∙◌}
+use Rattle.std.proofs.Common.{◌≡◌, ℕ, ◌+◌, ◌==◌, List, [], ◌∷◌, ◌++◌, length, Bool, true, false, ◌&&◌, is_some, Option, Some, None, refl, sym, ap, ◌∙◌}
 use Rattle.std.specs.Prelude.{option_map, if◌then◌else◌}
 use Rattle.std.specs.Option.{option_map_or}
 use Rattle.broker_core.specs.Text.{Text, same_bool, same_version, version}
@@ -27,8 +27,7 @@ use Rattle.broker_tables.proofs.Ties.{nat_ties}
 use Rattle.contract_tables.specs.Verified.{Told, told_of, RecordsResult}
 use Rattle.contract_tables.specs.declared.lookups.ResultRow.{ResultRow}
 use Rattle.contract_commands.specs.Pacts.{AsksContract}
-use Rattle.contract_commands.specs.Results.{HasPacticipant, reported_version, reported_result, Reports, told_row, IsRowOf, IsNumbered, IsUnused, AreCountsRead, recorded}
-use Rattle.contract_commands.specs.declared.results.Counts.{Counts}
+use Rattle.contract_commands.specs.Results.{HasPacticipant, reported_version, reported_result, Reports, told_row, IsRowOf, IsNumbered, recorded}
 use Rattle.contract_commands.specs.declared.results.Finding.{Finding}
 use Rattle.contract_commands.specs.declared.results.Reported.TheVariants.{Recorded, Known, RunTaken, Full}
 
@@ -163,11 +162,6 @@ records s provider r found number version is numbered =
       is ∙ ap (λ (rows : List Verification). length rows + 1) (sym (named_results s v)),
       λ i. record (named s v) { results = sym (named_results s v) i ++ reported_result provider r found ∷ [] },
     )
-
--- there is room just where it was read so
-pub result_place : (s : State) (provider : Text) (r : Report) (found : Finding) (number : Option ℕ) (counts : Counts) → IsUnused s provider r number → AreCountsRead s counts
-    → (can_name s (reported_version provider r) && has_room s.results) ≡ ((is_some number || counts.for_version) && counts.for_result)
-result_place s provider r found number counts h k = λ i. (h.version.known_is i || k.version_is i) && k.result_is i
 
 -- ---- the version that a report is of
 

@@ -3,7 +3,6 @@
 use Rattle.std.specs.Prelude.{◌≡◌, ◌+◌, ◌++◌, ◌∷◌, [], ℕ, Option, Some, None, Bool, is_some, IsTrue, length}
 use Rattle.broker_core.specs.Text.{Text, version}
 use Rattle.broker_core.specs.State.{State as Broker, Verification, claimed_result}
-use Rattle.broker_core.specs.Limit.{has_room}
 use Rattle.broker_core.specs.Request.{is_known}
 use Rattle.broker_core.specs.Change.{Transition, named, report, result_of_run, says_same}
 use Rattle.broker_core.specs.declared.command.Report.{Report}
@@ -16,8 +15,8 @@ use Rattle.broker_core.specs.declared.answer.Clash.TheVariants as clash
 use Rattle.broker_tables.specs.Numbers.{number_of}
 use Rattle.contract_tables.specs.Verified.{Told, told, told_of, result_for}
 use Rattle.contract_tables.specs.declared.lookups.ResultRow.{ResultRow}
-use Rattle.contract_commands.specs.Pacts.{CanName}
-use Rattle.contract_commands.specs.declared.results.Counts.{Counts}
+use Rattle.contract_commands.specs.Numbering.{CanName}
+use Rattle.contract_commands.specs.declared.numbers.VersionNumber.{VersionNumber}
 use Rattle.contract_commands.specs.declared.results.Finding.{Finding}
 use Rattle.contract_commands.specs.declared.results.Reported.{Reported}
 use Rattle.contract_commands.specs.declared.results.Reported.TheVariants.{Recorded, Known, RunTaken, Full}
@@ -88,23 +87,20 @@ pub record IsUnused (s : Broker) (provider : Text) (report : Report) (number : O
   pub owned : HasPacticipant s provider
   pub unused : result_of_run s provider report.run ≡ None
 
--- how many versions and results there are, and what there is room for
-pub record AreCountsRead (s : Broker) (counts : Counts) : Type 0 where
-  pub versions_are : counts.versions ≡ length s.versions
-  pub version_is : has_room s.versions ≡ counts.for_version
-  pub results_are : counts.results ≡ length s.results
-  pub result_is : has_room s.results ≡ counts.for_result
-
 -- the result stands last, and its version is named
 abbrev pub recorded : Broker → Verification → Broker
 recorded s r = record (named s r.version) { results = s.results ++ r ∷ [] }
 
--- a report may be recorded: its version may be named where it has no number, and this many results are there
-abbrev pub CanReport : Text → Report → Option ℕ → Counts → Broker → Type 0
-CanReport provider report number counts s =
-    CanName s (reported_version provider report) number counts.versions × (counts.results ≡ length s.results)
+-- a report may come in: its version has this number or gets it, and the provider has used no such run
+abbrev pub CanReport : Text → Report → VersionNumber → Broker → Type 0
+CanReport provider report version s =
+    CanName s (reported_version provider report) version × (result_of_run s provider report.run ≡ None)
 
--- what was found is the last result, with this number, and the version of its report is named
-abbrev pub RecordsReport : Text → Report → Finding → ℕ → Broker → Broker → Type 0
-RecordsReport provider report found number s t =
-    (number ≡ length s.results + 1) × (t ≡ recorded s (reported_result provider report found))
+-- and be recorded under the next number
+abbrev pub CanRecordReport : Text → Report → VersionNumber → ℕ → Broker → Type 0
+CanRecordReport provider report version next s =
+    CanName s (reported_version provider report) version × (next ≡ length s.results + 1)
+
+-- what was found is the last result, and the version of its report is named
+abbrev pub RecordsReport : Text → Report → Finding → Broker → Broker → Type 0
+RecordsReport provider report found s t = t ≡ recorded s (reported_result provider report found)

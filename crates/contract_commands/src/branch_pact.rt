@@ -4,11 +4,11 @@ ghost use Rattle.broker_core.specs.declared.command.Command.TheVariants.{GetBran
 ghost use Rattle.broker_core.specs.declared.policy.Rule.TheVariants.{A5};
 ghost use Rattle.broker_tables.specs.Holds.{Queries};
 ghost use Rattle.contract_commands.specs.BranchPact.{IsNextBelow, IsBranchContent, IsContentBelow, ReachesBranch};
-ghost use Rattle.contract_commands.specs.Pacts.{missing_of_branch, owns_side, Admits};
+ghost use Rattle.contract_commands.specs.Pacts.{missing_of_branch, Admits};
 ghost use Rattle.command_facts.specs.Performs.{Performs, IsStepOf};
 
 use crate::pacts::show_pact;
-use crate::sides::{Sides, read_sides};
+use crate::sides::{Sides, read_sides_to_show};
 use broker_core::answer::{Answer, Missing};
 use broker_core::name::Name;
 use broker_core::policy::{Caller, Rule};
@@ -31,12 +31,10 @@ struct BranchVersion {
 fn read_bound<S: Alter>(conn: &mut Connection<S>) -> Result<u32, StoreFault>
     ensures { Queries S.Store conn.old conn.new result (λ bound s. bound ≡ length s.versions + 1) }
 {
-    match version_count(conn) {
-        Ok(count) => match next_number(count) {
-            Some(bound) => Ok(bound),
-            None => Err(StoreFault::Store),
-        },
-        Err(fault) => Err(fault),
+    let count = done!(version_count(conn));
+    match next_number(count) {
+        Some(bound) => Ok(bound),
+        None => Err(StoreFault::Store),
     }
 }
 
@@ -52,17 +50,14 @@ fn next_below<S: Alter>(
         (λ found s. IsNextBelow s provider.now consumer.now branch.now bound found) }
     ensures lower { IfOk result (λ found. IfSome found (λ next. next.number < bound)) }
 {
-    match branch_number_below(conn, consumer.as_str(), branch.as_str(), bound) {
-        Ok(Some(number)) => if number < bound {
-            match contract_of(conn, number, provider.as_str()) {
-                Ok(content) => Ok(Some(BranchVersion { number, content })),
-                Err(fault) => Err(fault),
-            }
+    match done!(branch_number_below(conn, consumer.as_str(), branch.as_str(), bound)) {
+        Some(number) => if number < bound {
+            let content = done!(contract_of(conn, number, provider.as_str()));
+            Ok(Some(BranchVersion { number, content }))
         } else {
             Err(StoreFault::Store)
         },
-        Ok(None) => Ok(None),
-        Err(fault) => Err(fault),
+        None => Ok(None),
     }
 }
 
@@ -79,13 +74,12 @@ fn content_below<S: Alter>(
         (λ content s. IsContentBelow s provider.now consumer.now branch.now bound content) }
 {
     loop {
-        match next_below(conn, provider, consumer, branch, bound) {
-            Ok(Some(next)) => match next.content {
+        match done!(next_below(conn, provider, consumer, branch, bound)) {
+            Some(next) => match next.content {
                 Some(content) => return Ok(Some(content)),
                 None => bound = next.number,
             },
-            Ok(None) => return Ok(None),
-            Err(fault) => return Err(fault),
+            None => return Ok(None),
         }
     }
 }
@@ -100,24 +94,22 @@ fn read_branch<S: Alter>(
     ensures { Queries S.Store conn.old conn.new result
         (λ content s. IsBranchContent s provider.now consumer.now branch.now content) }
 {
-    match read_bound(conn) {
-        Ok(bound) => content_below(conn, provider, consumer, branch, bound),
-        Err(fault) => Err(fault),
-    }
+    let bound = done!(read_bound(conn));
+    content_below(conn, provider, consumer, branch, bound)
 }
 
 /// The content of the contract that the branch shows, or the refusal: which of its two sides and the contract is
 /// missing first, or the rule that doesn't let the caller.
 fn admit_branch_pact(sides: Sides, content: Option<u32>) -> Result<u32, Answer>
-    ensures { Admits A5 content (missing_of_branch sides content) (owns_side sides) result }
+    ensures { Admits A5 content (missing_of_branch sides content) sides.is_allowed result }
 {
-    if !sides.provider.has_pacticipant || !sides.consumer.has_pacticipant {
+    if !sides.has_provider || !sides.has_consumer {
         return Err(Answer::Unknown(Missing::Pacticipant));
     }
     let Some(content) = content else {
         return Err(Answer::Unknown(Missing::Contract));
     };
-    if !sides.provider.is_allowed && !sides.consumer.is_allowed {
+    if !sides.is_allowed {
         return Err(Answer::Denied(Rule::A5));
     }
     Ok(content)
@@ -135,13 +127,9 @@ fn read_branch_to_show<S: Alter>(
     ensures { Queries S.Store conn.old conn.new result
         (λ place s. ReachesBranch s caller.now provider.now consumer.now branch.now place) }
 {
-    match read_sides(alloc, conn, caller, Rule::A5, provider, consumer) {
-        Ok(sides) => match read_branch(conn, provider, consumer, branch) {
-            Ok(content) => Ok(admit_branch_pact(sides, content)),
-            Err(fault) => Err(fault),
-        },
-        Err(fault) => Err(fault),
-    }
+    let sides = done!(read_sides_to_show(alloc, conn, caller, provider, consumer));
+    let content = done!(read_branch(conn, provider, consumer, branch));
+    Ok(admit_branch_pact(sides, content))
 }
 
 /// Shows the contract of the newest version on a branch that has one with the provider, or tells why not.
@@ -156,8 +144,6 @@ pub fn get_branch_pact<S: Alter>(
     ensures { Performs S.Store conn.old conn.new result
         (IsStepOf caller.now (GetBranchPact provider.now consumer.now branch.now)) }
 {
-    match read_branch_to_show(alloc, conn, caller, provider, consumer, branch) {
-        Ok(place) => show_pact(conn, place),
-        Err(fault) => Err(fault),
-    }
+    let place = done!(read_branch_to_show(alloc, conn, caller, provider, consumer, branch));
+    show_pact(conn, place)
 }

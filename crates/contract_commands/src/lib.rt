@@ -13,6 +13,7 @@ macro_rules! done {
 }
 
 pub mod branch_pact;
+mod numbers;
 pub mod pacts;
 pub mod publish;
 pub mod replies;

@@ -22,10 +22,8 @@ fn show_pact_text<S: Alter>(conn: &mut Connection<S>, content: u32) -> Result<An
         (λ answer s. (text : List ℕ) × (text_of s content ≡ Some text)
         × (answer ≡ told.Shown (shown.Pact text))) }
 {
-    match read_text(conn, content) {
-        Ok(text) => Ok(Answer::Shown(Shown::Pact(text))),
-        Err(fault) => Err(fault),
-    }
+    let text = done!(read_text(conn, content));
+    Ok(Answer::Shown(Shown::Pact(text)))
 }
 
 /// Shows the text of a contract's content, or tells the refusal.
@@ -51,8 +49,6 @@ pub fn get_pact<S: Alter>(
     ensures { Performs S.Store conn.old conn.new result
         (IsStepOf caller.now (GetPact path.now)) }
 {
-    match read_contract_to_show(alloc, conn, caller, path) {
-        Ok(place) => show_pact(conn, place),
-        Err(fault) => Err(fault),
-    }
+    let place = done!(read_contract_to_show(alloc, conn, caller, path));
+    show_pact(conn, place)
 }

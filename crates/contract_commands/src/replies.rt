@@ -57,10 +57,8 @@ fn report_failing<S: Alter>(
         pass,
         checked: true,
     };
-    match receive(conn, provider, report, found) {
-        Ok(it) => Ok(tell_replies(failing, pass, it)),
-        Err(fault) => Err(fault),
-    }
+    let it = done!(receive(conn, provider, report, found));
+    Ok(tell_replies(failing, pass, it))
 }
 
 /// What the comparison of a content with replies leads to.
@@ -94,12 +92,10 @@ fn check_content<S: Alter>(
     ensures { PerformsWhere S.Store conn.old conn.new result (λ s. HasPacticipant s provider.now)
         (λ s out. Checks s provider.now report.now content replies.now out) }
 {
-    match read_text(conn, content) {
-        Ok(text) => match compare(alloc, text.as_str(), replies) {
-            Ok(told) => tell_compared(conn, provider, report, content, told),
-            Err(_) => Err(StoreFault::Memory),
-        },
-        Err(fault) => Err(fault),
+    let text = done!(read_text(conn, content));
+    match compare(alloc, text.as_str(), replies) {
+        Ok(told) => tell_compared(conn, provider, report, content, told),
+        Err(_) => Err(StoreFault::Memory),
     }
 }
 
@@ -115,12 +111,9 @@ fn check_replies<S: Alter>(
     ensures { (body : List ℕ) → RepliesRead body (Ok replies.now)
         → Performs S.Store conn.old conn.new result (CallersStep caller.now (PostReplies path.now report.now body)) }
 {
-    match read_contract_to_verify(alloc, conn, caller, path) {
-        Ok(place) => match place {
-            Ok(content) => check_content(alloc, conn, &path.provider, report, content, replies),
-            Err(answer) => Ok(answer),
-        },
-        Err(fault) => Err(fault),
+    match done!(read_contract_to_verify(alloc, conn, caller, path)) {
+        Ok(content) => check_content(alloc, conn, &path.provider, report, content, replies),
+        Err(answer) => Ok(answer),
     }
 }
 

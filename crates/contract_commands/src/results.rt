@@ -1,5 +1,5 @@
 //! Results of verification: how one comes in, and those that their senders claim.
-ghost use Rattle.std.specs.Prelude.{◌≡◌, ◌==◌, ◌&&◌, ◌||◌, option_map, is_some};
+ghost use Rattle.std.specs.Prelude.{◌≡◌, ◌==◌, ◌&&◌, option_map};
 ghost use Rattle.broker_core.specs.Text.{same_bool};
 ghost use Rattle.broker_core.specs.State.{State as BrokerState};
 ghost use Rattle.broker_core.specs.Change.{result_of_run as run_result};
@@ -8,18 +8,16 @@ ghost use Rattle.broker_core.specs.declared.command.Command.TheVariants.{PostRes
 ghost use Rattle.broker_tables.specs.Holds.{QueriesInPlace, ChangesAndAnswers};
 ghost use Rattle.contract_tables.specs.Verified.{told_of};
 ghost use Rattle.command_facts.specs.Performs.{Performs, PerformsWhere, IsStepOf};
-ghost use Rattle.contract_commands.specs.Results.{HasPacticipant, told_as, Receives, Claims, told_row, TellsSame, TellsAgain, IsUnused, AreCountsRead, CanReport, RecordsReport};
+ghost use Rattle.contract_commands.specs.Results.{HasPacticipant, told_as, Receives, Claims, told_row, TellsSame, TellsAgain, IsUnused, CanReport, CanRecordReport, RecordsReport};
 
-use crate::publish::name_version;
+use crate::numbers::{VersionNumber, name_version, next_result, number_version};
 use crate::sides::read_contract_to_verify;
 use broker_core::answer::{Answer, Clash, Detail};
 use broker_core::command::{PactPath, Report};
-use broker_core::limit::room;
 use broker_core::name::Name;
 use broker_core::policy::Caller;
-use broker_tables::next_number;
-use contract_tables::{ResultRow, record_result, result_count, result_of_run};
-use registry_tables::{version_count, version_of};
+use contract_tables::{ResultRow, record_result, result_of_run};
+use registry_tables::version_of;
 use sqlite::{Alter, Connection};
 use std::alloc::Global;
 use table_access::StoreFault;
@@ -43,15 +41,6 @@ pub(crate) enum Reported {
     RunTaken,
     /// There is no number left for it or for its version.
     Full,
-}
-
-/// How many versions and results there are, and whether there is room for one more of each.
-#[derive(Clone, Copy)]
-struct Counts {
-    versions: u64,
-    for_version: bool,
-    results: u64,
-    for_result: bool,
 }
 
 /// The text of a run, if there is one.
@@ -111,67 +100,48 @@ fn tell_again(row: ResultRow, number: Option<u32>, found: Finding) -> Reported
     }
 }
 
-/// How many versions and results there are, and what there is room for.
-fn read_counts<S: Alter>(conn: &mut Connection<S>) -> Result<Counts, StoreFault>
-    ensures { QueriesInPlace S.Store conn.old conn.new result (λ counts s. AreCountsRead s counts) }
-{
-    match version_count(conn) {
-        Ok(versions) => match result_count(conn) {
-            Ok(results) => Ok(Counts {
-                versions,
-                for_version: room(versions),
-                results,
-                for_result: room(results),
-            }),
-            Err(fault) => Err(fault),
-        },
-        Err(fault) => Err(fault),
-    }
-}
-
-/// Whether there is room for the result, and for its version where that has no number.
-fn has_room_for_result(number: Option<u32>, counts: Counts) -> bool
-    ensures { result ≡ ((is_some number || counts.for_version) && counts.for_result) }
-{
-    (number.is_some() || counts.for_version) && counts.for_result
-}
-
-/// Names the version where it isn't named, records the result, and answers its number.
+/// Names the version if it isn't named, and records the result under this number.
 fn record_report<S: Alter>(
     conn: &mut Connection<S>,
     provider: &Name,
     report: &Report,
     found: Finding,
-    number: Option<u32>,
-    counts: Counts,
-) -> Result<u32, StoreFault>
+    version: VersionNumber,
+    next: u32,
+) -> Result<(), StoreFault>
     ensures { ChangesAndAnswers S.Store conn.old conn.new result
-        (CanReport provider.now report.now number counts) (RecordsReport provider.now report.now found) }
+        (CanRecordReport provider.now report.now version next) (λ _. RecordsReport provider.now report.now found) }
 {
-    match next_number(counts.results) {
-        Some(next) => match name_version(
-            conn,
-            provider,
-            &report.provider_version,
-            number,
-            counts.versions,
-        ) {
-            Ok(version) => match record_result(
-                conn,
-                next,
-                found.content,
-                provider.as_str(),
-                version,
-                found.pass,
-                found.checked,
-                run_text(&report.run),
-            ) {
-                Ok(()) => Ok(next),
-                Err(fault) => Err(fault),
-            },
-            Err(fault) => Err(fault),
-        },
-        None => Err(StoreFault::Store),
+    let number = done!(name_version(conn, provider, &report.provider_version, version));
+    record_result(
+        conn,
+        next,
+        found.content,
+        provider.as_str(),
+        number,
+        found.pass,
+        found.checked,
+        run_text(&report.run),
+    )
+}
+
+/// A result comes in whose run wasn't used, of a version that has this number or gets it.
+fn receive_numbered<S: Alter>(
+    conn: &mut Connection<S>,
+    provider: &Name,
+    report: &Report,
+    found: Finding,
+    version: VersionNumber,
+) -> Result<Reported, StoreFault>
+    ensures { ChangesAndAnswers S.Store conn.old conn.new result
+        (CanReport provider.now report.now version) (Receives provider.now report.now found) }
+{
+    match done!(next_result(conn)) {
+        Some(next) => {
+            done!(record_report(conn, provider, report, found, version, next));
+            Ok(Reported::Recorded(next))
+        }
+        None => Ok(Reported::Full),
     }
 }
 
@@ -186,16 +156,9 @@ fn receive_new<S: Alter>(
     ensures { ChangesAndAnswers S.Store conn.old conn.new result
         (λ s. IsUnused s provider.now report.now number) (Receives provider.now report.now found) }
 {
-    match read_counts(conn) {
-        Ok(counts) => if has_room_for_result(number, counts) {
-            match record_report(conn, provider, report, found, number, counts) {
-                Ok(next) => Ok(Reported::Recorded(next)),
-                Err(fault) => Err(fault),
-            }
-        } else {
-            Ok(Reported::Full)
-        },
-        Err(fault) => Err(fault),
+    match done!(number_version(conn, number)) {
+        Some(version) => receive_numbered(conn, provider, report, found, version),
+        None => Ok(Reported::Full),
     }
 }
 
@@ -209,13 +172,10 @@ pub(crate) fn receive<S: Alter>(
     ensures { ChangesAndAnswers S.Store conn.old conn.new result
         (λ s. HasPacticipant s provider.now) (Receives provider.now report.now found) }
 {
-    match version_of(conn, provider.as_str(), report.provider_version.as_str()) {
-        Ok(number) => match read_run(conn, provider, &report.run) {
-            Ok(Some(row)) => Ok(tell_again(row, number, found)),
-            Ok(None) => receive_new(conn, provider, report, found, number),
-            Err(fault) => Err(fault),
-        },
-        Err(fault) => Err(fault),
+    let number = done!(version_of(conn, provider.as_str(), report.provider_version.as_str()));
+    match done!(read_run(conn, provider, &report.run)) {
+        Some(row) => Ok(tell_again(row, number, found)),
+        None => receive_new(conn, provider, report, found, number),
     }
 }
 
@@ -247,10 +207,8 @@ fn claim<S: Alter>(
         pass: success,
         checked: false,
     };
-    match receive(conn, provider, report, found) {
-        Ok(it) => Ok(tell_result(it)),
-        Err(fault) => Err(fault),
-    }
+    let it = done!(receive(conn, provider, report, found));
+    Ok(tell_result(it))
 }
 
 /// Records the result that is claimed of a contract, or tells why not.
@@ -265,11 +223,8 @@ pub fn post_result<S: Alter>(
     ensures { Performs S.Store conn.old conn.new result
         (IsStepOf caller.now (PostResult path.now report.now success)) }
 {
-    match read_contract_to_verify(alloc, conn, caller, path) {
-        Ok(place) => match place {
-            Ok(content) => claim(conn, &path.provider, report, content, success),
-            Err(answer) => Ok(answer),
-        },
-        Err(fault) => Err(fault),
+    match done!(read_contract_to_verify(alloc, conn, caller, path)) {
+        Ok(content) => claim(conn, &path.provider, report, content, success),
+        Err(answer) => Ok(answer),
     }
 }

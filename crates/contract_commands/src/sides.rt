@@ -3,16 +3,16 @@ ghost use Rattle.std.specs.Prelude.{◌≡◌, ◌∷◌, [], Some, None};
 ghost use Rattle.broker_core.specs.Text.{version as version_named};
 ghost use Rattle.broker_core.specs.Change.{text_of};
 ghost use Rattle.broker_core.specs.Request.{refused, rule_of};
-ghost use Rattle.broker_core.specs.declared.policy.Rule.TheVariants.{A4, A5};
+ghost use Rattle.broker_core.specs.declared.policy.Rule.TheVariants.{A3, A4, A5};
 ghost use Rattle.broker_core.specs.declared.command.Command.{Command as CommandModel};
 ghost use Rattle.broker_tables.specs.Holds.{Queries};
-ghost use Rattle.contract_commands.specs.Pacts.{AreSidesRead, IsContractRead, IsPlaceRead, missing_side, missing_part, owns_side, Admits, Reaches};
+ghost use Rattle.contract_commands.specs.Pacts.{AreSidesRead, IsContractRead, missing_side, missing_part, Admits, Reaches};
 
 use broker_core::answer::{Answer, Missing};
 use broker_core::command::PactPath;
 use broker_core::name::{Name, Text};
 use broker_core::policy::{Caller, Rule};
-use command_facts::rules::{OwnerFacts, read_owner};
+use command_facts::rules::{has_pacticipant, read_owner};
 use content_store::get;
 use contract_tables::contract_of;
 use registry_tables::version_of;
@@ -20,12 +20,15 @@ use sqlite::{Alter, Connection};
 use std::alloc::Global;
 use table_access::StoreFault;
 
-/// What the tables say of the two sides of a contract: whether each is there, and whether the rule lets the caller as
-/// its owner.
+/// What the tables say of the two sides of a contract, and what the rule of a command says of its caller.
 #[derive(Clone, Copy)]
 pub(crate) struct Sides {
-    pub(crate) provider: OwnerFacts,
-    pub(crate) consumer: OwnerFacts,
+    /// Whether the provider is there.
+    pub(crate) has_provider: bool,
+    /// Whether the consumer is there.
+    pub(crate) has_consumer: bool,
+    /// Whether the rule allows the caller, as the owner of a side that counts for it.
+    pub(crate) is_allowed: bool,
 }
 
 /// The numbers by which the tables know a contract.
@@ -44,21 +47,66 @@ pub(crate) struct ContractPlace {
     pub(crate) contract: ContractNumbers,
 }
 
-/// Whether the two sides of a contract are there, and whether the rule lets the caller as the owner of each.
-pub(crate) fn read_sides<S: Alter>(
+/// Whether the two sides of a contract are there, and whether the caller may publish it: the consumer's owner may.
+pub(crate) fn read_sides_to_publish<S: Alter>(
     alloc: Global,
     conn: &mut Connection<S>,
     caller: &Caller,
-    rule: Rule,
     provider: &Name,
     consumer: &Name,
 ) -> Result<Sides, StoreFault>
     ensures { Queries S.Store conn.old conn.new result
-        (λ sides s. AreSidesRead s caller.now rule provider.now consumer.now sides) }
+        (λ sides s. AreSidesRead s caller.now A3 (consumer.now ∷ []) provider.now consumer.now sides) }
 {
-    let provider = done!(read_owner(alloc, conn, caller, rule, provider, false));
-    let consumer = done!(read_owner(alloc, conn, caller, rule, consumer, false));
-    Ok(Sides { provider, consumer })
+    let has_provider = done!(has_pacticipant(conn, provider));
+    let consumer = done!(read_owner(alloc, conn, caller, Rule::A3, consumer, false));
+    Ok(Sides {
+        has_provider,
+        has_consumer: consumer.has_pacticipant,
+        is_allowed: consumer.is_allowed,
+    })
+}
+
+/// Whether the two sides of a contract are there, and whether the caller may report how its verification went: the
+/// provider's owner may.
+fn read_sides_to_verify<S: Alter>(
+    alloc: Global,
+    conn: &mut Connection<S>,
+    caller: &Caller,
+    provider: &Name,
+    consumer: &Name,
+) -> Result<Sides, StoreFault>
+    ensures { Queries S.Store conn.old conn.new result
+        (λ sides s. AreSidesRead s caller.now A4 (provider.now ∷ []) provider.now consumer.now sides) }
+{
+    let provider = done!(read_owner(alloc, conn, caller, Rule::A4, provider, false));
+    let has_consumer = done!(has_pacticipant(conn, consumer));
+    Ok(Sides {
+        has_provider: provider.has_pacticipant,
+        has_consumer,
+        is_allowed: provider.is_allowed,
+    })
+}
+
+/// Whether the two sides of a contract are there, and whether the caller may see it: the owner of either side may, and
+/// the office.
+pub(crate) fn read_sides_to_show<S: Alter>(
+    alloc: Global,
+    conn: &mut Connection<S>,
+    caller: &Caller,
+    provider: &Name,
+    consumer: &Name,
+) -> Result<Sides, StoreFault>
+    ensures { Queries S.Store conn.old conn.new result
+        (λ sides s. AreSidesRead s caller.now A5 (provider.now ∷ consumer.now ∷ []) provider.now consumer.now sides) }
+{
+    let provider = done!(read_owner(alloc, conn, caller, Rule::A5, provider, false));
+    let consumer = done!(read_owner(alloc, conn, caller, Rule::A5, consumer, false));
+    Ok(Sides {
+        has_provider: provider.has_pacticipant,
+        has_consumer: consumer.has_pacticipant,
+        is_allowed: provider.is_allowed || consumer.is_allowed,
+    })
 }
 
 /// The number of a consumer's version, if it is there, and of the content of its contract with the provider, if it has
@@ -92,22 +140,21 @@ pub(crate) fn read_text<S: Alter>(
 ) -> Result<Text, StoreFault>
     ensures { Queries S.Store conn.old conn.new result (λ text s. text_of s content ≡ Some text) }
 {
-    match get(conn, content as u64) {
-        Ok(Some(text)) => Ok(Text::new(text)),
-        Ok(None) => Err(StoreFault::Store),
-        Err(fault) => Err(fault),
+    match done!(get(conn, content as u64)) {
+        Some(text) => Ok(Text::new(text)),
+        None => Err(StoreFault::Store),
     }
 }
 
 /// The refusal of a command on the two sides of a contract, if there is one.
-pub(crate) fn refuse_sides(rule: Rule, sides: Sides, is_allowed: bool) -> Option<Answer>
+pub(crate) fn refuse_sides(rule: Rule, sides: Sides) -> Option<Answer>
     ensures { (command : CommandModel) → rule_of command ≡ rule
-        → result ≡ refused command (missing_side sides None) is_allowed }
+        → result ≡ refused command (missing_side sides None) sides.is_allowed }
 {
-    if !sides.provider.has_pacticipant || !sides.consumer.has_pacticipant {
+    if !sides.has_provider || !sides.has_consumer {
         return Some(Answer::Unknown(Missing::Pacticipant));
     }
-    if !is_allowed {
+    if !sides.is_allowed {
         return Some(Answer::Denied(rule));
     }
     None
@@ -115,10 +162,10 @@ pub(crate) fn refuse_sides(rule: Rule, sides: Sides, is_allowed: bool) -> Option
 
 /// The content of a contract that is asked for, or the refusal: which of its two sides, its version and the contract
 /// is missing first, or the rule that doesn't let the caller.
-fn admit_contract(rule: Rule, place: ContractPlace, is_allowed: bool) -> Result<u32, Answer>
-    ensures { Admits rule place.contract.content (missing_part place) is_allowed result }
+fn admit_contract(rule: Rule, place: ContractPlace) -> Result<u32, Answer>
+    ensures { Admits rule place.contract.content (missing_part place) place.sides.is_allowed result }
 {
-    if !place.sides.provider.has_pacticipant || !place.sides.consumer.has_pacticipant {
+    if !place.sides.has_provider || !place.sides.has_consumer {
         return Err(Answer::Unknown(Missing::Pacticipant));
     }
     if place.contract.version.is_none() {
@@ -127,32 +174,10 @@ fn admit_contract(rule: Rule, place: ContractPlace, is_allowed: bool) -> Result<
     let Some(content) = place.contract.content else {
         return Err(Answer::Unknown(Missing::Contract));
     };
-    if !is_allowed {
+    if !place.sides.is_allowed {
         return Err(Answer::Denied(rule));
     }
     Ok(content)
-}
-
-/// What the tables say of a contract and of its two sides.
-fn read_contract_place<S: Alter>(
-    alloc: Global,
-    conn: &mut Connection<S>,
-    caller: &Caller,
-    rule: Rule,
-    path: &PactPath,
-) -> Result<ContractPlace, StoreFault>
-    ensures { Queries S.Store conn.old conn.new result (λ place s. IsPlaceRead s caller.now rule path.now place) }
-{
-    let sides = done!(read_sides(alloc, conn, caller, rule, &path.provider, &path.consumer));
-    let contract = done!(read_contract(conn, &path.provider, &path.consumer, &path.version));
-    Ok(ContractPlace { sides, contract })
-}
-
-/// Whether the rule lets the caller as the owner of one of the two sides.
-fn is_side(sides: Sides) -> bool
-    ensures { result ≡ owns_side sides }
-{
-    sides.provider.is_allowed || sides.consumer.is_allowed
 }
 
 /// The content of a contract that the caller may see, or the refusal.
@@ -165,8 +190,9 @@ pub(crate) fn read_contract_to_show<S: Alter>(
     ensures { Queries S.Store conn.old conn.new result
         (λ found s. Reaches s caller.now path.now A5 (path.now.provider ∷ path.now.consumer ∷ []) found) }
 {
-    let place = done!(read_contract_place(alloc, conn, caller, Rule::A5, path));
-    Ok(admit_contract(Rule::A5, place, is_side(place.sides)))
+    let sides = done!(read_sides_to_show(alloc, conn, caller, &path.provider, &path.consumer));
+    let contract = done!(read_contract(conn, &path.provider, &path.consumer, &path.version));
+    Ok(admit_contract(Rule::A5, ContractPlace { sides, contract }))
 }
 
 /// The content of a contract of which the caller may report how its verification went, or the refusal.
@@ -179,6 +205,7 @@ pub(crate) fn read_contract_to_verify<S: Alter>(
     ensures { Queries S.Store conn.old conn.new result
         (λ found s. Reaches s caller.now path.now A4 (path.now.provider ∷ []) found) }
 {
-    let place = done!(read_contract_place(alloc, conn, caller, Rule::A4, path));
-    Ok(admit_contract(Rule::A4, place, place.sides.provider.is_allowed))
+    let sides = done!(read_sides_to_verify(alloc, conn, caller, &path.provider, &path.consumer));
+    let contract = done!(read_contract(conn, &path.provider, &path.consumer, &path.version));
+    Ok(admit_contract(Rule::A4, ContractPlace { sides, contract }))
 }

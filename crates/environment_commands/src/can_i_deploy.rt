@@ -50,13 +50,9 @@ fn read_gate_facts<S: Alter>(
         (λ found s. IsVersionRead s caller.now A6 version.now false found.0
         × (s.environments environment.now ≡ found.1)) }
 {
-    match read_version(alloc, conn, caller, Rule::A6, version, false) {
-        Ok(facts) => match marks_of(conn, environment.as_str()) {
-            Ok(marks) => Ok((facts, marks)),
-            Err(fault) => Err(fault),
-        },
-        Err(fault) => Err(fault),
-    }
+    let facts = done!(read_version(alloc, conn, caller, Rule::A6, version, false));
+    let marks = done!(marks_of(conn, environment.as_str()));
+    Ok((facts, marks))
 }
 
 /// The answer that shows what the gate says.
@@ -91,13 +87,8 @@ fn show_gate<S: Alter>(
     ensures { Queries S.Store conn.old conn.new result
         (IsGateShown environment.now version.now place) }
 {
-    match judge(alloc, conn, environment, version, place) {
-        Ok((permitted, faults)) => match gate_answer(environment, place.marks, permitted, faults) {
-            Ok(answer) => Ok(answer),
-            Err(fault) => Err(fault),
-        },
-        Err(fault) => Err(fault),
-    }
+    let (permitted, faults) = done!(judge(alloc, conn, environment, version, place));
+    Ok(done!(gate_answer(environment, place.marks, permitted, faults)))
 }
 
 /// Shows what the gate says of a version, or tells why not.
@@ -111,11 +102,9 @@ pub fn can_i_deploy<S: Alter>(
     ensures { Performs S.Store conn.old conn.new result
         (IsStepOf caller.now (CanIDeploy version.now environment.now)) }
 {
-    match read_gate_facts(alloc, conn, caller, version, environment) {
-        Ok((facts, marks)) => match admitted_to_ask(facts, marks) {
-            Ok(place) => show_gate(alloc, conn, version, environment, place),
-            Err(answer) => Ok(answer),
-        },
-        Err(fault) => Err(fault),
+    let (facts, marks) = done!(read_gate_facts(alloc, conn, caller, version, environment));
+    match admitted_to_ask(facts, marks) {
+        Ok(place) => show_gate(alloc, conn, version, environment, place),
+        Err(answer) => Ok(answer),
     }
 }

@@ -24,10 +24,10 @@ fn remove_release<S: Alter>(
     ensures { PerformsWhere S.Store conn.old conn.new result
         (HasNumber version.now number) (λ s out. out ≡ unsupported s environment.now version.now) }
 {
-    match deploy_tables::end_support(conn, environment.as_str(), number) {
-        Ok(true) => Ok(Answer::Done(Detail::Plain)),
-        Ok(false) => Ok(Answer::Unknown(Missing::Released)),
-        Err(fault) => Err(fault),
+    if done!(deploy_tables::end_support(conn, environment.as_str(), number)) {
+        Ok(Answer::Done(Detail::Plain))
+    } else {
+        Ok(Answer::Unknown(Missing::Released))
     }
 }
 

@@ -24,13 +24,9 @@ fn read_lists<S: Alter>(
     ensures { Queries S.Store conn.old conn.new result
         (λ found s. ListsAll environment.now found.0.items found.1.items s) }
 {
-    match deployed(alloc, conn, environment.as_str()) {
-        Ok(items) => match released(alloc, conn, environment.as_str()) {
-            Ok(versions) => Ok((items, versions)),
-            Err(fault) => Err(fault),
-        },
-        Err(fault) => Err(fault),
-    }
+    let items = done!(deployed(alloc, conn, environment.as_str()));
+    let versions = done!(released(alloc, conn, environment.as_str()));
+    Ok((items, versions))
 }
 
 /// The answer that shows an environment.
@@ -63,18 +59,8 @@ fn list_environment<S: Alter>(
 ) -> Result<Answer, StoreFault>
     ensures { Queries S.Store conn.old conn.new result (IsEnvironmentShown environment.now marks) }
 {
-    match read_lists(alloc, conn, environment) {
-        Ok((deployed, released)) => match environment_answer(
-            environment,
-            marks,
-            deployed,
-            released,
-        ) {
-            Ok(answer) => Ok(answer),
-            Err(fault) => Err(fault),
-        },
-        Err(fault) => Err(fault),
-    }
+    let (deployed, released) = done!(read_lists(alloc, conn, environment));
+    Ok(done!(environment_answer(environment, marks, deployed, released)))
 }
 
 /// Shows an environment, if it is there.
@@ -87,9 +73,8 @@ pub fn get_environment<S: Alter>(
     ensures { Performs S.Store conn.old conn.new result
         (IsStepOf caller.now (GetEnvironment environment.now)) }
 {
-    match marks_of(conn, environment.as_str()) {
-        Ok(Some(marks)) => list_environment(alloc, conn, environment, marks),
-        Ok(None) => Ok(Answer::Unknown(Missing::Environment)),
-        Err(fault) => Err(fault),
+    match done!(marks_of(conn, environment.as_str())) {
+        Some(marks) => list_environment(alloc, conn, environment, marks),
+        None => Ok(Answer::Unknown(Missing::Environment)),
     }
 }

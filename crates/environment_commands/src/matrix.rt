@@ -41,10 +41,8 @@ fn show_matrix<S: Alter>(
     ensures { Queries S.Store conn.old conn.new result
         (IsMatrixShown version.now number) }
 {
-    match matrix(alloc, conn, number, version) {
-        Ok(rows) => Ok(Answer::Shown(Shown::Matrix(MatrixRows::new(rows)))),
-        Err(fault) => Err(fault),
-    }
+    let rows = done!(matrix(alloc, conn, number, version));
+    Ok(Answer::Shown(Shown::Matrix(MatrixRows::new(rows))))
 }
 
 /// Shows the matrix of a version, or tells why not.
@@ -57,11 +55,9 @@ pub fn get_matrix<S: Alter>(
     ensures { Performs S.Store conn.old conn.new result
         (IsStepOf caller.now (GetMatrix version.now)) }
 {
-    match read_version(alloc, conn, caller, Rule::A6, version, false) {
-        Ok(facts) => match admitted_to_matrix(facts) {
-            Ok(number) => show_matrix(alloc, conn, version, number),
-            Err(answer) => Ok(answer),
-        },
-        Err(fault) => Err(fault),
+    let facts = done!(read_version(alloc, conn, caller, Rule::A6, version, false));
+    match admitted_to_matrix(facts) {
+        Ok(number) => show_matrix(alloc, conn, version, number),
+        Err(answer) => Ok(answer),
     }
 }

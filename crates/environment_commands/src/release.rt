@@ -27,14 +27,11 @@ fn record_release<S: Alter>(
     ensures { PerformsWhere S.Store conn.old conn.new result
         (HasNumber version.now number) (λ s out. out ≡ released s environment.now version.now) }
 {
-    match is_released(conn, environment.as_str(), number) {
-        Ok(true) => Ok(Answer::Already(Detail::Plain)),
-        Ok(false) => match record_released(conn, environment.as_str(), number) {
-            Ok(()) => Ok(Answer::Done(Detail::Plain)),
-            Err(fault) => Err(fault),
-        },
-        Err(fault) => Err(fault),
+    if done!(is_released(conn, environment.as_str(), number)) {
+        return Ok(Answer::Already(Detail::Plain));
     }
+    done!(record_released(conn, environment.as_str(), number));
+    Ok(Answer::Done(Detail::Plain))
 }
 
 /// Asks the gate, and releases the version where it is permitted.

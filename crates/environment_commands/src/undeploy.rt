@@ -26,16 +26,16 @@ fn remove_deployment<S: Alter>(
     ensures { PerformsWhere S.Store conn.old conn.new result
         (HasNumber version.now number) (λ s out. out ≡ undeployment s environment.now version.now instance.now) }
 {
-    match take_out(
+    if done!(take_out(
         conn,
         environment.as_str(),
         version.pacticipant.as_str(),
         instance,
         number,
-    ) {
-        Ok(true) => Ok(Answer::Done(Detail::Plain)),
-        Ok(false) => Ok(Answer::Unknown(Missing::Deployed)),
-        Err(fault) => Err(fault),
+    )) {
+        Ok(Answer::Done(Detail::Plain))
+    } else {
+        Ok(Answer::Unknown(Missing::Deployed))
     }
 }
 

@@ -3,8 +3,8 @@ use Rattle.table_access.proofs.CallLemmas.{statement_seq}
 use Rattle.broker_tables.proofs.Former.{migrated}
 use Rattle.broker_service.proofs.migration.add_all.Goals as goal
 
-pub returns-in-Ok : goal.returns-in-Ok
-returns-in-Ok g c =
+pub returns : goal.returns
+returns g c =
     let old = state g.S.Store c.args.conn.now in
     let mid = state g.S.Store c.add_tables.new.conn in
     let new = state g.S.Store c.make_indexes.new.conn in

@@ -7,15 +7,15 @@ use Rattle.broker_tables.specs.Making.{HasTables}
 use Rattle.broker_tables.proofs.Opening.{has_more}
 use Rattle.broker_service.proofs.opening.make_rest.Goals as goal
 
-pub returns-in-Ok-make_checked_results : goal.returns-in-Ok-make_checked_results
-returns-in-Ok-make_checked_results g c =
+pub returns : goal.returns
+returns g c =
     let old = state g.S.Store c.args.conn.now in
     let first = state g.S.Store c.make_tables.new.conn in
     let second = state g.S.Store c.make_checked_results.new.conn in
     let new = state g.S.Store c.make_strict_environments.new.conn in
-    statement_seq old second new c.in-Ok-make_checked_results.field-0 c.make_strict_environments.result (λ _. (office : List ℕ) → HasTables (registry_part ++ contents ∷ contract_part) format office old.now → HasTables (registry_part ++ contents ∷ contract_part ++ deploy_part ++ checked_results ∷ []) format office second.now) _ _
+    statement_seq old second new c.in-Ok-make_checked_results.value c.make_strict_environments.result (λ _. (office : List ℕ) → HasTables (registry_part ++ contents ∷ contract_part) format office old.now → HasTables (registry_part ++ contents ∷ contract_part ++ deploy_part ++ checked_results ∷ []) format office second.now) _ _
     (λ has u makes office was. let before = has office was in has_more (registry_part ++ contents ∷ contract_part ++ deploy_part ++ checked_results ∷ []) (strict_environments ∷ []) format office second.now new.now (inl refl) before (new.now, makes before.schema, refl))
-    (statement_seq old first second c.in-Ok.field-0 (Ok c.in-Ok-make_checked_results.field-0) (λ _. (office : List ℕ) → HasTables (registry_part ++ contents ∷ contract_part) format office old.now → HasTables (registry_part ++ contents ∷ contract_part ++ deploy_part) format office first.now) _ (λ _. (office : List ℕ) → HasTables (registry_part ++ contents ∷ contract_part) format office old.now → HasTables (registry_part ++ contents ∷ contract_part ++ deploy_part ++ checked_results ∷ []) format office second.now)
+    (statement_seq old first second c.in-Ok.value (Ok c.in-Ok-make_checked_results.value) (λ _. (office : List ℕ) → HasTables (registry_part ++ contents ∷ contract_part) format office old.now → HasTables (registry_part ++ contents ∷ contract_part ++ deploy_part) format office first.now) _ (λ _. (office : List ℕ) → HasTables (registry_part ++ contents ∷ contract_part) format office old.now → HasTables (registry_part ++ contents ∷ contract_part ++ deploy_part ++ checked_results ∷ []) format office second.now)
     (λ has u makes office was. let before = has office was in has_more (registry_part ++ contents ∷ contract_part ++ deploy_part) (checked_results ∷ []) format office first.now second.now (inl refl) before (second.now, makes before.schema, refl))
-    (statement_with old first (Ok c.in-Ok.field-0) _ _ (λ u makes office was. has_more (registry_part ++ contents ∷ contract_part) deploy_part format office old.now first.now (inl refl) was (makes was.schema)) c.in-Ok.ensures) c.in-Ok-make_checked_results.ensures)
+    (statement_with old first (Ok c.in-Ok.value) _ _ (λ u makes office was. has_more (registry_part ++ contents ∷ contract_part) deploy_part format office old.now first.now (inl refl) was (makes was.schema)) c.in-Ok.ensures) c.in-Ok-make_checked_results.ensures)
     c.make_strict_environments.ensures

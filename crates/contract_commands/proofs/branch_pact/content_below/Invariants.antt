@@ -5,9 +5,9 @@ use Rattle.contract_commands.specs.BranchPact.{NoneFrom}
 use Rattle.contract_commands.proofs.branch_pact.content_below.Given as goal
 
 -- no version from the bound on has a contract
-abbrev pub invariant-loop-next : goal.invariant-loop-next
-invariant-loop-next g l =
+abbrev pub invariant-loop-value : goal.invariant-loop-value
+invariant-loop-value g l =
     QueriesBetween (state g.S.Store l.fn.conn) (state g.S.Store l.conn) (Ok l.bound) (λ bound s. NoneFrom s l.provider l.consumer l.branch l.fn.bound → NoneFrom s l.provider l.consumer l.branch bound)
 
-abbrev pub decreases-loop-next : goal.decreases-loop-next
-decreases-loop-next g l = l.bound
+abbrev pub decreases-loop-value : goal.decreases-loop-value
+decreases-loop-value g l = l.bound

@@ -6,8 +6,8 @@ use Rattle.contract_commands.proofs.BranchLast.{branch_shown}
 use Rattle.command_facts.proofs.PerformLemmas.{shown_then}
 use Rattle.contract_commands.proofs.branch_pact.get_branch_pact.Goals as goal
 
-pub returns-in-Ok : goal.returns-in-Ok
-returns-in-Ok g c =
-    shown_then (state g.S.Store c.args.conn.now) (state g.S.Store c.read_branch_to_show.new.conn) (state g.S.Store c.show_pact.new.conn) c.in-Ok.place c.show_pact.result _ _
+pub returns : goal.returns
+returns g c =
+    shown_then (state g.S.Store c.args.conn.now) (state g.S.Store c.read_branch_to_show.new.conn) (state g.S.Store c.show_pact.new.conn) c.in-Ok.value c.show_pact.result _ _
     (λ s out. StepOfCaller broker_primitives s c.args.caller.now (GetBranchPact c.args.provider.now c.args.consumer.now c.args.branch.now) out)
-    (λ s reach answer shows. branch_shown s c.args.caller.now c.args.provider.now c.args.consumer.now c.args.branch.now c.in-Ok.place answer reach shows) c.in-Ok.ensures c.show_pact.ensures
+    (λ s reach answer shows. branch_shown s c.args.caller.now c.args.provider.now c.args.consumer.now c.args.branch.now c.in-Ok.value answer reach shows) c.in-Ok.ensures c.show_pact.ensures

@@ -5,19 +5,19 @@ use Rattle.registry_tables.specs.Registry.{IsNewestBelow}
 use Rattle.command_facts.proofs.PerformLemmas.{answers, read_both}
 use Rattle.contract_commands.proofs.branch_pact.next_below.Goals as goal
 
-pub returns-in-Ok-clause-read : goal.returns-in-Ok-clause-read
-returns-in-Ok-clause-read g c =
-    let number = c.in-Ok-Some.number in
-    let content = c.in-Ok.content in
+pub returns-in-Ok-contract_of-clause-read : goal.returns-in-Ok-contract_of-clause-read
+returns-in-Ok-contract_of-clause-read g c =
+    let number = c.in-Some.number in
+    let content = c.in-Ok-contract_of.value in
     read_both (state g.S.Store c.args.conn.now) (state g.S.Store c.branch_number_below.new.conn) (state g.S.Store c.contract_of.new.conn) (Some number) content (Some (record { number = number; content = content })) _ _ _
     (λ s newest contract. (
       subst (λ (b : Text). IsNewestBelow s c.args.consumer.now b c.args.bound (Some number)) c.as_str-2.ensures
           (subst (λ (p : Text). IsNewestBelow s p c.as_str-2.result.now c.args.bound (Some number)) c.as_str.ensures newest),
       λ v is. contract v is ∙ ap (λ (p : Text). s.contracts (v, p)) c.as_str-then-number-bound.ensures,
-    )) (rw c.in-Ok-Some.field-0-is at c.in-Ok-Some.ensures.call) c.in-Ok.ensures.call
+    )) (rw c.in-Some.is at c.in-Ok.ensures.call) c.in-Ok-contract_of.ensures.call
 
-pub returns-in-Ok-None-clause-read : goal.returns-in-Ok-None-clause-read
-returns-in-Ok-None-clause-read g c =
+pub returns-in-None-clause-read : goal.returns-in-None-clause-read
+returns-in-None-clause-read g c =
     answers (state g.S.Store c.args.conn.now) (state g.S.Store c.branch_number_below.new.conn) None None _ _
     (λ s newest. subst (λ (b : Text). IsNewestBelow s c.args.consumer.now b c.args.bound None) c.as_str-2.ensures
-    (subst (λ (p : Text). IsNewestBelow s p c.as_str-2.result.now c.args.bound None) c.as_str.ensures newest)) (rw c.in-Ok-None.field-0-is at c.in-Ok-None.ensures.call)
+    (subst (λ (p : Text). IsNewestBelow s p c.as_str-2.result.now c.args.bound None) c.as_str.ensures newest)) (rw c.in-None.is at c.in-Ok.ensures.call)

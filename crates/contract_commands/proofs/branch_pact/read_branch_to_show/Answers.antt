@@ -3,10 +3,10 @@ use Rattle.contract_commands.proofs.BranchLast.{reaches_branch}
 use Rattle.command_facts.proofs.PerformLemmas.{read_both}
 use Rattle.contract_commands.proofs.branch_pact.read_branch_to_show.Goals as goal
 
-pub returns-in-Ok-read_branch : goal.returns-in-Ok-read_branch
-returns-in-Ok-read_branch g c =
-    let sides = c.in-Ok.sides in
-    let content = c.in-Ok-read_branch.content in
-    read_both (state g.S.Store c.args.conn.now) (state g.S.Store c.read_sides.new.conn) (state g.S.Store c.read_branch.new.conn) sides content c.admit_branch_pact.result _ _ _
+pub returns : goal.returns
+returns g c =
+    let sides = c.in-Ok.value in
+    let content = c.in-Ok-read_branch.value in
+    read_both (state g.S.Store c.args.conn.now) (state g.S.Store c.read_sides_to_show.new.conn) (state g.S.Store c.read_branch.new.conn) sides content c.admit_branch_pact.result _ _ _
     (λ s h is. reaches_branch s c.args.caller.now c.args.provider.now c.args.consumer.now c.args.branch.now sides content h is c.admit_branch_pact.result c.admit_branch_pact.ensures)
     c.in-Ok.ensures c.in-Ok-read_branch.ensures

@@ -11,8 +11,8 @@ returns-in-Some g c =
     let caller = c.args.caller.now in
     let path = c.args.path.now in
     let text = c.args.text.now in
-    let sides = c.in-Ok.sides in
-    answered_then (state g.S.Store c.args.conn.now) (state g.S.Store c.read_sides.new.conn) sides c.in-Some.answer _ (λ s out. Publishes s caller path text out)
+    let sides = c.in-Ok.value in
+    answered_then (state g.S.Store c.args.conn.now) (state g.S.Store c.read_sides_to_publish.new.conn) sides c.in-Some.answer _ (λ s out. Publishes s caller path text out)
     (λ s h. publishes_refused s caller path text c.in-Some.answer (λ file. publication_refused s caller path text file sides h ∙ sym (c.refuse_sides.ensures (PutPact path file) refl) ∙ c.in-Some.is)) c.in-Ok.ensures
 
 pub returns-in-None : goal.returns-in-None
@@ -20,11 +20,11 @@ returns-in-None g c =
     let caller = c.args.caller.now in
     let path = c.args.path.now in
     let text = c.args.text.now in
-    let sides = c.in-Ok.sides in
-    let both = sides_there (PutPact path []) sides.provider.has_pacticipant sides.consumer.has_pacticipant sides.consumer.is_allowed (sym c.in-None.is ∙ c.refuse_sides.ensures (PutPact path []) refl) in
-    performs_where (state g.S.Store c.args.conn.now) (state g.S.Store c.read_sides.new.conn) (state g.S.Store c.publish_between.new.conn) sides c.publish_between.result _ _ _ (λ s out. Publishes s caller path text out)
+    let sides = c.in-Ok.value in
+    let both = sides_there (PutPact path []) sides.has_provider sides.has_consumer sides.is_allowed (sym c.in-None.is ∙ c.refuse_sides.ensures (PutPact path []) refl) in
+    performs_where (state g.S.Store c.args.conn.now) (state g.S.Store c.read_sides_to_publish.new.conn) (state g.S.Store c.publish_between.new.conn) sides c.publish_between.result _ _ _ (λ s out. Publishes s caller path text out)
     (λ s h. (
-      (h.provider_is.pacticipant_is ∙ both.0, h.consumer_is.pacticipant_is ∙ both.1),
+      (h.provider_is ∙ both.0, h.consumer_is ∙ both.1),
       λ out is. publishes s caller path text out (λ file. publication_refused s caller path text file sides h ∙ sym (c.refuse_sides.ensures (PutPact path file) refl) ∙ c.in-None.is) is,
     ))
     c.in-Ok.ensures c.publish_between.ensures

@@ -7,7 +7,7 @@ use Rattle.contract_commands.proofs.publish.read_form.Goals as goal
 
 pub returns-else-has_names-clause-fault : goal.returns-else-has_names-clause-fault
 returns-else-has_names-clause-fault c = λ f is.
-    let pact = c.in-Ok.pact in
+    let pact = c.in-Ok.value in
     let reading = IsPact pact.consumer pact.provider pact.text in (
       reading,
       subst (λ bytes. broker_primitives.Reads bytes reading) c.as_slice.ensures c.in-Ok.ensures.pact,

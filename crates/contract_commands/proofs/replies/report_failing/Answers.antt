@@ -9,9 +9,9 @@ use Rattle.contract_commands.proofs.CheckLemmas.{empty_is}
 use Rattle.command_facts.proofs.PerformLemmas.{where_told}
 use Rattle.contract_commands.proofs.replies.report_failing.Goals as goal
 
-pub returns-in-Ok : goal.returns-in-Ok
-returns-in-Ok g c =
-    let it = c.in-Ok.it in
+pub returns : goal.returns
+returns g c =
+    let it = c.in-Ok.value in
     let failing = c.args.failing in
     let content = c.args.content in
     let v = reported_version c.args.provider.now c.args.report.now in

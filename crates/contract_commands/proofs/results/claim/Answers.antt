@@ -7,9 +7,9 @@ use Rattle.contract_commands.specs.Results.{told_as, reported_version}
 use Rattle.command_facts.proofs.PerformLemmas.{where_told}
 use Rattle.contract_commands.proofs.results.claim.Goals as goal
 
-pub returns-in-Ok : goal.returns-in-Ok
-returns-in-Ok g c =
-    let it = c.in-Ok.it in
+pub returns : goal.returns
+returns g c =
+    let it = c.in-Ok.value in
     where_told (state g.S.Store c.args.conn.now) (state g.S.Store c.receive.new.conn) it c.tell_result.result _ _ _
     (λ s out. out ≡ report s (claimed_result c.args.content (reported_version c.args.provider.now c.args.report.now) c.args.success c.args.report.now.run) Result)
     (λ s has. (

@@ -10,24 +10,24 @@ use Rattle.command_facts.proofs.PerformLemmas.{performs_where, answered_then}
 use Rattle.contract_commands.proofs.ResultLemmas.{asks_to_claim, provider_there}
 use Rattle.contract_commands.proofs.results.post_result.Goals as goal
 
-pub returns-in-Ok-place : goal.returns-in-Ok-place
-returns-in-Ok-place g c =
+pub returns-in-Ok-2 : goal.returns-in-Ok-2
+returns-in-Ok-2 g c =
     let caller = c.args.caller.now in
     let path = c.args.path.now in
     let command = PostResult path c.args.report.now c.args.success in
     let asks = asks_to_claim path c.args.report.now c.args.success in
-    performs_where (state g.S.Store c.args.conn.now) (state g.S.Store c.read_contract_to_verify.new.conn) (state g.S.Store c.claim.new.conn) c.in-Ok.place c.claim.result _ _ _ (λ s out. StepOfCaller broker_primitives s caller command out)
+    performs_where (state g.S.Store c.args.conn.now) (state g.S.Store c.read_contract_to_verify.new.conn) (state g.S.Store c.claim.new.conn) c.in-Ok.value c.claim.result _ _ _ (λ s out. StepOfCaller broker_primitives s caller command out)
     (λ s reach.
-    let reached = subst (λ r. Reaches s caller path A4 (path.provider ∷ []) r) c.in-Ok-place.is reach in
+    let reached = subst (λ r. Reaches s caller path A4 (path.provider ∷ []) r) c.in-Ok-2.is reach in
     let none = reached.1 command asks in
-    (provider_there s caller path command asks none, λ out is. acts s caller command refl out none (c.in-Ok-place.content, reached.0, is)))
+    (provider_there s caller path command asks none, λ out is. acts s caller command refl out none (c.in-Ok-2.content, reached.0, is)))
     c.in-Ok.ensures c.claim.ensures
 
-pub returns-in-Err-place : goal.returns-in-Err-place
-returns-in-Err-place g c =
+pub returns-in-Err-2 : goal.returns-in-Err-2
+returns-in-Err-2 g c =
     let caller = c.args.caller.now in
     let path = c.args.path.now in
     let command = PostResult path c.args.report.now c.args.success in
-    answered_then (state g.S.Store c.args.conn.now) (state g.S.Store c.read_contract_to_verify.new.conn) c.in-Ok.place c.in-Err-place.answer _ (λ s out. StepOfCaller broker_primitives s caller command out)
-    (λ s reach. refuses s caller command refl c.in-Err-place.answer (subst (λ r. Reaches s caller path A4 (path.provider ∷ []) r) c.in-Err-place.is reach command (asks_to_claim path c.args.report.now c.args.success)))
+    answered_then (state g.S.Store c.args.conn.now) (state g.S.Store c.read_contract_to_verify.new.conn) c.in-Ok.value c.in-Err-2.answer _ (λ s out. StepOfCaller broker_primitives s caller command out)
+    (λ s reach. refuses s caller command refl c.in-Err-2.answer (subst (λ r. Reaches s caller path A4 (path.provider ∷ []) r) c.in-Err-2.is reach command (asks_to_claim path c.args.report.now c.args.success)))
     c.in-Ok.ensures

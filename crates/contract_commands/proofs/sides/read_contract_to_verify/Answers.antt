@@ -1,11 +1,16 @@
+use Rattle.std.proofs.Common.{◌∷◌, []}
 use Rattle.sqlite.specs.Held.{state}
-use Rattle.contract_commands.proofs.PactLemmas.{verifier_reaches}
-use Rattle.command_facts.proofs.PerformLemmas.{answers}
+use Rattle.broker_core.specs.declared.policy.Rule.TheVariants.{A4}
+use Rattle.command_facts.proofs.PerformLemmas.{read_both}
+use Rattle.contract_commands.proofs.PactLemmas.{asker_reaches}
 use Rattle.contract_commands.proofs.sides.read_contract_to_verify.Goals as goal
 
 pub returns : goal.returns
 returns g c =
-    let place = c.in-Ok.value in
-    answers (state g.S.Store c.args.conn.now) (state g.S.Store c.read_contract_place.new.conn) place c.admit_contract.result _ _
-    (λ s h. verifier_reaches s c.args.caller.now c.args.path.now place h c.admit_contract.result c.admit_contract.ensures)
-    c.in-Ok.ensures
+    let path = c.args.path.now in
+    let sides = c.in-Ok.value in
+    let contract = c.in-Ok-read_contract.value in
+    let found = c.admit_contract.result in
+    read_both (state g.S.Store c.args.conn.now) (state g.S.Store c.read_sides_to_verify.new.conn) (state g.S.Store c.read_contract.new.conn) sides contract found _ _ _
+    (λ s h k. asker_reaches s c.args.caller.now path A4 (path.provider ∷ []) (record { sides = sides; contract = contract }) (h, k) found c.admit_contract.ensures)
+    c.in-Ok.ensures c.in-Ok-read_contract.ensures

@@ -4,9 +4,9 @@ use Rattle.table_access.proofs.CallLemmas.{then_ok}
 use Rattle.content_store.proofs.Held.{reads_held}
 use Rattle.contract_commands.proofs.sides.read_text.Goals as goal
 
-pub returns-in-Ok-Some : goal.returns-in-Ok-Some
-returns-in-Ok-Some g c =
+pub returns-in-Some : goal.returns-in-Some
+returns-in-Some g c =
     let old = state g.S.Store c.args.conn.now in
     let new = state g.S.Store c.get.new.conn in
-    then_ok old new c.in-Ok-Some.field-0 c.new.result _ _ (λ h s held. let it = h s held in (sym it.0 ∙ ap (option_map string_bytes) c.in-Ok-Some.field-0-is ∙ ap Some (sym c.new.ensures), it.1))
-    (reads_held old new (Ok c.in-Ok-Some.field-0) _ c.in-Ok-Some.ensures)
+    then_ok old new c.in-Ok.value c.new.result _ _ (λ h s held. let it = h s held in (sym it.0 ∙ ap (option_map string_bytes) c.in-Some.is ∙ ap Some (sym c.new.ensures), it.1))
+    (reads_held old new (Ok c.in-Ok.value) _ c.in-Ok.ensures)

@@ -7,7 +7,7 @@ use Rattle.broker_core.specs.declared.answer.Shown.TheVariants as shown
 use Rattle.command_facts.proofs.PerformLemmas.{answers}
 use Rattle.environment_commands.proofs.matrix.show_matrix.Goals as goal
 
-pub returns-in-Ok : goal.returns-in-Ok
-returns-in-Ok g c =
-    answers (state g.S.Store c.args.conn.now) (state g.S.Store c.matrix.new.conn) c.in-Ok.rows (Shown (shown.Matrix c.new.result)) _ _
-    (λ s rows number. (c.in-Ok.rows.items, rows number, ap (λ (xs : List MatrixRow). unchanged_with s (Shown (shown.Matrix xs))) c.new.ensures)) c.in-Ok.ensures
+pub returns : goal.returns
+returns g c =
+    answers (state g.S.Store c.args.conn.now) (state g.S.Store c.matrix.new.conn) c.in-Ok.value (Shown (shown.Matrix c.new.result)) _ _
+    (λ s rows number. (c.in-Ok.value.items, rows number, ap (λ (xs : List MatrixRow). unchanged_with s (Shown (shown.Matrix xs))) c.new.ensures)) c.in-Ok.ensures

@@ -9,14 +9,14 @@ use Rattle.broker_tables.specs.Numbers.{number_of}
 use Rattle.command_facts.proofs.PerformLemmas.{where_changed}
 use Rattle.environment_commands.proofs.release.record_release.Goals as goal
 
-pub returns-in-Ok : goal.returns-in-Ok
-returns-in-Ok g c =
-    where_changed (state g.S.Store c.args.conn.now) (state g.S.Store c.is_released.new.conn) (state g.S.Store c.record_released.new.conn) c.in-Ok-false.field-0 c.in-Ok.field-0 (Done Plain)
+pub returns : goal.returns
+returns g c =
+    where_changed (state g.S.Store c.args.conn.now) (state g.S.Store c.is_released.new.conn) (state g.S.Store c.record_released.new.conn) c.in-Ok.value c.in-Ok-record_released.value (Done Plain)
     (λ s. number_of s.versions c.args.version.now ≡ Some c.args.number) _ _ (λ s out. out ≡ released s c.args.environment.now c.args.version.now)
     (λ s number told.
     let next = record s { released = put_at (same_pair same_text same_version) s.released (c.args.environment.now, c.args.version.now) true } in
-    let free : s.released (c.args.environment.now, c.args.version.now) ≡ false = sym (told c.args.version.now number ∙ (λ i. s.released (c.as_str.ensures i, c.args.version.now))) ∙ c.in-Ok-false.field-0-test in (
+    let free : s.released (c.args.environment.now, c.args.version.now) ≡ false = sym (told c.args.version.now number ∙ (λ i. s.released (c.as_str.ensures i, c.args.version.now))) ∙ c.if-value.false in (
       next,
-      (c.args.version.now, number, (λ i. s.released (c.as_str-in-Ok-false.ensures i, c.args.version.now)) ∙ free, λ i. record s { released = put_at (same_pair same_text same_version) s.released (sym c.as_str-in-Ok-false.ensures i, c.args.version.now) true }),
+      (c.args.version.now, number, (λ i. s.released (c.as_str-2.ensures i, c.args.version.now)) ∙ free, λ i. record s { released = put_at (same_pair same_text same_version) s.released (sym c.as_str-2.ensures i, c.args.version.now) true }),
       sym (ap (λ (b : Bool). if b then already s else done next) free),
-    )) c.in-Ok-false.ensures.call c.in-Ok.ensures
+    )) c.in-Ok.ensures.call c.in-Ok-record_released.ensures

@@ -12,28 +12,28 @@ use Rattle.deploy_tables.specs.Deployments.{without_instance}
 use Rattle.command_facts.proofs.PerformLemmas.{where_told}
 use Rattle.environment_commands.proofs.undeploy.remove_deployment.Goals as goal
 
-pub returns-in-Ok-true : goal.returns-in-Ok-true
-returns-in-Ok-true g c =
-    where_told (state g.S.Store c.args.conn.now) (state g.S.Store c.take_out.new.conn) c.in-Ok-true.field-0 (Done Plain)
+pub returns-then-value : goal.returns-then-value
+returns-then-value g c =
+    where_told (state g.S.Store c.args.conn.now) (state g.S.Store c.take_out.new.conn) c.in-Ok.value (Done Plain)
     (λ s. number_of s.versions c.args.version.now ≡ Some c.args.number) _ _ (λ s out. out ≡ undeployment s c.args.environment.now c.args.version.now c.args.instance.now)
     (λ s number. (
       (c.args.version.now, number, sym c.as_str-2.ensures),
       λ t next.
           let after = without_instance s c.args.environment.now c.args.version.now.pacticipant c.args.instance.now in
-          let stood : is_text c.args.version.now.name (s.deployed (c.args.environment.now, c.args.version.now.pacticipant, c.args.instance.now)) ≡ true = sym (next.1 c.args.version.now number (sym c.as_str-2.ensures) ∙ (λ i. is_text c.args.version.now.name (s.deployed (c.as_str.ensures i, c.as_str-2.ensures i, c.args.instance.now)))) ∙ c.in-Ok-true.field-0-test in
+          let stood : is_text c.args.version.now.name (s.deployed (c.args.environment.now, c.args.version.now.pacticipant, c.args.instance.now)) ≡ true = sym (next.1 c.args.version.now number (sym c.as_str-2.ensures) ∙ (λ i. is_text c.args.version.now.name (s.deployed (c.as_str.ensures i, c.as_str-2.ensures i, c.args.instance.now)))) ∙ c.if-value.true in
           let same : t ≡ after = next.0.3 ∙ (λ i. if is_text (one_version s.versions next.0.0 c.args.version.now c.args.number next.0.1 number i).name (s.deployed (c.as_str.ensures i, c.as_str-2.ensures i, c.args.instance.now)) then without_instance s (c.as_str.ensures i) (c.as_str-2.ensures i) c.args.instance.now else s) ∙ ap (λ (b : Bool). if b then after else s) stood in
           ap (λ (t : State). record { answer = Done Plain; state = t }) same ∙ sym (ap (λ (b : Bool). if b then done after else unchanged_with s (Unknown missing.Deployed)) stood),
-    )) c.in-Ok-true.ensures
+    )) c.in-Ok.ensures
 
-pub returns-in-Ok-false : goal.returns-in-Ok-false
-returns-in-Ok-false g c =
-    where_told (state g.S.Store c.args.conn.now) (state g.S.Store c.take_out.new.conn) c.in-Ok-false.field-0 (Unknown missing.Deployed)
+pub returns-else-value : goal.returns-else-value
+returns-else-value g c =
+    where_told (state g.S.Store c.args.conn.now) (state g.S.Store c.take_out.new.conn) c.in-Ok.value (Unknown missing.Deployed)
     (λ s. number_of s.versions c.args.version.now ≡ Some c.args.number) _ _ (λ s out. out ≡ undeployment s c.args.environment.now c.args.version.now c.args.instance.now)
     (λ s number. (
       (c.args.version.now, number, sym c.as_str-2.ensures),
       λ t next.
           let after = without_instance s c.args.environment.now c.args.version.now.pacticipant c.args.instance.now in
-          let stood : is_text c.args.version.now.name (s.deployed (c.args.environment.now, c.args.version.now.pacticipant, c.args.instance.now)) ≡ false = sym (next.1 c.args.version.now number (sym c.as_str-2.ensures) ∙ (λ i. is_text c.args.version.now.name (s.deployed (c.as_str.ensures i, c.as_str-2.ensures i, c.args.instance.now)))) ∙ c.in-Ok-false.field-0-test in
+          let stood : is_text c.args.version.now.name (s.deployed (c.args.environment.now, c.args.version.now.pacticipant, c.args.instance.now)) ≡ false = sym (next.1 c.args.version.now number (sym c.as_str-2.ensures) ∙ (λ i. is_text c.args.version.now.name (s.deployed (c.as_str.ensures i, c.as_str-2.ensures i, c.args.instance.now)))) ∙ c.if-value.false in
           let same : t ≡ s = next.0.3 ∙ (λ i. if is_text (one_version s.versions next.0.0 c.args.version.now c.args.number next.0.1 number i).name (s.deployed (c.as_str.ensures i, c.as_str-2.ensures i, c.args.instance.now)) then without_instance s (c.as_str.ensures i) (c.as_str-2.ensures i) c.args.instance.now else s) ∙ ap (λ (b : Bool). if b then after else s) stood in
           ap (λ (t : State). record { answer = Unknown missing.Deployed; state = t }) same ∙ sym (ap (λ (b : Bool). if b then done after else unchanged_with s (Unknown missing.Deployed)) stood),
-    )) c.in-Ok-false.ensures
+    )) c.in-Ok.ensures

@@ -1,0 +1,33 @@
+use Rattle.std.proofs.Common.{◌≡◌, List, Ok, Some, None, true, false, sym, subst, ◌∙◌}
+use Rattle.sqlite.specs.Held.{state}
+use Rattle.table_access.proofs.CallLemmas.{statement_ok, statement_seq}
+use Rattle.broker_core.specs.Text.{Text}
+use Rattle.broker_core.specs.Limit.{has_room}
+use Rattle.content_store.specs.Contents.{ContentsBy, IsPut, is_among}
+use Rattle.content_store.proofs.TextNumbers.{room_is}
+use Rattle.content_store.proofs.contents.add_if_room.Goals as goal
+
+pub returns-in-Ok-add_after : goal.returns-in-Ok-add_after
+returns-in-Ok-add_after g c =
+    let old = state g.S.Store c.args.conn.now in
+    let mid = state g.S.Store c.content_count.new.conn in
+    let new = state g.S.Store c.add_after.new.conn in
+    statement_ok old new c.in-Ok-add_after.value (Some c.in-Ok-add_after.value)
+    (λ number. (by : Text → Text) → by c.args.body.now ≡ c.args.digest.now → (texts : List Text) → ContentsBy by old.now texts → is_among texts c.args.body.now ≡ false
+    → (has_room texts ≡ true) × IsPut by c.args.body.now texts number old.now new.now) _ (λ h. h)
+    (statement_seq old mid new c.in-Ok.value (Ok c.in-Ok-add_after.value) _ _ _
+    (λ one number two by is texts held free.
+    let read = one by texts held in (
+      room_is texts c.in-Ok.value c.room.result c.room.ensures read.0 ∙ c.if-room.true,
+      subst (λ d. IsPut by c.args.body.now texts number d new.now) read.1
+          (two by is texts (subst (λ d. ContentsBy by d texts) (sym read.1) held) free read.0),
+    ))
+    c.in-Ok.ensures c.in-Ok-add_after.ensures)
+
+pub returns-else-room : goal.returns-else-room
+returns-else-room g c =
+    statement_ok (state g.S.Store c.args.conn.now) (state g.S.Store c.content_count.new.conn) c.in-Ok.value None _ _
+    (λ one by is texts held free.
+    let read = one by texts held in
+    (room_is texts c.in-Ok.value c.room.result c.room.ensures read.0 ∙ c.if-room.false, read.1))
+    c.in-Ok.ensures

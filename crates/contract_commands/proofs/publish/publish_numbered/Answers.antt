@@ -1,0 +1,48 @@
+use Rattle.std.proofs.Common.{◌≡◌, None, Some, true, false, sym, subst, ap, ◌∙◌, ◌&&◌}
+use Rattle.std.specs.Prelude.{⊤}
+use Rattle.sqlite.specs.Held.{state}
+use Rattle.broker_core.specs.Change.{Transition, put_pact, number_of, named}
+use Rattle.broker_core.specs.Request.{consumer_version}
+use Rattle.broker_core.specs.State.{State}
+use Rattle.broker_core.specs.declared.answer.Answer.TheVariants.{Done, Full}
+use Rattle.broker_core.specs.declared.answer.Detail.TheVariants.{Content}
+use Rattle.content_store.specs.Contents.{StoresIfRoom}
+use Rattle.command_facts.proofs.PerformLemmas.{where_told, where_told_then}
+use Rattle.contract_commands.specs.Pacts.{CanPublish, CanRecord, RecordsContract, contracted}
+use Rattle.contract_commands.proofs.NumberingLemmas.{may_be_named}
+use Rattle.contract_commands.proofs.PactLemmas.{published, put_first, can_record, now_published}
+use Rattle.contract_commands.proofs.publish.publish_numbered.Goals as goal
+
+pub returns-in-None : goal.returns-in-None
+returns-in-None g c =
+    let path = c.args.path.now in
+    let v = consumer_version path in
+    let text = c.args.text.now in
+    where_told (state g.S.Store c.args.conn.now) (state g.S.Store c.put_text.new.conn) None Full (CanPublish path c.args.version) (λ s. ⊤) (StoresIfRoom text) (λ s out. out ≡ put_pact s v path.provider text)
+    (λ s can. (
+      tt,
+      λ t next.
+          let same : ◌≡◌ {A = Transition} (record { answer = Full; state = t }) (record { answer = Full; state = s }) = (λ i. record { answer = Full; state = next.0 i }) in
+          same ∙ put_first s v path.provider text false can.1 (λ i. may_be_named s v c.args.version can.0 i && next.1 i),
+    ))
+    (rw c.in-None.is at c.in-Ok.ensures)
+
+pub returns-in-Ok-record_contract : goal.returns-in-Ok-record_contract
+returns-in-Ok-record_contract g c =
+    let path = c.args.path.now in
+    let v = consumer_version path in
+    let text = c.args.text.now in
+    let content = c.in-Some.content in
+    where_told_then (state g.S.Store c.args.conn.now) (state g.S.Store c.put_text.new.conn) (state g.S.Store c.record_contract.new.conn) (Some content) c.in-Ok-record_contract.value (Done (Content content))
+    (CanPublish path c.args.version) (λ s. ⊤) (CanRecord path c.args.version content) (StoresIfRoom text) (RecordsContract path content) (λ s out. out ≡ put_pact s v path.provider text)
+    (λ s can. (
+      tt,
+      λ t next. (
+        subst (CanRecord path c.args.version content) (sym next.1) (can_record s text path c.args.version content next.0 can),
+        λ w is.
+            let to : w ≡ published s v path.provider text = is ∙ ap (λ (u : State). contracted (named u v) v path.provider content) next.1 ∙ now_published s text v path.provider content next.0 in
+            let made : ◌≡◌ {A = Transition} (record { answer = Done (Content content); state = w }) (record { answer = Done (Content (number_of s text)); state = published s v path.provider text }) = (λ i. record { answer = Done (Content (next.0 i)); state = to i }) in
+            made ∙ put_first s v path.provider text true can.1 (λ i. may_be_named s v c.args.version can.0 i && next.2 i),
+      ),
+    ))
+    (rw c.in-Some.is at c.in-Ok.ensures) c.in-Ok-record_contract.ensures
