@@ -93,11 +93,14 @@
 < 500 {"answer":"store"}
 > R GET /environments/live
 < 503 {"answer":"stopped"}
+# The gate joins the two tables: what names no result counts as none, and permits nothing.
 ! UPDATE latest SET result = -1
 > R GET /can-i-deploy?pacticipant=shop&version=3&environment=live
-< 500 {"answer":"store"}
+< 200 {"answer":"shown","environment":"live","faults":[{"consumer":"shop","consumerVersion":"3","kind":"missing",
+  "provider":"stock","providerVersion":"1"}],"gated":true,"permitted":false}
 > R GET /environments/live
-< 503 {"answer":"stopped"}
+< 200 {"answer":"shown","deployed":[{"instance":"","pacticipant":"shop","version":"1"},{"instance":"",
+  "pacticipant":"stock","version":"1"}],"environment":"live","gated":true,"released":[]}
 ! UPDATE latest SET result = 5
 > R GET /matrix?pacticipant=shop&version=1
 < 200 {"answer":"shown","rows":[{"consumer":"shop","consumerVersion":"1","evidence":"checked","provider":"stock",
