@@ -114,7 +114,7 @@
 > B POST /pacts/provider/stock/consumer/shop/version/1/results {"providerApplicationVersion":"1","success":true,
   "run":"low"}
 < 200 {"answer":"done","result":4}
-# Of a content: no contract can be added, and one that is there is there already.
+# Of a content: no further one can be added, and a contract that is there is there already.
 ! INSERT INTO contents (number, digest, body) VALUES (4294967296, '', '')
 > R PUT /pacts/provider/stock/consumer/shop/version/1 {"consumer":{"name":"shop"},"provider":{"name":"stock"},
   "interactions":[{"description":"a book","request":{"method":"GET","path":"/books/1"},"response":{"status":200,
@@ -123,7 +123,7 @@
   {"version":"3.0.0"}}}
 < 200 {"answer":"already","content":1}
 > R PUT /pacts/provider/stock/consumer/shop/version/5 {"consumer":{"name":"shop"},"provider":{"name":"stock"},
-  "interactions":[{"description":"a book","request":{"method":"GET","path":"/books/1"},"response":{"status":200,
+  "interactions":[{"description":"a bowl","request":{"method":"GET","path":"/books/1"},"response":{"status":200,
   "headers":{"Content-Type":"application/json"},"body":{"id":1,"title":"Ada"},"matchingRules":{"body":{"$.id":{
   "matchers":[{"match":"integer"}]},"$.title":{"matchers":[{"match":"type"}]}}}}}],"metadata":{"pactSpecification":
   {"version":"3.0.0"}}}
