@@ -12,3 +12,5 @@ pub mod StandingLemmas
 pub mod MatrixLemmas
 pub mod MatrixOrders
 pub mod MatrixLoop
+pub mod ToldResults
+pub mod ToldLists

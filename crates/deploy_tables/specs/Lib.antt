@@ -3,4 +3,5 @@ pub mod Listings
 pub mod ContractsThere
 pub mod Needs
 pub mod Matrix
+pub mod ToldResults
 pub mod Releases

@@ -10,13 +10,15 @@ use Rattle.broker_core.specs.declared.answer.MatrixRow.{MatrixRow}
 use Rattle.broker_core.specs.declared.answer.Verified.{Verified}
 use Rattle.broker_core.specs.Text.{Text, text_cmp, version}
 use Rattle.broker_core.specs.State.{State, latest_result, said_by}
+use Rattle.broker_core.specs.Listing.{Lists}
+use Rattle.broker_tables.specs.Numbers.{number_of}
 use Rattle.contract_tables.specs.declared.listings.Contract.{Contract}
 use Rattle.contract_tables.specs.declared.listings.VerifiedContent.{VerifiedContent}
 use Rattle.contract_tables.specs.declared.listings.VerifiedVersion.{VerifiedVersion}
-use Rattle.contract_tables.specs.Listings.{verified_cmp}
+use Rattle.contract_tables.specs.Listings.{contract_cmp, verified_cmp}
 use Rattle.contract_tables.specs.Verified.{result_with}
 use Rattle.deploy_tables.specs.declared.entries.Entry.{Entry}
-use Rattle.deploy_tables.specs.Needs.{or_one}
+use Rattle.deploy_tables.specs.Needs.{IsOwnContract, or_one}
 
 -- ---- which set each part is
 
@@ -68,6 +70,11 @@ entry_cmp x y = ordering_then (text_cmp x.consumer y.consumer)
     (ordering_then (text_cmp x.consumer_version y.consumer_version)
     (ordering_then (text_cmp x.provider y.provider)
     (option_cmp verified_cmp x.verified y.verified)))
+
+-- these are the contracts of v, which has this number, and the entries of its matrix
+abbrev pub AreEntriesOf : State → Version → ℕ → List Contract → List Entry → Type 0
+AreEntriesOf s v number contracts entries = (number_of s.versions v ≡ Some number)
+    × Lists contract_cmp (IsOwnContract s v) contracts × Lists entry_cmp (IsEntry s v) entries
 
 -- the same version of the provider, with what the result with that number says; none for none
 abbrev pub TellsResult : State → Option VerifiedVersion → Option Verified → Type 0

@@ -26,6 +26,7 @@ mod matrix_rows;
 mod pairs;
 mod releases;
 mod standing_versions;
+mod told_results;
 
 pub use deployments::{is_deployed, record_deployed, take_out};
 pub use gate::needs;

@@ -1,21 +1,27 @@
 //! The matrix of a version: its contracts, and those that it has results for, with the latest result of each version of the provider.
-ghost use Rattle.std.specs.Prelude.{◌≡◌, ◌++◌, ◌↔◌, IfOk, Some, option_map, Contains};
+ghost use Rattle.std.specs.Prelude.{◌≡◌, ◌++◌, ◌↔◌, IfOk, Some, Contains};
+ghost use Rattle.std.specs.List.Sorted.{IsStrictlySortedBy};
+ghost use Rattle.std.specs.Ordering.{nat_cmp};
 ghost use Rattle.table_access.specs.Reading.{AreRead};
+ghost use Rattle.broker_core.specs.declared.command.Version.{Version as VersionModel};
 ghost use Rattle.broker_core.specs.Listing.{Lists};
 ghost use Rattle.broker_core.specs.Machine.{IsMatrixRow, matrix_cmp};
-ghost use Rattle.broker_core.specs.State.{said_by};
 ghost use Rattle.broker_tables.specs.Numbers.{number_of as number_known};
 ghost use Rattle.broker_tables.specs.Holds.{Queries};
-ghost use Rattle.contract_tables.specs.Verified.{result_with};
+ghost use Rattle.contract_tables.specs.Listings.{contract_cmp};
 ghost use Rattle.deploy_tables.specs.declared.entries.Entry.{Entry as EntryModel};
-ghost use Rattle.deploy_tables.specs.Matrix.{IsOfContract, IsOfContent, IsOfSome, IsConsumed, IsProvided, IsEntry, IsToldAs, entry_cmp};
+ghost use Rattle.deploy_tables.specs.Matrix.{IsOfContract, IsOfContent, IsOfSome, IsProvided, IsEntry, AreEntriesOf, entry_cmp};
+ghost use Rattle.deploy_tables.specs.Needs.{IsOwnContract};
+ghost use Rattle.deploy_tables.specs.ToldResults.{IsVerifiedTold, IsRowTold};
 
 use crate::entries::{Entry, both_sides, entries_used, entries_with};
+use crate::told_results::{ResultPass, checked_told, is_checked_among, pass_among, passes_told};
 use broker_core::answer::{MatrixRow, Verified};
 use broker_core::command::Version;
+use broker_core::need::Latest;
 use contract_tables::{
-    Contract, VerifiedContent, VerifiedVersion, consumers_of, contracts_of, result_said,
-    verified_contents, verified_versions,
+    Contract, VerifiedContent, VerifiedVersion, consumers_of, contracts_of, verified_contents,
+    verified_versions,
 };
 use sqlite::{Alter, Connection};
 use std::alloc::Global;
@@ -71,21 +77,6 @@ fn of_contracts<S: Alter>(
         done!(add(&mut found, more));
     }
     Ok(found)
-}
-
-/// The version's own contracts, each with the versions of its provider that have a result, or with none.
-fn consumed<S: Alter>(
-    alloc: Global,
-    conn: &mut Connection<S>,
-    number: u32,
-    version: &Version,
-) -> Result<Vec<Entry>, StoreFault>
-    ensures { Queries S.Store conn.old conn.new result
-        (λ found s. number_known s.versions version.now ≡ Some number →
-        (x : EntryModel) → Contains found.items x ↔ IsConsumed s version.now x) }
-{
-    let contracts = done!(contracts_of(alloc, conn, number));
-    of_contracts(alloc, conn, version, &contracts)
 }
 
 /// The contracts of this content with the version's pacticipant, with the version's result for it.
@@ -144,18 +135,20 @@ fn provided<S: Alter>(
     of_contents(alloc, conn, version, &contents)
 }
 
-/// The entries of both sides, each once, in the order of the matrix.
+/// The entries of both sides, each once, in the order of the matrix. These are the contracts of the version.
 fn entries_of<S: Alter>(
     alloc: Global,
     conn: &mut Connection<S>,
     number: u32,
     version: &Version,
+    contracts: &[Contract],
 ) -> Result<Vec<Entry>, StoreFault>
     ensures { Queries S.Store conn.old conn.new result
         (λ found s. number_known s.versions version.now ≡ Some number →
+        Lists contract_cmp (IsOwnContract s version.now) contracts.now →
         Lists entry_cmp (IsEntry s version.now) found.items) }
 {
-    let own = done!(consumed(alloc, conn, number, version));
+    let own = done!(of_contracts(alloc, conn, version, contracts));
     let others = done!(provided(alloc, conn, number, version));
     match both_sides(own, others) {
         Ok(entries) => Ok(entries),
@@ -163,23 +156,25 @@ fn entries_of<S: Alter>(
     }
 }
 
-/// The version of the provider with what its result says. `StoreFault::Store` comes where there is no such result, too.
-fn told<S: Alter>(
-    conn: &mut Connection<S>,
+/// The version of the provider with what its result says. `StoreFault::Store` comes where no pass tells of the result: a row names one that isn't there.
+fn told(
     verified: &VerifiedVersion,
+    passes: &[ResultPass],
+    checked: &[u32],
 ) -> Result<Verified, StoreFault>
-    ensures { Queries S.Store conn.old conn.new result
-        (λ found s. (found.provider_version ≡ verified.now.name) × (found.result ≡ verified.now.result)
-        × (Some found.latest ≡ option_map said_by (result_with s verified.now.result))) }
+    ensures { IfOk result
+        (λ found. IsStrictlySortedBy nat_cmp checked.now →
+        IsVerifiedTold passes.now checked.now (Some verified.now) (Some found)) }
 {
-    let Some(latest) = done!(result_said(conn, verified.result)) else {
+    let Some(pass) = pass_among(passes, verified.result) else {
         return Err(StoreFault::Store);
     };
+    let checked = is_checked_among(checked, verified.result);
     match verified.name.clone() {
         Ok(provider_version) => Ok(Verified {
             provider_version,
             result: u64::from(verified.result),
-            latest,
+            latest: Latest { pass, checked },
         }),
         Err(_) => Err(StoreFault::Memory),
     }
@@ -211,33 +206,54 @@ fn row_with(entry: &Entry, verified: Option<Verified>) -> Result<MatrixRow, Stor
 }
 
 /// The entry's row, with what its result says.
-fn row_of<S: Alter>(conn: &mut Connection<S>, entry: &Entry) -> Result<MatrixRow, StoreFault>
-    ensures { Queries S.Store conn.old conn.new result (λ row s. IsToldAs s entry.now row) }
+fn row_of(entry: &Entry, passes: &[ResultPass], checked: &[u32]) -> Result<MatrixRow, StoreFault>
+    ensures { IfOk result
+        (λ row. IsStrictlySortedBy nat_cmp checked.now → IsRowTold passes.now checked.now entry.now row) }
 {
     let Some(verified) = &entry.verified else {
         return row_with(entry, None);
     };
-    let verified = done!(told(conn, verified));
+    let verified = done!(told(verified, passes, checked));
     row_with(entry, Some(verified))
 }
 
 /// The rows of these entries, with what their results say.
-fn rows_of<S: Alter>(
+fn rows_of(
     alloc: Global,
-    conn: &mut Connection<S>,
     entries: &[Entry],
+    passes: &[ResultPass],
+    checked: &[u32],
 ) -> Result<Vec<MatrixRow>, StoreFault>
-    ensures { Queries S.Store conn.old conn.new result (λ rows s. AreRead (IsToldAs s) entries.now rows.items) }
+    ensures { IfOk result
+        (λ rows. IsStrictlySortedBy nat_cmp checked.now →
+        AreRead (IsRowTold passes.now checked.now) entries.now rows.items) }
 {
     let mut rows = Vec::new(alloc);
     for entry in entries {
-        let row = done!(row_of(conn, entry));
+        let row = done!(row_of(entry, passes, checked));
         match rows.push(row) {
             Ok(()) => {}
             Err(_) => return Err(StoreFault::Memory),
         }
     }
     Ok(rows)
+}
+
+/// The rows of these entries of the version of this number, whose contracts these are, with what their results say.
+fn with_results<S: Alter>(
+    alloc: Global,
+    conn: &mut Connection<S>,
+    number: u32,
+    contracts: &[Contract],
+    entries: &[Entry],
+) -> Result<Vec<MatrixRow>, StoreFault>
+    ensures { Queries S.Store conn.old conn.new result
+        (λ rows s. (v : VersionModel) → AreEntriesOf s v number contracts.now entries.now →
+        Lists matrix_cmp (IsMatrixRow s v) rows.items) }
+{
+    let passes = done!(passes_told(alloc, conn, number, contracts));
+    let checked = done!(checked_told(alloc, conn, number, contracts));
+    rows_of(alloc, entries, &passes, &checked)
 }
 
 /// The matrix of the version with this number, in the order of faults: each of its contracts with each version of the provider that has a result for the content, or with none;
@@ -255,6 +271,7 @@ pub fn matrix<S: Alter>(
         (λ rows s. number_known s.versions version.now ≡ Some number →
         Lists matrix_cmp (IsMatrixRow s version.now) rows.items) }
 {
-    let entries = done!(entries_of(alloc, conn, number, version));
-    rows_of(alloc, conn, &entries)
+    let contracts = done!(contracts_of(alloc, conn, number));
+    let entries = done!(entries_of(alloc, conn, number, version, &contracts));
+    with_results(alloc, conn, number, &contracts, &entries)
 }

@@ -1,13 +1,27 @@
-use Rattle.std.proofs.Common.{subst}
+use Rattle.std.proofs.Common.{◌≡◌, Ok, Some, sym, subst}
 use Rattle.sqlite.specs.Held.{state}
-use Rattle.table_access.specs.Reading.{AreRead}
-use Rattle.deploy_tables.specs.Matrix.{IsToldAs}
-use Rattle.deploy_tables.proofs.MatrixLemmas.{rows_are}
+use Rattle.broker_core.specs.Listing.{Lists}
+use Rattle.broker_tables.specs.Numbers.{number_of}
+use Rattle.contract_tables.specs.Listings.{contract_cmp}
 use Rattle.contract_tables.proofs.QueryLemmas.{query_then}
+use Rattle.deploy_tables.specs.Matrix.{IsEntry, entry_cmp}
+use Rattle.deploy_tables.specs.Needs.{IsOwnContract}
 use Rattle.deploy_tables.proofs.matrix_rows.matrix.Goals as goal
 
 pub returns : goal.returns
 returns g c =
-    query_then (state g.S.Store c.args.conn.now) (state g.S.Store c.entries_of.new.conn) (state g.S.Store c.rows_of.new.conn) c.in-Ok.value c.rows_of.result _ _ _
-    (λ s listed rows told is. rows_are s c.args.version.now c.in-Ok.value.items rows.items (listed is) (subst (λ es. AreRead (IsToldAs s) es rows.items) c.deref.ensures.value told))
-    c.in-Ok.ensures c.rows_of.ensures
+    let old = state g.S.Store c.args.conn.now in
+    let read = state g.S.Store c.contracts_of.new.conn in
+    let paired = state g.S.Store c.entries_of.new.conn in
+    let new = state g.S.Store c.with_results.new.conn in
+    let v = c.args.version.now in
+    let n = c.args.number in
+    let contracts = c.in-Ok.value in
+    let entries = c.in-Ok-entries_of.value in
+    query_then old paired new entries c.with_results.result
+    (λ found s. number_of s.versions v ≡ Some n → Lists contract_cmp (IsOwnContract s v) contracts.items × Lists entry_cmp (IsEntry s v) found.items) _ _
+    (λ s both rows told is. let it = both is in
+    told v (is, subst (Lists contract_cmp (IsOwnContract s v)) (sym c.deref-2.ensures.value) it.0, subst (Lists entry_cmp (IsEntry s v)) (sym c.deref-3.ensures.value) it.1))
+    (query_then old read paired contracts (Ok entries) _ _ (λ found s. number_of s.versions v ≡ Some n → Lists contract_cmp (IsOwnContract s v) contracts.items × Lists entry_cmp (IsEntry s v) found.items)
+    (λ s one found two is. let own = one v is in (own, two is (subst (Lists contract_cmp (IsOwnContract s v)) (sym c.deref.ensures.value) own))) c.in-Ok.ensures c.in-Ok-entries_of.ensures)
+    c.with_results.ensures

@@ -1,0 +1,59 @@
+-- What the latest results say: whether each is a pass, and the numbers of those that the broker checked.
+use Rattle.std.specs.Prelude.{Contains, ◌≡◌, ◌⊎◌, ℕ, true, List, Option, Some, None, pos}
+use Rattle.std.specs.List.Sorted.{IsSortedBy}
+use Rattle.std.specs.Ordering.{nat_cmp, is_lt}
+use Rattle.sqlite.specs.Order.{Row, column}
+use Rattle.sqlite.specs.declared.types.Value.TheVariants.{Int}
+use Rattle.broker_core.specs.declared.command.Version.{Version}
+use Rattle.broker_core.specs.declared.answer.MatrixRow.{MatrixRow}
+use Rattle.broker_core.specs.declared.answer.Verified.{Verified}
+use Rattle.broker_core.specs.State.{State, Verification, latest_result}
+use Rattle.broker_tables.specs.Rows.{truth}
+use Rattle.broker_tables.specs.Numbers.{number_of}
+use Rattle.contract_tables.specs.declared.listings.Contract.{Contract}
+use Rattle.contract_tables.specs.declared.listings.VerifiedVersion.{VerifiedVersion}
+use Rattle.contract_tables.specs.Verified.{result_with}
+use Rattle.contract_tables.specs.VersionResults.{is_among}
+use Rattle.deploy_tables.specs.declared.entries.Entry.{Entry}
+use Rattle.deploy_tables.specs.declared.told_results.ResultPass.{ResultPass}
+
+-- the columns are the result, and whether it is a pass
+abbrev pub IsPassRow : Row → ResultPass → Type 0
+IsPassRow row x = (column row 0 ≡ Int (pos x.number)) × (truth 1 row ≡ x.pass)
+
+-- each tells of the result with its number whether that is a pass
+abbrev pub TellPasses : State → List ResultPass → Type 0
+TellPasses s found =
+    (x : ResultPass) (r : Verification) → Contains found x → result_with s x.number ≡ Some r → x.pass ≡ r.pass
+
+-- no number is below the one before it
+abbrev pub ArePassesByNumber : List ResultPass → Type 0
+ArePassesByNumber = IsSortedBy (λ x y. is_lt (nat_cmp x.number y.number))
+
+-- the broker checked each result with one of these numbers, and each latest result that it checked, for a content and
+-- a version that are meant, has one of them
+abbrev pub TellChecked : State → (ℕ → Version → Type 0) → List ℕ → Type 0
+TellChecked s Of found =
+    ((n : ℕ) (r : Verification) → Contains found n → result_with s n ≡ Some r → r.checked ≡ true)
+    × ((content : ℕ) (w : Version) (e : ℕ × Verification) → Of content w → latest_result s content w ≡ Some e
+    → e.1.checked ≡ true → Contains found e.0)
+
+-- one of the contracts has this content
+abbrev pub IsContentOf : List Contract → ℕ → Type 0
+IsContentOf contracts content = (c : Contract) × Contains contracts c × (c.content ≡ content)
+
+-- the content is that of one of the contracts, or the version has this number
+abbrev pub IsMeant : State → ℕ → List Contract → ℕ → Version → Type 0
+IsMeant s number contracts content w = IsContentOf contracts content ⊎ (number_of s.versions w ≡ Some number)
+
+-- the same version of the provider, and the same result, with what both lists say of it; none for none
+abbrev pub IsVerifiedTold : List ResultPass → List ℕ → Option VerifiedVersion → Option Verified → Type 0
+IsVerifiedTold passes checked None told = told ≡ None
+IsVerifiedTold passes checked (Some r) told = (v : Verified) × (told ≡ Some v) × (v.provider_version ≡ r.name)
+    × (v.result ≡ r.result) × (v.latest.checked ≡ is_among checked r.result)
+    × ((s : State) (e : Verification) → TellPasses s passes → result_with s r.result ≡ Some e → v.latest.pass ≡ e.pass)
+
+-- the entry's row
+abbrev pub IsRowTold : List ResultPass → List ℕ → Entry → MatrixRow → Type 0
+IsRowTold passes checked x row = (row.consumer ≡ x.consumer) × (row.consumer_version ≡ x.consumer_version)
+    × (row.provider ≡ x.provider) × IsVerifiedTold passes checked x.verified row.verified
