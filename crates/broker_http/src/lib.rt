@@ -3,6 +3,7 @@
 
 mod exchange;
 pub mod laws;
+pub mod patience;
 mod served;
 mod serving;
 

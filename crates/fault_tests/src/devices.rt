@@ -201,10 +201,10 @@ fn asked_behind(alloc: Global, bytes: &[u8]) -> Result<usize, Fail> {
     let mut reader = Noting { bytes, asked: 0 };
     let mut out = Vec::new(alloc);
     let served = serve_stream(alloc, &mut broker, &mut reader, &mut out)?;
-    if served.answered == 0 && served.ended == Ended::Rest {
+    if served.answered == 0 && served.ended != Ended::Closed {
         Ok(reader.asked)
     } else {
-        Err(Fail::from("a message is whole"))
+        Err(Fail::from("a message is answered"))
     }
 }
 
@@ -213,6 +213,7 @@ const NO_BODY: &[u8] = b"\r\nPUT / HTTP/1.1\r\nhost: b\r\ncontent-length: 2\r\n\
 
 #[test]
 fn no_more_is_read_than_a_message_may_have(rt: HostRuntime) -> Result<(), Fail> {
+    assert_eq!(rt; asked_behind(rt.alloc(), b"")?, 16384);
     assert_eq!(rt; asked_behind(rt.alloc(), NO_BODY)?, 2);
     let mut head = Vec::from_slice(rt.alloc(), b"GET / HTTP/1.1\r\nx:")?;
     for _ in head.len()..16380 {

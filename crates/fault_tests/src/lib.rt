@@ -19,6 +19,8 @@ mod devices;
 #[cfg(test)]
 mod first_run;
 #[cfg(test)]
+mod patience;
+#[cfg(test)]
 mod registry;
 #[cfg(test)]
 mod sockets;

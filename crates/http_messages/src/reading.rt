@@ -12,7 +12,7 @@ use std::io::Read;
 use thiserror::Error;
 
 /// How many bytes one read of a head takes at most, with what follows it.
-const PIECE: usize = 4096;
+const PIECE: usize = HEAD_LIMIT;
 
 /// How many bytes one read of a body takes at most, where more of them are wanted than `PIECE`.
 const LARGE_PIECE: usize = 32_768;

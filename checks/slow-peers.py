@@ -1,0 +1,195 @@
+#!/usr/bin/env python3
+"""Peers that make a serving broker wait, and what others get meanwhile. Takes about a minute; with nginx two.
+
+    checks/slow-peers.py PROGRAM           serves a new file on a free port, and tries each kind of peer
+    checks/slow-peers.py PROGRAM nginx     the same behind nginx, with and without connections that are kept:
+                                           2,000 requests by 16 clients, each of which is to be answered
+
+PROGRAM is the path of `broker`. Prints a line for each, and ends with 1 if one is otherwise than it has to be."""
+import http.client, os, socket, subprocess, sys, tempfile, threading, time
+
+PROGRAM = os.path.abspath(sys.argv[1])
+TOKEN = "office-token-0001"
+ASK = b"GET /environments/none HTTP/1.1\r\nhost: b\r\nauthorization: Bearer office-token-0001\r\n\r\n"
+faults = 0
+
+
+def free_port():
+    with socket.socket() as it:
+        it.bind(("127.0.0.1", 0))
+        return it.getsockname()[1]
+
+
+def tell(name, is_well, text):
+    global faults
+    faults += not is_well
+    print(f"{'ok' if is_well else 'WRONG'}  {name}: {text}", flush=True)
+
+
+class Broker:
+    """A broker that serves a new file."""
+
+    def __enter__(self):
+        self.room = tempfile.TemporaryDirectory()
+        file = f"{self.room.name}/broker.db"
+        subprocess.run([PROGRAM, "init", "--file", file, "--office-token", TOKEN], check=True)
+        self.port = free_port()
+        words = ["serve", "--file", file, "--listen", f"127.0.0.1:{self.port}", "--connections", "1000000"]
+        self.process = subprocess.Popen([PROGRAM, *words])
+        for _ in range(100):
+            try:
+                self.ask()
+                return self
+            except OSError:
+                time.sleep(0.1)
+        raise SystemExit("the broker doesn't serve")
+
+    def __exit__(self, *_):
+        self.process.kill()
+        self.process.wait()
+        self.room.cleanup()
+
+    def open(self, room=None):
+        """A connection that takes so many bytes unread, if that is said."""
+        it = socket.socket()
+        it.settimeout(30)
+        if room:
+            it.setsockopt(socket.SOL_SOCKET, socket.SO_RCVBUF, room)
+        it.connect(("127.0.0.1", self.port))
+        return it
+
+    def ask(self):
+        """Asks once on a connection of its own, and tells the status and how long it took."""
+        began = time.time()
+        with self.open() as it:
+            it.sendall(ASK)
+            text = it.recv(65536)
+        if not text.startswith(b"HTTP/1.1 "):
+            raise OSError("no answer")
+        return int(text[9:12]), time.time() - began
+
+
+def held(broker, name, at_most, send, room=None):
+    """Another peer is answered in time, though this one holds the broker."""
+    with broker.open(room) as slow:
+        stop = threading.Event()
+        work = threading.Thread(target=send, args=(slow, stop), daemon=True)
+        work.start()
+        time.sleep(0.3)
+        try:
+            status, took = broker.ask()
+        except OSError as error:
+            status, took = error, 0
+        stop.set()
+        work.join(5)
+        tell(name, status == 404 and took <= at_most, f"the other peer has {status} after {took:.2f} s, of {at_most}")
+
+
+def idle(slow, stop):
+    slow.sendall(ASK)
+    slow.recv(65536)
+
+
+def trickle(slow, stop):
+    for byte in ASK[:-1]:
+        if stop.is_set():
+            return
+        try:
+            slow.sendall(bytes([byte]))
+        except OSError:
+            return
+        time.sleep(1)
+
+
+def unread(slow, stop):
+    slow.settimeout(1)
+    while not stop.is_set():
+        try:
+            slow.sendall(ASK * 1000)
+        except OSError:
+            pass
+
+
+def kept(broker):
+    """A peer keeps its connection open while twenty others ask."""
+    with broker.open() as slow:
+        idle(slow, None)
+        asked = [broker.ask() for _ in range(20)]
+    longest = max(took for _, took in asked)
+    tell("kept open while twenty ask", all(status == 404 for status, _ in asked) and longest < 1, f"the longest has waited {longest:.2f} s")
+
+
+def pipelined(broker):
+    """Requests in one stream, cut anywhere, while others wait."""
+    stream = ASK * 50
+    others = threading.Thread(target=lambda: [broker.ask() for _ in range(5)], daemon=True)
+    with broker.open() as it:
+        got = b""
+        for at in range(0, len(stream), 997):
+            it.sendall(stream[at : at + 997])
+            if at == 0:
+                others.start()
+            time.sleep(0.05)
+        it.shutdown(socket.SHUT_WR)
+        while more := it.recv(65536):
+            got += more
+    others.join(20)
+    tell("pipelined requests", got.count(b"HTTP/1.1 404") == 50, f"{got.count(b'HTTP/1.1 404')} of 50 answers")
+
+
+def peers():
+    with Broker() as broker:
+        held(broker, "idle after an answer", 1, idle)
+        held(broker, "silent from the start", 3, lambda slow, stop: None)
+        held(broker, "half a head", 12, lambda slow, stop: slow.sendall(ASK[:20]))
+        held(broker, "half a body", 12, lambda slow, stop: slow.sendall(ASK.replace(b"GET", b"PUT")[:-2] + b"content-length: 9\r\n\r\n{}"))
+        held(broker, "a byte now and then", 12, trickle)
+        held(broker, "answers that aren't read", 14, unread, 4096)
+        kept(broker)
+        pipelined(broker)
+
+
+CONFIG = """daemon off; worker_processes 2; pid {room}/pid; error_log {room}/error.log;
+events {{ worker_connections 256; }}
+http {{
+  access_log off; client_body_temp_path {room}/a; proxy_temp_path {room}/b; fastcgi_temp_path {room}/c;
+  uwsgi_temp_path {room}/d; scgi_temp_path {room}/e;
+  upstream broker {{ server 127.0.0.1:{port}; {keep} }}
+  server {{ listen 127.0.0.1:{front};
+    location / {{ proxy_pass http://broker; {header} }} }}
+}}
+"""
+
+
+def through(front, count, told):
+    client = http.client.HTTPConnection("127.0.0.1", front, timeout=60)
+    for _ in range(count):
+        client.request("GET", "/environments/none", headers={"authorization": f"Bearer {TOKEN}"})
+        told.append(client.getresponse())
+        told[-1] = (told[-1].status, told[-1].read())
+
+
+def proxied(name, keep, header):
+    with Broker() as broker, tempfile.TemporaryDirectory() as room:
+        front = free_port()
+        with open(f"{room}/nginx.conf", "w", encoding="utf-8") as it:
+            it.write(CONFIG.format(room=room, port=broker.port, front=front, keep=keep, header=header))
+        server = subprocess.Popen(["nginx", "-c", f"{room}/nginx.conf", "-p", room], stderr=subprocess.DEVNULL)
+        time.sleep(1)
+        told, began = [], time.time()
+        clients = [threading.Thread(target=through, args=(front, 125, told)) for _ in range(16)]
+        for it in clients:
+            it.start()
+        for it in clients:
+            it.join()
+        took, good = time.time() - began, sum(it[0] == 404 for it in told)
+        server.kill()
+        server.wait()
+        tell(name, good == 2000, f"{good} of 2000 answered in {took:.1f} s")
+
+
+peers()
+if sys.argv[2:] == ["nginx"]:
+    proxied("nginx", "", "")
+    proxied("nginx with keepalive", "keepalive 16;", 'proxy_http_version 1.1; proxy_set_header connection "";')
+sys.exit(1 if faults else 0)
