@@ -5,5 +5,5 @@ use broker_program::run_process;
 use std::process::ExitCode;
 
 fn main(rt: HostRuntime) -> ExitCode {
-    ExitCode::from(run_process(&rt))
+    run_process(&rt)
 }

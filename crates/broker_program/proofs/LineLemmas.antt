@@ -1,21 +1,35 @@
 -- the values of a line, from the matches of its command, and the command that words name
-use Rattle.std.proofs.Common.{◌≡◌, ◌∙◌, List, [], ◌∷◌, Bool, true, false, Option, Some, None, cond, refl, ap, sym, subst, unwrap_or}
+use Rattle.std.proofs.Common.{◌≡◌, ◌∙◌, List, [], ◌∷◌, Bool, true, false, Option, Some, None, cond, refl, ap, sym, subst, unwrap_or, inl, inr}
 use Rattle.std.specs.Prelude.{MatchOption, find, option_map, bytes_eq}
 use Rattle.std.specs.Option.{option_map_or}
 use Rattle.std.proofs.lemmas.Slice.Eq.{bytes_eq-Decides}
-use Rattle.clap.specs.Words.{App, HasMatchesOf, Row, Text, found_of, is_simple, matches_of, rows_of}
+use Rattle.clap.specs.Words.{App, HasKind, HasMatchesOf, Kinds, Row, Text, fault_of, found_of, is_simple, is_simple_and_free, kind_of, matches_of, rows_of}
+use Rattle.clap.specs.declared.error.Error.{Error}
+use Rattle.clap.specs.declared.error.kind.ErrorKind.TheVariants.{OutOfMemory}
 use Rattle.clap.specs.declared.parser.matches.ArgMatches.{ArgMatches}
-use Rattle.broker_program.specs.Lines.{BeginsWith, HasOptions, HasValues, command_at, command_named, command_of, commands, is_command, is_line, is_taken}
+use Rattle.broker_program.specs.Lines.{BeginsWith, HasOptions, HasValues, command_at, command_named, command_of, commands, has_none, is_command, is_line, is_taken}
 use Rattle.broker_program.specs.declared.line.Line.{Line}
 use Rattle.broker_program.specs.declared.names.CommandName.{CommandName}
 use Rattle.broker_program.specs.declared.names.CommandName.TheVariants as names
 
-pub has_options : (a c : App) (words : List Text) (m : ArgMatches) (line : Line) → c ≡ a → is_simple a ≡ true → HasMatchesOf c words m
+pub has_options : (a c : App) (words : List Text) (m : ArgMatches) (line : Line) → c ≡ a → is_simple a ≡ true → HasMatchesOf c words m → fault_of c words ≡ []
     → (command_of line ≡ a) × HasValues (rows_of (found_of m)) line → (command_of line ≡ a) × HasOptions words line
-has_options a c words m line is simple matches read =
+unfolding is_taken
+has_options a c words m line is simple matches taken read =
+    let same : c ≡ command_of line = is ∙ sym read.0 in
     let rows : rows_of (found_of m) ≡ matches_of (command_of line) words =
-    (matches (ap is_simple is ∙ simple)).0 ∙ ap (λ (k : App). matches_of k words) (is ∙ sym read.0) in
-    (read.0, subst (λ (rs : List Row). HasValues rs line) rows read.1)
+    (matches (ap is_simple is ∙ simple)).0 ∙ ap (λ (k : App). matches_of k words) same in
+    (read.0, (sym (ap (λ (k : App). has_none (fault_of k words)) same) ∙ ap has_none taken, subst (λ (rs : List Row). HasValues rs line) rows read.1))
+
+-- where nothing is wrong only memory can fail
+pub only_memory : (a c : App) (words : List Text) (e : Error) → c ≡ a → HasKind (fault_of c words) e → is_taken a words ≡ true → kind_of e ≡ OutOfMemory
+unfolding is_taken
+only_memory a c words e is kinds taken = go (fault_of c words) kinds (ap (λ (k : App). has_none (fault_of k words)) is ∙ taken)
+  where
+    go : (ks : Kinds) → HasKind ks e → has_none ks ≡ true → kind_of e ≡ OutOfMemory
+    go [] (inl memory) none = memory
+    go [] (inr wrong) none = absurd wrong
+    go (k ∷ ks) kinds none = absurd cc
 
 -- the commands are of options with values alone
 pub named_is_simple : (name : CommandName) → is_simple (command_named name) ≡ true
@@ -26,6 +40,16 @@ named_is_simple names.Serve = refl
 named_is_simple names.Normalise = refl
 named_is_simple names.Check = refl
 named_is_simple names.CanIDeploy = refl
+
+-- and nothing in them excludes or requires another
+pub named_is_free : (name : CommandName) → is_simple_and_free (command_named name) ≡ true
+named_is_free names.Replay = refl
+named_is_free names.Init = refl
+named_is_free names.Migrate = refl
+named_is_free names.Serve = refl
+named_is_free names.Normalise = refl
+named_is_free names.Check = refl
+named_is_free names.CanIDeploy = refl
 
 -- what is found passes the test
 found : {X : Type 0} (p : X → Bool) (xs : List X) (x : X) → Some x ≡ find p xs → p x ≡ true
@@ -59,3 +83,10 @@ unfolding is_line
 wordless words is line =
     let bad : false ≡ true = subst (λ (ws : List Text). is_line ws ≡ true) is line in
     cc
+
+-- the words of a line are one
+pub line_taken : (words : List Text) (program : Text) (rest : List Text) (name : CommandName) (line : Line) → words ≡ program ∷ rest → BeginsWith rest name
+    → (command_of line ≡ command_named name) × HasOptions rest line → is_line words ≡ true
+unfolding is_line
+line_taken words program rest name line is begins read =
+    subst (λ (ws : List Text). is_line ws ≡ true) (sym is) (begins.2 ∙ ap (λ (k : App). is_taken k rest) (sym read.0) ∙ read.1.0)

@@ -5,7 +5,7 @@ use Rattle.std.specs.Prelude.{codes, bytes_eq, find, map, pos}
 use Rattle.std.specs.Borrow.{Bor}
 use Rattle.std.specs.Option.{option_map_or}
 use Rattle.std.specs.Str.Parse.{digits_value, without_leading_plus}
-use Rattle.clap.specs.Words.{App, Row, Rule, Text, first_of, matches_of, new_app, new_rule, one_of, takes, with_rule}
+use Rattle.clap.specs.Words.{App, Kinds, Row, Rule, Text, fault_of, first_of, matches_of, new_app, new_rule, one_of, with_rule}
 use Rattle.clap.specs.declared.builder.value_parser.ValueParser.TheVariants.{Signed}
 use Rattle.broker_program.specs.declared.line.Line.{Line}
 use Rattle.broker_program.specs.declared.names.CommandName.{CommandName}
@@ -102,11 +102,19 @@ HasValues rows (CanIDeploy file token pacticipant version environment) =
     × HasText rows (codes "pacticipant") pacticipant.now × HasText rows (codes "version") version.now
     × HasText rows (codes "to-environment") environment.now
 
--- the command's options have these values in the words that begin with its name
-abbrev pub HasOptions : List Text → Line → Type 0
-HasOptions words line = HasValues (matches_of (command_of line) words) line
+abbrev pub has_none : Kinds → Bool
+has_none [] = true
+has_none (kind ∷ kinds) = false
 
--- the words are the program's name, the command's and its options with these values
+-- the command takes the words, which begin with its name: clap finds nothing wrong with them, and they ask for no help
+unfoldable pub is_taken : App → List Text → Bool
+is_taken command words = has_none (fault_of command words)
+
+-- the command takes the words, which begin with its name, and its options have these values in them
+abbrev pub HasOptions : List Text → Line → Type 0
+HasOptions words line = (is_taken (command_of line) words ≡ true) × HasValues (matches_of (command_of line) words) line
+
+-- the words are a command line: the program's name, the command's and its options with these values
 abbrev pub Says : List Text → Line → Type 0
 Says words line =
     (program : Text) × (rest : List Text)
@@ -115,10 +123,6 @@ Says words line =
 -- the command that a word names
 abbrev pub command_at : Text → Option App
 command_at word = find (λ command. bytes_eq word command.top.name) commands
-
--- the command takes the words, which begin with its name
-unfoldable pub is_taken : App → List Text → Bool
-is_taken command words = takes command words
 
 -- the words begin with a command's name, and the command takes them
 abbrev pub is_command : List Text → Bool

@@ -1,15 +1,25 @@
 -- what a command line has read and written when the program ends (this project's own choice)
 use Rattle.std.specs.Prelude.{◌≡◌, ◌≢◌, ◌⊎◌, ℕ, List, Bool, true, false, Option}
+use Rattle.std.specs.Borrow.{Bor}
+use Rattle.sqlite.specs.Held.{Held}
+use Rattle.sqlite.specs.State.{State}
 use Rattle.broker_core.specs.Name.{IsToken}
 use Rattle.clap.specs.Words.{Text}
 use Rattle.broker_program.specs.Lines.{Says, is_line}
 use Rattle.broker_program.specs.Replays.{Replays, ReplaysUntil}
+use Rattle.broker_program.specs.Making.{IsMade}
 use Rattle.broker_program.specs.Told.{Asks, AsksUntil, Checks, ChecksUntil, Normalises, NormalisesUntil}
+use Rattle.broker_program.specs.declared.can_i_deploy.Question.{Question}
 use Rattle.broker_program.specs.declared.line.Line.{Line}
 use Rattle.broker_program.specs.declared.line.Line.TheVariants.{CanIDeploy, Check, Init, Migrate, Normalise}
 use Rattle.broker_program.specs.declared.line.Line.TheVariants.{Replay, Serve}
 
-module _ (before after old new : Option (List ℕ)) where
+abbrev pub question : Bor Text → Bor Text → Bor Text → Bor Text → Question
+question token pacticipant version environment =
+    record { token = token; pacticipant = pacticipant; version = version; environment = environment }
+
+-- Shown is what a connection over a file shows of its store.
+module _ {X : Type 0} (shown : Held X → State) (before after old new : Option (List ℕ)) where
   -- nothing was read or written
   abbrev pub IsSilent : Type 0
   IsSilent = (after ≡ before) × (new ≡ old)
@@ -17,13 +27,13 @@ module _ (before after old new : Option (List ℕ)) where
   -- The command came to an end: it is done, its check passed or its version is permitted; or not so.
   abbrev pub Ends : Line → Bool → Type 0
   Ends (Replay token) passes = (passes ≡ true) × IsToken token.now × Replays token.now before after old new
-  Ends (Init file token) passes = (passes ≡ true) × IsSilent
+  Ends (Init file token) passes = (passes ≡ true) × IsToken token.now × IsMade shown token.now × IsSilent
   Ends (Migrate file) passes = (passes ≡ true) × IsSilent
   Ends (Serve file listen connections) passes = (passes ≡ true) × IsSilent
   Ends Normalise passes = (passes ≡ true) × Normalises before after old new
   Ends (Check pact replies) passes = (after ≡ before) × Checks old new passes
   Ends (CanIDeploy file token pacticipant version environment) passes =
-      (after ≡ before) × Asks old new passes
+      (after ≡ before) × Asks shown (question token pacticipant version environment) old new passes
 
   -- The command failed: what it wrote is a beginning of what it would have told.
   abbrev pub Fails : Line → Type 0
@@ -33,29 +43,41 @@ module _ (before after old new : Option (List ℕ)) where
   Fails (Serve file listen connections) = IsSilent
   Fails Normalise = (new ≡ old) ⊎ NormalisesUntil before after old new
   Fails (Check pact replies) = (after ≡ before) × ((new ≡ old) ⊎ ChecksUntil old new)
-  Fails (CanIDeploy file token pacticipant version environment) = (after ≡ before) × ((new ≡ old) ⊎ AsksUntil old new)
+  Fails (CanIDeploy file token pacticipant version environment) =
+      (after ≡ before)
+      × ((new ≡ old) ⊎ AsksUntil shown (question token pacticipant version environment) old new)
 
--- Remaining is what a reader still gives, contents what a writer has taken. The texts are the words; the reader was
--- before and is after, standard output was old and is new, standard error was untold and is told.
-module _ {I O E : Type 0} (remaining : I → Option (List ℕ)) (contents : O → Option (List ℕ)) where
+-- Remaining is what a reader still gives, contents what a writer has taken.
+module _ {X I O : Type 0} (shown : Held X → State) (remaining : I → Option (List ℕ)) (contents : O → Option (List ℕ)) (before after : I) (old new : O) where
+  abbrev pub EndsOn : Line → Bool → Type 0
+  EndsOn = Ends shown (remaining before) (remaining after) (contents old) (contents new)
+
+  abbrev pub FailsOn : Line → Type 0
+  FailsOn = Fails shown (remaining before) (remaining after) (contents old) (contents new)
+
+-- The texts are the words; the reader was before and is after, standard output was old and is new, standard error was
+-- untold and is told.
+module _ {X I O E : Type 0} (shown : Held X → State) (remaining : I → Option (List ℕ)) (contents : O → Option (List ℕ)) where
   -- what running the words promises of the status that the program ends with
   pub record Ran (words : List Text) (before after : I) (old new : O) (untold told : E) (status : ℕ) : Type 0 where
     pub statuses : (status ≡ 0) ⊎ ((status ≡ 1) ⊎ ((status ≡ 2) ⊎ (status ≡ 3)))
     -- what the command was to do is done, and standard output has what it tells
     pub done : status ≡ 0 → is_line words ≡ true
         → (line : Line) × Says words line
-        × Ends (remaining before) (remaining after) (contents old) (contents new) line true
+        × EndsOn shown remaining contents before after old new line true
     -- the check failed or the version isn't permitted, and standard output says so
     pub refused : status ≡ 1
         → (line : Line) × Says words line
-        × Ends (remaining before) (remaining after) (contents old) (contents new) line false
+        × EndsOn shown remaining contents before after old new line false
     -- in both nothing is on standard error
     pub quiet : status ≡ 0 → is_line words ≡ true → told ≡ untold
     pub quiet_refused : status ≡ 1 → told ≡ untold
-    -- a mistake in the words is told on standard error alone, and nothing is read
-    pub usage : status ≡ 2 → (is_line words ≢ true) × (after ≡ before) × (new ≡ old)
+    -- a mistake in the words is reported on standard error alone
+    pub usage : status ≡ 2 → (is_line words ≢ true) × (new ≡ old)
+    -- words that are no command line run nothing: nothing is read, and the status tells of no check
+    pub idle : is_line words ≢ true → (after ≡ before) × (status ≢ 1)
     -- a command that failed has written no more than a beginning of what it would have told
     pub fails : status ≡ 3 → is_line words ≡ true
         → ((after ≡ before) × (new ≡ old))
         ⊎ ((line : Line) × Says words line
-        × Fails (remaining before) (remaining after) (contents old) (contents new) line)
+        × FailsOn shown remaining contents before after old new line)

@@ -1,13 +1,21 @@
 -- what the commands on pact files and the question of can-i-deploy write: one line on standard output (this project's
 -- own choice)
-use Rattle.std.specs.Prelude.{◌≡◌, ◌<◌, ℕ, List, [], ◌∷◌, ◌++◌, length, Bool, true, false, Option, Ok}
+use Rattle.std.specs.Prelude.{◌≡◌, ◌<◌, ℕ, List, [], ◌∷◌, ◌++◌, length, Bool, true, false, Option, Some, Ok}
 use Rattle.std.specs.Prelude.{codes, decimal, take}
 use Rattle.std.specs.List.{flat_map}
 use Rattle.std.specs.Io.KnownBytes.{Appends, Consumes, IsAtEnd}
+use Rattle.sqlite.specs.Held.{Held}
+use Rattle.sqlite.specs.State.{State}
 use Rattle.answer_texts.specs.AnswerText.{answer_text}
 use Rattle.broker_core.specs.declared.answer.Answer.{Answer}
 use Rattle.broker_core.specs.declared.answer.Answer.TheVariants as answers
-use Rattle.broker_core.specs.declared.answer.Shown.TheVariants as shown
+use Rattle.broker_core.specs.declared.answer.Shown.TheVariants as shows
+use Rattle.broker_core.specs.declared.command.Command.{Command}
+use Rattle.broker_core.specs.declared.command.Command.TheVariants.{CanIDeploy}
+use Rattle.broker_core.specs.Text.{Text}
+use Rattle.broker_service.specs.BrokerView.{BrokerView}
+use Rattle.broker_service.specs.Calls.{Applied}
+use Rattle.broker_program.specs.declared.can_i_deploy.Question.{Question}
 use Rattle.pact_file.specs.Normal.{Normal}
 use Rattle.pact_file.specs.Pact.{Pact, normal_text}
 use Rattle.reply_check.specs.Replies.{RepliesRead}
@@ -71,14 +79,28 @@ module _ (old new : Option (List ℕ)) where
 
 -- the answer says whether the gate permits the version
 abbrev pub IsGate : Bool → Answer → Type 0
-IsGate permitted (answers.Shown (shown.Gate environment marks says faults)) = says ≡ permitted
+IsGate permitted (answers.Shown (shows.Gate environment marks says faults)) = says ≡ permitted
 IsGate permitted _ = ⊥
 
-module _ (old new : Option (List ℕ)) where
-  abbrev pub Asks : Bool → Type 0
-  Asks permitted = (answer : Answer) × IsGate permitted answer × Appends old new (answer_text answer ++ newline)
+-- what is asked: whether this version of a pacticipant may be deployed to this environment
+abbrev pub asked : Question → Command
+asked question =
+    CanIDeploy (record { pacticipant = question.pacticipant.now; name = question.version.now }) question.environment.now
 
-  abbrev pub AsksUntil : Type 0
-  AsksUntil =
-      (permitted : Bool) × (answer : Answer) × IsGate permitted answer
-      × IsBegun (answer_text answer ++ newline) old new
+module _ {X : Type 0} (shown : Held X → State) where
+  -- a broker that isn't stopped answers so, to a caller with this token
+  abbrev pub IsAnswered : Text → Command → Answer → Type 0
+  IsAnswered token command answer =
+      (old : BrokerView X) × (new : BrokerView X)
+      × (old.is_stopped ≡ false) × Applied shown old (Some token) command answer new
+
+  module _ (question : Question) (old new : Option (List ℕ)) where
+    abbrev pub Asks : Bool → Type 0
+    Asks permitted =
+        (answer : Answer) × IsAnswered question.token.now (asked question) answer × IsGate permitted answer
+        × Appends old new (answer_text answer ++ newline)
+
+    abbrev pub AsksUntil : Type 0
+    AsksUntil =
+        (permitted : Bool) × (answer : Answer) × IsAnswered question.token.now (asked question) answer
+        × IsGate permitted answer × IsBegun (answer_text answer ++ newline) old new

@@ -1,6 +1,7 @@
 //! Asking the broker in a file whether a version may be deployed.
 ghost use Rattle.std.specs.Prelude.{◌≡◌, ◌⊎◌, IfOk, IfSome, OnErr};
-ghost use Rattle.broker_program.specs.Told.{Asks, AsksUntil, IsGate};
+ghost use Rattle.sqlite.specs.Held.{state};
+ghost use Rattle.broker_program.specs.Told.{Asks, AsksUntil, IsAnswered, IsGate, asked};
 
 use crate::fault::RunFault;
 use crate::files::{open_broker, release};
@@ -8,8 +9,10 @@ use crate::forms::{name_of, token_of};
 use crate::output::write_line;
 use broker_core::answer::{Answer as Outcome, Shown};
 use broker_core::command::{Command, Version};
-use broker_core::name::{Name, Token};
+use broker_core::name::Token;
 use broker_service::Answer;
+use sqlite::{File, FileStore};
+use sqlite_trees::store::Store;
 use std::alloc::Global;
 use std::io::Write;
 
@@ -23,21 +26,16 @@ pub(crate) struct Question<'a> {
     pub environment: &'a str,
 }
 
-/// What is asked, by names.
-#[derive(Drop)]
-struct Names {
-    version: Version,
-    environment: Name,
-}
-
-/// The names of a question. `Name`: one of its texts isn't a name.
-fn names_of(alloc: Global, question: Question<'_>) -> Result<Names, RunFault> {
+/// The question as a command. `Name`: one of its texts isn't a name.
+fn command_of(alloc: Global, question: Question<'_>) -> Result<Command, RunFault>
+    ensures { IfOk result (λ command. command ≡ asked question.entry) }
+{
     let version = Version {
         pacticipant: name_of(alloc, question.pacticipant)?,
         name: name_of(alloc, question.version)?,
     };
     let environment = name_of(alloc, question.environment)?;
-    Ok(Names {
+    Ok(Command::CanIDeploy {
         version,
         environment,
     })
@@ -48,18 +46,12 @@ fn answer_at(
     rt: &HostRuntime,
     file: &str,
     token: &Token,
-    names: Names,
-) -> Result<Answer, RunFault> {
+    command: &Command,
+) -> Result<Answer, RunFault>
+    ensures { IfOk result (IsAnswered (state ⟦<FileStore<File> as Store>⟧) token.now command.now) }
+{
     let mut broker = open_broker(rt, file)?;
-    let Names {
-        version,
-        environment,
-    } = names;
-    let command = Command::CanIDeploy {
-        version,
-        environment,
-    };
-    let answer = broker.apply(rt.alloc(), Some(token.as_str()), &command);
+    let answer = broker.apply(rt.alloc(), Some(token.as_str()), command);
     release(broker);
     Ok(answer)
 }
@@ -82,14 +74,16 @@ pub(crate) fn ask<W: Write>(
     question: Question<'_>,
     output: &mut W,
 ) -> Result<bool, RunFault>
-    ensures ok { IfOk result (Asks (W.contents output.old) (W.contents output.new)) }
+    ensures ok { IfOk result (Asks (state ⟦<FileStore<File> as Store>⟧) question.entry
+        (W.contents output.old) (W.contents output.new)) }
     // Nothing was written, or a beginning of the answer.
     ensures err { OnErr result ((output.new ≡ output.old)
-        ⊎ AsksUntil (W.contents output.old) (W.contents output.new)) }
+        ⊎ AsksUntil (state ⟦<FileStore<File> as Store>⟧) question.entry
+        (W.contents output.old) (W.contents output.new)) }
 {
     let token = token_of(rt.alloc(), question.token)?;
-    let names = names_of(rt.alloc(), question)?;
-    let answer = answer_at(rt, file, &token, names)?;
+    let command = command_of(rt.alloc(), question)?;
+    let answer = answer_at(rt, file, &token, &command)?;
     match permits(&answer) {
         Some(permitted) => {
             write_line(output, answer.body())?;

@@ -13,11 +13,20 @@ use clap::builder::ValueParser;
 use clap::{Arg, Command};
 use std::alloc::{AllocError, Global};
 
-/// A command without options, with what it says of itself.
-fn bare<'a>(alloc: Global, name: &'a str, about: &'a str, after: &'a str) -> Command<'a>
-    ensures { app_of result ≡ new_app name.entry.now }
+/// A command without options, with what it says of itself. Its usage names it by these words.
+fn bare<'a>(
+    alloc: Global,
+    name: &'a str,
+    words: &str,
+    about: &'a str,
+    after: &'a str,
+) -> Result<Command<'a>, AllocError>
+    ensures { IfOk result (λ command. app_of command ≡ new_app name.entry.now) }
 {
-    Command::new(alloc, name).about(about).after_help(after)
+    Command::new(alloc, name)
+        .about(about)
+        .after_help(after)
+        .bin_name(words)
 }
 
 /// The command with one more option, which is required: `--name VALUE`.
@@ -52,7 +61,13 @@ fn with_number<'a>(
 fn replay_command<'a>(alloc: Global) -> Result<Command<'a>, AllocError>
     ensures { IfOk result (λ command. app_of command ≡ replay_of) }
 {
-    let command = bare(alloc, "replay", help::REPLAY, help::AFTER_REPLAY);
+    let command = bare(
+        alloc,
+        "replay",
+        "broker replay",
+        help::REPLAY,
+        help::AFTER_REPLAY,
+    )?;
     with_option(
         alloc,
         command,
@@ -64,7 +79,7 @@ fn replay_command<'a>(alloc: Global) -> Result<Command<'a>, AllocError>
 fn init_command<'a>(alloc: Global) -> Result<Command<'a>, AllocError>
     ensures { IfOk result (λ command. app_of command ≡ init_of) }
 {
-    let command = bare(alloc, "init", help::INIT, help::AFTER_INIT);
+    let command = bare(alloc, "init", "broker init", help::INIT, help::AFTER_INIT)?;
     let command = with_option(alloc, command, "file", "The file to make")?;
     with_option(
         alloc,
@@ -77,14 +92,26 @@ fn init_command<'a>(alloc: Global) -> Result<Command<'a>, AllocError>
 fn migrate_command<'a>(alloc: Global) -> Result<Command<'a>, AllocError>
     ensures { IfOk result (λ command. app_of command ≡ migrate_of) }
 {
-    let command = bare(alloc, "migrate", help::MIGRATE, help::AFTER_MIGRATE);
+    let command = bare(
+        alloc,
+        "migrate",
+        "broker migrate",
+        help::MIGRATE,
+        help::AFTER_MIGRATE,
+    )?;
     with_option(alloc, command, "file", "The broker's file")
 }
 
 fn serve_command<'a>(alloc: Global) -> Result<Command<'a>, AllocError>
     ensures { IfOk result (λ command. app_of command ≡ serve_of) }
 {
-    let command = bare(alloc, "serve", help::SERVE, help::AFTER_SERVE);
+    let command = bare(
+        alloc,
+        "serve",
+        "broker serve",
+        help::SERVE,
+        help::AFTER_SERVE,
+    )?;
     let command = with_option(alloc, command, "file", "The broker's file")?;
     let command = with_option(alloc, command, "listen", "The address, as 127.0.0.1:9292")?;
     with_number(
@@ -95,16 +122,28 @@ fn serve_command<'a>(alloc: Global) -> Result<Command<'a>, AllocError>
     )
 }
 
-fn normalise_command<'a>(alloc: Global) -> Command<'a>
-    ensures { app_of result ≡ normalise_of }
+fn normalise_command<'a>(alloc: Global) -> Result<Command<'a>, AllocError>
+    ensures { IfOk result (λ command. app_of command ≡ normalise_of) }
 {
-    bare(alloc, "normalise", help::NORMALISE, help::AFTER_NORMALISE)
+    bare(
+        alloc,
+        "normalise",
+        "broker normalise",
+        help::NORMALISE,
+        help::AFTER_NORMALISE,
+    )
 }
 
 fn check_command<'a>(alloc: Global) -> Result<Command<'a>, AllocError>
     ensures { IfOk result (λ command. app_of command ≡ check_of) }
 {
-    let command = bare(alloc, "check", help::CHECK, help::AFTER_CHECK);
+    let command = bare(
+        alloc,
+        "check",
+        "broker check",
+        help::CHECK,
+        help::AFTER_CHECK,
+    )?;
     let command = with_option(alloc, command, "pact", "The pact file")?;
     with_option(alloc, command, "replies", "The file of recorded replies")
 }
@@ -116,9 +155,10 @@ fn asking_command<'a>(alloc: Global) -> Result<Command<'a>, AllocError>
     let command = bare(
         alloc,
         "can-i-deploy",
+        "broker can-i-deploy",
         help::CAN_I_DEPLOY,
         help::AFTER_CAN_I_DEPLOY,
-    );
+    )?;
     let command = with_option(alloc, command, "file", "The broker's file")?;
     let command = with_option(
         alloc,
@@ -146,7 +186,7 @@ pub(crate) fn command_named<'a>(alloc: Global, name: CommandName) -> Result<Comm
         CommandName::Init => init_command(alloc),
         CommandName::Migrate => migrate_command(alloc),
         CommandName::Serve => serve_command(alloc),
-        CommandName::Normalise => Ok(normalise_command(alloc)),
+        CommandName::Normalise => normalise_command(alloc),
         CommandName::Check => check_command(alloc),
         CommandName::CanIDeploy => can_i_deploy_command(alloc),
     }
@@ -169,13 +209,13 @@ fn with_brokers<'a>(alloc: Global, program: Command<'a>) -> Result<Command<'a>, 
 /// The commands over pact files.
 fn with_pacts<'a>(alloc: Global, program: Command<'a>) -> Result<Command<'a>, AllocError> {
     program
-        .subcommand(normalise_command(alloc))?
+        .subcommand(normalise_command(alloc)?)?
         .subcommand(check_command(alloc)?)
 }
 
 /// The whole program, which tells its commands and what is wrong with words that name none.
 pub(crate) fn program<'a>(alloc: Global) -> Result<Command<'a>, AllocError> {
-    let program = bare(alloc, "broker", help::ABOUT, help::AFTER)
+    let program = bare(alloc, "broker", "broker", help::ABOUT, help::AFTER)?
         .version(help::VERSION)
         .subcommand_required(true);
     let program = with_files(alloc, program)?;

@@ -1,4 +1,6 @@
 //! A broker in a file.
+ghost use Rattle.std.specs.Prelude.{◌≡◌, false, IfOk};
+
 use crate::fault::RunFault;
 use broker_service::{Broker, Refused};
 use sqlite::{Connection, Error, ErrorCode, File, FileStore};
@@ -10,6 +12,10 @@ pub(crate) type FileConnection = Connection<FileStore<File>>;
 /// A broker over a file. It ends by `close` or `release`, and is nowhere dropped: its drop is proved anew in each
 /// function that has one.
 pub(crate) type FileBroker = Broker<FileStore<File>>;
+
+/// A file that was closed, so that all of it stands in the file alone. There is none but by closing one.
+#[derive(Drop)]
+pub(crate) struct Closed(());
 
 /// A connection over the file of this path, which is made where it isn't there. `File`: it can't be read or written,
 /// another program has it open, or it is no database.
@@ -29,10 +35,10 @@ pub(crate) fn connect_existing(rt: &HostRuntime, path: &str) -> Result<FileConne
     }
 }
 
-/// Closes the file, so that all of it stands in the file alone.
-pub(crate) fn disconnect(connection: FileConnection) -> Result<(), RunFault> {
+/// Closes the file.
+pub(crate) fn disconnect(connection: FileConnection) -> Result<Closed, RunFault> {
     match connection.close() {
-        Ok(()) => Ok(()),
+        Ok(()) => Ok(Closed(())),
         Err(_) => Err(RunFault::File),
     }
 }
@@ -49,7 +55,9 @@ pub(crate) fn refusal(refused: Refused<FileStore<File>>) -> RunFault {
 }
 
 /// The broker in the file of this path, which has to be there.
-pub(crate) fn open_broker(rt: &HostRuntime, path: &str) -> Result<FileBroker, RunFault> {
+pub(crate) fn open_broker(rt: &HostRuntime, path: &str) -> Result<FileBroker, RunFault>
+    ensures { IfOk result (λ b. b.is_stopped ≡ false) }
+{
     match Broker::open(connect_existing(rt, path)?) {
         Ok(broker) => Ok(broker),
         Err(refused) => Err(refusal(refused)),
@@ -61,7 +69,7 @@ pub(crate) fn release(broker: FileBroker) {
     leave(broker.close());
 }
 
-/// Closes the broker's file, as `disconnect` does.
-pub(crate) fn close(broker: FileBroker) -> Result<(), RunFault> {
+/// Closes the broker's file.
+pub(crate) fn close(broker: FileBroker) -> Result<Closed, RunFault> {
     disconnect(broker.close())
 }

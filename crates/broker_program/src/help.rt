@@ -68,8 +68,10 @@ pub(crate) const SERVE: &str =
     "Serves HTTP/1.1 on an address of this computer, over the broker in a file";
 
 pub(crate) const AFTER_SERVE: &str =
-    "The connections are served one after the other, and the program ends behind the last one. The
-address is one of loopback with a port, as 127.0.0.1:9292 or [::1]:9292: put a server with TLS
+    "The connections are served one after the other, and the program ends after the last one. A request
+that has begun must be whole within 10 seconds, and its answer be taken within 10 seconds, else the
+connection ends. A connection that is idle is closed once another one waits.
+The address is one of loopback with a port, as 127.0.0.1:9292 or [::1]:9292: put a server with TLS
 before it. While it runs no other program can open the file.
 
 Example: broker serve --file broker.db --listen 127.0.0.1:9292 --connections 1000000

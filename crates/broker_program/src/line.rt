@@ -64,10 +64,11 @@ pub enum Line<'a> {
 }
 
 /// The command that the words name: the program's own name, a command and its options. An error is one
-/// of `clap`, with its text and its exit status; where the words are a command line of the program, it
-/// comes only for want of memory.
+/// of `clap`, with its text and its exit status. It comes exactly if the words are no command line of the
+/// program, or if there is no memory.
 pub fn read_line<'a>(alloc: Global, words: &'a [&'a str]) -> Result<Line<'a>, Error>
     ensures ok { IfOk result (Says (texts_of words.entry.now)) }
+    ensures only { IfOk result (λ _. is_line (texts_of words.entry.now) ≡ true) }
     ensures err { IfErr result (λ e. is_line (texts_of words.entry.now) ≡ true
         → kind_of e ≡ ErrorKind.OutOfMemory) }
 {

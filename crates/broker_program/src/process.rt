@@ -1,8 +1,10 @@
 //! The program over the words and the standard streams of its process.
-ghost use Rattle.std.specs.Prelude.{◌≤◌, IfOk};
+ghost use Rattle.std.specs.Prelude.{◌≡◌, ◌≤◌, IfOk, MatchResult};
+ghost use Rattle.std.specs.Process.{exit_status};
 
 use crate::running::run;
 use std::alloc::{AllocError, Global};
+use std::process::ExitCode;
 use std::{env, io};
 
 /// The words, borrowed from their texts.
@@ -29,17 +31,25 @@ fn run_words(rt: &HostRuntime) -> io::Result<u8>
     Ok(run(rt, words.as_slice(), &mut input, &mut output, &mut errors))
 }
 
+/// The status of a run: 3 where there was no memory for its words.
+fn status_of(run: io::Result<u8>) -> u8
+    ensures { MatchResult run (λ status. result ≡ status) (λ _. result ≡ 3) }
+{
+    match run {
+        Ok(status) => status,
+        Err(_) => 3,
+    }
+}
+
 /// Runs the process's words over its standard streams as `run` does, and answers the status to end with: 3, with
 /// `memory` on standard error, where there is no memory for the words. The streams keep nothing back, so that there
 /// is nothing to flush.
-pub fn run_process(rt: &HostRuntime) -> u8
-    ensures { result ≤ 3 }
+pub fn run_process(rt: &HostRuntime) -> ExitCode
+    ensures { exit_status result ≤ 3 }
 {
-    match run_words(rt) {
-        Ok(status) => status,
-        Err(_) => {
-            let _ = rt.eprintln("memory");
-            3
-        }
+    let run = run_words(rt);
+    if run.is_err() {
+        let _ = rt.eprintln("memory");
     }
+    ExitCode::from(status_of(run))
 }

@@ -1,8 +1,12 @@
 //! Running a command over any reader and writers.
-ghost use Rattle.std.specs.Prelude.{◌≡◌, ◌≢◌, ◌⊎◌, IfOk, OnErr};
+ghost use Rattle.std.specs.Prelude.{◌≡◌, ◌≢◌, ◌⊎◌, ◌++◌, IfOk, IsTrue, OnErr};
+ghost use Rattle.std.specs.Io.KnownBytes.{Appends};
+ghost use Rattle.broker_program.specs.Faults.{fault_text};
+ghost use Rattle.broker_program.specs.Told.{newline};
+ghost use Rattle.sqlite.specs.Held.{state};
 ghost use Rattle.clap.specs.Values.{kind_of};
 ghost use Rattle.broker_program.specs.Lines.{texts_of};
-ghost use Rattle.broker_program.specs.Running.{Ends, Fails, Ran};
+ghost use Rattle.broker_program.specs.Running.{EndsOn, FailsOn, Ran};
 
 use crate::can_i_deploy::{Question, ask};
 use crate::check::check;
@@ -15,13 +19,22 @@ use crate::replay::replay;
 use crate::serve::serve_file;
 use clap::Error;
 use clap::error::ErrorKind;
+use sqlite::{File, FileStore};
+use sqlite_trees::store::Store;
 use std::io::{Read, Write};
 
-/// Tells the fault as one line on standard error.
+/// Tells the fault as one line on standard error, and whether that took it.
+fn tell_fault<E: Write>(fault: &RunFault, errors: &mut E) -> bool
+    ensures { IsTrue result → Appends (E.contents errors.old) (E.contents errors.new) (fault_text fault.now ++ newline) }
+{
+    writeln!(errors, "{}", fault).is_ok()
+}
+
+/// The status of a command that failed, with the fault on standard error.
 fn fail<E: Write>(fault: &RunFault, errors: &mut E) -> u8
     ensures { result ≡ 3 }
 {
-    let _ = writeln!(errors, "{}", fault);
+    let _ = tell_fault(fault, errors);
     3
 }
 
@@ -56,10 +69,10 @@ fn carry_out<R: Read, W: Write>(
     input: &mut R,
     output: &mut W,
 ) -> Result<bool, RunFault>
-    ensures ends { IfOk result (Ends (R.remaining input.old) (R.remaining input.new)
-        (W.contents output.old) (W.contents output.new) line.entry) }
-    ensures fails { OnErr result (Fails (R.remaining input.old) (R.remaining input.new)
-        (W.contents output.old) (W.contents output.new) line.entry) }
+    ensures ends { IfOk result (EndsOn (state ⟦<FileStore<File> as Store>⟧) R.remaining W.contents
+        input.old input.new output.old output.new line.entry) }
+    ensures fails { OnErr result (FailsOn (state ⟦<FileStore<File> as Store>⟧) R.remaining W.contents
+        input.old input.new output.old output.new line.entry) }
 {
     match line {
         Line::Replay { office_token } => {
@@ -131,7 +144,7 @@ pub fn run<R: Read, W: Write, E: Write>(
     output: &mut W,
     errors: &mut E,
 ) -> u8
-    ensures { Ran R.remaining W.contents (texts_of words.now) input.old input.new
+    ensures { Ran (state ⟦<FileStore<File> as Store>⟧) R.remaining W.contents (texts_of words.now) input.old input.new
         output.old output.new errors.old errors.new result }
 {
     match read_line(rt.alloc(), words) {

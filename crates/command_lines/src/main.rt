@@ -69,7 +69,7 @@ fn run_files(rt: &HostRuntime) -> io::Result<()> {
 
 fn main(rt: HostRuntime) -> ExitCode {
     match run_files(&rt) {
-        Ok(()) => ExitCode::from(run_process(&rt)),
+        Ok(()) => run_process(&rt),
         Err(_) => ExitCode::from(3),
     }
 }

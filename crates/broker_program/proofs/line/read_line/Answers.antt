@@ -1,8 +1,14 @@
 use Rattle.std.proofs.Common.{ap, map}
-use Rattle.std.proofs.lemmas.Result.{IfErr-weaker}
+use Rattle.std.proofs.lemmas.Result.{IfErr-weaker, IfOk-weaker}
 use Rattle.std.proofs.lemmas.List.{nil_from_length}
-use Rattle.broker_program.proofs.LineLemmas.{taken, unnamed, wordless}
+use Rattle.broker_program.proofs.LineLemmas.{line_taken, taken, unnamed, wordless}
 use Rattle.broker_program.proofs.line.read_line.Goals as goal
+
+pub returns-in-Some-named-clause-only : goal.returns-in-Some-named-clause-only
+returns-in-Some-named-clause-only c =
+    IfOk-weaker c.read_command.result _ _
+    (λ line read. line_taken _ _ _ c.in-Some-named.name line (ap (map (λ word. word.now)) c.in-Some.ensures.cases.0) c.in-Some-named.ensures read)
+    c.read_command.ensures.ok
 
 pub returns-in-Some-named-clause-err : goal.returns-in-Some-named-clause-err
 returns-in-Some-named-clause-err c =

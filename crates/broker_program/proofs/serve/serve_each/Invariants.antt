@@ -1,0 +1,5 @@
+use Rattle.broker_program.proofs.serve.serve_each.Given as goal
+
+-- each turn takes one of those that are left
+abbrev pub decreases-loop-connections : goal.decreases-loop-connections
+decreases-loop-connections l = l.connections.left

@@ -1,0 +1,10 @@
+-- where a broker listens (this project's own choice: an address of loopback, since it has no TLS)
+use Rattle.std.specs.Prelude.{ℕ, List}
+use Rattle.std.specs.Net.Addr.{MatchIp, IsLoopbackV4, IsLoopbackV6}
+use Rattle.std.specs.Net.Socket.{socket_ip}
+use Rattle.std.specs.Net.Grammar.{IsSocketText}
+use Rattle.std.specs.declared.net.socket_addr.SocketAddr.{SocketAddr}
+
+-- an address with its port, in the text's words, of 127.0.0.0/8 or ::1
+abbrev pub IsLoopback : List ℕ → SocketAddr → Type 0
+IsLoopback text address = IsSocketText text address × MatchIp (socket_ip address) IsLoopbackV4 IsLoopbackV6
