@@ -1,18 +1,23 @@
 #!/usr/bin/env bash
 # One deployment by curl: shop 1 has a contract with stock, and goes live once stock 1 stands there with a result that passes.
-# Usage: examples/one-deployment.sh [URL]     over a new broker whose office has the token office-token-0001
-# Needs curl. Twelve requests, each on a connection of its own.
+# Usage: examples/one-deployment.sh [URL]     over a new broker whose office has the token office-token-0001, as
+#   file=$(mktemp -d)/broker.db
+#   crates/broker/out/broker init --file "$file" --office-token office-token-0001
+#   crates/broker/out/broker serve --file "$file" --listen 127.0.0.1:9292 --connections 12 &
+# Needs curl. Twelve requests, each on a connection of its own. The first waits until the broker listens.
 set -eu
 url=${1:-http://127.0.0.1:9292}
 office=office-token-0001
 team=shop-team-token-1
 pact=pacts/provider/stock/consumer/shop/version/1
+wait=(--retry 50 --retry-connrefused --retry-delay 1)
 
 # ask TOKEN METHOD PATH [BODY]: one request and its answer
 ask() {
   echo "$2 /$3 ${4-}"
-  curl -sS -X "$2" -H "authorization: Bearer $1" --data-binary "${4-}" "$url/$3"
+  curl -sS ${wait+"${wait[@]}"} -X "$2" -H "authorization: Bearer $1" --data-binary "${4-}" "$url/$3"
   echo
+  unset wait
 }
 
 ask $office PUT teams/red "{\"token\":\"$team\"}"

@@ -157,12 +157,10 @@ class Stream:
         done = self.run(self.rows, LD_PRELOAD=os.path.join(self.folder, "refuse.so"), REFUSED=str(number))
         answers = answers_of(done.stdout)
         ending = (done.returncode, done.stderr)
-        if ending in [(3, b"memory\n"), (3, b"open 4\n")] and not answers:
-            return "ended before the first answer"
-        if ending == (3, b"open 5\n") and not answers:
-            return "the store failed as the tables were made"
+        if ending in [(3, b"memory\n"), (3, b"open 4\n"), (3, b"open 5\n")] and not answers:
+            return f"ended before the first answer, with {done.stderr.decode().strip()}"
         if ending == (3, b"serve 3\n") and self.is_begun(answers):
-            return "ended behind whole answers"
+            return "ended after whole answers, with serve 3"
         if ending == (0, b"") and len(answers) == len(self.rows):
             return self.full_outcome(answers)
         raise ValueError(f"ended otherwise: {done}")

@@ -3,7 +3,8 @@
 # contract that goes live, and replies that are checked. In each run the command that the refusal met must be answered
 # 503 {"answer":"memory"} and all others as if it hadn't been sent; or the program ends with status 3 behind whole
 # answers; or a commit or a rollback was refused, and the broker is stopped. Ends with 0 where all is so.
-# Usage: examples/refused-memory.sh PATH_OF_THE_PROGRAM [STEP]     with a STEP only each STEPth of them is refused
+# Usage: checks/refused-memory.sh PATH_OF_THE_PROGRAM [STEP]     with a STEP only each STEPth of them is refused
+# Takes minutes: one run of the program for each time that it asks for memory, on each processor.
 # Needs a C compiler (cc), the GNU C library, and python3. Ends with 77 where cc or python3 isn't there.
 set -eu
 program=${1:?the path of the program broker}
