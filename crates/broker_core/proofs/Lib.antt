@@ -19,6 +19,7 @@ pub mod Callers
 pub mod SoundContents
 pub mod Quiet
 pub mod Headline
+pub mod RunHeadline
 pub mod Sorting
 pub mod Listings
 pub mod Matrix

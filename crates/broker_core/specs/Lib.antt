@@ -16,3 +16,4 @@ pub mod Listed
 pub mod Laws
 pub mod Sessions
 pub mod Headline
+pub mod RunHeadline

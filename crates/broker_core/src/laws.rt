@@ -2,6 +2,7 @@
 ghost use Rattle.broker_core.specs.Machine.{Primitives};
 ghost use Rattle.broker_core.specs.Headline.{DeploysExactly, ReleasesExactly, PermitsVerified};
 ghost use Rattle.broker_core.specs.Laws.{OnlyDoneChanges, OpeningIsSound, ContentsStay, GateLocality, GateAnswersOnce, Retry, SessionsCompose, RunsOnce, StepExists, StepOnce};
+ghost use Rattle.broker_core.specs.RunHeadline.{RunsDeployExactly, RunsReleaseExactly, TeamsStayApart, TeamsBeginApart};
 ghost use Rattle.broker_core.specs.Sessions.{SessionsRun};
 
 /// What the written machine takes from other crates.
@@ -17,6 +18,18 @@ pub fn headline<M: Machine>()
     ensures deployments { DeploysExactly M.primitives }
     ensures releases { ReleasesExactly M.primitives }
     ensures gate { PermitsVerified }
+{}
+
+/// The same of a whole list of requests. In each run of the machine, from a state in which no two
+/// teams have tokens with one digest, each deployment is recorded exactly when it may be in the state
+/// in which it comes; otherwise its answer names every failing or missing pair, or the denying rule,
+/// and nothing changes. So is each release. A new broker's state is such a state, and so is each that
+/// a run reaches.
+pub fn headline_of_run<M: Machine>()
+    ensures deployments { RunsDeployExactly M.primitives }
+    ensures releases { RunsReleaseExactly M.primitives }
+    ensures stays { TeamsStayApart M.primitives }
+    ensures begins { TeamsBeginApart }
 {}
 
 /// Only a step that is answered `Done` changes anything.
