@@ -8,6 +8,7 @@ mod Fixture
 mod PublicationExamples
 mod PolicyExamples
 mod RunExamples
+mod SessionExamples
 mod GateExamples
 mod StrictExamples
 mod ListingExamples

@@ -10,7 +10,7 @@ use Rattle.broker_core.specs.declared.answer.Clash.TheVariants.{Run}
 use Rattle.broker_core.specs.Text.{Text, version}
 use Rattle.broker_core.specs.State.{State, claimed_result}
 use Rattle.broker_core.specs.Change.{report}
-use Rattle.broker_core.proofs.Fixture.{blue_is_no_office, stock, Answers, blue_token, blue, one, two, first_file, path_of, published}
+use Rattle.broker_core.proofs.Fixture.{blue_is_no_office, stock, Answers, blue_token, blue, one, two, first_file, path_of, published, claims}
 
 abbrev pub run : Text
 run = codes "ci-7"
@@ -35,3 +35,6 @@ a_run_with_another_version_is_taken = (_, (Some (Team blue), (blue_is_no_office,
 
 a_run_with_other_evidence_is_taken : Answers with_run blue_token (PostReplies (path_of one) (by_run one) (codes "{}")) (Taken Run)
 a_run_with_other_evidence_is_taken = (_, (Some (Team blue), (blue_is_no_office, refl), (None, refl, (1, refl, (first_file, refl, (Some [], refl, refl))))), refl)
+
+a_result_without_a_run_counts_each_time : Answers (claims published one true) blue_token (PostResult (path_of one) (record { provider_version = one; run = None }) true) (Done (Result 2))
+a_result_without_a_run_counts_each_time = (_, (Some (Team blue), (blue_is_no_office, refl), (None, refl, (1, refl, refl))), refl)

@@ -11,8 +11,9 @@ use Rattle.broker_core.specs.declared.answer.Detail.TheVariants.{Plain, Result, 
 use Rattle.broker_core.specs.Text.{Text, version}
 use Rattle.broker_core.specs.State.{State, checked_result}
 use Rattle.broker_core.specs.Change.{put_environment, put_grant, put_pact, report, deploy}
+use Rattle.broker_core.specs.Machine.{Request, Run}
 use Rattle.broker_core.proofs.Judgement.{Rows, row_keys, judges}
-use Rattle.broker_core.proofs.Fixture.{blue_is_no_office, red_is_no_office, shop, stock, Answers, red_token, blue_token, red, blue, live, one, first_file, path_of, lacks, fixture, claims, pact_rows}
+use Rattle.broker_core.proofs.Fixture.{blue_is_no_office, red_is_no_office, simple_parts, shop, stock, Answers, red_token, blue_token, red, blue, live, one, first_file, path_of, lacks, fixture, claims, pact_rows}
 
 abbrev pub prod : Text
 prod = codes "prod"
@@ -64,3 +65,26 @@ a_later_claim_takes_the_place_of_a_check = (_, (Some (Team red), (red_is_no_offi
 
 a_claimed_failure_is_a_failure : Answers failed_later red_token (CanIDeploy (version shop one) prod) (Shown (shown.Gate prod strict false (lacks one (Some one) Failed ∷ [])))
 a_claimed_failure_is_a_failure = (_, (Some (Team red), (red_is_no_office, refl), (None, refl, (strict, refl, (false, lacks one (Some one) Failed ∷ [], judges failed_later (row_keys failed_later both_rows) (version shop one) prod, refl)))), refl)
+
+-- in a run: a claim isn't enough, the broker checks replies, and then it is
+abbrev pub deploys : Request
+deploys = record { token = Some red_token; command = Deploy prod (version shop one) None }
+
+abbrev pub sends_replies : Request
+sends_replies = record { token = Some blue_token; command = PostReplies (path_of one) (record { provider_version = one; run = None }) (codes "{}") }
+
+refused_then_recorded : Run simple_parts stock_in_both (deploys ∷ sends_replies ∷ deploys ∷ [])
+    (NotPermitted (lacks one (Some one) Claimed ∷ []) ∷ Done (Replies [] 2 true) ∷ Done Plain ∷ []) (deploy checked prod (version shop one) []).state
+refused_then_recorded = (
+  stock_in_both,
+  (Some (Team red), (red_is_no_office, refl), (None, refl, (false, lacks one (Some one) Claimed ∷ [], judges stock_in_both (row_keys stock_in_both both_rows) (version shop one) prod, refl))),
+  (
+    checked,
+    (Some (Team blue), (blue_is_no_office, refl), (None, refl, (1, refl, (first_file, refl, (Some [], refl, refl))))),
+    (
+      (deploy checked prod (version shop one) []).state,
+      (Some (Team red), (red_is_no_office, refl), (None, refl, (true, [], judges checked (row_keys checked both_rows) (version shop one) prod, refl))),
+      refl,
+    ),
+  ),
+)

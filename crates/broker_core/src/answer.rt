@@ -231,7 +231,7 @@ pub enum Answer {
     NotPermitted(Faults),
     /// A stored pact's pattern was refused.
     Pattern,
-    /// Wut of memory.
+    /// Out of memory.
     Memory,
     /// The store failed.
     Store,

@@ -1,0 +1,56 @@
+-- worked examples of sessions: one is stopped in a command, and the next one begins with that command again
+use Rattle.std.proofs.Common.{refl, inl, inr, List, [], ◌∷◌}
+use Rattle.std.specs.Prelude.{Some, None}
+use Rattle.broker_core.specs.declared.policy.Caller.TheVariants.{Team}
+use Rattle.broker_core.specs.declared.command.Command.TheVariants.{PutPact, PutVersion}
+use Rattle.broker_core.specs.declared.answer.Answer.{Answer}
+use Rattle.broker_core.specs.declared.answer.Answer.TheVariants.{Done, Already}
+use Rattle.broker_core.specs.declared.answer.Detail.TheVariants.{Plain, Content}
+use Rattle.broker_core.specs.Text.{version}
+use Rattle.broker_core.specs.State.{State}
+use Rattle.broker_core.specs.Change.{put_version}
+use Rattle.broker_core.specs.Machine.{Request, Run, Step}
+use Rattle.broker_core.specs.Machine.Reading.{IsPact}
+use Rattle.broker_core.specs.Laws.{Exit, LeavesSessions, ComeAgain, sessions_of, all_answered}
+use Rattle.broker_core.specs.Laws.Exit.{Stepped, WasCut}
+use Rattle.broker_core.proofs.Fixture.{red_is_no_office, simple_parts, shop, stock, red_token, red, one, two, first_file, path_of, fixture, published}
+
+-- red publishes the pact of shop 1, and then names shop 2
+abbrev pub publishes : Request
+publishes = record { token = Some red_token; command = PutPact (path_of one) first_file }
+
+abbrev pub names : Request
+names = record { token = Some red_token; command = PutVersion (version shop two) None }
+
+abbrev pub named_too : State
+named_too = (put_version published (version shop two) None).state
+
+-- the program is stopped as it names shop 2; in the next session red names it again, and is answered so
+abbrev pub asked_again : Answer → List (List (Request × Exit))
+asked_again answer = ((publishes, Stepped (Done (Content 1))) ∷ (names, WasCut) ∷ []) ∷ ((names, Stepped answer) ∷ []) ∷ []
+
+published_first : Step simple_parts fixture publishes.token publishes.command (record { answer = Done (Content 1); state = published })
+published_first = (Some (Team red), (red_is_no_office, refl), (None, (IsPact shop stock first_file, refl, refl), (first_file, refl, refl)))
+
+named_then : Step simple_parts published names.token names.command (record { answer = Done Plain; state = named_too })
+named_then = (Some (Team red), (red_is_no_office, refl), (None, refl, refl))
+
+named_already : Step simple_parts named_too names.token names.command (record { answer = Already Plain; state = named_too })
+named_already = (Some (Team red), (red_is_no_office, refl), (None, refl, refl))
+
+-- either the command had taken its step as the program was stopped
+a_cut_command_may_have_been_done : LeavesSessions simple_parts fixture (asked_again (Already Plain)) named_too
+a_cut_command_may_have_been_done =
+    (named_too, tt, (published, published_first, (named_too, inr (Done Plain, named_then), refl)), (named_too, tt, (named_too, named_already, refl), refl))
+
+-- or it had done nothing
+a_cut_command_may_have_done_nothing : LeavesSessions simple_parts fixture (asked_again (Done Plain)) named_too
+a_cut_command_may_have_done_nothing =
+    (published, tt, (published, published_first, (published, inl refl, refl)), (named_too, tt, (named_too, named_then, refl), refl))
+
+the_cut_command_comes_again : (answer : Answer) → ComeAgain (sessions_of (asked_again answer))
+the_cut_command_comes_again answer = ((([], refl), tt), (tt, tt))
+
+-- and both lead to the state of a run over the two commands, each once
+each_command_counts_once : (answer : Answer) → Run simple_parts fixture (all_answered (sessions_of (asked_again answer))) (Done (Content 1) ∷ Done Plain ∷ []) named_too
+each_command_counts_once answer = (published, published_first, (named_too, named_then, refl))
