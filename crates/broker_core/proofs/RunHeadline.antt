@@ -1,6 +1,5 @@
 -- each deployment and each release of a run is recorded exactly where it may be
 use Rattle.std.proofs.Common.{◌++◌, List, [], ◌∷◌, refl, ap}
-use Rattle.std.specs.Prelude.{Option}
 use Rattle.broker_core.specs.declared.command.Command.TheVariants.{Deploy, Release}
 use Rattle.broker_core.specs.declared.answer.Answer.{Answer}
 use Rattle.broker_core.specs.State.{State}

@@ -1,2 +1,3 @@
 mod QueryLemmas
 mod TargetLemmas
+mod OneRequest

@@ -5,3 +5,4 @@ pub mod Commands
 pub mod Tokens
 pub mod Views
 pub mod Requests
+pub mod Laws

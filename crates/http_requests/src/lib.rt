@@ -3,6 +3,7 @@
 
 mod bodies;
 mod commands;
+pub mod laws;
 mod names;
 mod queries;
 mod requests;
