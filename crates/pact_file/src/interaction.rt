@@ -9,7 +9,7 @@ ghost use Rattle.pact_file.specs.declared.fault.PactFault.TheVariants.{Memory, S
 ghost use Rattle.pact_file.specs.Headers.{HasHeaders};
 ghost use Rattle.pact_file.specs.Interactions.{at, parts_at};
 ghost use Rattle.pact_file.specs.Normal.{InteractionRead};
-ghost use Rattle.pact_rules.specs.Outcome.{Gives};
+ghost use Rattle.pact_rules.specs.Outcome.{Gives, GivesAlways};
 ghost use Rattle.pact_file.specs.Pact.{interaction_data};
 ghost use Rattle.pact_file.specs.Parts.{text_at, object_at, states_in as states_at, status_in as status_found, body_in};
 ghost use Rattle.pact_rules.specs.Reading.{GivesOne};
@@ -38,7 +38,7 @@ struct Parts<'a> {
 }
 
 pub(crate) fn text_in<'a>(value: &'a Value, key: &str, place: Place) -> Result<&'a str, PactFault>
-    ensures { Gives Memory (λ s. s.now) result
+    ensures { GivesAlways (λ s. s.now) result
         (ok_or (text_at key.now (view value.now)) (Shape place)) }
 {
     text_member(value, key).ok_or(PactFault::Shape(place))
@@ -49,7 +49,7 @@ pub(crate) fn object_in<'a>(
     key: &str,
     place: Place,
 ) -> Result<&'a Value, PactFault>
-    ensures { Gives Memory (λ v. view v.now) result
+    ensures { GivesAlways (λ v. view v.now) result
         (ok_or (object_at key.now (view value.now)) (Shape place)) }
 {
     object_member(value, key).ok_or(PactFault::Shape(place))
@@ -63,7 +63,7 @@ fn states_in(alloc: Global, value: &Value, place: Place) -> Result<Vec<State>, P
 }
 
 fn status_in(response: &Value, place: Place) -> Result<u16, PactFault>
-    ensures { Gives Memory (λ n. n) result
+    ensures { GivesAlways (λ n. n) result
         (ok_or (status_found (view response.now)) (Shape place)) }
 {
     status_of(response).ok_or(PactFault::Shape(place))

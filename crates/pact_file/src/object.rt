@@ -50,7 +50,7 @@ fn check_file(value: &Value) -> Result<(), FileFault>
 }
 
 /// Reads bytes that are one JSON object in UTF-8, as a pact file and a file of replies are. The fault is the first
-/// one in the order of `FileFault`'s variants, and `Memory` comes only where no memory is left.
+/// one in the order of `FileFault`'s variants, and memory may run out in its place.
 #[tactic(auto, unfolding(crate::specs::Objects::object_of))]
 pub fn read_object(alloc: Global, bytes: &[u8]) -> Result<Value, FileFault>
     ensures { Gives Memory view result (object_of bytes.now) }

@@ -1,16 +1,16 @@
 //! Reading a pact file.
 
-ghost use Rattle.std.specs.Prelude.{◌≡◌, map, option_map, nat_le};
+ghost use Rattle.std.specs.Prelude.{◌≡◌, ◌<◌, ◌≤◌, Err, length, map, option_map, nat_le};
 ghost use Rattle.std.specs.Option.{ok_or};
 ghost use Rattle.serde_json.specs.Events.{items_len};
 ghost use Rattle.serde_json.specs.View.{view, items_view};
-ghost use Rattle.pact_file.specs.declared.fault.PactFault.TheVariants.{Memory, Shape};
-ghost use Rattle.pact_file.specs.File.{most_interactions, as_file_fault, file_of, is_3, version_under, is_version_3};
+ghost use Rattle.pact_file.specs.declared.fault.PactFault.TheVariants.{Memory, Shape, TooLong};
+ghost use Rattle.pact_file.specs.File.{most_bytes, most_interactions, as_file_fault, file_of, is_3, version_under, is_version_3};
 ghost use Rattle.pact_file.specs.File.{holds_nothing, has_no_messages, are_printable, is_name as is_name_of, side_of};
 ghost use Rattle.pact_file.specs.File.{sides_of, items_of};
 ghost use Rattle.pact_file.specs.Parts.{list_at};
 ghost use Rattle.pact_file.specs.Normal.{InteractionRead, InteractionsRead, Normal};
-ghost use Rattle.pact_rules.specs.Outcome.{Gives};
+ghost use Rattle.pact_rules.specs.Outcome.{Gives, GivesAlways};
 ghost use Rattle.pact_rules.specs.Reading.{EachRead, GivesOne};
 ghost use Rattle.pact_file.specs.Sound.{IsSound, AreSound};
 
@@ -43,11 +43,9 @@ fn file_fault(fault: FileFault) -> PactFault
 
 #[tactic(auto, unfolding(crate::specs::File::file_of), using(crate::proofs::Objects::fault_as))]
 fn read_file(alloc: Global, bytes: &[u8]) -> Result<Value, PactFault>
+    requires { length bytes.now ≤ most_bytes }
     ensures { Gives Memory view result (file_of bytes.now) }
 {
-    if bytes.len() > MOST_BYTES {
-        return Err(PactFault::TooLong);
-    }
     match read_object(alloc, bytes) {
         Ok(file) => Ok(file),
         Err(fault) => Err(file_fault(fault)),
@@ -129,7 +127,7 @@ fn read_side<'a>(
     side: Place,
     its_name: Place,
 ) -> Result<&'a str, PactFault>
-    ensures { Gives Memory (λ s. s.now) result (side_of key.now side its_name (view file.now)) }
+    ensures { GivesAlways (λ s. s.now) result (side_of key.now side its_name (view file.now)) }
 {
     let found = object_in(file, key, side)?;
     let name = text_in(found, "name", its_name)?;
@@ -141,7 +139,7 @@ fn read_side<'a>(
 
 #[tactic(auto, unfolding(crate::specs::File::sides_of))]
 fn read_sides(file: &Value) -> Result<(&str, &str), PactFault>
-    ensures { Gives Memory (λ x. (x.0.now, x.1.now)) result (sides_of (view file.now)) }
+    ensures { GivesAlways (λ x. (x.0.now, x.1.now)) result (sides_of (view file.now)) }
 {
     if !has_version_3(file) {
         return Err(PactFault::Version);
@@ -171,7 +169,7 @@ fn read_list(alloc: Global, items: &[Value]) -> Result<Vec<Interaction>, PactFau
 }
 
 fn array_of<'a>(value: &'a Value, key: &str, place: Place) -> Result<&'a Vec<Value>, PactFault>
-    ensures { Gives Memory (λ v. items_view v.now.items) result
+    ensures { GivesAlways (λ v. items_view v.now.items) result
         (ok_or (list_at key.now (view value.now)) (Shape place)) }
 {
     list_member(value, key).ok_or(PactFault::Shape(place))
@@ -186,7 +184,7 @@ fn is_few(items: &Vec<Value>) -> bool
 /// The values that stand as interactions.
 #[tactic(auto, using(crate::proofs::Lists::listed_view), unfolding(crate::specs::File::items_of))]
 fn items_in(file: &Value) -> Result<&Vec<Value>, PactFault>
-    ensures { Gives Memory (λ v. map view v.now.items) result (items_of (view file.now)) }
+    ensures { GivesAlways (λ v. map view v.now.items) result (items_of (view file.now)) }
 {
     let items = array_of(file, "interactions", Place::Interactions)?;
     if !is_few(items) {
@@ -207,9 +205,21 @@ fn read_interactions(alloc: Global, file: &Value) -> Result<Vec<Interaction>, Pa
 /// Reads a pact file (Pact Specification, version 3) to its normal pact: metadata and all other further keys are
 /// dropped, equal interactions are kept once, and they stand in the order of their descriptions, then of the compact
 /// texts of their states. The bytes are any. Each fault is the first one in the order of `PactFault`'s documentation,
-/// but that at a text under `regex` in matching rules the pattern may be refused. `Memory` comes only where no memory
-/// is left.
+/// but that at a text under `regex` in matching rules the pattern may be refused, and that memory may run out in its
+/// place, though not in that of `TooLong` for the bytes.
 pub fn read_pact(alloc: Global, bytes: &[u8]) -> Result<Pact, PactFault>
+    ensures reading { GivesOne Memory (λ p. p) result (Normal bytes.now) }
+    ensures long { most_bytes < length bytes.now → result ≡ Err TooLong }
+{
+    if bytes.len() > MOST_BYTES {
+        return Err(PactFault::TooLong);
+    }
+    read_short(alloc, bytes)
+}
+
+/// The normal pact of a file that is not too long.
+fn read_short(alloc: Global, bytes: &[u8]) -> Result<Pact, PactFault>
+    requires { length bytes.now ≤ most_bytes }
     ensures { GivesOne Memory (λ p. p) result (Normal bytes.now) }
 {
     let file = read_file(alloc, bytes)?;

@@ -1,5 +1,5 @@
 -- Each text has one reading, and `path_in` computes it.
-use Rattle.std.proofs.Common.{◌≡◌, ◌≢◌, ◌⊎◌, inl, inr, ℕ, zero, suc, ◌+◌, ◌-◌, ◌<◌, ◌≤◌, Bool, true, false, List, [], ◌∷◌, ◌++◌, length, take, Option, Some, None, Result, Ok, Err, refl, sym, ap, ap₂, ◌∙◌, subst, arith, true≢false, length-append, append_assoc, append-nil, ne_eqb, take_at, IfOk}
+use Rattle.std.proofs.Common.{◌≡◌, ◌≢◌, ◌⊎◌, ◌↔◌, inl, inr, ⊎_elim, ℕ, zero, suc, ◌+◌, ◌-◌, ◌<◌, ◌≤◌, Bool, true, false, List, [], ◌∷◌, ◌++◌, length, take, Option, Some, None, Result, Ok, Err, refl, sym, ap, ap₂, ◌∙◌, subst, arith, true≢false, length-append, append_assoc, append-nil, ne_eqb, take_at, IfOk}
 use Rattle.std.specs.List.{flat_map}
 use Rattle.std.proofs.lemmas.Option.{none-some, some_pair_parts}
 use Rattle.std.proofs.lemmas.List.{nil_from_length}
@@ -302,6 +302,13 @@ outcome text (Err NoRoot) h = inr (let P : Result (List Token) PathFault → Typ
 outcome text (Err (BadToken offset)) h = inr (let P : Result (List Token) PathFault → Type 0 = IsTheReading text in subst P (h (λ e. cc)) (path_in_is text))
 outcome text (Err TooManyTokens) h = inr (let P : Result (List Token) PathFault → Type 0 = IsTheReading text in subst P (h (λ e. cc)) (path_in_is text))
 outcome text (Err Memory) h = inl refl
+
+-- a text with a root in front isn't read as one that lacks it
+pub has_root : (text rest : List ℕ) (r : Result (List Token) PathFault) → behind 36 text ≡ Some rest → Gives Memory (λ p. p) r (path_in text) → (r ≡ Err NoRoot) ↔ IsReading text (Err NoRoot)
+has_root text rest r e gives = (
+  λ lacks. let P : Result (List Token) PathFault → Type 0 = IsReading text in ⊎_elim (λ m. let clash : Err NoRoot ≡ Err Memory = sym lacks ∙ m in absurd cc) (λ reads. subst P lacks reads.0) (outcome text r gives),
+  λ none. absurd (none rest (behind_some 36 text rest e)),
+)
 
 -- ---- the canonical text
 

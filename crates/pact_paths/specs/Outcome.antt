@@ -5,3 +5,8 @@ use Rattle.std.specs.Prelude.{◌≡◌, Result, Ok, Err}
 abbrev pub Gives : {X Y F : Type 0} → F → (X → Y) → Result X F → Result Y F → Type 0
 Gives memory view (Ok x) read = read ≡ Ok (view x)
 Gives memory view (Err e) read = ¬ (e ≡ memory) → read ≡ Err e
+
+-- What a function that takes no memory returned, seen by view, is what reading gives.
+abbrev pub GivesAlways : {X Y F : Type 0} → (X → Y) → Result X F → Result Y F → Type 0
+GivesAlways view (Ok x) read = read ≡ Ok (view x)
+GivesAlways view (Err e) read = read ≡ Err e

@@ -1,6 +1,6 @@
 //! Reading a path expression, from left to right.
 
-ghost use Rattle.std.specs.Prelude.{◌≡◌, ◌⊎◌, ◌<◌, IsTrue, ◌≤◌, IfOk, option_map, length, map, IsCharBoundary};
+ghost use Rattle.std.specs.Prelude.{◌≡◌, ◌⊎◌, ◌↔◌, ◌<◌, IsTrue, ◌≤◌, IfOk, option_map, length, map, IsCharBoundary};
 ghost use Rattle.std.specs.Prelude.{IfSome, Some, None, if◌then◌else◌};
 ghost use Rattle.std.specs.List.{position_or_len};
 ghost use Rattle.pact_paths.specs.TokenView.{token_view};
@@ -10,9 +10,9 @@ ghost use Rattle.pact_paths.specs.PathReading.{plain as plain_in, quoted as quot
 ghost use Rattle.pact_paths.specs.PathReading.{behind as behind_of, cut as cut_of, closed_star as closed_star_in};
 ghost use Rattle.pact_paths.specs.PathReading.{tokens_in, path_in, with_all};
 ghost use Rattle.pact_paths.specs.Outcome.{Gives};
-ghost use Rattle.pact_paths.specs.Readings.{IsTheReading};
+ghost use Rattle.pact_paths.specs.Readings.{IsReading, IsTheReading};
 ghost use Rattle.pact_paths.specs.Paths.{named, indexed, any};
-ghost use Rattle.pact_paths.specs.declared.path_reader.PathFault.TheVariants.{Memory};
+ghost use Rattle.pact_paths.specs.declared.path_reader.PathFault.TheVariants.{Memory, NoRoot};
 ghost use Rattle.std.specs.Str.Parse.{digits_value};
 ghost use Rattle.std.specs.Str.{all_ascii_digits};
 
@@ -67,6 +67,9 @@ impl Path {
 
         // The same, computed.
         ensures computed { Gives Memory (λ p. p) result (path_in text.now) }
+
+        // A missing root is found before any memory is taken.
+        ensures rootless { (result ≡ Err NoRoot) ↔ IsReading text.now (Err NoRoot) }
     {
         let Some(rest) = behind(text, '$') else {
             return Err(PathFault::NoRoot);

@@ -1,5 +1,5 @@
 //! Comparison of recorded replies with a stored pact.
-ghost use Rattle.std.specs.Prelude.{◌≡◌, ℕ, List, false, Ok, Err, IfOk, IsTrue};
+ghost use Rattle.std.specs.Prelude.{◌≡◌, ℕ, List, false, Ok, Err, IfOk, IfErr, IsTrue};
 ghost use Rattle.pact_file.specs.Normal.{Normal};
 ghost use Rattle.reply_check.specs.Recorded.{Reply};
 ghost use Rattle.pact_reading.specs.Readings.{TellsRefusal, Tells};
@@ -58,6 +58,7 @@ fn is_refusal(fault: &PactFault) -> bool
 #[tactic(auto, using(crate::proofs::Refusals::no_pact, crate::proofs::Refusals::told_pattern))]
 fn unread(fault: &PactFault) -> Result<Comparison, AllocError>
     ensures other { IfOk result (λ _. ¬ (fault.now ≡ PactFault.Memory)) }
+    ensures memory { IfErr result (λ _. fault.now ≡ PactFault.Memory) }
     ensures told { IfOk result (λ told. (text : List ℕ) (replies : List Reply) → Normal text (Err fault.now)
         → Tells text replies told) }
 {

@@ -181,6 +181,13 @@ module _ (accepts : List ℕ → Bool) where
     guarded ← guard (not (has_old_key fs)) OldRules
     categories_at no_rules fs
 
+-- what is looked at first, before any memory is taken: a table is an object without keys of version 2
+abbrev pub members_in : Node → Result Fields RuleFault
+members_in tree = do
+  fs ← ok_or (as_object tree) Form
+  guarded ← guard (not (has_old_key fs)) OldRules
+  Ok fs
+
 -- no pattern is accepted
 abbrev pub no_pattern : List ℕ → Bool
 no_pattern source = false

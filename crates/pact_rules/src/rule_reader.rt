@@ -1,6 +1,6 @@
 //! Reading an entry of a table: its matchers, and how they are combined.
 
-ghost use Rattle.std.specs.Prelude.{◌≡◌, map, Err, option_map, codes, IfOk, IfErr, true, nat_eq};
+ghost use Rattle.std.specs.Prelude.{◌≡◌, ◌≢◌, map, Err, option_map, codes, IfOk, IfErr, true, nat_eq};
 ghost use Rattle.pact_rules.specs.TreeView.{tree_view, optional_view, list_view, object_view};
 ghost use Rattle.pact_rules.specs.Matching.{kind, get_field, is_pattern};
 ghost use Rattle.pact_rules.specs.RuleViews.{matcher_view, entry_view};
@@ -8,7 +8,7 @@ ghost use Rattle.pact_rules.specs.RuleReading.{Reads, optional_at, as_text, boun
 ghost use Rattle.pact_rules.specs.RuleReading.{combine_of as combine_in, pattern_at, same_type_at, nameless_matcher};
 ghost use Rattle.pact_rules.specs.RuleReading.{named_matcher, matcher_at, matchers_at, as_object, as_list, entry_at};
 ghost use Rattle.pact_rules.specs.RuleReading.{include_at};
-ghost use Rattle.pact_rules.specs.declared.rule_fault.RuleFault.TheVariants.{Unsupported};
+ghost use Rattle.pact_rules.specs.declared.rule_fault.RuleFault.TheVariants.{Memory, Unsupported};
 
 use crate::patterns::Patterns;
 use crate::rule_fault::{RuleFault, Word};
@@ -55,7 +55,8 @@ fn text_of(tree: Option<&Tree>) -> Option<&str>
 
 /// A bound is absent, or a whole number of at least 0.
 fn bound(tree: Option<&Tree>) -> Result<Option<u128>, RuleFault>
-    ensures { Reads (λ n. n) result (λ accepts. bound_of (optional_view tree.entry)) }
+    ensures reading { Reads (λ n. n) result (λ accepts. bound_of (optional_view tree.entry)) }
+    ensures never { IfErr result (λ e. e ≢ Memory) }
 {
     match tree {
         None => Ok(None),
@@ -65,7 +66,8 @@ fn bound(tree: Option<&Tree>) -> Result<Option<u128>, RuleFault>
 }
 
 fn combine_of(tree: Option<&Tree>) -> Result<bool, RuleFault>
-    ensures { Reads (λ b. b) result (λ accepts. combine_in accepts (optional_view tree.entry)) }
+    ensures reading { Reads (λ b. b) result (λ accepts. combine_in accepts (optional_view tree.entry)) }
+    ensures never { IfErr result (λ e. e ≢ Memory) }
 {
     match tree {
         None => Ok(false),
@@ -76,8 +78,9 @@ fn combine_of(tree: Option<&Tree>) -> Result<bool, RuleFault>
 }
 
 fn same_type_of(members: &BTreeMap<String, Tree>) -> Result<Matcher, RuleFault>
-    ensures { Reads matcher_view result
+    ensures reading { Reads matcher_view result
         (λ accepts. same_type_at accepts (object_view members.now.entries)) }
+    ensures never { IfErr result (λ e. e ≢ Memory) }
 {
     let min = bound(optional_member(members, "min"))?;
     let max = bound(optional_member(members, "max"))?;

@@ -6,10 +6,11 @@ ghost use Rattle.pact_rules.specs.TreeView.{tree_view, object_view};
 ghost use Rattle.pact_rules.specs.Rules.{rule_text, name_key, has_effect, no_rules, IsOrderedBy};
 ghost use Rattle.pact_rules.specs.RuleViews.{rule_view, header_view, body_rules, header_rules};
 ghost use Rattle.pact_rules.specs.RuleReading.{IsReading, Reads, path_at, body_rule_at, header_rule_at};
-ghost use Rattle.pact_rules.specs.RuleReading.{has_old_key as has_old_key_of};
+ghost use Rattle.pact_rules.specs.RuleReading.{has_old_key as has_old_key_of, members_in};
 ghost use Rattle.pact_rules.specs.OrderedReading.{IsKeyedBy, ordered_body, ordered_headers, ordered_body_in};
 ghost use Rattle.pact_rules.specs.OrderedReading.{ordered_headers_in, ordered_category, ordered_categories};
 ghost use Rattle.pact_rules.specs.OrderedReading.{ordered_found};
+ghost use Rattle.pact_rules.specs.declared.rule_fault.RuleFault.{RuleFault as RuleFaultModel};
 ghost use Rattle.pact_rules.specs.declared.rule_fault.RuleFault.TheVariants.{Memory};
 
 use crate::patterns::Patterns;
@@ -265,7 +266,8 @@ fn categories(
 }
 
 fn found_in(alloc: Global, patterns: &mut Patterns, tree: &Tree) -> Result<Found, RuleFault>
-    ensures { Reads (λ f. f) result (λ accepts. ordered_found accepts (tree_view tree.now)) }
+    ensures reading { Reads (λ f. f) result (λ accepts. ordered_found accepts (tree_view tree.now)) }
+    ensures first { (e : RuleFaultModel) → members_in (tree_view tree.now) ≡ Err e → result ≡ Err e }
 {
     let Some(members) = object_of(tree) else {
         return Err(RuleFault::Form);
@@ -319,12 +321,13 @@ impl RuleTable {
     /// `header`, whose keys are header names (Pact Specification, version 3); `path` and `query` are kept as data by
     /// the caller. The fault is the first one: the table's form, rules of version 2, then categories and entries in
     /// order of their keys, of an entry its path, the same path twice, its form, `combine`, and its matchers in turn.
-    /// `Memory` comes where no memory is left, and for no other cause, and `Pattern` also where the crate `regex`
-    /// refuses a pattern that its grammar reads.
+    /// Memory may run out in its place, but not in that of the first two, and `Pattern` comes also where the crate
+    /// `regex` refuses a pattern that its grammar reads.
     pub fn read(alloc: Global, tree: &Tree) -> Result<RuleTable, RuleFault>
-        ensures { MatchResult result
+        ensures reading { MatchResult result
             (λ t. IsReading (tree_view tree.now) (Ok t))
             (λ e. ¬ (e ≡ Memory) → IsReading (tree_view tree.now) (Err e)) }
+        ensures first { (e : RuleFaultModel) → members_in (tree_view tree.now) ≡ Err e → result ≡ Err e }
     {
         let mut patterns = Patterns::new(alloc);
         RuleTable::read_with(alloc, &mut patterns, tree)
@@ -336,9 +339,10 @@ impl RuleTable {
         patterns: &mut Patterns,
         tree: &Tree,
     ) -> Result<RuleTable, RuleFault>
-        ensures { MatchResult result
+        ensures reading { MatchResult result
             (λ t. IsReading (tree_view tree.now) (Ok t))
             (λ e. ¬ (e ≡ Memory) → IsReading (tree_view tree.now) (Err e)) }
+        ensures first { (e : RuleFaultModel) → members_in (tree_view tree.now) ≡ Err e → result ≡ Err e }
     {
         let Found { body, headers } = found_in(alloc, patterns, tree)?;
         let body = effective_body(alloc, body)?;

@@ -1,6 +1,6 @@
 //! JSON values without fractions.
 
-ghost use Rattle.std.specs.Prelude.{◌≡◌, IfOk};
+ghost use Rattle.std.specs.Prelude.{◌≡◌, ◌↔◌, ◌<◌, Err, IfOk};
 ghost use Rattle.std.specs.Prelude.{nat_le};
 ghost use Rattle.serde_json.specs.Data.{depth, items_depth, members_depth};
 ghost use Rattle.serde_json.specs.Written.{has_float, items_have_float, members_have_float};
@@ -10,8 +10,8 @@ ghost use Rattle.pact_rules.specs.Kept.{IsKept};
 ghost use Rattle.pact_rules.specs.Trees.{IsTree};
 ghost use Rattle.pact_rules.specs.TreeReading.{whole_or, whole_tree, whole_items, whole_members, whole_number};
 ghost use Rattle.pact_rules.specs.TreeReading.{tree_in, checked, data_of};
-ghost use Rattle.pact_rules.specs.Outcome.{Gives};
-ghost use Rattle.pact_rules.specs.declared.tree.TreeFault.TheVariants.{Memory};
+ghost use Rattle.pact_rules.specs.Outcome.{Gives, GivesAlways};
+ghost use Rattle.pact_rules.specs.declared.tree.TreeFault.TheVariants.{Memory, TooDeep};
 
 use serde_json::{Map, Number, Value};
 use std::alloc::{AllocError, AllocFailed, Global};
@@ -67,12 +67,13 @@ impl<T: Drop> From<AllocFailed<T>> for TreeFault {
 const MAX_DEPTH: usize = 100;
 
 /// The tree that a value is. `TooDeep` is looked at first, for the whole value, and then `NotWhole`; a scalar has
-/// depth 0, a list or object one more than its deepest member, 1 if empty. `Memory` comes where no memory is left,
-/// and for no other cause. The tree of a value that was read from a text (`IsKept`) is that value again, and each of
+/// depth 0, a list or object one more than its deepest member, 1 if empty. Memory may run out in its place, but not in
+/// that of `TooDeep`. The tree of a value that was read from a text (`IsKept`) is that value again, and each of
 /// its objects has its keys in order, each once.
 #[tactic(auto, using(crate::proofs::Bridge::kept_tree))]
 pub fn tree_of(alloc: Global, value: &Value) -> Result<Tree, TreeFault>
     ensures tree { Gives Memory tree_view result (tree_in (view value.now)) }
+    ensures deep { (result ≡ Err TooDeep) ↔ (100 < depth (view value.now)) }
     ensures back { IsKept (view value.now)
         → IfOk result (λ t. IsTree (tree_view t) × (data_of (tree_view t) ≡ view value.now)) }
 {
@@ -184,7 +185,7 @@ fn convert(alloc: Global, value: &Value) -> Result<Tree, TreeFault>
 }
 
 fn whole_number(number: Number) -> Result<Tree, TreeFault>
-    ensures { Gives Memory tree_view result (whole_or (whole_number (number_view number))) }
+    ensures { GivesAlways tree_view result (whole_or (whole_number (number_view number))) }
 {
     match number.as_i128() {
         Some(n) => Ok(Tree::Whole(n)),

@@ -7,7 +7,7 @@ use Rattle.pact_file.specs.Pact.{Interaction}
 use Rattle.pact_rules.specs.Lists.{OneOf, IsIn}
 use Rattle.reply_check.specs.Meeting.{HasPattern}
 use Rattle.reply_check.specs.Recorded.{Reply}
-use Rattle.reply_check.specs.Verdicts.{BelongsTo, IsKnown, AreKnown, Passes, Fails, IsAscending, AreFailing, UsesPattern}
+use Rattle.reply_check.specs.Verdicts.{BelongsTo, IsKnown, AreKnown, IsFirstUnknown, Passes, Fails, IsAscending, AreFailing, UsesPattern}
 use Rattle.reply_check.proofs.Deciding.{by_test}
 
 -- ---- indices
@@ -114,6 +114,26 @@ known_all interactions (r ∷ rs) h = (h 0 r refl, known_all interactions rs (λ
 
 pub all_known : (interactions : List Interaction) (replies : List Reply) (n : ℕ) → n ≡ length replies → ((j : ℕ) (r : Reply) → j < n → slice_get replies j ≡ Some r → IsKnown interactions r) → AreKnown interactions replies
 all_known interactions replies n all before = known_all interactions replies (λ j r is. before j r (subst (λ k. j < k) (sym all) (within replies j r is (either j (length replies)))) is)
+
+-- ---- the first that is unknown
+
+module _ (interactions : List Interaction) (replies : List Reply) where
+  -- there is one first
+  pub only_first : (i j : ℕ) → IsFirstUnknown interactions replies i → IsFirstUnknown interactions replies j → i ≡ j
+  only_first i j h k = by_order (either i j) (either j i) where
+    by_order : (i < j) ⊎ (j ≤ i) → (j < i) ⊎ (i ≤ j) → i ≡ j
+    by_order (inl l) o = absurd (h.unknown (k.first i h.reply l h.stands))
+    by_order (inr p) (inl l) = absurd (k.unknown (h.first j k.reply l k.stands))
+    by_order (inr p) (inr q) = omega arith
+
+known_at : (interactions : List Interaction) (replies : List Reply) (i : ℕ) (r : Reply) → AreKnown interactions replies → slice_get replies i ≡ Some r → IsKnown interactions r
+known_at interactions [] i r all h = absurd cc
+known_at interactions (q ∷ replies) zero r all h = subst (IsKnown interactions) (same_Some _ _ h) all.0
+known_at interactions (q ∷ replies) (suc i) r all h = known_at interactions replies i r all.1 h
+
+-- and none where each is known
+pub none_first : (interactions : List Interaction) (replies : List Reply) (i : ℕ) → AreKnown interactions replies → ¬ IsFirstUnknown interactions replies i
+none_first interactions replies i all first = first.unknown (known_at interactions replies i first.reply all first.stands)
 
 -- ---- what stands at a index
 

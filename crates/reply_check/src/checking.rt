@@ -1,6 +1,6 @@
 //! Which interactions of a pact fail by recorded replies.
 
-ghost use Rattle.std.specs.Prelude.{◌≡◌, ◌↔◌, ℕ, [], IfOk, IfErr, IsTrue, MatchOption};
+ghost use Rattle.std.specs.Prelude.{◌≡◌, ◌↔◌, ℕ, [], Err, IfOk, IfErr, IsTrue, MatchOption};
 ghost use Rattle.pact_rules.specs.Lists.{OneOf};
 ghost use Rattle.pact_rules.specs.declared.matching.MatchFault.TheVariants.{Pattern};
 ghost use Rattle.reply_check.specs.declared.fault.CheckFault.TheVariants as fault;
@@ -56,13 +56,17 @@ impl Verdict {
 
 /// Checks recorded replies against a pact. An interaction fails where it has no reply or its reply doesn't meet it:
 /// the status is equal, each expected header was sent with a value that fits, and the body meets the expected one.
-/// `UnknownInteraction` is looked at first; `Pattern` comes only where an interaction that has a reply has a pattern
-/// that is refused, and `Memory` only where no memory is left. (This project's own choice.)
+/// `UnknownInteraction` is looked at first, before any memory is taken; `Pattern` comes only where an interaction that
+/// has a reply has a pattern that is refused, and memory may run out in its place and in that of a verdict. (This
+/// project's own choice.)
+#[tactic(auto, using(crate::proofs::VerdictLemmas::only_first, crate::proofs::VerdictLemmas::none_first))]
 pub fn check(alloc: Global, pact: &Pact, replies: &Replies) -> Result<Verdict, CheckFault>
     ensures verdict { IfOk result (λ v. AreKnown pact.now.interactions replies.now
         × AreFailing pact.now.interactions replies.now v) }
     ensures unknown { IfErr result (λ e. (i : ℕ) → e ≡ fault.UnknownInteraction i
         → IsFirstUnknown pact.now.interactions replies.now i) }
+    ensures first { (i : ℕ) → IsFirstUnknown pact.now.interactions replies.now i
+        → result ≡ Err (fault.UnknownInteraction i) }
     ensures pattern { IfErr result (λ e. e ≡ fault.Pattern
         → AreKnown pact.now.interactions replies.now
         × UsesPattern pact.now.interactions replies.now) }

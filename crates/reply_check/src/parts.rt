@@ -4,7 +4,7 @@ ghost use Rattle.std.specs.Prelude.{◌≡◌, Some, IfOk};
 ghost use Rattle.std.specs.Option.{ok_or};
 ghost use Rattle.serde_json.specs.View.{view};
 ghost use Rattle.pact_file.specs.Headers.{HasHeaders};
-ghost use Rattle.pact_rules.specs.Outcome.{Gives};
+ghost use Rattle.pact_rules.specs.Outcome.{Gives, GivesAlways};
 ghost use Rattle.pact_file.specs.Parts.{text_at, object_at, states_in as states_at};
 ghost use Rattle.pact_file.specs.Pact.{states_data};
 ghost use Rattle.pact_file.specs.Sound.{IsSound};
@@ -34,14 +34,14 @@ struct Parts<'a> {
 }
 
 fn text_in<'a>(value: &'a Value, key: &str, place: Place) -> Result<&'a str, RepliesFault>
-    ensures { Gives Memory (λ s. s.now) result
+    ensures { GivesAlways (λ s. s.now) result
         (ok_or (text_at key.now (view value.now)) (Shape place)) }
 {
     text_member(value, key).ok_or(RepliesFault::Shape(place))
 }
 
 fn object_in<'a>(value: &'a Value, key: &str, place: Place) -> Result<&'a Value, RepliesFault>
-    ensures { Gives Memory (λ v. view v.now) result
+    ensures { GivesAlways (λ v. view v.now) result
         (ok_or (object_at key.now (view value.now)) (Shape place)) }
 {
     object_member(value, key).ok_or(RepliesFault::Shape(place))
@@ -62,7 +62,7 @@ fn status_of(response: &Value) -> Option<u16>
 }
 
 fn status_in(response: &Value, place: Place) -> Result<u16, RepliesFault>
-    ensures { Gives Memory (λ n. n) result
+    ensures { GivesAlways (λ n. n) result
         (ok_or (status_sent (view response.now)) (Shape place)) }
 {
     status_of(response).ok_or(RepliesFault::Shape(place))

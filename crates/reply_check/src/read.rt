@@ -2,7 +2,7 @@
 
 ghost use Rattle.std.specs.Prelude.{◌≡◌, ◌↔◌, map, IfOk, IsTrue};
 ghost use Rattle.serde_json.specs.View.{view, items_view};
-ghost use Rattle.pact_rules.specs.Outcome.{Gives};
+ghost use Rattle.pact_rules.specs.Outcome.{Gives, GivesAlways};
 ghost use Rattle.pact_file.specs.Sound.{AreSound};
 ghost use Rattle.reply_check.specs.declared.fault.RepliesFault.TheVariants.{Memory};
 ghost use Rattle.pact_rules.specs.Reading.{EachRead, GivesOne};
@@ -42,7 +42,7 @@ fn read_file(alloc: Global, bytes: &[u8]) -> Result<Value, RepliesFault>
 /// The values that stand as replies.
 #[tactic(auto, using(pact_file::proofs::Lists::listed_view), unfolding(crate::specs::ReplyParts::items_of))]
 fn items_in(file: &Value) -> Result<&Vec<Value>, RepliesFault>
-    ensures { Gives Memory (λ v. map view v.now.items) result (items_of (view file.now)) }
+    ensures { GivesAlways (λ v. map view v.now.items) result (items_of (view file.now)) }
 {
     list_member(file, "replies").ok_or(RepliesFault::Shape(Place::Replies))
 }
@@ -74,7 +74,7 @@ fn have_rivals(alloc: Global, replies: &[Reply]) -> Result<bool, AllocError>
 /// Reads recorded replies: an object whose `replies` is a list, each with a text `description`, provider states as in
 /// a pact file, and an object `response` with a `status` from 100 to 999, headers as in a pact file and an optional
 /// `body`. No two have one description and one list of states. The bytes are any. Each fault is the first one in the
-/// order of `RepliesFault`'s documentation. `Memory` comes only where no memory is left. (This project's own choice.)
+/// order of `RepliesFault`'s documentation, and memory may run out in its place. (This project's own choice.)
 pub fn read_replies(alloc: Global, bytes: &[u8]) -> Result<Replies, RepliesFault>
     ensures { GivesOne Memory (λ r. r) result (RepliesRead bytes.now) }
 {

@@ -17,15 +17,15 @@ part_of-requires c = of_optional 96 (codes "matchingRules") (view c.args.respons
 
 pub returns-in-Ok-clause-read : goal.returns-in-Ok-clause-read
 returns-in-Ok-clause-read c =
-    rules_some c.args.index (view c.args.response.now) (view c.in-Some.rules.now) (tree_view c.in_ok-tree-in-Some.tree) (Ok c.in-Ok.table) c.in-Some.ensures c.in_ok-tree-in-Some.ensures c.in-Ok.ensures
+    rules_some c.args.index (view c.args.response.now) (view c.in-Some.rules.now) (tree_view c.in_ok-tree-in-Some.tree) (Ok c.in-Ok.table) c.in-Some.ensures c.in_ok-tree-in-Some.ensures c.in-Ok.ensures.reading
 
 pub returns-in-Ok-clause-table : goal.returns-in-Ok-clause-table
 returns-in-Ok-clause-table c =
-    rules_of (view c.args.response.now) (view c.in-Some.rules.now) (tree_view c.in_ok-tree-in-Some.tree) c.in-Ok.table c.in-Some.ensures c.in_ok-tree-in-Some.ensures c.in-Ok.ensures
+    rules_of (view c.args.response.now) (view c.in-Some.rules.now) (tree_view c.in_ok-tree-in-Some.tree) c.in-Ok.table c.in-Some.ensures c.in_ok-tree-in-Some.ensures c.in-Ok.ensures.reading
 
 pub returns-clause-read : goal.returns-clause-read
 returns-clause-read c = λ memory.
     let is = c.rule_fault.ensures in
     let a = pact_fault_apart c.args.index c.in-Err.fault (λ e. memory (is ∙ e)) in
     subst (λ e. RulesRead c.args.index (view c.args.response.now) (Err e)) (sym (is ∙ a.1))
-    (rules_some c.args.index (view c.args.response.now) (view c.in-Some.rules.now) (tree_view c.in_ok-tree-in-Some.tree) (Err c.in-Err.fault) c.in-Some.ensures c.in_ok-tree-in-Some.ensures (c.in-Err.ensures a.0))
+    (rules_some c.args.index (view c.args.response.now) (view c.in-Some.rules.now) (tree_view c.in_ok-tree-in-Some.tree) (Err c.in-Err.fault) c.in-Some.ensures c.in_ok-tree-in-Some.ensures (c.in-Err.ensures.reading a.0))

@@ -19,7 +19,7 @@ pub returns-in_err-items : goal.returns-in_err-items
 unfolding RepliesRead
 returns-in_err-items c =
     let p = err_from_is_err_and c.from_residual-in_err-items.result c.from_residual-in_err-items.ensures.1 in
-    rw (p.1, p.2) (λ memory. (Ok (view c.in_ok-file.file), c.in_ok-file.ensures, (Err c.in_err-items.field-0.0, c.in_err-items.ensures memory, refl)))
+    rw (p.1, p.2) (λ memory. (Ok (view c.in_ok-file.file), c.in_ok-file.ensures, (Err c.in_err-items.field-0.0, c.in_err-items.ensures, refl)))
 
 pub read_list-requires : goal.read_list-requires
 read_list-requires c =

@@ -1,10 +1,10 @@
-use Rattle.std.proofs.Common.{◌∙◌, ◌≡◌, map, length, sym, ap, Ok, rules}
+use Rattle.std.proofs.Common.{◌∙◌, ◌≡◌, Some, map, length, sym, ap, Ok, rules}
 use Rattle.pact_paths.specs.TokenView.{token_view}
-use Rattle.pact_paths.specs.PathReading.{tokens_in, with_all, path_in}
+use Rattle.pact_paths.specs.PathReading.{behind, tokens_in, with_all, path_in}
 use Rattle.pact_paths.specs.Outcome.{Gives}
 use Rattle.pact_paths.specs.declared.path_reader.PathFault.TheVariants.{Memory}
 use Rattle.pact_paths.proofs.PathLemmas.{with_no_front}
-use Rattle.pact_paths.proofs.ReadingLemmas.{tokens_are_path, outcome}
+use Rattle.pact_paths.proofs.ReadingLemmas.{tokens_are_path, outcome, has_root}
 use Rattle.pact_paths.proofs.path.Path.read.Goals as goal
 
 pub invariant_of-result : goal.invariant_of-result
@@ -24,3 +24,9 @@ returns-clause-reading c =
     let ts = map token_view c.in_ok-tokens.tokens.items in
     let computed : path_in c.args.text.now ≡ Ok ts = search rules in
     outcome c.args.text.now (Ok ts) computed
+
+pub returns-in_err-tokens-clause-rootless : goal.returns-in_err-tokens-clause-rootless
+returns-in_err-tokens-clause-rootless c =
+    let computed : Gives Memory (λ p. p) c.from_residual.result (path_in c.args.text.now) = search rules in
+    let root : behind 36 c.args.text.now ≡ Some c.in-Some.rest.now = search rules in
+    has_root c.args.text.now c.in-Some.rest.now c.from_residual.result root computed
