@@ -8,6 +8,7 @@ use crate::texts::{
 };
 use broker_core::answer::Answer as Outcome;
 use broker_core::policy::Rule;
+use http::StatusCode;
 use std::alloc::{AllocError, Global};
 use std::marker::Model;
 
@@ -103,18 +104,18 @@ impl Answer {
     }
 
     /// The status of HTTP.
-    pub fn status(&self) -> u16
+    pub fn status(&self) -> StatusCode
         ensures { result ≡ spec.status_of self.now }
     {
         match &self.outcome {
-            Outcome::Done(_) | Outcome::Already(_) | Outcome::Shown(_) => 200,
-            Outcome::Denied(Rule::A1) => 401,
-            Outcome::Denied(_) => 403,
-            Outcome::Unknown(_) => 404,
-            Outcome::BadForm(_) => 422,
-            Outcome::Taken(_) | Outcome::Full | Outcome::NotPermitted(_) => 409,
-            Outcome::Pattern | Outcome::Store => 500,
-            Outcome::Memory | Outcome::Stopped => 503,
+            Outcome::Done(_) | Outcome::Already(_) | Outcome::Shown(_) => StatusCode::OK,
+            Outcome::Denied(Rule::A1) => StatusCode::UNAUTHORIZED,
+            Outcome::Denied(_) => StatusCode::FORBIDDEN,
+            Outcome::Unknown(_) => StatusCode::NOT_FOUND,
+            Outcome::BadForm(_) => StatusCode::UNPROCESSABLE_ENTITY,
+            Outcome::Taken(_) | Outcome::Full | Outcome::NotPermitted(_) => StatusCode::CONFLICT,
+            Outcome::Pattern | Outcome::Store => StatusCode::INTERNAL_SERVER_ERROR,
+            Outcome::Memory | Outcome::Stopped => StatusCode::SERVICE_UNAVAILABLE,
         }
     }
 }

@@ -3,6 +3,7 @@ use Rattle.std.specs.Prelude.{◌≡◌, ℕ, ◌+◌, ◌≤◌, ◌⊎◌, ◌
 use Rattle.std.specs.List.{list_any}
 use Rattle.std.specs.Result.{result_unwrap_or}
 use Rattle.std.specs.Str.Parse.{digits_value}
+use Rattle.http.specs.Method.{is_among}
 use Rattle.httparse.specs.Grammar.{RequestHead, ReadsRequest}
 use Rattle.httparse.specs.Spans.{name_and_value}
 use Rattle.http_messages.specs.Lines.{lines_of, head_text, from_first}
@@ -10,19 +11,16 @@ use Rattle.http_messages.specs.Fields.{values_named, IsField, is_short_number}
 use Rattle.http_messages.specs.Options.{has_close}
 use Rattle.http_messages.specs.declared.fields.Field.{Field}
 use Rattle.http_messages.specs.declared.head.TheConstants.{FIELD_LIMIT, BODY_LIMIT}
-use Rattle.http_messages.specs.declared.head.Method.{Method}
-use Rattle.http_messages.specs.declared.head.Method.TheVariants.{Get, Put, Post, Delete}
 use Rattle.http_messages.specs.declared.head.Refusal.{Refusal}
 use Rattle.http_messages.specs.declared.head.Refusal.TheVariants.{BadRequest, BodyTooLarge, HeadTooLarge, NotImplemented}
 
--- the methods that are known
-unfoldable pub known_method : List ℕ → Option Method
-known_method method =
-    if bytes_eq method (codes "GET") then Some Get
-    else (if bytes_eq method (codes "PUT") then Some Put
-    else (if bytes_eq method (codes "POST") then Some Post
-    else (if bytes_eq method (codes "DELETE") then Some Delete
-    else None)))
+-- the methods that are served (RFC 9110, section 9.3), in the order of their bytes
+abbrev pub served_methods : List (List ℕ)
+served_methods = codes "DELETE" ∷ codes "GET" ∷ codes "POST" ∷ codes "PUT" ∷ []
+
+-- the method, if it is served
+unfoldable pub served_method : List ℕ → Option (List ℕ)
+served_method method = if is_among served_methods method then Some method else None
 
 -- the length of the body by the values of content-length
 unfoldable pub body_length : List (List ℕ) → Result ℕ Refusal
@@ -40,7 +38,7 @@ unfoldable pub judge : (method target : List ℕ) (minor : ℕ) (hosts codings l
 judge method target minor hosts codings lengths =
     if not (slice_index target 0 == 47) then Err BadRequest
     else (if (minor == 1) && not (length hosts == 1) then Err BadRequest
-    else (if not (is_some (known_method method)) then Err NotImplemented
+    else (if not (is_some (served_method method)) then Err NotImplemented
     else (if not (length codings == 0) then Err NotImplemented
     else body_length lengths)))
 

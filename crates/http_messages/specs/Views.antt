@@ -2,9 +2,8 @@
 use Rattle.std.specs.Prelude.{◌≡◌, ℕ, false, List, Some, Result, Ok, Err}
 use Rattle.httparse.specs.Grammar.{RequestHead}
 use Rattle.httparse.specs.Spans.{IsRequestAt, IsRequestWithin}
-use Rattle.http_messages.specs.Heads.{Judgement, IsJudged, IsHeadText, is_too_large, body_of_head, is_last_head, known_method}
+use Rattle.http_messages.specs.Heads.{Judgement, IsJudged, IsHeadText, is_too_large, body_of_head, is_last_head, served_method}
 use Rattle.http_messages.specs.declared.head.Head.{Head}
-use Rattle.http_messages.specs.declared.head.Method.{Method}
 use Rattle.http_messages.specs.declared.head.Refusal.{Refusal}
 use Rattle.http_messages.specs.declared.head.Refused.{Refused}
 
@@ -12,7 +11,7 @@ abbrev pub judgement_of : Refused → Judgement
 judgement_of refused = record { is_bodiless = refused.is_bodiless; body = Err refused.refusal }
 
 -- the length alone of what is found
-abbrev pub length_found : Result (Method × ℕ) Refusal → Result ℕ Refusal
+abbrev pub length_found : Result (List ℕ × ℕ) Refusal → Result ℕ Refusal
 length_found (Ok found) = Ok found.1
 length_found (Err refusal) = Err refusal
 
@@ -21,7 +20,7 @@ abbrev pub IsHeadRead : List ℕ → Result Head Refused → Type 0
 IsHeadRead text (Ok head) =
     (is_too_large text ≡ false) × (h : RequestHead) × IsHeadText text h
     × (body_of_head h ≡ Ok head.body_len) × (head.closes ≡ is_last_head h)
-    × (known_method h.method ≡ Some head.method)
+    × (served_method h.method ≡ Some head.method)
     × IsRequestAt text head.spans head.parsed h × IsRequestWithin text head.spans head.parsed
 IsHeadRead text (Err refused) = IsJudged text (judgement_of refused)
 

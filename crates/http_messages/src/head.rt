@@ -1,14 +1,15 @@
 //! The head of a message.
-ghost use Rattle.std.specs.Prelude.{All, codes, ◌≡◌, ℕ, ◌≤◌, ◌==◌, Bool, true, List, length, take, map, Option, Ok, Err, false, IfOk, IfErr, IfSome, IfNone, is_some, Some};
+ghost use Rattle.std.specs.Prelude.{All, bytes_eq, codes, ◌≡◌, ℕ, ◌≤◌, ◌==◌, Bool, true, List, length, take, map, Option, Ok, Err, false, IfOk, IfErr, IfSome, IfNone, is_some, Some};
 ghost use Rattle.httparse.specs.Grammar.{RequestHead};
 ghost use Rattle.httparse.specs.Spans.{IsHeaderWithin, header_bytes, IsRequestAt, IsRequestWithin};
 ghost use Rattle.http_messages.specs.Fields.{IsField, values_named};
-ghost use Rattle.http_messages.specs.Heads.{known_method, body_length, AreChecked, IsHeadText, is_too_large, is_last, unread};
+ghost use Rattle.http_messages.specs.Heads.{served_method, body_length, AreChecked, IsHeadText, is_too_large, is_last, unread};
 ghost use Rattle.http_messages.specs.Views.{judgement_of, length_found, IsHeadRead, announced};
 
 use crate::fields::{Field, field_of, short_number};
 use crate::lines::{head_len, line_count};
 use crate::options::closes;
+use http::Method;
 use httparse::Status;
 use httparse::spans::{EMPTY_HEADER_SPAN, HeaderSpan, RequestSpans, parse_request};
 
@@ -17,15 +18,6 @@ pub const FIELD_LIMIT: usize = 64;
 
 /// How many bytes a body may have (this project's own limit).
 pub const BODY_LIMIT: usize = 1_048_576;
-
-/// The methods that this server knows (RFC 9110, section 9.3).
-#[derive(Clone, Copy, Debug, PartialEq, Eq)]
-pub enum Method {
-    Get,
-    Put,
-    Post,
-    Delete,
-}
 
 /// Why a head is refused.
 #[derive(Clone, Copy, Debug, PartialEq, Eq)]
@@ -36,23 +28,30 @@ pub enum Refusal {
     BodyTooLarge,
     /// It doesn't end within the limit, or has too many lines.
     HeadTooLarge,
-    /// Its method isn't known, or it has a transfer-encoding.
+    /// Its method isn't served, or it has a transfer-encoding.
     NotImplemented,
 }
 
-/// The method, if it is known.
-#[tactic(auto, unfolding(crate::specs::Heads::known_method))]
-pub fn method_of(method: &[u8]) -> Option<Method>
-    ensures { result ≡ known_method method.now }
+/// Whether these bytes are the method.
+fn is_method(bytes: &[u8], method: &Method) -> bool
+    ensures { result ≡ bytes_eq bytes.now method.now }
 {
-    if method == b"GET".as_slice() {
-        Some(Method::Get)
-    } else if method == b"PUT".as_slice() {
-        Some(Method::Put)
-    } else if method == b"POST".as_slice() {
-        Some(Method::Post)
-    } else if method == b"DELETE".as_slice() {
-        Some(Method::Delete)
+    bytes == method.as_str().as_bytes()
+}
+
+/// The method, if it is served: one of four constants, so that it takes no memory (RFC 9110, section 9.3).
+#[tactic(auto, unfolding(crate::specs::Heads::served_method))]
+pub fn served_method(method: &[u8]) -> Option<Method>
+    ensures { result ≡ served_method method.now }
+{
+    if is_method(method, &Method::GET) {
+        Some(Method::GET)
+    } else if is_method(method, &Method::PUT) {
+        Some(Method::PUT)
+    } else if is_method(method, &Method::POST) {
+        Some(Method::POST)
+    } else if is_method(method, &Method::DELETE) {
+        Some(Method::DELETE)
     } else {
         None
     }
@@ -86,7 +85,7 @@ fn judge(
     length: Field<'_>,
 ) -> Result<(Method, usize), Refusal>
     ensures judged { AreChecked method.now target.now minor host.entry coding.entry length.entry (length_found result) }
-    ensures known { IfOk result (λ found. known_method method.now ≡ Some found.0) }
+    ensures served { IfOk result (λ found. served_method method.now ≡ Some found.0) }
     ensures small { IfOk result (λ found. found.1 ≤ BODY_LIMIT) }
 {
     if target.is_empty() || target[0] != b'/' {
@@ -95,14 +94,14 @@ fn judge(
     if minor == 1 && !matches!(host, Field::Once(_)) {
         return Err(Refusal::BadRequest);
     }
-    let Some(known) = method_of(method) else {
+    let Some(served) = served_method(method) else {
         return Err(Refusal::NotImplemented);
     };
     if !matches!(coding, Field::Absent) {
         return Err(Refusal::NotImplemented);
     }
     match body_length(length) {
-        Ok(body_len) => Ok((known, body_len)),
+        Ok(body_len) => Ok((served, body_len)),
         Err(refusal) => Err(refusal),
     }
 }
@@ -121,7 +120,7 @@ fn parse_head(text: &[u8], spans: &mut [HeaderSpan; FIELD_LIMIT]) -> Option<Requ
 }
 
 /// A head that passed the checks on it, in the bytes that it was read from.
-#[derive(Clone, Copy, Drop)]
+#[derive(Drop)]
 pub struct Head {
     pub parsed: RequestSpans,
     pub spans: [HeaderSpan; FIELD_LIMIT],
@@ -194,16 +193,16 @@ pub fn read_head(text: &[u8]) -> Result<Head, Refused>
     );
     let closes = is_last(text, parsed.version, fields);
     match judged {
-        Ok((known, body_len)) => Ok(Head {
+        Ok((served, body_len)) => Ok(Head {
             parsed,
             spans,
-            method: known,
+            method: served,
             body_len,
             closes,
         }),
         Err(refusal) => Err(Refused {
             refusal,
-            is_bodiless: method == b"HEAD".as_slice(),
+            is_bodiless: is_method(method, &Method::HEAD),
         }),
     }
 }

@@ -29,7 +29,7 @@ pub enum ReadFault {
 }
 
 /// What came next.
-#[derive(Clone, Copy, Drop)]
+#[derive(Drop)]
 pub enum ReadOutcome {
     /// The buffer begins with a message of so many bytes of head and of body, and the head says this.
     Message {

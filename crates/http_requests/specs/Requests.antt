@@ -6,10 +6,9 @@ use Rattle.httparse.specs.Grammar.{RequestHead}
 use Rattle.httparse.specs.Spans.{IsRequestAt}
 use Rattle.broker_core.specs.declared.command.Command.{Command}
 use Rattle.http_messages.specs.Fields.{values_named}
-use Rattle.http_messages.specs.Heads.{Judgement, IsJudged, IsHeadText, fields_of, known_method, is_last_head}
+use Rattle.http_messages.specs.Heads.{Judgement, IsJudged, IsHeadText, fields_of, served_method, is_last_head}
 use Rattle.http_messages.specs.Message.{Message}
 use Rattle.http_messages.specs.declared.head.Head.{Head}
-use Rattle.http_messages.specs.declared.head.Method.{Method}
 use Rattle.http_messages.specs.declared.head.Refusal.{Refusal}
 use Rattle.http_routes.specs.Methods.{operation_at}
 use Rattle.http_routes.specs.Routes.{resource_of}
@@ -31,7 +30,7 @@ abbrev pub query_of : List ℕ → List ℕ
 query_of target = after_first is_question_mark target
 
 -- the operation that the method asks of the resource
-abbrev pub operation_asked : Resource → Option Method → Option Operation
+abbrev pub operation_asked : Resource → Option (List ℕ) → Option Operation
 operation_asked resource None = None
 operation_asked resource (Some method) = operation_at resource method
 
@@ -40,7 +39,7 @@ operation_asked resource (Some method) = operation_at resource method
 abbrev pub IsReadFrom : List ℕ → Head → RequestHead → Type 0
 IsReadFrom text head h =
     IsRequestAt text head.spans head.parsed h × (head.closes ≡ is_last_head h)
-    × (known_method h.method ≡ Some head.method)
+    × (served_method h.method ≡ Some head.method)
 
 module _ (h : RequestHead) (body : List ℕ) where
   -- a command and its caller's token
@@ -58,7 +57,7 @@ module _ (h : RequestHead) (body : List ℕ) where
   -- by the resource that the path names
   abbrev pub ByResource : Option Resource → Request → Type 0
   ByResource None r = r ≡ request.NoRoute (is_last_head h)
-  ByResource (Some resource) r = ByAsked resource (operation_asked resource (known_method h.method)) r
+  ByResource (Some resource) r = ByAsked resource (operation_asked resource (served_method h.method)) r
 
 -- by what the checks on the head come to
 abbrev pub ByHead : Message → Bool → Result ℕ Refusal → Request → Type 0

@@ -95,7 +95,7 @@ fn request_of(
     let Some(resource) = resource_of(routes, path) else {
         return Ok(Request::NoRoute { closes });
     };
-    match operation_at(resource, head.method) {
+    match operation_at(resource, &head.method) {
         Some(operation) => command_request(alloc, text, head, path, query, body, operation),
         None => Ok(Request::NoMethod { resource, closes }),
     }

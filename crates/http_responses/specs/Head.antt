@@ -1,7 +1,11 @@
 -- The head of a response (RFC 9112, sections 4 to 6; which fields there are is this project's own choice).
-use Rattle.std.specs.Prelude.{ℕ, ◌==◌, Bool, List, [], ◌∷◌, ◌++◌, codes, decimal, if◌then◌else◌}
+use Rattle.std.specs.Prelude.{ℕ, ◌==◌, Bool, List, [], ◌∷◌, ◌++◌, codes, decimal, if◌then◌else◌, Option, Some, None}
+use Rattle.std.specs.List.{list_any}
+use Rattle.http_routes.specs.Methods.{allow}
+use Rattle.http_routes.specs.declared.Resource.{Resource}
 
--- what a status says (RFC 9110, section 15)
+-- the statuses that responses have, and what each says (RFC 9110, section 15, but for 413 and 422, which have the
+-- older phrases of RFC 7231 and RFC 4918)
 abbrev pub phrases : List (ℕ × List ℕ)
 phrases =
     (200, codes "OK")
@@ -19,7 +23,11 @@ phrases =
     ∷ (503, codes "Service Unavailable")
     ∷ []
 
--- the phrase under a status, empty where there is none
+-- whether a response may have the status
+abbrev pub has_phrase : ℕ → Bool
+has_phrase status = list_any (λ entry. status == entry.0) phrases
+
+-- the phrase under a status, empty if there is none
 abbrev pub phrase_in : List (ℕ × List ℕ) → ℕ → List ℕ
 phrase_in [] status = []
 phrase_in (entry ∷ entries) status = if status == entry.0 then entry.1 else phrase_in entries status
@@ -38,6 +46,15 @@ status_line status = codes "HTTP/1.1 " ++ (decimal status ++ (codes " " ++ (phra
 unfoldable pub content_fields : ℕ → List ℕ
 content_fields size = codes "content-type: application/json\r\ncontent-length: " ++ (decimal size ++ line_end)
 
+-- the next method of a list, after what parts it from those before it
+abbrev pub listed_next : Bool → List ℕ → List ℕ
+listed_next is_first method = if is_first then method else codes ", " ++ method
+
+-- the methods of a resource, if there is one
+abbrev pub allow_of : Option Resource → List ℕ
+allow_of None = []
+allow_of (Some resource) = allow resource
+
 -- the field that a status asks for: the methods that a path has, or the scheme by which a caller is known
 unfoldable pub own_field : ℕ → List ℕ → List ℕ
 own_field status allow =
@@ -45,7 +62,7 @@ own_field status allow =
     else (if status == 401 then codes "www-authenticate: Bearer\r\n"
     else [])
 
--- nothing more comes behind this response
+-- nothing more comes after this response
 unfoldable pub close_field : Bool → List ℕ
 close_field closes = if closes then codes "connection: close\r\n" else []
 

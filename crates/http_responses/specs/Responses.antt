@@ -1,5 +1,5 @@
 -- What goes out for a message (which bodies there are is this project's own choice).
-use Rattle.std.specs.Prelude.{◌≡◌, ◌<◌, ℕ, Bool, true, false, List, [], ◌++◌, length, take, codes, if◌then◌else◌, Option, Result, Ok, Err}
+use Rattle.std.specs.Prelude.{◌≡◌, ◌<◌, ℕ, Bool, true, false, List, [], ◌++◌, length, take, codes, decimal, if◌then◌else◌, Option, Result, Ok, Err}
 use Rattle.std.specs.Io.KnownBytes.{Appends}
 use Rattle.answer_texts.specs.AnswerText.{answer_text, status_of}
 use Rattle.broker_core.specs.declared.answer.Answer.{Answer}
@@ -37,10 +37,7 @@ refusal_status HeadTooLarge = 431
 refusal_status NotImplemented = 501
 
 abbrev pub refusal_text : Refusal → List ℕ
-refusal_text BadRequest = codes "{\"answer\":\"refused\",\"status\":400}"
-refusal_text BodyTooLarge = codes "{\"answer\":\"refused\",\"status\":413}"
-refusal_text HeadTooLarge = codes "{\"answer\":\"refused\",\"status\":431}"
-refusal_text NotImplemented = codes "{\"answer\":\"refused\",\"status\":501}"
+refusal_text refusal = codes "{\"answer\":\"refused\",\"status\":" ++ (decimal (refusal_status refusal) ++ codes "}")
 
 -- a refused head closes
 abbrev pub refusal_response : Refusal → Bool → Response

@@ -1,13 +1,15 @@
 //! The responses to messages: the answers of the broker, and the refusals by HTTP.
-ghost use Rattle.std.specs.Prelude.{◌≡◌, ◌<◌, ◌≤◌, ℕ, [], ◌++◌, length, take, vec_len, vec_capacity, IfErr, OnErr, OnOk};
+ghost use Rattle.std.specs.Prelude.{◌≡◌, ◌<◌, ◌≤◌, ℕ, true, [], ◌++◌, length, take, vec_len, vec_capacity, IfErr, OnErr, OnOk};
 ghost use Rattle.std.specs.Io.KnownBytes.{Appends};
+ghost use Rattle.http_responses.specs.Head.{has_phrase, allow_of};
 ghost use Rattle.http_responses.specs.Responses.{refusal_status, refusal_text, refusal_response, sent_part, no_route_response, no_method_response, answer_response, response_of, Writes};
 
 use crate::head::{HEAD_CAPACITY, write_head};
 use crate::writing::{WriteFault, write_whole};
 use answer_texts::Answer;
+use http::StatusCode;
 use http_messages::head::Refusal;
-use http_routes::{ALLOW_LIMIT, Resource, allow};
+use http_routes::Resource;
 use std::io::Write;
 
 /// How many bytes of buffer a response is best given: most responses fit, and so go out by one call of the writer.
@@ -16,10 +18,10 @@ pub const RESPONSE_CAPACITY: usize = 8192;
 /// How a response goes out.
 #[derive(Clone, Copy, Debug)]
 struct Form {
-    status: u16,
-    /// The methods that are told with the status 405.
-    methods: &'static str,
-    /// Whether the connection closes behind it.
+    status: StatusCode,
+    /// The resource whose methods are reported with the status 405.
+    resource: Option<Resource>,
+    /// Whether the connection closes after it.
     closes: bool,
     /// Whether it goes without its body.
     is_bodiless: bool,
@@ -65,15 +67,15 @@ fn write_response<W: Write>(
 ) -> Result<bool, WriteFault>
     requires empty { head_buffer.items ≡ [] }
     requires capacity { HEAD_CAPACITY ≤ vec_capacity head_buffer }
-    requires allow { length form.methods.now ≤ ALLOW_LIMIT }
+    requires known { has_phrase form.status ≡ true }
     ensures { Writes (W.contents writer.old) (W.contents writer.new)
-        (response_of form.status form.methods.now form.closes form.is_bodiless body.now) result }
+        (response_of form.status (allow_of form.resource) form.closes form.is_bodiless body.now) result }
 {
     let mut front = head_buffer;
     write_head(
         &mut front,
         form.status,
-        form.methods,
+        form.resource,
         form.closes,
         body.len(),
     );
@@ -85,14 +87,14 @@ fn write_response<W: Write>(
     }
 }
 
-fn refusal_status(refusal: Refusal) -> u16
+fn refusal_status(refusal: Refusal) -> StatusCode
     ensures { result ≡ refusal_status refusal }
 {
     match refusal {
-        Refusal::BadRequest => 400,
-        Refusal::BodyTooLarge => 413,
-        Refusal::HeadTooLarge => 431,
-        Refusal::NotImplemented => 501,
+        Refusal::BadRequest => StatusCode::BAD_REQUEST,
+        Refusal::BodyTooLarge => StatusCode::PAYLOAD_TOO_LARGE,
+        Refusal::HeadTooLarge => StatusCode::REQUEST_HEADER_FIELDS_TOO_LARGE,
+        Refusal::NotImplemented => StatusCode::NOT_IMPLEMENTED,
     }
 }
 
@@ -123,7 +125,7 @@ pub fn write_refusal<W: Write>(
 {
     let form = Form {
         status: refusal_status(refusal),
-        methods: "",
+        resource: None,
         closes: true,
         is_bodiless,
     };
@@ -141,8 +143,8 @@ pub fn write_no_route<W: Write>(
     ensures { Writes (W.contents writer.old) (W.contents writer.new) (no_route_response closes) result }
 {
     let form = Form {
-        status: 404,
-        methods: "",
+        status: StatusCode::NOT_FOUND,
+        resource: None,
         closes,
         is_bodiless: false,
     };
@@ -162,8 +164,8 @@ pub fn write_no_method<W: Write>(
         (no_method_response resource closes) result }
 {
     let form = Form {
-        status: 405,
-        methods: allow(resource),
+        status: StatusCode::METHOD_NOT_ALLOWED,
+        resource: Some(resource),
         closes,
         is_bodiless: false,
     };
@@ -184,7 +186,7 @@ pub fn write_answer<W: Write>(
 {
     let form = Form {
         status: answer.status(),
-        methods: "",
+        resource: None,
         closes,
         is_bodiless: false,
     };
