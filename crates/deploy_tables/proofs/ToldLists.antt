@@ -126,7 +126,7 @@ module _ (s : State) (v : Version) (number : ℕ) (known : number_of s.versions 
           let w = version x.provider r.name in
           let e = newest_is (latest_result s is.content w) r.result h.1 in
           let stands : result_with s r.result ≡ Some e.0.1 = ap (result_with s) (sym e.2) ∙ latest_with s is.content w e.0 e.1 in
-          let pass : t.0.latest.pass ≡ e.0.1.pass = t.5 s e.0.1 tell stands in
+          let pass : t.0.latest.pass ≡ e.0.1.pass = tell (record { number = r.result; pass = t.0.latest.pass }) e.0.1 t.5 stands in
           let mark : t.0.latest.checked ≡ e.0.1.checked = t.4 ∙ ap (is_among checked) (sym e.2) ∙ checked_is s (IsMeant s number contracts) checked is.content w e.0 are_checked (meant x is r h.0) e.1 in (
             t.0.latest,
             ap (option_map said_by) stands ∙ (λ i. Some (record { pass = sym pass i; checked = sym mark i })),

@@ -4,6 +4,8 @@ use Rattle.std.specs.List.Sorted.{IsSortedBy}
 use Rattle.std.specs.Ordering.{nat_cmp, is_lt}
 use Rattle.sqlite.specs.Order.{Row, column}
 use Rattle.sqlite.specs.declared.types.Value.TheVariants.{Int}
+use Rattle.table_access.specs.declared.StoreFault.{StoreFault}
+use Rattle.table_access.specs.declared.StoreFault.TheVariants.{Memory, Store}
 use Rattle.broker_core.specs.declared.command.Version.{Version}
 use Rattle.broker_core.specs.declared.answer.MatrixRow.{MatrixRow}
 use Rattle.broker_core.specs.declared.answer.Verified.{Verified}
@@ -30,6 +32,18 @@ TellPasses s found =
 abbrev pub ArePassesByNumber : List ResultPass → Type 0
 ArePassesByNumber = IsSortedBy (λ x y. is_lt (nat_cmp x.number y.number))
 
+-- none of these tells of the result with this number
+abbrev pub IsUntold : List ResultPass → ℕ → Type 0
+IsUntold passes number = ¬ ((x : ResultPass) × Contains passes x × (x.number ≡ number))
+
+-- the entry has a result, and none of these tells of it
+abbrev pub NamesUntold : List ResultPass → Entry → Type 0
+NamesUntold passes x = (r : VerifiedVersion) × (x.verified ≡ Some r) × IsUntold passes r.result
+
+-- a growth was refused, or a result is named that isn't there
+abbrev pub FailsAsTold : StoreFault → Type 0 → Type 0
+FailsAsTold fault IsNamed = (fault ≡ Memory) ⊎ ((fault ≡ Store) × IsNamed)
+
 -- the broker checked each result with one of these numbers, and each latest result that it checked, for a content and
 -- a version that are meant, has one of them
 abbrev pub TellChecked : State → (ℕ → Version → Type 0) → List ℕ → Type 0
@@ -51,7 +65,7 @@ abbrev pub IsVerifiedTold : List ResultPass → List ℕ → Option VerifiedVers
 IsVerifiedTold passes checked None told = told ≡ None
 IsVerifiedTold passes checked (Some r) told = (v : Verified) × (told ≡ Some v) × (v.provider_version ≡ r.name)
     × (v.result ≡ r.result) × (v.latest.checked ≡ is_among checked r.result)
-    × ((s : State) (e : Verification) → TellPasses s passes → result_with s r.result ≡ Some e → v.latest.pass ≡ e.pass)
+    × Contains passes (record { number = r.result; pass = v.latest.pass })
 
 -- the entry's row
 abbrev pub IsRowTold : List ResultPass → List ℕ → Entry → MatrixRow → Type 0

@@ -1,5 +1,5 @@
 //! The contracts with one provider of all versions that stand in an environment, by the numbers of the versions.
-ghost use Rattle.std.specs.Prelude.{◌≡◌, ◌++◌, ◌↔◌, IfOk, Some, Contains};
+ghost use Rattle.std.specs.Prelude.{◌≡◌, ◌++◌, ◌↔◌, IfOk, IfErr, Some, Contains};
 ghost use Rattle.broker_core.specs.State.{State};
 ghost use Rattle.broker_core.specs.Text.{Text};
 ghost use Rattle.broker_core.specs.Gate.{Stands};
@@ -89,8 +89,9 @@ fn in_one(
     deployed: Vec<NumberedContract>,
     released: Vec<NumberedContract>,
 ) -> Result<Vec<NumberedContract>, StoreFault>
-    ensures { IfOk result (λ all. IsByNumber all.items
+    ensures all { IfOk result (λ all. IsByNumber all.items
         × ((x : NumberedModel) → Contains all.items x ↔ Contains (deployed.items ++ released.items) x)) }
+    ensures cause { IfErr result (λ f. f ≡ StoreFault.Memory) }
 {
     let mut all = deployed;
     let mut released = released;

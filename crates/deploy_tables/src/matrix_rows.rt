@@ -1,5 +1,5 @@
 //! The matrix of a version: its contracts, and those that it has results for, with the latest result of each version of the provider.
-ghost use Rattle.std.specs.Prelude.{◌≡◌, ◌++◌, ◌↔◌, IfOk, Some, Contains};
+ghost use Rattle.std.specs.Prelude.{◌≡◌, ◌++◌, ◌↔◌, IfOk, IfErr, Some, Err, Contains};
 ghost use Rattle.std.specs.List.Sorted.{IsStrictlySortedBy};
 ghost use Rattle.std.specs.Ordering.{nat_cmp};
 ghost use Rattle.table_access.specs.Reading.{AreRead};
@@ -12,7 +12,7 @@ ghost use Rattle.contract_tables.specs.Listings.{contract_cmp};
 ghost use Rattle.deploy_tables.specs.declared.entries.Entry.{Entry as EntryModel};
 ghost use Rattle.deploy_tables.specs.Matrix.{IsOfContract, IsOfContent, IsOfSome, IsProvided, IsEntry, AreEntriesOf, entry_cmp};
 ghost use Rattle.deploy_tables.specs.Needs.{IsOwnContract};
-ghost use Rattle.deploy_tables.specs.ToldResults.{IsVerifiedTold, IsRowTold};
+ghost use Rattle.deploy_tables.specs.ToldResults.{ArePassesByNumber, IsUntold, NamesUntold, FailsAsTold, IsVerifiedTold, IsRowTold};
 
 use crate::entries::{Entry, both_sides, entries_used, entries_with};
 use crate::told_results::{ResultPass, checked_told, is_checked_among, pass_among, passes_told};
@@ -27,9 +27,10 @@ use sqlite::{Alter, Connection};
 use std::alloc::Global;
 use table_access::StoreFault;
 
-/// Puts more entries at the end.
+/// Puts more entries at the end. An `Err` is out of memory.
 fn add(found: &mut Vec<Entry>, more: Vec<Entry>) -> Result<(), StoreFault>
-    ensures { IfOk result (λ _. found.new.items ≡ found.old.items ++ more.items) }
+    ensures added { IfOk result (λ _. found.new.items ≡ found.old.items ++ more.items) }
+    ensures cause { IfErr result (λ f. f ≡ StoreFault.Memory) }
 {
     let mut more = more;
     match found.append(&mut more) {
@@ -156,15 +157,19 @@ fn entries_of<S: Alter>(
     }
 }
 
-/// The version of the provider with what its result says. `StoreFault::Store` comes where no pass tells of the result: a row names one that isn't there.
+/// The version of the provider with what its result says.
+/// `StoreFault::Store` comes if no pass tells of the result, since a row names one that isn't there; `StoreFault::Memory` for no other cause than that there is none for the name.
 fn told(
     verified: &VerifiedVersion,
     passes: &[ResultPass],
     checked: &[u32],
 ) -> Result<Verified, StoreFault>
-    ensures { IfOk result
+    ensures found { IfOk result
         (λ found. IsStrictlySortedBy nat_cmp checked.now →
         IsVerifiedTold passes.now checked.now (Some verified.now) (Some found)) }
+    ensures cause { ArePassesByNumber passes.now →
+        IfErr result (λ f. FailsAsTold f (IsUntold passes.now verified.now.result)) }
+    ensures untold { IsUntold passes.now verified.now.result → result ≡ Err StoreFault.Store }
 {
     let Some(pass) = pass_among(passes, verified.result) else {
         return Err(StoreFault::Store);
@@ -180,15 +185,16 @@ fn told(
     }
 }
 
-/// The row of these names.
+/// The row of these names. An `Err` is out of memory.
 fn row_with(entry: &Entry, verified: Option<Verified>) -> Result<MatrixRow, StoreFault>
-    ensures { IfOk result
+    ensures row { IfOk result
         (λ row. row ≡ record {
           consumer = entry.now.consumer;
           consumer_version = entry.now.consumer_version;
           provider = entry.now.provider;
           verified = verified;
         }) }
+    ensures cause { IfErr result (λ f. f ≡ StoreFault.Memory) }
 {
     match (
         entry.consumer.clone(),
@@ -207,8 +213,10 @@ fn row_with(entry: &Entry, verified: Option<Verified>) -> Result<MatrixRow, Stor
 
 /// The entry's row, with what its result says.
 fn row_of(entry: &Entry, passes: &[ResultPass], checked: &[u32]) -> Result<MatrixRow, StoreFault>
-    ensures { IfOk result
+    ensures row { IfOk result
         (λ row. IsStrictlySortedBy nat_cmp checked.now → IsRowTold passes.now checked.now entry.now row) }
+    ensures cause { ArePassesByNumber passes.now →
+        IfErr result (λ f. FailsAsTold f (NamesUntold passes.now entry.now)) }
 {
     let Some(verified) = &entry.verified else {
         return row_with(entry, None);
@@ -224,9 +232,12 @@ fn rows_of(
     passes: &[ResultPass],
     checked: &[u32],
 ) -> Result<Vec<MatrixRow>, StoreFault>
-    ensures { IfOk result
+    ensures rows { IfOk result
         (λ rows. IsStrictlySortedBy nat_cmp checked.now →
         AreRead (IsRowTold passes.now checked.now) entries.now rows.items) }
+    ensures cause { ArePassesByNumber passes.now →
+        IfErr result (λ f. FailsAsTold f
+        ((x : EntryModel) × Contains entries.now x × NamesUntold passes.now x)) }
 {
     let mut rows = Vec::new(alloc);
     for entry in entries {

@@ -1,5 +1,5 @@
 //! The contracts of a version and those that are with it, each paired with what stands in an environment.
-ghost use Rattle.std.specs.Prelude.{◌≡◌, IfOk, Contains, filter_map, flat_map, map};
+ghost use Rattle.std.specs.Prelude.{◌≡◌, IfOk, IfErr, Contains, filter_map, flat_map, map};
 ghost use Rattle.broker_core.specs.Listing.{Lists};
 ghost use Rattle.deploy_tables.specs.Needs.{with_partner, without_partner, consumed, provided, pairs_among, pair_cmp};
 
@@ -172,9 +172,10 @@ pub(crate) fn pairs_of(
     standing: &[StandingVersion],
     consumers: &[ConsumerContract],
 ) -> Result<Vec<Pair>, StoreFault>
-    ensures { IfOk result
+    ensures all { IfOk result
         (λ pairs. Lists pair_cmp
         (Contains (pairs_among version.now number own.now standing.now consumers.now)) pairs.items) }
+    ensures cause { IfErr result (λ f. f ≡ StoreFault.Memory) }
 {
     match all_pairs(alloc, version, number, own, standing, consumers) {
         Ok(pairs) => Ok(each_pair_once(pairs)),

@@ -1,5 +1,5 @@
 //! The versions that stand in an environment, with their numbers.
-ghost use Rattle.std.specs.Prelude.{Contains, ◌↔◌, ◌++◌, IfOk};
+ghost use Rattle.std.specs.Prelude.{◌≡◌, Contains, ◌↔◌, ◌++◌, IfOk, IfErr};
 ghost use Rattle.broker_core.specs.Listing.{Lists};
 ghost use Rattle.broker_tables.specs.Holds.{Queries};
 ghost use Rattle.deploy_tables.specs.declared.standing_versions.StandingVersion.{StandingVersion as StandingModel};
@@ -88,12 +88,13 @@ fn each_version_once(versions: Vec<StandingVersion>) -> Vec<StandingVersion>
     versions
 }
 
-/// The versions of both lists, each once, in the order of pacticipants and names.
+/// The versions of both lists, each once, in the order of pacticipants and names. An `Err` is out of memory.
 fn of_both(
     deployed: Vec<StandingVersion>,
     released: Vec<StandingVersion>,
 ) -> Result<Vec<StandingVersion>, StoreFault>
-    ensures { IfOk result (λ all. Lists standing_cmp (Contains (deployed.items ++ released.items)) all.items) }
+    ensures all { IfOk result (λ all. Lists standing_cmp (Contains (deployed.items ++ released.items)) all.items) }
+    ensures cause { IfErr result (λ f. f ≡ StoreFault.Memory) }
 {
     let mut all = deployed;
     let mut released = released;

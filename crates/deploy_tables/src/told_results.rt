@@ -1,18 +1,16 @@
 //! What the latest results say, for many of them at once: whether each is a pass, and which of them the broker checked.
-ghost use Rattle.std.specs.Prelude.{◌≡◌, ◌++◌, ◌↔◌, IfOk, IfSome, Some, Contains, pos};
+ghost use Rattle.std.specs.Prelude.{◌≡◌, ◌++◌, ◌↔◌, IfOk, IfErr, IfSome, IfNone, Some, Contains, pos};
 ghost use Rattle.std.specs.List.Sorted.{IsStrictlySortedBy};
 ghost use Rattle.std.specs.Ordering.{nat_cmp};
 ghost use Rattle.sqlite.specs.Order.{column};
 ghost use Rattle.sqlite.specs.declared.types.Value.TheVariants.{Int};
 ghost use Rattle.table_access.specs.Reading.{TellsNumber};
 ghost use Rattle.broker_core.specs.Listing.{Lists};
-ghost use Rattle.broker_core.specs.State.{State, Verification};
 ghost use Rattle.broker_tables.specs.Numbers.{number_of as number_known};
 ghost use Rattle.broker_tables.specs.Holds.{Queries};
-ghost use Rattle.contract_tables.specs.Verified.{result_with};
 ghost use Rattle.contract_tables.specs.VersionResults.{FailsAsPass, is_among};
 ghost use Rattle.deploy_tables.specs.declared.told_results.ResultPass.{ResultPass as PassModel};
-ghost use Rattle.deploy_tables.specs.ToldResults.{IsPassRow, TellPasses, ArePassesByNumber, TellChecked, IsContentOf, IsMeant};
+ghost use Rattle.deploy_tables.specs.ToldResults.{IsPassRow, TellPasses, ArePassesByNumber, IsUntold, TellChecked, IsContentOf, IsMeant};
 
 use broker_tables::truth_at;
 use contract_tables::Contract;
@@ -91,9 +89,10 @@ fn passes_by<S: Alter>(
     )
 }
 
-/// Puts what these results say at the end.
+/// Puts what these results say at the end. An `Err` is out of memory.
 fn add_passes(found: &mut Vec<ResultPass>, more: Vec<ResultPass>) -> Result<(), StoreFault>
-    ensures { IfOk result (λ _. found.new.items ≡ found.old.items ++ more.items) }
+    ensures added { IfOk result (λ _. found.new.items ≡ found.old.items ++ more.items) }
+    ensures cause { IfErr result (λ f. f ≡ StoreFault.Memory) }
 {
     let mut more = more;
     match found.append(&mut more) {
@@ -128,10 +127,11 @@ fn in_order(passes: Vec<ResultPass>) -> Vec<ResultPass>
     passes
 }
 
-/// What the results of both lists say, in the order of their numbers.
+/// What the results of both lists say, in the order of their numbers. An `Err` is out of memory.
 fn all_passes(own: Vec<ResultPass>, others: Vec<ResultPass>) -> Result<Vec<ResultPass>, StoreFault>
-    ensures { IfOk result (λ all. ArePassesByNumber all.items
+    ensures all { IfOk result (λ all. ArePassesByNumber all.items
         × ((x : PassModel) → Contains all.items x ↔ Contains (own.items ++ others.items) x)) }
+    ensures cause { IfErr result (λ f. f ≡ StoreFault.Memory) }
 {
     let mut all = own;
     done!(add_passes(&mut all, others));
@@ -156,11 +156,10 @@ pub(crate) fn passes_told<S: Alter>(
     all_passes(own, others)
 }
 
-/// Whether the result with this number is a pass, or `None` where it isn't one of these, which are in the order of their numbers.
+/// Whether the result with this number is a pass, or `None` if it isn't one of these, which are in the order of their numbers.
 pub(crate) fn pass_among(passes: &[ResultPass], number: u32) -> Option<bool>
-    ensures { IfSome result
-        (λ pass. (s : State) (r : Verification) → TellPasses s passes.now →
-        result_with s number ≡ Some r → pass ≡ r.pass) }
+    ensures some { IfSome result (λ pass. Contains passes.now (record { number = number; pass = pass })) }
+    ensures none { ArePassesByNumber passes.now → IfNone result (IsUntold passes.now number) }
 {
     match passes.binary_search_by_key(&number, |one| one.number) {
         Ok(at) => Some(passes[at].pass),
@@ -203,9 +202,10 @@ fn checked_by<S: Alter>(
     )
 }
 
-/// Puts more numbers at the end.
+/// Puts more numbers at the end. An `Err` is out of memory.
 fn add_numbers(found: &mut Vec<u32>, more: Vec<u32>) -> Result<(), StoreFault>
-    ensures { IfOk result (λ _. found.new.items ≡ found.old.items ++ more.items) }
+    ensures added { IfOk result (λ _. found.new.items ≡ found.old.items ++ more.items) }
+    ensures cause { IfErr result (λ f. f ≡ StoreFault.Memory) }
 {
     let mut more = more;
     match found.append(&mut more) {
@@ -241,9 +241,10 @@ fn each_number_once(numbers: Vec<u32>) -> Vec<u32>
     numbers
 }
 
-/// The numbers of both lists, each once, rising.
+/// The numbers of both lists, each once, rising. An `Err` is out of memory.
 fn all_numbers(one: Vec<u32>, other: Vec<u32>) -> Result<Vec<u32>, StoreFault>
-    ensures { IfOk result (λ all. Lists nat_cmp (Contains (one.items ++ other.items)) all.items) }
+    ensures all { IfOk result (λ all. Lists nat_cmp (Contains (one.items ++ other.items)) all.items) }
+    ensures cause { IfErr result (λ f. f ≡ StoreFault.Memory) }
 {
     let mut all = one;
     done!(add_numbers(&mut all, other));

@@ -8,7 +8,7 @@ use Rattle.deploy_tables.proofs.matrix_rows.of_contents.Goals as goal
 pub loop-verified-preserved : goal.loop-verified-preserved
 loop-verified-preserved g c =
     read_both (state g.S.Store c.args.conn.now) (state g.S.Store c.loop-verified.conn) (state g.S.Store c.of_content.new.conn) c.loop-verified.found c.in-Ok.value c.add.new.found _ _ _
-    (λ s was here. of_more_at (IsOfContent s c.args.version.now) c.args.contents.now c.loop-verified.verified-index _ c.loop-verified.found.items c.in-Ok.value.items c.add.new.found.items c.loop-verified-test.true c.in-Ok-add.ensures was here)
+    (λ s was here. of_more_at (IsOfContent s c.args.version.now) c.args.contents.now c.loop-verified.verified-index _ c.loop-verified.found.items c.in-Ok.value.items c.add.new.found.items c.loop-verified-test.true c.in-Ok-add.ensures.added was here)
     c.loop-verified.invariant c.in-Ok.ensures
 
 pub returns : goal.returns

@@ -20,5 +20,5 @@ returns g c =
     (λ marks s. (ArePassesByNumber passes.items × TellPasses s passes.items) × (IsStrictlySortedBy nat_cmp marks.items × TellChecked s (IsMeant s n cs) marks.items))
     (λ found. IsStrictlySortedBy nat_cmp checked.items → AreRead (IsRowTold passes.items checked.items) c.args.entries.now found.items) _
     (λ s read found made v are. matrix_told s v n are.0 cs are.1 passes.items checked.items read.0.1 read.1.1 c.args.entries.now found.items are.2 (made read.1.0))
-    (rw (c.deref.ensures.value, c.deref-2.ensures.value) at c.rows_of.ensures)
+    (rw (c.deref.ensures.value, c.deref-2.ensures.value) at c.rows_of.ensures.rows)
     (query_then old mid new passes _ _ _ _ (λ s one marks two. (one, two)) c.in-Ok.ensures c.in-Ok-checked_told.ensures)

@@ -4,5 +4,5 @@ use Rattle.broker_core.specs.Listing.{Lists}
 use Rattle.deploy_tables.specs.Needs.{pair_cmp}
 use Rattle.deploy_tables.proofs.pairs.pairs_of.Goals as goal
 
-pub returns-in-Ok : goal.returns-in-Ok
-returns-in-Ok c = subst (λ all. Lists pair_cmp (Contains all) c.each_pair_once.result.items) c.in-Ok.ensures c.each_pair_once.ensures
+pub returns-in-Ok-clause-all : goal.returns-in-Ok-clause-all
+returns-in-Ok-clause-all c = subst (λ all. Lists pair_cmp (Contains all) c.each_pair_once.result.items) c.in-Ok.ensures c.each_pair_once.ensures

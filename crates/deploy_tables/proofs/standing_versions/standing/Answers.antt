@@ -19,5 +19,5 @@ returns g c =
     computed old new released c.of_both.result
     (λ items s. (((x : StandingVersion) → Contains deployed.items x ↔ IsDeployedThere s e x) × AreDeployedNumbered s e) × (Lists standing_cmp (IsReleasedThere s e) items.items × AreReleasedNumbered s e))
     (λ all. Lists standing_cmp (Contains (deployed.items ++ released.items)) all.items) _
-    (λ s both all listed. standing_are s e deployed.items released.items all.items both.0.0 both.0.1 both.1.0 both.1.1 listed) c.of_both.ensures
+    (λ s both all listed. standing_are s e deployed.items released.items all.items both.0.0 both.0.1 both.1.0 both.1.1 listed) c.of_both.ensures.all
     (query_then old mid new deployed _ _ _ _ (λ s one items two. (one, two)) c.in-Ok.ensures c.in-Ok-released_versions.ensures)

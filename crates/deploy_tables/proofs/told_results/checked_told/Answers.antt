@@ -17,5 +17,5 @@ returns g c =
     let others = c.in-Ok-checked_by.value in
     computed old new others c.all_numbers.result
     (λ items s. TellChecked s (λ c _. IsContentOf cs c) own.items × TellChecked s (λ _ w. number_of s.versions w ≡ Some n) items.items) _ _
-    (λ s told all is. (is.sorted, checked_both s n cs own.items others.items all.items told.0 told.1 is)) c.all_numbers.ensures
+    (λ s told all is. (is.sorted, checked_both s n cs own.items others.items all.items told.0 told.1 is)) c.all_numbers.ensures.all
     (query_then old mid new own _ _ _ _ (λ s one items two. (one, two)) c.in-Ok.ensures c.in-Ok-checked_by.ensures)

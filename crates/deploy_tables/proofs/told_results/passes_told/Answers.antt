@@ -13,5 +13,5 @@ returns g c =
     let others = c.in-Ok-passes_by.value in
     computed old new others c.all_passes.result
     (λ items s. TellPasses s own.items × TellPasses s items.items) _ _
-    (λ s told all is. (is.0, both_tell s own.items others.items all.items told.0 told.1 is.1)) c.all_passes.ensures
+    (λ s told all is. (is.0, both_tell s own.items others.items all.items told.0 told.1 is.1)) c.all_passes.ensures.all
     (query_then old mid new own _ _ _ _ (λ s one items two. (one, two)) c.in-Ok.ensures c.in-Ok-passes_by.ensures)
