@@ -1,8 +1,10 @@
 #!/usr/bin/env python3
-# The runs of refused-memory.sh, which calls it: refused-memory.py PROGRAM FOLDER STEP, where FOLDER has refuse.so.
+# The runs of refused-memory.sh, which calls it: refused-memory.py PROGRAM FOLDER STEP, where FOLDER has refuse.so, and
+# STEP is a number or `once`.
 import collections
 import concurrent.futures
 import functools
+import itertools
 import os
 import subprocess
 import sys
@@ -183,8 +185,42 @@ class Stream:
         return self.wanted(refused)[:len(others)] == others
 
 
+ENDINGS = ["ended before the first answer, with memory", "ended before the first answer, with open 4",
+           "ended after whole answers, with serve 3"]
+
+
+def coarse_to_fine(count):
+    """The numbers from 1 to count: the first ones, then those that are far apart, and so on."""
+    yield from range(1, min(count, 16) + 1)
+    steps = [4096, 512, 64, 8, 1]
+    for step, above in zip(steps, [0, *steps]):
+        yield from (number for number in range(step, count + 1, step) if not above or number % above)
+
+
+def bring_out(program, folder):
+    """Refuses requests for memory until each of the ENDINGS has been seen."""
+    stream = Stream(program, folder, FIRST_RUN)
+    numbers, found = coarse_to_fine(stream.count()), {}
+    with concurrent.futures.ThreadPoolExecutor(len(os.sched_getaffinity(0))) as workers:
+        while not found.keys() >= set(ENDINGS):
+            batch = list(itertools.islice(numbers, 16))
+            if not batch:
+                raise ValueError(f"not every ending is brought out: {found}")
+            for number, outcome in zip(batch, workers.map(stream.outcome, batch)):
+                found.setdefault(outcome, number)
+    for outcome in ENDINGS:
+        print(f"{outcome}: request {found[outcome]} refused")
+
+
 def main():
-    program, folder, step = os.path.abspath(sys.argv[1]), sys.argv[2], int(sys.argv[3])
+    program, folder = os.path.abspath(sys.argv[1]), sys.argv[2]
+    if sys.argv[3] == "once":
+        bring_out(program, folder)
+    else:
+        refuse_each(program, folder, int(sys.argv[3]))
+
+
+def refuse_each(program, folder, step):
     for name, rows in STREAMS.items():
         stream = Stream(program, folder, rows)
         count = stream.count()

@@ -4,7 +4,10 @@
 # 503 {"answer":"memory"} and all others as if it hadn't been sent; or the program ends with status 3 behind whole
 # answers; or a commit or a rollback was refused, and the broker is stopped. Ends with 0 where all is so.
 # Usage: checks/refused-memory.sh PATH_OF_THE_PROGRAM [STEP]     with a STEP only each STEPth of them is refused
-# Takes minutes: one run of the program for each time that it asks for memory, on each processor.
+#        checks/refused-memory.sh PATH_OF_THE_PROGRAM once       only until the program has ended with `memory`, with
+#                                                                `open 4` and with `serve 3`, each once: seconds
+# Takes minutes: one run of the program for each time that it asks for memory, on each processor. `.ci/program` runs it
+# with `once`; the whole is run by hand.
 # Needs a C compiler (cc), the GNU C library, and python3. Ends with 77 where cc or python3 isn't there.
 set -eu
 program=${1:?the path of the program broker}

@@ -1,16 +1,18 @@
 #!/usr/bin/env python3
-"""Peers that make a serving broker wait, and what others get meanwhile. Takes about a minute; with nginx two.
+"""Peers that make a serving broker wait, and what others get meanwhile. Takes about a minute.
 
     checks/slow-peers.py PROGRAM           serves a new file on a free port, and tries each kind of peer
-    checks/slow-peers.py PROGRAM nginx     the same behind nginx, with and without connections that are kept:
-                                           2,000 requests by 16 clients, each of which is to be answered
+    checks/slow-peers.py PROGRAM nginx     2,000 requests by 16 clients through nginx (the Debian package), which keeps
+                                           its connections to the broker or doesn't: each is to be answered
 
-PROGRAM is the path of `broker`. Prints a line for each, and ends with 1 if one is otherwise than it has to be."""
-import http.client, os, socket, subprocess, sys, tempfile, threading, time
+PROGRAM is the path of `broker`. Prints a line for each, and ends with 1 if one is otherwise than it has to be, or with
+77 if nginx isn't installed."""
+import http.client, os, shutil, socket, subprocess, sys, tempfile, threading, time
 
 PROGRAM = os.path.abspath(sys.argv[1])
 TOKEN = "office-token-0001"
 ASK = b"GET /environments/none HTTP/1.1\r\nhost: b\r\nauthorization: Bearer office-token-0001\r\n\r\n"
+UNKNOWN = b'{"answer":"unknown","what":"environment"}'
 faults = 0
 
 
@@ -162,11 +164,23 @@ http {{
 
 
 def through(front, count, told):
+    """Asks so often on one connection to nginx, and tells of each answer the status, the body and how long it took."""
     client = http.client.HTTPConnection("127.0.0.1", front, timeout=60)
     for _ in range(count):
+        began = time.time()
         client.request("GET", "/environments/none", headers={"authorization": f"Bearer {TOKEN}"})
-        told.append(client.getresponse())
-        told[-1] = (told[-1].status, told[-1].read())
+        answer = client.getresponse()
+        told.append((answer.status, answer.read(), time.time() - began))
+
+
+def await_port(port):
+    for _ in range(100):
+        try:
+            socket.create_connection(("127.0.0.1", port), 1).close()
+            return
+        except OSError:
+            time.sleep(0.1)
+    raise SystemExit("nginx doesn't serve")
 
 
 def proxied(name, keep, header):
@@ -175,21 +189,27 @@ def proxied(name, keep, header):
         with open(f"{room}/nginx.conf", "w", encoding="utf-8") as it:
             it.write(CONFIG.format(room=room, port=broker.port, front=front, keep=keep, header=header))
         server = subprocess.Popen(["nginx", "-c", f"{room}/nginx.conf", "-p", room], stderr=subprocess.DEVNULL)
-        time.sleep(1)
+        await_port(front)
         told, began = [], time.time()
         clients = [threading.Thread(target=through, args=(front, 125, told)) for _ in range(16)]
         for it in clients:
             it.start()
         for it in clients:
             it.join()
-        took, good = time.time() - began, sum(it[0] == 404 for it in told)
-        server.kill()
+        took, good = time.time() - began, sum(it[:2] == (404, UNKNOWN) for it in told)
+        server.terminate()
         server.wait()
-        tell(name, good == 2000, f"{good} of 2000 answered in {took:.1f} s")
+        times = sorted(it[2] for it in told) or [0]
+        figures = f"{len(told) / took:.0f} a second; half within {times[len(times) // 2] * 1000:.0f} ms, the longest {times[-1] * 1000:.0f} ms"
+        tell(name, good == 2000, f"{good} of 2000 answered in {took:.1f} s, {figures}")
 
 
-peers()
-if sys.argv[2:] == ["nginx"]:
+if sys.argv[2:] != ["nginx"]:
+    peers()
+elif shutil.which("nginx"):
     proxied("nginx", "", "")
     proxied("nginx with keepalive", "keepalive 16;", 'proxy_http_version 1.1; proxy_set_header connection "";')
+else:
+    print("not run: nginx isn't installed")
+    sys.exit(77)
 sys.exit(1 if faults else 0)
