@@ -346,6 +346,78 @@ def no_broker(room):
     faults_of_file(room, f"{room}/notes.db", "open 2", "open 1")
 
 
+META = "CREATE TABLE meta (one INTEGER PRIMARY KEY, format INTEGER, office_digest TEXT)"
+STRICT_META = "CREATE TABLE meta (one INTEGER PRIMARY KEY CHECK (one = 1), format INTEGER NOT NULL, office_digest TEXT NOT NULL) STRICT"
+
+
+def with_format(number, table=META):
+    return f"{table}; INSERT INTO meta (one, format, office_digest) VALUES (1, {number}, 'd')"
+
+
+@case("another's first table is a broker's meta by its name, its columns and its key, however it is declared")
+def declared(room):
+    others = [
+        (with_format(0), "open 3.0"),
+        (with_format(0, STRICT_META), "open 3.0"),
+        (with_format(7) + "; CREATE TABLE notes (line TEXT)", "open 3.7"),
+        (with_format(0, "CREATE TABLE meta (one INTEGER PRIMARY KEY, format BIGINT DEFAULT 7, office_digest VARCHAR(64) COLLATE NOCASE)"), "open 3.0"),
+        (with_format("'two'"), "open 5"),
+        (with_format("NULL"), "open 5"),
+        (with_format(-1), "open 5"),
+        (with_format(1 << 32), "open 5"),
+        (META, "open 2"),
+        (with_format(0) + "; INSERT INTO meta (one) VALUES (2)", "open 2"),
+        ("CREATE TABLE notes (line TEXT); " + with_format(0), "open 2"),
+        (with_format(0, META.replace("INTEGER PRIMARY KEY", "INTEGER")), "open 2"),
+        (with_format(0, META.replace("INTEGER, office", "TEXT, office")), "open 2"),
+        (with_format(0, META.replace("digest TEXT", "digest TEXT, since TEXT")), "open 2"),
+        (with_format(0).replace("meta", "notes"), "open 2"),
+        (with_format(0).replace("meta", "notes") + "; CREATE VIEW meta AS SELECT one, format, office_digest FROM notes", "open 2"),
+    ]
+    for number, (text, line) in enumerate(others):
+        statements(f"{room}/{number}.db", text)
+        faults_of_file(room, f"{room}/{number}.db", line, "open 1")
+
+
+def loose(text):
+    """These tables without STRICT and NOT NULL, in another order but for the first, and beside another table."""
+    made = [it.replace(" STRICT", "").replace(" NOT NULL", "") for it in text.splitlines() if it.startswith("CREATE")]
+    rows = [it for it in text.splitlines() if not it.startswith("CREATE")]
+    return "\n".join([made[0], "CREATE TABLE notes (line TEXT);", *made[:0:-1], *rows])
+
+
+@case("another's file of format 1 is migrated if its tables have the columns and the keys; else it is `open 2`, and as it was")
+def declared_former(room):
+    with open(f"{TOP}/crates/command_lines/data/former.sql", encoding="utf-8") as it:
+        former = it.read()
+    released = "CREATE TABLE released (environment TEXT, version_number INTEGER, PRIMARY KEY (environment, version_number))"
+    instead = [
+        "",
+        released.replace("environment TEXT,", "environment TEXT, since TEXT,"),
+        released.replace("version_number INTEGER", "version_number TEXT"),
+        released.replace("version_number", "version"),
+        released.replace("(environment, version_number)", "(version_number, environment)"),
+        released.replace(", PRIMARY KEY (environment, version_number)", ""),
+        released.replace("(environment, version_number))", "(environment, version_number), UNIQUE (version_number))"),
+        "CREATE VIEW released AS SELECT environment, version_number FROM deployed",
+    ]
+    for number, text in enumerate(instead):
+        file = f"{room}/{number}.db"
+        statements(file, former)
+        statements(file, f"DROP TABLE released; {text}")
+        before = kept(room)
+        same(text, run("migrate", "--file", file), (3, "", "open 2\n"))
+        same("a question to it", run(*question(file)), (3, "", "open 3.1\n"))
+        unchanged(room, before)
+    for number, text in enumerate([loose(former), former + f"DROP TABLE released; {released}"]):
+        file = f"{room}/good{number}.db"
+        statements(file, text)
+        same("migrate", run("migrate", "--file", file), (0, "", ""))
+        shown = '{"answer":"shown","environment":"live","faults":[],"gated":true,"permitted":true}\n'
+        same("a question", run(*question(file, "red-team-token-01")), (0, shown, ""))
+        same("migrate again", run("migrate", "--file", file), (3, "", "open 3.2\n"))
+
+
 @case("no file: only init makes it")
 def no_file(room):
     faults_of_file(room, f"{room}/nowhere/broker.db")

@@ -45,5 +45,5 @@ one_format n k office (r ∷ q ∷ rows) one is = absurd cc
 pub marked_some : (n : ℕ) (office : Text) (db : Database) (found : Option ℕ) → IsMarked n office db → Finds db found → found ≡ Some n
 marked_some n office db None marked it =
     let first : slice_get db.schema.tables 0 ≡ Some meta = ap (λ (s : Schema). slice_get s.tables 0) marked.schema in
-    absurd (it meta first (refl, refl, refl, refl) (sym (length-map (db.trees 0) _) ∙ ap length marked.row))
+    absurd (it meta first (refl, refl, ((refl, refl), ((refl, refl), ((refl, refl), tt))), refl) (sym (length-map (db.trees 0) _) ∙ ap length marked.row))
 marked_some n office db (Some k) marked it = ap Some (one_format n k office (db.trees 0) marked.row it.3)

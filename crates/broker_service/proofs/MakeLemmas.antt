@@ -9,7 +9,7 @@ use Rattle.table_access.specs.declared.StoreFault.TheVariants.{Memory, Store}
 use Rattle.table_access.proofs.EndLemmas.{keeps_unsure}
 use Rattle.broker_core.specs.State.{State as Broker}
 use Rattle.broker_tables.specs.Former.{former_format}
-use Rattle.registry_tables.specs.Format.{Finds}
+use Rattle.registry_tables.specs.Format.{FindsFormer}
 use Rattle.broker_service.specs.Ends.{IsAsBefore}
 use Rattle.broker_service.specs.Migration.{StoresFormer, HoldsFormerState, MigratesOrFails, IsUnchangedUnlessFormer, BringsUp}
 use Rattle.broker_service.specs.Opening.{CreatesOrFails, FailsUnchanged}
@@ -46,21 +46,21 @@ make_unchanged old mid done new r false t clean = last_commit old mid done new r
 
 -- ---- the format that is found
 
-abbrev pub FindsThere : State → Option ℕ → Type 0
-FindsThere old found = IsTrue old.is_open × Finds old.now found
+abbrev pub FindsThere : (Database → Option ℕ → Type 0) → State → Option ℕ → Type 0
+FindsThere Finds old found = IsTrue old.is_open × Finds old.now found
 
-pub finds : {X : Option ℕ → Type 0} (old mid done new : State) (r : Result (Option ℕ) StoreFault) (keeps did : Bool) → IsTransaction old mid done new r X keeps did
-    → ((found : Option ℕ) → X found → Finds mid.now found) → HasCleanDisk new → IfOk (if did then r else Err Store) (FindsThere old)
-finds old mid done new (Ok found) keeps true t tells clean =
+pub finds : {X : Option ℕ → Type 0} (Finds : Database → Option ℕ → Type 0) (old mid done new : State) (r : Result (Option ℕ) StoreFault) (keeps did : Bool) → IsTransaction old mid done new r X keeps did
+    → ((found : Option ℕ) → X found → Finds mid.now found) → HasCleanDisk new → IfOk (if did then r else Err Store) (FindsThere Finds old)
+finds Finds old mid done new (Ok found) keeps true t tells clean =
     let is = opened old mid done new (Ok found) _ keeps true t clean in
     (is.0, subst (λ (db : Database). Finds db found) is.1 (tells found (t.works.ok (done_clean old mid done new (Ok found) _ keeps true t clean))))
-finds old mid done new (Err fault) keeps true t tells clean = tt
-finds old mid done new r keeps false t tells clean = tt
+finds Finds old mid done new (Err fault) keeps true t tells clean = tt
+finds Finds old mid done new r keeps false t tells clean = tt
 
 -- ---- a database of format 1 is brought up
 
 abbrev pub IsBroughtUp : State → State → Option ℕ → Type 0
-IsBroughtUp mid done found = Finds mid.now found × (found ≡ Some former_format → BringsUp mid.now done.now)
+IsBroughtUp mid done found = FindsFormer mid.now found × (found ≡ Some former_format → BringsUp mid.now done.now)
 
 pub migrates_as_before : (s : Broker) (old new : State) (fault : StoreFault) → IsAsBefore old new → HoldsFormerState s old → MigratesOrFails s new (Err fault)
 migrates_as_before s old new Memory is holds = keeps_on (λ db. StoresFormer db s) old new is holds

@@ -1,7 +1,7 @@
 -- What a migration finds, and what it leaves of a state.
 use Rattle.std.proofs.Common.{◌≡◌, ◌≢◌, ◌==◌, ◌⊎◌, ◌++◌, ◌∷◌, [], inl, inr, ℕ, List, Bool, true, false, not, ◌&&◌, refl, sym, ap, subst, ◌∙◌, drop, Option, Some, None, Result, Ok, Err}
 use Rattle.std.specs.Prelude.{if◌then◌else◌, option_map, IsTrue, ◌↔◌, IsSomeAnd, Result, Ok, Err, OnOk, IfErr, ⊤}
-use Rattle.std.proofs.lemmas.Bool.{eqb-false}
+use Rattle.std.proofs.lemmas.Bool.{eqb-true, eqb-false}
 use Rattle.std.specs.Option.{option_map_or}
 use Rattle.sqlite.specs.Effect.{Database}
 use Rattle.sqlite.specs.State.{State, HasCleanDisk, Survives}
@@ -24,19 +24,23 @@ use Rattle.broker_core.specs.Gate.{IsNeed, IsGood, IsPermitted, IsFault, Judges}
 use Rattle.broker_core.specs.Machine.{TakesEffect}
 use Rattle.broker_core.specs.State.{State as Broker, is_strict}
 use Rattle.broker_core.specs.Text.{Text}
-use Rattle.broker_tables.specs.Schema.{schema_of}
+use Rattle.sqlite.specs.Table.{Table}
+use Rattle.sqlite_schema.specs.declared.schema.Column.{Column}
+use Rattle.sqlite_schema.specs.Names.{same_name}
+use Rattle.broker_tables.specs.Schema as tables
+use Rattle.broker_tables.specs.Schema.{no_schema, schema_of}
 use Rattle.broker_tables.specs.Making.{IsBlank, IsMarked}
 use Rattle.broker_tables.specs.Former.{HoldsFormer, IsUnmarked, former_tables, former_format}
 use Rattle.broker_tables.proofs.Former.{unmarked}
-use Rattle.registry_tables.specs.Format.{Finds}
+use Rattle.registry_tables.specs.Format.{AreLike, AreKeys, HasForm, HasFormerTables, IsOfFormat, FindsFormer}
 use Rattle.command_facts.specs.Primitives.{broker_primitives}
 use Rattle.broker_service.specs.Calls.{Migrated}
-use Rattle.broker_service.specs.Migration.{StoresFormer, HoldsFormerState, MigratesOrFails, IsUnchangedUnlessFormer, WasGood, WasPermitted, WasFault, WasJudged, Showed, JudgesAsBefore, former_kind, former_fault, former_marks}
+use Rattle.broker_service.specs.Migration.{StoresFormer, HoldsFormerState, MigratesOrFails, IsUnchangedUnlessFormer, IsJudgedFormer, WasGood, WasPermitted, WasFault, WasJudged, Showed, JudgesAsBefore, former_kind, former_fault, former_marks}
 use Rattle.broker_service.specs.Opening.{Refuses, IsUnchangedUnlessStore, judgement, open_fault}
 use Rattle.broker_service.specs.Stored.{Stores, HoldsState}
 use Rattle.broker_service.specs.declared.opening.OpenFault.{OpenFault}
 use Rattle.broker_service.specs.declared.opening.OpenFault.TheVariants.{Format}
-use Rattle.broker_service.proofs.Judgements.{judged, blank_none, marked_some}
+use Rattle.broker_service.proofs.Judgements.{blank_none, marked_some}
 
 -- what is held durably is seen, while the connection is open
 pub held_now : (P : Database → Type 0) (c : State) → HoldsDurably P c → IsTrue c.is_open → P c.now
@@ -48,8 +52,54 @@ held_now P c keeps now = let was = keeps.held now in subst P (sym was.same) was.
 pub former_marked : (db : Database) (s : Broker) → HoldsFormer db s → IsMarked former_format s.office db
 former_marked db s held = record { tables = drop 1 (schema_of former_tables).tables; indexes = (schema_of former_tables).indexes; schema = held.schema; row = held.meta }
 
-pub former_found : (db : Database) (s : Broker) (found : Option ℕ) → HoldsFormer db s → Finds db found → found ≡ Some former_format
-former_found db s found held it = marked_some former_format s.office db found (former_marked db s held) it
+-- each column is like itself
+like_itself : (cs : List Column) → AreLike cs cs
+like_itself [] = tt
+like_itself (c ∷ cs) = ((refl, refl), like_itself cs)
+
+keys_themselves : (keys : List (List ℕ)) → AreKeys keys keys
+keys_themselves [] = tt
+keys_themselves (places ∷ keys) = (refl, keys_themselves keys)
+
+-- a table has its own form, whichever tree has its rows
+form : (t : Table) (tree : ℕ) → HasForm t (record t { tree = tree })
+form t tree = (like_itself t.columns, refl, refl, keys_themselves t.uniques)
+
+former_schema : HasFormerTables (schema_of former_tables)
+unfolding same_name
+former_schema =
+    (form tables.meta 0, (form tables.teams 1, (form tables.pacticipants 4, (form tables.versions 6, (form tables.branches 8, (form tables.environments 10, (form tables.grants 12,
+    (form tables.contents 14, (form tables.contracts 15, (form tables.results 17, (form tables.latest 19, (form tables.deployed 21, (form tables.released 23, tt)))))))))))))
+
+pub former_tables_there : (db : Database) (s : Broker) → HoldsFormer db s → HasFormerTables db.schema
+former_tables_there db s held = subst HasFormerTables (sym held.schema) former_schema
+
+pub former_found : (db : Database) (s : Broker) (found : Option ℕ) → HoldsFormer db s → FindsFormer db found → found ≡ Some former_format
+former_found db s None held (inl foreign) = marked_some former_format s.office db None (former_marked db s held) foreign
+former_found db s None held (inr (of, lacks)) = absurd (lacks (former_tables_there db s held))
+former_found db s (Some n) held it = marked_some former_format s.office db (Some n) (former_marked db s held) it.0
+
+-- the judgement by what is found is right
+judged_former : (db : Database) (found : Option ℕ) → FindsFormer db found → IsJudgedFormer db (judgement former_format found)
+judged_former db None it = it
+judged_former db (Some n) it = go (n == former_format) refl
+  where
+    go : (b : Bool) → (n == former_format) ≡ b → IsJudgedFormer db (if b then Ok tt else Err (Format n))
+    go true e =
+        let same : n ≡ former_format = eqb-true n former_format e in
+        (subst (λ k. IsOfFormat k db) same it.0, it.1 same)
+    go false e = (it.0, eqb-false n former_format e)
+
+blank_former : (db : Database) (found : Option ℕ) → db.schema ≡ no_schema → FindsFormer db found → found ≡ None
+blank_former db None blank it = refl
+blank_former db (Some n) blank it = blank_none db (Some n) blank it.0
+
+marked_former : (n : ℕ) (office : Text) (db : Database) (found : Option ℕ) → n ≢ former_format → IsMarked n office db → FindsFormer db found → found ≡ Some n
+marked_former n office db None other marked (inl foreign) = marked_some n office db None marked foreign
+marked_former n office db None other marked (inr (of, lacks)) =
+    let is : Some former_format ≡ Some n = marked_some n office db (Some former_format) marked of in
+    absurd (other (let same : n ≡ former_format = cc in same))
+marked_former n office db (Some k) other marked it = marked_some n office db (Some k) marked it.0
 
 -- ---- the gate's words
 
@@ -175,7 +225,7 @@ refused_other old new (Some n) it = go (n == former_format) refl
     go false e = it (λ is. eqb-false n former_format e (let same : n ≡ former_format = cc in same))
 
 -- a format was found
-pub migrated : (old new : State) (found : Option ℕ) → (HasCleanDisk new → IsTrue old.is_open × Finds old.now found)
+pub migrated : (old new : State) (found : Option ℕ) → (HasCleanDisk new → IsTrue old.is_open × FindsFormer old.now found)
     → (HasCleanDisk new → (s : Broker) → HoldsFormerState s old → MigratesOrFails s new (Ok found))
     → (HasCleanDisk new → IsUnchangedUnlessFormer old new (Ok found))
     → Survives old new (λ _. ⊤) → Migrated old new (judgement former_format found)
@@ -185,13 +235,13 @@ migrated old new found is_found ends unchanged survives = record {
   refuses = λ clean s keeps.
       let is : Ok tt ≡ judgement former_format found = sym (ap (judgement former_format) (ends clean s keeps).0) in
       subst (λ (r : Result (Unit {0}) OpenFault). IfErr r (Refuses (λ db. StoresFormer db s) (λ db. Stores db s) new)) is tt;
-  judges = λ clean. judged former_format old.now found (is_found clean).1;
+  judges = λ clean. judged_former old.now found (is_found clean).1;
   blank = λ clean keeps.
       let it = is_found clean in
-      inl (ap (judgement former_format) (blank_none old.now found (held_now IsBlank old keeps it.0).schema it.1));
-  marked = λ clean n office keeps.
+      inl (ap (judgement former_format) (blank_former old.now found (held_now IsBlank old keeps it.0).schema it.1));
+  marked = λ clean n office other keeps.
       let it = is_found clean in
-      inl (ap (judgement former_format) (marked_some n office old.now found (held_now (IsMarked n office) old keeps it.0) it.1));
+      inl (ap (judgement former_format) (marked_former n office old.now found other (held_now (IsMarked n office) old keeps it.0) it.1));
   unchanged = λ clean. refused_other old new found (unchanged clean);
   survives = survives;
 }
@@ -207,7 +257,7 @@ unmigrated old new store_fault.Memory ends unchanged survives = record {
   refuses = ends;
   judges = λ _. tt;
   blank = λ _ _. inr (inl refl);
-  marked = λ _ _ _ _. inr (inl refl);
+  marked = λ _ _ _ _ _. inr (inl refl);
   unchanged = unchanged;
   survives = survives;
 }
@@ -217,7 +267,7 @@ unmigrated old new store_fault.Store ends unchanged survives = record {
   refuses = ends;
   judges = λ _. tt;
   blank = λ _ _. inr (inr refl);
-  marked = λ _ _ _ _. inr (inr refl);
+  marked = λ _ _ _ _ _. inr (inr refl);
   unchanged = unchanged;
   survives = survives;
 }

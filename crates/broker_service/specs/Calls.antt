@@ -22,7 +22,7 @@ use Rattle.broker_service.specs.BrokerView.{BrokerView}
 use Rattle.broker_service.specs.Ends.{Applies, IsAsBefore, AddsNoCrashState}
 use Rattle.broker_service.specs.Handed.{left_by, verdict}
 use Rattle.broker_service.specs.Headline.{RecordsExactly}
-use Rattle.broker_service.specs.Migration.{StoresFormer, HoldsFormerState, JudgesAsBefore}
+use Rattle.broker_service.specs.Migration.{StoresFormer, HoldsFormerState, JudgesAsBefore, IsJudgedFormer}
 use Rattle.broker_service.specs.Opening.{Refuses, MakesNew, RefusesNew, IsUnchangedUnlessStore, IsJudged, Judged}
 use Rattle.broker_service.specs.Sessions.{CommandLeaves, MakingLeaves, OpeningLeaves}
 use Rattle.broker_service.specs.Stored.{Stores, HoldsState}
@@ -122,12 +122,12 @@ pub record Migrated (old new : State) (given : Result (Unit {0}) OpenFault) : Ty
   -- or a failure: it is of format 1 with that state, and after Store a crash may leave today's
   pub refuses : HasCleanDisk new → (s : Broker) → HoldsFormerState s old
       → IfErr given (Refuses (λ db. StoresFormer db s) (λ db. Stores db s) new)
-  -- a failure aside: the database was of format 1, or it is told what it is instead
-  pub judges : HasCleanDisk new → IsJudged former_format old.now given
+  -- a failure aside: the database had the tables of format 1, or it is told what it is instead
+  pub judges : HasCleanDisk new → IsJudgedFormer old.now given
   -- of a database without tables: NotABroker, or a failure
   pub blank : HasCleanDisk new → HoldsDurably IsBlank old → Judged former_format None given
-  -- of one that is marked with a format: whether that is 1, or a failure
-  pub marked : HasCleanDisk new → (n : ℕ) (office : List ℕ) → HoldsDurably (IsMarked n office) old
+  -- of one that is marked with another format: which that is, or a failure
+  pub marked : HasCleanDisk new → (n : ℕ) (office : List ℕ) → n ≢ former_format → HoldsDurably (IsMarked n office) old
       → Judged former_format (Some n) given
   -- whatever the database is: where it isn't migrated it is as it was, or after Store the last commit is the old one
   pub unchanged : HasCleanDisk new → IfErr given (IsUnchangedUnlessStore old new)

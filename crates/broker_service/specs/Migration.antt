@@ -26,9 +26,12 @@ use Rattle.broker_core.specs.State.{State as Broker, is_gated}
 use Rattle.broker_core.specs.Text.{Text}
 use Rattle.broker_tables.specs.Holds.{Holds}
 use Rattle.broker_tables.specs.Former.{HoldsFormer, IsUnmarked, former_format}
+use Rattle.registry_tables.specs.Format.{IsOfFormat, IsForeign, HasFormerTables}
 use Rattle.command_facts.specs.Primitives.{broker_primitives}
 use Rattle.broker_service.specs.Ends.{IsAsBefore}
 use Rattle.broker_service.specs.Stored.{Stores, HoldsState}
+use Rattle.broker_service.specs.declared.opening.OpenFault.{OpenFault}
+use Rattle.broker_service.specs.declared.opening.OpenFault.TheVariants.{NotEmpty, NotABroker, Format, Memory, Store}
 
 -- the tables are of format 1 and hold the state, and each stored pact can be read again
 pub record StoresFormer (db : Database) (s : Broker) : Type 0 where
@@ -96,6 +99,16 @@ pub record JudgesAsBefore (s : Broker) : Type 0 where
 -- a database of format 1 becomes one of today's with the same state
 abbrev pub BringsUp : Database → Database → Type 0
 BringsUp old new = (s : Broker) → HoldsFormer old s → Holds new s
+
+-- What is told of a database that is to be migrated, a failure aside: it has the tables of format 1; or its format is
+-- another; or it is no broker's, or of format 1 by its meta alone.
+abbrev pub IsJudgedFormer : Database → Result (Unit {0}) OpenFault → Type 0
+IsJudgedFormer db (Ok u) = IsOfFormat former_format db × HasFormerTables db.schema
+IsJudgedFormer db (Err NotABroker) = IsForeign db ⊎ (IsOfFormat former_format db × (¬ (HasFormerTables db.schema)))
+IsJudgedFormer db (Err (Format n)) = IsOfFormat n db × (n ≢ former_format)
+IsJudgedFormer db (Err NotEmpty) = ⊥
+IsJudgedFormer db (Err Memory) = Unit {0}
+IsJudgedFormer db (Err Store) = Unit {0}
 
 -- ---- the transaction of a migration, for the clauses of private functions: no public clause cites it
 

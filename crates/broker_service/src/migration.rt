@@ -6,13 +6,13 @@ ghost use Rattle.table_access.specs.Calls.{CallsStore};
 ghost use Rattle.broker_core.specs.State.{State as BrokerState};
 ghost use Rattle.broker_tables.specs.Holds.{format};
 ghost use Rattle.broker_tables.specs.Former.{HoldsFormer, HoldsUnmarked, former_format, added_tables};
-ghost use Rattle.registry_tables.specs.Format.{Finds};
+ghost use Rattle.registry_tables.specs.Format.{FindsFormer};
 ghost use Rattle.broker_service.specs.Calls.{Migrated};
 ghost use Rattle.broker_service.specs.Migration.{BringsUp, HoldsFormerState, MigratesOrFails, IsUnchangedUnlessFormer};
 
 use crate::ending::finish;
 use crate::opening::{OpenFault, judge, make_indexes, open_fault};
-use registry_tables::format_of;
+use registry_tables::format_to_migrate;
 use sqlite::{Alter, Connection};
 use table_access::{StoreFault, begin};
 
@@ -35,12 +35,13 @@ fn add_all<S: Alter>(conn: &mut Connection<S>) -> Result<(), StoreFault>
     make_indexes(conn)
 }
 
-/// Looks for the format, and where it is 1, makes the database one of today's. The answer is the format that was found.
+/// Looks for the format, and if it is 1 and its tables are there, makes the database one of today's. The answer is the
+/// format that was found.
 fn bring_up<S: Alter>(conn: &mut Connection<S>) -> Result<Option<u32>, StoreFault>
     ensures { CallsStore S.Store conn.old conn.new result
-        (λ found old new. Finds old.now found × (found ≡ Some former_format → BringsUp old.now new.now)) }
+        (λ found old new. FindsFormer old.now found × (found ≡ Some former_format → BringsUp old.now new.now)) }
 {
-    match done!(format_of(conn)) {
+    match done!(format_to_migrate(conn)) {
         Some(1) => {
             done!(add_all(conn));
             Ok(Some(1))
@@ -60,7 +61,7 @@ fn is_former(found: &Result<Option<u32>, StoreFault>) -> bool
 /// answer is the format that was found.
 fn run<S: Alter>(conn: &mut Connection<S>) -> Result<Option<u32>, StoreFault>
     ensures found { HasCleanDisk (state S.Store conn.new)
-        → IfOk result (λ found. IsTrue (state S.Store conn.old).is_open × Finds (state S.Store conn.old).now found) }
+        → IfOk result (λ found. IsTrue (state S.Store conn.old).is_open × FindsFormer (state S.Store conn.old).now found) }
     ensures ends { HasCleanDisk (state S.Store conn.new) → (s : BrokerState)
         → HoldsFormerState s (state S.Store conn.old) → MigratesOrFails s (state S.Store conn.new) result }
     ensures unchanged { HasCleanDisk (state S.Store conn.new)
@@ -81,7 +82,8 @@ fn run<S: Alter>(conn: &mut Connection<S>) -> Result<Option<u32>, StoreFault>
 /// can-i-deploy answers, stays as it was.
 ///
 /// # Errors
-/// `NotABroker`: the first table isn't `meta` with its columns and its key, or `meta` has not just one row. `Format`:
+/// `NotABroker`: the first table isn't `meta` with its columns and its key, or `meta` has not just one row; or its format
+/// is 1, and a table of that format isn't there, or has other columns or other keys. `Format`:
 /// the format in that row is this other one; today's is refused too. After both, and after `Memory`, the database is
 /// as it was.
 /// `Store`: the database refused a call, the commit or a rollback, or the format isn't a number from 0 to 2^32 - 1; the

@@ -10,6 +10,8 @@ use Rattle.sqlite.specs.Table.{Table}
 use Rattle.sqlite.specs.Effect.{Database}
 use Rattle.sqlite_schema.specs.declared.schema.Index.{Index}
 use Rattle.sqlite_schema.specs.declared.schema.View.{View}
+use Rattle.sqlite_schema.specs.declared.schema.Column.{Column}
+use Rattle.sqlite.specs.Kind.TheVariants.{Text, Integer}
 use Rattle.sqlite.specs.declared.types.Value.TheVariants.{Int}
 use Rattle.sqlite.specs.Order.{Row, column}
 use Rattle.sqlite.specs.Term.{col}
@@ -20,8 +22,8 @@ use Rattle.sqlite.specs.Listing.{understood}
 use Rattle.sqlite_tied.specs.Compute.{everything}
 use Rattle.table_access.specs.Statements.{from_table, keeps, shows}
 use Rattle.table_access.proofs.Steps.{Means, selects, shown_unchanged}
-use Rattle.broker_tables.specs.Schema.{meta}
-use Rattle.registry_tables.specs.Format.{IsMetaTable, Finds}
+use Rattle.broker_tables.specs.Schema.{meta, numbers, texts}
+use Rattle.registry_tables.specs.Format.{IsLike, AreLike, IsMetaTable, Finds}
 
 -- ---- the query
 
@@ -31,18 +33,34 @@ format_sql = codes "SELECT format FROM meta"
 abbrev format_command : Command
 format_command = Select (record { lets = []; body = from_table 0 [] (col 1 2 ∷ []) [] }) (codes "format" ∷ [])
 
--- a table with the name, the rows, the columns and the key of meta
-abbrev like_meta : Table → Table
-like_meta t = record t { name = meta.name; tree = meta.tree; columns = meta.columns; key = meta.key }
+-- columns of the names and the kinds of meta's, however they are declared
+abbrev like : Column → Column → Column → List Column
+like a b c = record a { name = codes "one"; kind = Integer } ∷ record b { name = codes "format"; kind = Integer } ∷ record c { name = codes "office_digest"; kind = Text } ∷ []
 
-format_text : (t : Table) (ts : List Table) (is : List Index) (vs : List View) → Means (record { tables = like_meta t ∷ ts; indexes = is; views = vs }) format_sql format_command
+-- a table with the name, the rows and the key of meta, and such columns
+abbrev like_meta : Table → Column → Column → Column → Table
+like_meta t a b c = record t { name = meta.name; tree = meta.tree; columns = like a b c; key = meta.key }
+
+format_text : (t : Table) (a b c : Column) (ts : List Table) (is : List Index) (vs : List View)
+    → Means (record { tables = like_meta t a b c ∷ ts; indexes = is; views = vs }) format_sql format_command
 unfolding understood everything
-format_text t ts is vs = record { is = refl; plain = (refl, refl); unlisted = refl }
+format_text t a b c ts is vs = record { is = refl; plain = (refl, refl); unlisted = refl }
 
-as_meta : (t : Table) → IsMetaTable t → t ≡ like_meta t
+as_column : (wanted c : Column) → IsLike wanted c → c ≡ record c { name = wanted.name; kind = wanted.kind }
+as_column wanted c is = ap (λ n. record c { name = n }) is.0 ∙ ap (λ k. record c { name = wanted.name; kind = k }) is.1
+
+as_like : (cs : List Column) → AreLike meta.columns cs → (a : Column) × (b : Column) × (c : Column) × (cs ≡ like a b c)
+as_like (a ∷ b ∷ c ∷ []) are = (a, b, c, λ i. as_column (numbers (codes "one")) a are.0 i ∷ as_column (numbers (codes "format")) b are.1.0 i ∷ as_column (texts (codes "office_digest")) c are.1.1.0 i ∷ [])
+as_like (a ∷ b ∷ c ∷ d ∷ cs) are = absurd are.1.1.1
+as_like (a ∷ b ∷ []) are = absurd are.1.1
+as_like (a ∷ []) are = absurd are.1
+as_like [] are = absurd are
+
+as_meta : (t : Table) (is : IsMetaTable t) → let cs = as_like t.columns is.2 in t ≡ like_meta t cs.0 cs.1 cs.2
 as_meta t is =
-    ap (λ n. record t { name = n }) is.0 ∙ ap (λ n. record t { name = meta.name; tree = n }) is.1 ∙ ap (λ c. record t { name = meta.name; tree = meta.tree; columns = c }) is.2
-    ∙ ap (λ k. record t { name = meta.name; tree = meta.tree; columns = meta.columns; key = k }) is.3
+    let cs = as_like t.columns is.2 in
+    ap (λ n. record t { name = n }) is.0 ∙ ap (λ n. record t { name = meta.name; tree = n }) is.1 ∙ ap (λ x. record t { name = meta.name; tree = meta.tree; columns = x }) cs.3
+    ∙ ap (λ k. record t { name = meta.name; tree = meta.tree; columns = like cs.0 cs.1 cs.2; key = k }) is.3
 
 means : (s : Schema) (t : Table) → slice_get s.tables 0 ≡ Some t → IsMetaTable t → Means s format_sql format_command
 means s t first is = go s.tables first
@@ -50,8 +68,9 @@ means s t first is = go s.tables first
     go : (ts : List Table) → slice_get ts 0 ≡ Some t → Means (record s { tables = ts }) format_sql format_command
     go [] e = absurd cc
     go (u ∷ ts) e =
-        let same : u ≡ like_meta t = (let it : u ≡ t = cc in it) ∙ as_meta t is in
-        subst (λ x. Means (record s { tables = x ∷ ts }) format_sql format_command) (sym same) (format_text t ts s.indexes s.views)
+        let cs = as_like t.columns is.2 in
+        let same : u ≡ like_meta t cs.0 cs.1 cs.2 = (let it : u ≡ t = cc in it) ∙ as_meta t is in
+        subst (λ x. Means (record s { tables = x ∷ ts }) format_sql format_command) (sym same) (format_text t cs.0 cs.1 cs.2 ts s.indexes s.views)
 
 -- ---- its answer
 

@@ -1,15 +1,30 @@
 -- What tells that a database is a broker's, and the format of its tables.
-use Rattle.std.specs.Prelude.{◌≡◌, ◌≢◌, ℕ, pos, [], ◌∷◌, map, length, slice_get, Option, Some, MatchOption}
+use Rattle.std.specs.Prelude.{◌≡◌, ◌≢◌, ◌⊎◌, ℕ, pos, [], ◌∷◌, List, map, length, slice_get, option_and_then, Option, Some, MatchOption, IsSomeAnd}
+use Rattle.std.specs.List.{AllByRecursion, AllZip}
 use Rattle.sqlite.specs.Table.{Table}
+use Rattle.sqlite.specs.Schema.{Schema}
 use Rattle.sqlite.specs.Order.{column}
 use Rattle.sqlite.specs.declared.types.Value.TheVariants.{Int}
 use Rattle.sqlite.specs.Effect.{Database}
+use Rattle.sqlite_schema.specs.Names.{table_named}
+use Rattle.sqlite_schema.specs.declared.schema.Column.{Column}
 use Rattle.broker_tables.specs.Schema.{meta}
+use Rattle.broker_tables.specs.Former.{former_format, former_tables}
 
--- the broker's table meta, by its name, its columns and its key: a broker makes it before each other table, so
--- its rows stand in the first tree
+-- a column has the name and the kind of this one: with STRICT, NOT NULL, a default and a collation, or without
+abbrev pub IsLike : Column → Column → Type 0
+IsLike wanted c = (c.name ≡ wanted.name) × (c.kind ≡ wanted.kind)
+
+-- each column does, in their order
+abbrev pub AreLike : List Column → List Column → Type 0
+AreLike = AllZip IsLike
+
+-- ---- the format
+
+-- the broker's table meta, by its name, its columns and its key, however it is declared: it is made before each other
+-- table, so its rows are in the first tree
 abbrev pub IsMetaTable : Table → Type 0
-IsMetaTable table = (table.name ≡ meta.name) × (table.tree ≡ meta.tree) × (table.columns ≡ meta.columns)
+IsMetaTable table = (table.name ≡ meta.name) × (table.tree ≡ meta.tree) × AreLike meta.columns table.columns
     × (table.key ≡ meta.key)
 
 -- The first table is meta, and this is the format in its one row. So it is in each database that a broker left.
@@ -25,3 +40,35 @@ IsForeign db = (table : Table) → slice_get db.schema.tables 0 ≡ Some table �
 -- what is found in a database: a format, or none
 abbrev pub Finds : Database → Option ℕ → Type 0
 Finds db found = MatchOption found (IsForeign db) (λ n. IsOfFormat n db)
+
+-- ---- the tables of format 1
+
+-- the table that SQLite finds by this name, wherever it is among the tables: letters are compared without their case
+abbrev pub table_of : List ℕ → Schema → Option Table
+table_of name schema = option_and_then (slice_get schema.tables) (table_named schema name)
+
+-- each key has these places
+abbrev pub AreKeys : List (List ℕ) → List (List ℕ) → Type 0
+AreKeys = AllZip (λ wanted places. places ≡ wanted)
+
+-- a table has these keys: the column that is the row's number, the places of the PRIMARY KEY and of each UNIQUE
+abbrev pub HasKeys : Option ℕ → List ℕ → List (List ℕ) → Table → Type 0
+HasKeys key primary uniques table = (table.key ≡ key) × (table.primary ≡ primary) × AreKeys uniques table.uniques
+
+-- a table has the columns and the keys of this one, in their order
+abbrev pub HasForm : Table → Table → Type 0
+HasForm wanted table =
+    AreLike wanted.columns table.columns × HasKeys wanted.key wanted.primary wanted.uniques table
+
+abbrev pub HasTable : Schema → Table → Type 0
+HasTable schema wanted = IsSomeAnd (table_of wanted.name schema) (HasForm wanted)
+
+-- each table of format 1 is there, with its columns and its keys, wherever it is and however it is declared
+abbrev pub HasFormerTables : Schema → Type 0
+HasFormerTables schema = AllByRecursion (HasTable schema) former_tables
+
+-- What is found in a database that is to be migrated: a format, and if that is 1, its tables too; or none of both.
+abbrev pub FindsFormer : Database → Option ℕ → Type 0
+FindsFormer db found = MatchOption found
+    (IsForeign db ⊎ (IsOfFormat former_format db × (¬ (HasFormerTables db.schema))))
+    (λ n. IsOfFormat n db × (n ≡ former_format → HasFormerTables db.schema))

@@ -5,30 +5,23 @@ ghost use Rattle.sqlite.specs.Table.{Table as SqlTable};
 ghost use Rattle.sqlite.specs.Order.{column};
 ghost use Rattle.sqlite.specs.declared.types.Value.TheVariants.{Int};
 ghost use Rattle.table_access.specs.Calls.{CallsStore};
-ghost use Rattle.broker_tables.specs.Schema.{meta, numbers};
-ghost use Rattle.registry_tables.specs.Format.{IsMetaTable, Finds};
+ghost use Rattle.broker_tables.specs.Schema.{meta};
+ghost use Rattle.registry_tables.specs.Format.{AreLike, IsMetaTable, Finds};
 
 use sqlite::{Alter, Connection, Row};
 use sqlite_schema::schema::{Column, Kind, Table};
-use sqlite_value::keys::Collation;
-use sqlite_value::value::Value;
 use table_access::{StoreFault, number_in, select};
 
-/// Whether a column has this name, and takes values of this kind alone.
-fn is_column(column: &Column, name: &[u8], kind: Kind) -> bool
-    ensures { IsTrue result ↔ (column.now ≡ record (numbers name.now) { kind = kind }) }
+/// Whether a column has this name, and values of this kind, however it is declared.
+pub(crate) fn is_column(column: &Column, name: &[u8], kind: Kind) -> bool
+    ensures { IsTrue result ↔ ((column.now.name ≡ name.now) × (column.now.kind ≡ kind)) }
 {
-    column.name.as_slice() == name
-        && column.kind == kind
-        && column.is_strict
-        && column.not_null
-        && matches!(&column.default, Value::Null)
-        && column.collation == Collation::Binary
+    column.name.as_slice() == name && column.kind == kind
 }
 
 /// Whether these are the columns of `meta`.
 fn are_columns(columns: &[Column]) -> bool
-    ensures { IsTrue result ↔ (columns.now ≡ meta.columns) }
+    ensures { IsTrue result ↔ AreLike meta.columns columns.now }
 {
     match columns {
         [one, format, office] => {
@@ -40,7 +33,7 @@ fn are_columns(columns: &[Column]) -> bool
     }
 }
 
-/// Whether a table is `meta`, which was made before each other table.
+/// Whether a table is the broker's `meta`, however it is declared, and was made before each other table.
 fn is_meta(table: &Table) -> bool
     ensures { IsTrue result ↔ IsMetaTable table.now }
 {
@@ -51,7 +44,7 @@ fn is_meta(table: &Table) -> bool
 }
 
 /// Whether the first table is `meta`.
-fn has_meta<S: Alter>(conn: &Connection<S>) -> bool
+fn is_marked<S: Alter>(conn: &Connection<S>) -> bool
     ensures { IsTrue result ↔ ((table : SqlTable)
         × (slice_get (state S.Store conn.now).now.schema.tables 0 ≡ Some table) × IsMetaTable table) }
 {
@@ -74,7 +67,7 @@ fn one_number(rows: &[Row]) -> Result<Option<u32>, StoreFault>
     }
 }
 
-/// The format of the broker's tables, or `None` where the first table isn't `meta` with one row. Nothing changes.
+/// The format of the broker's tables, or `None` if the first table isn't `meta` with one row, however it is declared. Nothing changes.
 ///
 /// # Errors
 /// `StoreFault::Memory` where the database has no memory; `StoreFault::Store` where it refused the query or holds no number there.
@@ -83,7 +76,7 @@ pub fn format_of<S: Alter>(conn: &mut Connection<S>) -> Result<Option<u32>, Stor
         (λ found old new. Finds old.now found
         × (new.now ≡ old.now)) }
 {
-    if !has_meta(conn) {
+    if !is_marked(conn) {
         return Ok(None);
     }
     let rows = done!(select(conn, "SELECT format FROM meta", &[]));

@@ -18,6 +18,7 @@ macro_rules! done {
 mod branches;
 mod environments;
 mod format;
+mod former;
 mod grants;
 mod making;
 mod migration;
@@ -31,7 +32,7 @@ pub use environments::{add_environment, gated, marks_of, strict_of};
 pub use format::format_of;
 pub use grants::{add_grant, granted, remove_grant};
 pub use making::{make_index, make_strict_environments, make_tables};
-pub use migration::to_format_2;
+pub use migration::{format_to_migrate, to_format_2};
 pub use office::{is_blank, office_digest};
 pub use pacticipants::{add_pacticipant, owner_of};
 pub use teams::{add_team, digest_of, has_team, team_of_digest};

@@ -1,14 +1,32 @@
 //! The tables of a broker of format 1, as they become today's.
-ghost use Rattle.std.specs.Prelude.{◌∷◌, []};
+ghost use Rattle.std.specs.Prelude.{◌≡◌, ◌∷◌, []};
 ghost use Rattle.table_access.specs.Calls.{CallsStore};
 ghost use Rattle.broker_core.specs.State.{State as Broker};
 ghost use Rattle.broker_tables.specs.Schema.{checked_results};
 ghost use Rattle.broker_tables.specs.Holds.{format};
 ghost use Rattle.broker_tables.specs.Former.{HoldsUnmarked, former_format, added_tables};
+ghost use Rattle.registry_tables.specs.Format.{FindsFormer};
 
+use crate::format::format_of;
+use crate::former::has_former_tables;
 use crate::making::make_strict_environments;
 use sqlite::{Alter, Connection};
 use table_access::{StoreFault, change};
+
+/// The format of a database that is to be migrated, as [`format_of`] finds it; but `None` too if that is 1 and a table of format 1 isn't there, or has other columns or other keys. Nothing changes.
+///
+/// # Errors
+/// As `format_of`.
+pub fn format_to_migrate<S: Alter>(conn: &mut Connection<S>) -> Result<Option<u32>, StoreFault>
+    ensures { CallsStore S.Store conn.old conn.new result
+        (λ found old new. FindsFormer old.now found
+        × (new.now ≡ old.now)) }
+{
+    match done!(format_of(conn)) {
+        Some(1) => Ok(if has_former_tables(conn) { Some(1) } else { None }),
+        found => Ok(found),
+    }
+}
 
 /// Makes the table of strict environments in a database of format 1 that has that of checked results, without rows: no environment that is there is strict. Then sets the format to 2. All other tables keep their rows.
 ///

@@ -1,12 +1,13 @@
 use Rattle.std.proofs.Common.{true, false}
 use Rattle.sqlite.specs.Held.{state}
+use Rattle.registry_tables.specs.Format.{FindsFormer}
 use Rattle.broker_service.proofs.Transaction.{IsTransaction, survives_all, outlives_one, not_begun}
 use Rattle.broker_service.proofs.MakeLemmas.{finds, migration_ends, migration_unchanged, migrates_as_before}
 use Rattle.broker_service.proofs.migration.run.Goals as goal
 
 pub returns-then-finish-clause-found : goal.returns-then-finish-clause-found
 returns-then-finish-clause-found g c clean =
-    finds (state g.S.Store c.args.conn.now) (state g.S.Store c.begin.new.conn) (state g.S.Store c.bring_up-found.new.conn) (state g.S.Store c.finish.new.conn) c.bring_up-found.result c.is_former.result true
+    finds FindsFormer (state g.S.Store c.args.conn.now) (state g.S.Store c.begin.new.conn) (state g.S.Store c.bring_up-found.new.conn) (state g.S.Store c.finish.new.conn) c.bring_up-found.result c.is_former.result true
     (record { begun = c.in-Ok.ensures.begun; begins = c.begin.ensures.survives; works = c.bring_up-found.ensures.call; ends = c.if-finish.ensures }) (λ found is. is.0) clean
 
 pub returns-then-finish-clause-ends : goal.returns-then-finish-clause-ends

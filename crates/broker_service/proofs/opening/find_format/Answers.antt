@@ -1,12 +1,13 @@
 use Rattle.std.proofs.Common.{true, false, refl}
 use Rattle.sqlite.specs.Held.{state}
+use Rattle.registry_tables.specs.Format.{Finds}
 use Rattle.broker_service.proofs.Transaction.{IsTransaction, survives_all, outlives_one, not_begun, as_before}
 use Rattle.broker_service.proofs.MakeLemmas.{finds}
 use Rattle.broker_service.proofs.opening.find_format.Goals as goal
 
 pub returns-then-finish-clause-found : goal.returns-then-finish-clause-found
 returns-then-finish-clause-found g c clean =
-    finds (state g.S.Store c.args.conn.now) (state g.S.Store c.begin.new.conn) (state g.S.Store c.format_of-found.new.conn) (state g.S.Store c.finish.new.conn) c.format_of-found.result false true
+    finds Finds (state g.S.Store c.args.conn.now) (state g.S.Store c.begin.new.conn) (state g.S.Store c.format_of-found.new.conn) (state g.S.Store c.finish.new.conn) c.format_of-found.result false true
     (record { begun = c.in-Ok.ensures.begun; begins = c.begin.ensures.survives; works = c.format_of-found.ensures.call; ends = c.if-finish.ensures }) (λ found is. is.0) clean
 
 pub returns-then-finish-clause-same : goal.returns-then-finish-clause-same
