@@ -5,14 +5,14 @@ pub(crate) const VERSION: &str = "1.0.0";
 
 pub(crate) const ABOUT: &str =
     "A broker of consumer contracts (pacts): it keeps them with the results of their verification, and
-tells whether a version may be deployed";
+says whether a version may be deployed";
 
 pub(crate) const AFTER: &str =
     "Example: broker init --file broker.db --office-token office-token-0001
 
 Each command ends with a status. 0: done, passed, permitted. 1: failed, not permitted.
-2: the words are no command line. 3: it couldn't be done; one line on standard error tells why.
-`broker help COMMAND` tells the lines of a command.";
+2: invalid command line. 3: it couldn't be done; one line on standard error says why.
+`broker help COMMAND` explains the lines of a command.";
 
 pub(crate) const REPLAY: &str = "Serves the requests on standard input over tables in memory";
 
@@ -34,7 +34,7 @@ pub(crate) const INIT: &str = "Makes the file of a new broker";
 
 pub(crate) const AFTER_INIT: &str =
     "The file is a database of SQLite, with a second file beside it, whose name ends in -wal. Keep the
-office's token: it alone names teams, and can't be changed or read from the file.
+office's token: only it names teams, and it can't be changed or read from the file.
 
 Example: broker init --file broker.db --office-token office-token-0001
 
@@ -47,7 +47,7 @@ Status 3, and on standard error one of
   open 5     the database failed
   memory     no memory for anything else";
 
-pub(crate) const MIGRATE: &str = "Makes today's file, of format 2, of a broker's file of format 1";
+pub(crate) const MIGRATE: &str = "Upgrades a broker's file from format 1 to format 2";
 
 pub(crate) const AFTER_MIGRATE: &str =
     "Every row stays: each result is a claim of its sender, no environment is strict, and can-i-deploy answers
@@ -59,7 +59,7 @@ Status 0: the file is of format 2.
 Status 3, and on standard error one of
   file       the file isn't there, can't be read or written, is in use, or is no database
   open 2     the file isn't a broker's; nothing is changed
-  open 3.N   the file has another format than 1, of number N, as 2 behind a migration; nothing is changed
+  open 3.N   the file has another format than 1, of number N, as 2 after a migration; nothing is changed
   open 4     no memory for the tables; nothing is changed
   open 5     the database failed: try it again
   memory     no memory for anything else";
@@ -76,7 +76,7 @@ before it. While it runs no other program can open the file.
 
 Example: broker serve --file broker.db --listen 127.0.0.1:9292 --connections 1000000
 
-Status 0: the connections are served. A peer that fails ends its own connection alone.
+Status 0: the connections are served. A peer that fails ends only its own connection.
 Status 3, and on standard error one of
   file       the file isn't there, can't be read or written, is in use, or is no database
   open 2     the file isn't a broker's
@@ -89,7 +89,7 @@ Status 3, and on standard error one of
 pub(crate) const NORMALISE: &str = "Writes the normal text of the pact file on standard input";
 
 pub(crate) const AFTER_NORMALISE: &str =
-    "Two pact files are one contract where their normal texts are equal.
+    "Two pact files are one contract if their normal texts are equal.
 
 Example: broker normalise < pacts/shop-stock.json
 
@@ -101,7 +101,7 @@ Status 3, and on standard error one of
   file       the input can't be read, or the output can't be written
   memory     no memory was left";
 
-pub(crate) const CHECK: &str = "Tells whether recorded replies of a provider meet a pact file";
+pub(crate) const CHECK: &str = "Says whether recorded replies of a provider meet a pact file";
 
 pub(crate) const AFTER_CHECK: &str =
     "Prints `pass`, or `fail` and the places of the interactions that fail, counted from 0 in the order
@@ -111,7 +111,7 @@ Example: broker check --pact pacts/shop-stock.json --replies replies.json
 
 Status 0: pass. Status 1: fail.
 Status 3, and on standard error one of
-  pact N     the pact file's first fault, as `normalise --help` tells them
+  pact N     the pact file's first fault, as `normalise --help` lists them
   replies N  the first fault of the replies: 1 not JSON, 2 another shape at the place that follows,
              3.1 a fraction, 3.2 nested too deep, 4 two replies for one interaction
   check 1    a reply belongs to no interaction
@@ -119,7 +119,7 @@ Status 3, and on standard error one of
   file       a file can't be read, or the output can't be written
   memory     no memory was left";
 
-pub(crate) const CAN_I_DEPLOY: &str = "Tells whether a version may be deployed to an environment";
+pub(crate) const CAN_I_DEPLOY: &str = "Says whether a version may be deployed to an environment";
 
 pub(crate) const AFTER_CAN_I_DEPLOY: &str =
     "Prints the answer of the request GET /can-i-deploy. While `serve` runs over the file, ask it by HTTP.
