@@ -183,9 +183,14 @@ def in_memory():
 
 
 def run_replay(stream):
+    """Seconds to answer the stream; each answer has to be 200."""
+    words = [PROGRAM, "replay", "--office-token", OFFICE]
     began = time.monotonic()
-    subprocess.run([PROGRAM, "replay", "--office-token", OFFICE], input=stream.encode(), stdout=subprocess.DEVNULL, check=True)
-    return time.monotonic() - began
+    answers = subprocess.run(words, input=stream.encode(), capture_output=True, check=True).stdout
+    took = time.monotonic() - began
+    if answers.count(b"HTTP/1.1 200 ") != stream.count(" HTTP/1.1\r\n"):
+        sys.exit("replay: a request isn't answered 200")
+    return took
 
 
 def main():
