@@ -23,7 +23,7 @@ pub(crate) fn tree_given(alloc: Global, case: &Case, name: &str) -> Result<Optio
     }
 }
 
-/// The table of the field `rules`, without entries where it isn't given.
+/// The table of the field `rules`, without entries if it isn't given.
 pub(crate) fn rules_in(alloc: Global, case: &Case) -> Result<RuleTable> {
     match tree_given(alloc, case, "rules")? {
         Some(rules) => Ok(RuleTable::read(alloc, &rules)?),

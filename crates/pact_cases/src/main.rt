@@ -1,18 +1,21 @@
-//! Asks the questions of each file of cases in the folder that it is run in, and tells whether the answers are as written.
+//! Asks the questions of each file of cases in the folder that it is run in, and says whether the answers are as
+//! written.
 //!
-//! A file of cases is `NAME.cases`. A line that begins with two spaces goes on where the line before it ended; the others are:
+//! A file of cases is `NAME.cases`. A line that begins with two spaces goes on where the line before it ended; the
+//! others are:
 //!
 //! - `# TEXT`, or nothing: no part of the cases.
-//! - `? QUESTION`: what the cases behind it ask. The fields of earlier cases are forgotten.
-//! - `FIELD TEXT`: a field of the case. It holds for the cases behind it too, until it is given again.
-//! - `| TEXT`: a line feed and the text behind the last field.
-//! - `+ COUNT TEXT`: the text so many times more behind the last field; `#` in it is the number of the copy, from 1 on.
-//! - `_ LENGTH`: spaces behind the last field, up to so many bytes.
+//! - `? QUESTION`: what the cases after it ask. The fields of earlier cases are forgotten.
+//! - `FIELD TEXT`: a field of the case. It holds for the cases after it too, until it is given again.
+//! - `| TEXT`: a line feed and the text after the last field.
+//! - `+ COUNT TEXT`: the text so many times more after the last field; `#` in it is the number of the copy, from 1 on.
+//! - `_ LENGTH`: spaces after the last field, up to so many bytes.
 //! - `= TEXT`: the wanted answer, which ends a case. The text of a fault is an answer too.
 //! - `==`: the same answer again.
 //! - `/ TEXT`: the answer that is wanted for each beginning of the last field that lacks a byte or more.
 //!
-//! The questions are those of `sheet::answer`; each stands with its fields and its answer at the function that answers it.
+//! The questions are those of `sheet::answer`; each is written with its fields and its answer at the function that
+//! answers it.
 #![tactic(auto)]
 
 mod case;

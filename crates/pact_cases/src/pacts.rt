@@ -1,4 +1,4 @@
-//! Questions about pact files. The field `file` is the file, with `new` in the place of `old` where these are given.
+//! Questions about pact files. The field `file` is the file, with `new` in the place of `old` if these are given.
 use crate::case::Case;
 use crate::parts::push_interaction;
 use anyhow::{Result, bail};

@@ -32,7 +32,7 @@ pub(crate) fn bytes(alloc: Global, case: &Case) -> Result<String> {
     }
 }
 
-/// What is told of a verdict, whose indices have to be handed out as they are lent.
+/// What is reported of a verdict, whose indices have to be handed out as they are lent.
 fn told(alloc: Global, verdict: Verdict) -> Result<String> {
     let word = if verdict.passes() { "passes" } else { "fails" };
     let lent = format!(in alloc; "{word} {:?}", verdict.failing())?;
@@ -71,7 +71,7 @@ pub(crate) fn response(alloc: Global, case: &Case) -> Result<String> {
     }
 }
 
-/// Whether the `actual` body meets the `expected` one under the `rules`, each absent where it isn't given.
+/// Whether the `actual` body meets the `expected` one under the `rules`, each absent if it isn't given.
 pub(crate) fn body(alloc: Global, case: &Case) -> Result<String> {
     let rules = rules_in(alloc, case)?;
     let expected = tree_given(alloc, case, "expected")?;

@@ -19,8 +19,8 @@ pub(crate) fn table(alloc: Global, case: &Case) -> Result<String> {
     Ok(String::from_str(alloc, "a table")?)
 }
 
-/// The index and the path of the body entry of `rules` that is chosen at the location `at`, and whether that is its own place;
-/// or `none`. The walk to the location has to choose the same. Without `rules` the table has no entries.
+/// The index and the path of the body entry of `rules` that is chosen at the location `at`, and whether that is its own
+/// place; or `none`. The walk to the location has to choose the same. Without `rules` the table has no entries.
 pub(crate) fn choice(alloc: Global, case: &Case) -> Result<String> {
     let rules = rules_in(alloc, case)?;
     let location = location(alloc, case)?;

@@ -94,7 +94,7 @@ pub enum PactFault {
     NotJson,
     /// A part is absent or has another form.
     Shape(Place),
-    /// The specification version, where the file names one, isn't 3.
+    /// The specification version, if the file names one, isn't 3.
     Version,
     /// The file has messages.
     Messages,
@@ -182,8 +182,8 @@ impl fmt::Display for PactFault {
 impl error::Error for PactFault {}
 
 impl PactFault {
-    /// The fault's number and, where it helps, the place behind a space: what follows `pact ` in the fault's text. An
-    /// error means out of memory.
+    /// The fault's number and, if it helps, the place after a space: what follows `pact ` in the fault's text. An error
+    /// means out of memory.
     pub fn number(&self, alloc: Global) -> Result<String, AllocError>
         ensures { IfOk result (λ s. string_bytes s ≡ number_text self.now) }
     {

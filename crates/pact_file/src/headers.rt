@@ -17,7 +17,7 @@ use crate::parts::optional_member;
 use serde_json::{Map, Value};
 use std::alloc::{AllocError, Global};
 
-/// Adds a text behind those that are there.
+/// Adds a text after those that are there.
 fn push_part(text: &mut String, index: usize, part: &str) -> Result<(), AllocError>
     ensures first { OnOk result (index ≡ 0
         → string_bytes text.new ≡ string_bytes text.old ++ part.now) }
@@ -131,8 +131,8 @@ fn in_name_order(found: Vec<Header>) -> Option<Vec<Header>>
 
 /// The headers of a response or a reply: an object whose values are texts or lists of texts, which are joined by a
 /// comma and a space; no two names equal without ASCII case. They are in the order of their names in lower case; absent
-/// headers are none. All else is None. An error means out of memory. (Pact Specification, version 3; the order is this project's
-/// own choice.)
+/// headers are none. All else is None. An error means out of memory. (Pact Specification, version 3; the order is this
+/// project's own choice.)
 pub fn read_headers(alloc: Global, response: &Value) -> Result<Option<Vec<Header>>, AllocError>
     ensures { IfOk result (λ o. MatchOption o
         (LacksHeaders (view response.now)) (λ v. HasHeaders (view response.now) v.items)) }

@@ -95,7 +95,7 @@ fn read_parts<'a>(alloc: Global, index: usize, value: &'a Value) -> Result<Parts
     })
 }
 
-/// The tree of a part: a part of a tree is a tree, so that `Memory` alone is possible.
+/// The tree of a part: a part of a tree is a tree, so that only `Memory` is possible.
 fn part_of(alloc: Global, value: &Value) -> Result<Tree, AllocError>
     requires { IsSound 96 (view value.now) }
     ensures { IfOk result (λ t. whole_tree (view value.now) ≡ Some (tree_view t)) }
@@ -108,8 +108,8 @@ fn part_of(alloc: Global, value: &Value) -> Result<Tree, AllocError>
     }
 }
 
-/// The body of a response: the tree under `body`, where null is a body, or None where the response has no such
-/// member. An error means out of memory.
+/// The body of a response: the tree under `body`, which may be null, or None if the response has no such member. An
+/// error means out of memory.
 #[tactic(auto, unfolding(crate::specs::Parts::body_in))]
 pub fn body_of(alloc: Global, response: &Value) -> Result<Option<Tree>, AllocError>
     requires { IsSound 97 (view response.now) }
@@ -121,7 +121,7 @@ pub fn body_of(alloc: Global, response: &Value) -> Result<Option<Tree>, AllocErr
     }
 }
 
-/// A fault of rules, where `Memory` is that of the whole call.
+/// A fault of rules; `Memory` is that of the whole call.
 fn rule_fault(index: usize, fault: RuleFault) -> PactFault
     ensures { result ≡ as_pact_fault index fault }
 {

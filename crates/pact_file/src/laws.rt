@@ -2,8 +2,8 @@
 
 ghost use Rattle.pact_file.specs.Laws.{NormalAgain, OnePact, OneAnswer};
 
-/// The normal text of a pact reads to the same pact, a pattern's refusal aside; two pacts have one normal text only
-/// where they are equal; and a file has one answer, a pattern's refusal aside.
+/// The normal text of a pact reads to the same pact, unless a pattern is refused; two pacts have one normal text only
+/// if they are equal; and a file has one answer, unless a pattern is refused.
 pub fn normal_again()
     ensures again { NormalAgain }
     ensures one { OnePact }

@@ -27,7 +27,7 @@ fn is_same(left: &Interaction, right: &Interaction) -> bool
     left.text.as_str() == right.text.as_str()
 }
 
-/// Where the interaction goes, or None where it is there.
+/// Where the interaction goes, or None if it is there.
 fn index_of(list: &[Interaction], new: &Interaction) -> Result<Option<usize>, PactFault>
     requires { IsRising key_cmp list.now }
     ensures ok { IfOk result (λ o. MatchOption o

@@ -49,7 +49,7 @@ impl Header {
     }
 }
 
-/// An interaction: a request and the response that it must get. Both stand in its text alone.
+/// An interaction: a request and the response that it must get. Both are only in its text.
 #[derive(Drop)]
 pub struct Interaction {
     pub(crate) description: String,
@@ -97,7 +97,7 @@ impl Interaction {
         self.states.as_slice()
     }
 
-    /// The compact JSON text of the provider states. Those of two interactions are equal where their texts are.
+    /// The compact JSON text of the provider states. Those of two interactions are equal if their texts are.
     pub fn states_text(&self) -> &str
         ensures text { result.now ≡ compact_text (states_data self.now.states) }
         ensures sound { IsSound 97 (states_data self.now.states) }
@@ -119,7 +119,7 @@ impl Interaction {
         self.headers.as_slice()
     }
 
-    /// The body, where there is one.
+    /// The body, if there is one.
     pub fn body(&self) -> Option<&Tree>
         ensures { optional_view result ≡ body_in self.now.response }
     {

@@ -87,7 +87,7 @@ fn read_one_state(alloc: Global, older: Option<&Value>) -> Result<Option<Vec<Sta
 }
 
 /// The provider states of an interaction or a reply: the list under `providerStates`, each an object with a text `name`
-/// and optional `params`; where it is absent, a text under `providerState` is one state of that name, and none is no
+/// and optional `params`; if it is absent, a text under `providerState` is one state of that name, and none is no
 /// states. All else is None. An error means out of memory. (Pact Specification, versions 2 and 3.)
 #[tactic(auto, using(crate::proofs::Lists::listed_view), unfolding(crate::specs::Parts::states_in))]
 pub fn read_states(alloc: Global, value: &Value) -> Result<Option<Vec<State>>, AllocError>
@@ -114,7 +114,7 @@ pub fn read_status(value: &Value) -> Option<u16>
     }
 }
 
-/// The status of a response, 200 where it is absent.
+/// The status of a response, 200 if it is absent.
 #[tactic(auto, unfolding(crate::specs::Parts::status_in))]
 pub(crate) fn status_of(response: &Value) -> Option<u16>
     ensures { result ≡ status_in (view response.now) }

@@ -181,7 +181,7 @@ fn is_few(items: &Vec<Value>) -> bool
     items.len() <= MOST_INTERACTIONS
 }
 
-/// The values that stand as interactions.
+/// The values that are written as interactions.
 #[tactic(auto, using(crate::proofs::Lists::listed_view), unfolding(crate::specs::File::items_of))]
 fn items_in(file: &Value) -> Result<&Vec<Value>, PactFault>
     ensures { GivesAlways (λ v. map view v.now.items) result (items_of (view file.now)) }
@@ -202,11 +202,11 @@ fn read_interactions(alloc: Global, file: &Value) -> Result<Vec<Interaction>, Pa
     in_key_order(alloc, found)
 }
 
-/// Reads a pact file (Pact Specification, version 3) to its normal pact: metadata and all other further keys are
-/// dropped, equal interactions are kept once, and they stand in the order of their descriptions, then of the compact
-/// texts of their states. The bytes are any. Each fault is the first one in the order of `PactFault`'s documentation,
-/// but that at a text under `regex` in matching rules the pattern may be refused, and that memory may run out in its
-/// place, though not in that of `TooLong` for the bytes.
+/// Reads a pact file (Pact Specification, version 3) to its normal pact: metadata and all other keys are dropped, equal
+/// interactions are kept once, and they are in the order of their descriptions, then of the compact texts of their
+/// states. The bytes are any. Each fault is the first one in the order of `PactFault`'s documentation, but that at a
+/// text under `regex` in matching rules the pattern may be refused, and that memory may run out in its place, though
+/// not in that of `TooLong` for the bytes.
 pub fn read_pact(alloc: Global, bytes: &[u8]) -> Result<Pact, PactFault>
     ensures reading { GivesOne Memory (λ p. p) result (Normal bytes.now) }
     ensures long { most_bytes < length bytes.now → result ≡ Err TooLong }

@@ -33,7 +33,7 @@ impl State {
         self.name.as_str()
     }
 
-    /// The parameters, where they are given.
+    /// The parameters, if they are given.
     pub fn params(&self) -> Option<&Value>
         ensures { option_map (λ v. view v.now) result ≡ self.now.params }
     {

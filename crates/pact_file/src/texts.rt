@@ -33,8 +33,8 @@ fn states_value(alloc: Global, states: &[State]) -> Result<Value, AllocError>
     Ok(Value::Array(list))
 }
 
-/// The compact JSON text of provider states, each with its name and, where they are given, its params. Two lists of
-/// states that were read are equal where their texts are. An error means out of memory.
+/// The compact JSON text of provider states, each with its name and, if they are given, its params. Two lists of states
+/// that were read are equal if their texts are. An error means out of memory.
 pub fn states_text(alloc: Global, states: &[State]) -> Result<String, AllocError>
     requires { has_float (states_data states.now) ≡ false }
     ensures { IfOk result (λ s. string_bytes s ≡ compact_text (states_data states.now)) }
@@ -43,7 +43,7 @@ pub fn states_text(alloc: Global, states: &[State]) -> Result<String, AllocError
     value.to_string(alloc)
 }
 
-/// A text as it stands in JSON.
+/// A text as JSON writes it.
 fn quoted_text(alloc: Global, text: &str) -> Result<String, AllocError>
     ensures { IfOk result (λ s. string_bytes s ≡ quoted text.now) }
 {
@@ -73,7 +73,7 @@ pub(crate) fn parts_text(
     )
 }
 
-/// Adds the text of an item behind those that are there.
+/// Adds the text of an item after those that are there.
 fn push_item(texts: &mut String, index: usize, item: &str) -> Result<(), AllocError>
     ensures first { OnOk result (index ≡ 0
         → string_bytes texts.new ≡ string_bytes texts.old ++ item.now) }
@@ -112,8 +112,8 @@ pub(crate) fn text_of_pact(pact: &Pact) -> Result<String, AllocError>
     )
 }
 
-/// What is left of so much room behind an item's text, and behind the comma before it where it isn't the first; None
-/// where it doesn't fit.
+/// What is left of so much room after an item's text, and after the comma before it if it isn't the first; None if it
+/// doesn't fit.
 fn room_behind(room: usize, index: usize, item: &str) -> Option<usize>
     ensures { MatchOption result (room < item_length index item.now)
         (λ left. left + item_length index item.now ≡ room) }
@@ -132,7 +132,7 @@ fn room_behind(room: usize, index: usize, item: &str) -> Option<usize>
     Some(room - 1)
 }
 
-/// The same behind all interactions, where the bracket that ends them has a place of its own.
+/// The same after all interactions, with a place of its own for the bracket that ends them.
 fn room_behind_all(room: usize, interactions: &[Interaction]) -> Option<usize>
     ensures { MatchOption result (room + 1 < length (interactions_text interactions.now))
         (λ rest. rest + length (interactions_text interactions.now) ≡ room + 1) }
@@ -147,7 +147,7 @@ fn room_behind_all(room: usize, interactions: &[Interaction]) -> Option<usize>
     Some(rest)
 }
 
-/// How much room a normal text has for its two names in quotes and its interactions, the last bracket aside.
+/// How much room a normal text has for its two names in quotes and its interactions, without the last bracket.
 const ROOM: usize = 1_048_515;
 
 /// What is left of it, if all fit.

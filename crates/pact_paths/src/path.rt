@@ -24,7 +24,7 @@ pub(crate) enum Token {
     Any,
 }
 
-/// A path expression of a matching rule, such as `$.items[*].id`: at most 60 tokens behind the root `$`. A token is a
+/// A path expression of a matching rule, such as `$.items[*].id`: at most 60 tokens after the root `$`. A token is a
 /// name without `'`, an index of at most nine digits, or Any. (Pact Specification, version 3; the limits are this
 /// project's own choice.)
 #[derive(Drop)]
@@ -55,7 +55,7 @@ impl Path {
         self.tokens.len()
     }
 
-    /// Whether the path is the root alone.
+    /// Whether the path is only the root.
     pub fn is_empty(&self) -> bool
         ensures { IsTrue result ↔ (self.now ≡ []) }
     {
@@ -74,10 +74,10 @@ impl Path {
     }
 }
 
-/// How much a path counts at a location: 0 where the path has more tokens than the location has steps, and else 2 for
-/// the root times what each token counts at the step of the same index. So it is 0 where a token doesn't fit, a
-/// shorter path reaches down to all that is below it, and the greatest weight is 2^61. Takes no memory. (Pact
-/// Specification, version 2, kept in version 3.)
+/// How much a path counts at a location: 0 if the path has more tokens than the location has steps, and else 2 for the
+/// root times what each token counts at the step of the same index. So it is 0 if a token doesn't fit, a shorter path
+/// reaches down to all that is below it, and the greatest weight is 2^61. Takes no memory. (Pact Specification, version
+/// 2, kept in version 3.)
 pub fn weight(path: &Path, location: &[Step]) -> u64
     ensures value { result ≡ weight_of path.now (map step_view location.now) }
     ensures bounded { result ≤ 2 ^ 61 }

@@ -29,7 +29,7 @@ pub enum PathFault {
     /// No token begins at this byte, counted from 0, where reading stops before it has 60 tokens.
     #[error("no token at byte {0}")]
     BadToken(usize),
-    /// Text is left behind 60 tokens.
+    /// Text is left after 60 tokens.
     #[error("too many tokens")]
     TooManyTokens,
     /// No memory was left.
@@ -58,9 +58,9 @@ const MAX_TOKENS: usize = 60;
 
 impl Path {
     /// Reads a path: the root `$`, and then at most 60 tokens, each `.name`, `['name']`, `[n]`, `.*` or `[*]`. A name
-    /// behind a dot has one or more characters, none of them `.` `[` `]` `'` `*`; a name in quotes has any but `'`,
-    /// or none; an index has one to nine digits. Each token takes what it can, and the error is the first fault from
-    /// the left.
+    /// after a dot has one or more characters, none of them `.` `[` `]` `'` `*`; a name in quotes has any but `'`, or
+    /// none; an index has one to nine digits. Each token takes what it can, and the error is the first fault from the
+    /// left.
     pub fn read(alloc: Global, text: &str) -> Result<Path, PathFault>
         // The result is the one reading of the text, unless memory runs out.
         ensures reading { (result ≡ Err Memory) ⊎ IsTheReading text.now result }
@@ -155,7 +155,7 @@ fn bracketed(alloc: Global, text: &str) -> Result<Option<(Token, &str)>, AllocEr
     }
 }
 
-/// What stands behind a mark at the front.
+/// What is after a mark at the front.
 fn behind(text: &str, mark: char) -> Option<&str>
     requires { mark < 128 }
     ensures value { option_map (λ r. r.now) result ≡ behind_of mark text.now }
@@ -164,7 +164,7 @@ fn behind(text: &str, mark: char) -> Option<&str>
     text.strip_prefix(mark)
 }
 
-/// What stands before and behind the first mark.
+/// What is before and after the first mark.
 fn cut(text: &str, mark: char) -> Option<(&str, &str)>
     requires { mark < 128 }
     ensures value { option_map (λ r. (r.0.now, r.1.now)) result ≡ cut_of mark text.now }
@@ -173,7 +173,7 @@ fn cut(text: &str, mark: char) -> Option<(&str, &str)>
     text.split_once(mark)
 }
 
-/// What stands behind `*]` at the front.
+/// What is after `*]` at the front.
 fn closed_star(text: &str) -> Option<&str>
     ensures value { option_map (λ r. (any, r.now)) result ≡ closed_star_in text.now }
     ensures no_longer { IfSome result (λ r. length r.now ≤ length text.now) }
@@ -181,7 +181,7 @@ fn closed_star(text: &str) -> Option<&str>
     behind(behind(text, '*')?, ']')
 }
 
-/// The name in quotes at the front, and what follows the bracket behind it.
+/// The name in quotes at the front, and what follows the bracket after it.
 fn quoted(text: &str) -> Option<(&str, &str)>
     ensures value { option_map (λ x. (named x.0.now, x.1.now)) result ≡ quoted_in text.now }
     ensures no_longer { IfSome result (λ x. length x.1.now ≤ length text.now) }
@@ -217,7 +217,7 @@ fn are_digits(text: &str) -> bool
     text.as_bytes().iter().all(|byte| byte.is_ascii_digit())
 }
 
-/// How many bytes stand before the first that stands in no name without quotes.
+/// How many bytes are before the first that is in no name without quotes.
 pub(crate) fn plain_len(text: &str) -> usize
     ensures value { result ≡ position_or_len is_special text.now }
     ensures boundary { IsCharBoundary text.now result }

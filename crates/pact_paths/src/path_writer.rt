@@ -11,8 +11,8 @@ use crate::path_reader::plain_len;
 use std::alloc::{AllocError, Global};
 
 impl Path {
-    /// The canonical text, which reads as this path and which no other path has: `.name` where a dot can stand before
-    /// the name and else `['name']`, an index without leading zeros, and `[*]` for Any.
+    /// The canonical text, which reads as this path and which no other path has: `.name` if a dot can be before the
+    /// name and else `['name']`, an index without leading zeros, and `[*]` for Any.
     pub fn text(&self, alloc: Global) -> Result<String, AllocError>
         ensures canonical { IfOk result (λ s. string_bytes s ≡ path_text self.now) }
 

@@ -58,9 +58,9 @@ impl From<regex::Error> for MatchFault {
     }
 }
 
-/// Whether a matcher holds of the expected and the actual tree; at its own place, where the path of its entry has as
-/// many tokens as the location has steps, the bounds of `SameType` count. Only a `Regex` or an `Include` matcher takes
-/// memory, which may run out, and only a `Regex` matcher answers `Pattern`, where `regex` refuses the pattern.
+/// Whether a matcher holds of the expected and the actual tree; at its own place, if the path of its entry has as many
+/// tokens as the location has steps, the bounds of `SameType` count. Only a `Regex` or an `Include` matcher takes
+/// memory, which may run out, and only a `Regex` matcher answers `Pattern`, if `regex` refuses the pattern.
 pub fn holds(
     alloc: Global,
     matcher: &Matcher,

@@ -8,7 +8,7 @@ use std::fmt;
 use std::marker::Model;
 use thiserror::Error;
 
-/// A text that a fault names; two of them are the same where their bytes are.
+/// A text that a fault names; two of them are the same if their bytes are.
 #[derive(Debug, Drop)]
 pub struct Word {
     text: String,
@@ -60,7 +60,7 @@ pub enum RuleFault {
     /// A key of the category `body` isn't a path expression.
     #[error("a key is no path")]
     BadPath,
-    /// Two keys are one path, or two header names differ in ASCII case alone.
+    /// Two keys are one path, or two header names differ only in ASCII case.
     #[error("two keys are one path")]
     SamePathTwice,
     /// The text under `match`, the name of a category, or `?` for a matcher with neither `match`, `regex`, `min` nor

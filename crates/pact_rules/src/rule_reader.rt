@@ -224,7 +224,7 @@ fn list_of(tree: Option<&Tree>) -> Option<&Vec<Tree>>
     }
 }
 
-/// An entry behind its path.
+/// An entry after its path.
 pub(crate) fn entry_of(
     alloc: Global,
     patterns: &mut Patterns,

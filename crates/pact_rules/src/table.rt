@@ -40,7 +40,7 @@ pub enum Matcher {
     IsNull,
 }
 
-/// An entry of a table: it holds where all its matchers hold, or with `any` where at least one does.
+/// An entry of a table: it holds if all its matchers hold, or with `any` if at least one does.
 #[derive(Drop)]
 pub struct Entry {
     pub any: bool,
@@ -94,7 +94,7 @@ impl RuleTable {
     }
 
     /// The index of the body entry that is chosen at a location: of those whose path has a positive weight there the
-    /// heaviest, then the one with more tokens, then the one whose canonical text is least; none where no weight is
+    /// heaviest, then the one with more tokens, then the one whose canonical text is least; none if no weight is
     /// positive. Weights are those of the Pact Specification, version 2; how ties are broken is this project's own
     /// choice. Takes no memory.
     pub fn choose(&self, location: &[Step]) -> Option<usize>
@@ -124,7 +124,7 @@ impl RuleTable {
         &self.body[index].entry
     }
 
-    /// The entry of a header by its name, without ASCII case; none where the table has none. Takes no memory.
+    /// The entry of a header by its name, without ASCII case; none if the table has none. Takes no memory.
     pub fn header(&self, name: &str) -> Option<&Entry>
         ensures { option_map (λ e. entry_view e.now) result
             ≡ header_entry self.now.headers name.now }
@@ -259,7 +259,7 @@ fn best_of(rules: &[BodyRule], location: &[Step]) -> Option<usize>
     found.map(|candidate| candidate.index)
 }
 
-/// The earlier rule, unless the one found behind it is heavier, or as heavy and longer.
+/// The earlier rule, unless the one found after it is heavier, or as heavy and longer.
 pub(crate) fn better(earlier: Candidate, found: Option<Candidate>) -> Option<Candidate>
     ensures { result ≡ better_of earlier found }
 {

@@ -320,9 +320,9 @@ impl RuleTable {
     /// Reads the object `matchingRules` of a response: the categories `body`, whose keys are path expressions, and
     /// `header`, whose keys are header names (Pact Specification, version 3); `path` and `query` are kept as data by
     /// the caller. The fault is the first one: the table's form, rules of version 2, then categories and entries in
-    /// order of their keys, of an entry its path, the same path twice, its form, `combine`, and its matchers in turn.
-    /// Memory may run out in its place, but not in that of the first two, and `Pattern` comes also where the crate
-    /// `regex` refuses a pattern that its grammar reads.
+    /// order of their keys, of an entry its path, the same path twice, its form, `combine`, and its matchers one after
+    /// another. Memory may run out in its place, but not in that of the first two, and `Pattern` comes also if the
+    /// crate `regex` refuses a pattern that its grammar reads.
     pub fn read(alloc: Global, tree: &Tree) -> Result<RuleTable, RuleFault>
         ensures reading { MatchResult result
             (λ t. IsReading (tree_view tree.now) (Ok t))

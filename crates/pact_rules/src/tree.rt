@@ -18,7 +18,7 @@ use std::alloc::{AllocError, AllocFailed, Global};
 use std::collections::BTreeMap;
 use thiserror::Error;
 
-/// A JSON value whose numbers are whole, from -2^63 to 2^64 - 1 where it was read.
+/// A JSON value whose numbers are whole, from -2^63 to 2^64 - 1 if it was read.
 #[derive(Drop)]
 pub enum Tree {
     Null,

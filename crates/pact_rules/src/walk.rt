@@ -42,7 +42,7 @@ impl Model for Alive {
 }
 
 impl RuleTable {
-    /// A walk that has taken no step; `Err` where no memory is left.
+    /// A walk that has taken no step; `Err` if no memory is left.
     pub fn start(&self, alloc: Global) -> Result<Alive, AllocError>
         ensures walk { IfOk result (λ a. a ≡ walk self.now.body []) }
 
@@ -57,7 +57,7 @@ impl RuleTable {
 }
 
 impl Alive {
-    /// The walk one step further, on the table that it was started on; `Err` where no memory is left.
+    /// The walk after one more step, on the table that it was started on; `Err` if no memory is left.
     pub fn step(&self, alloc: Global, table: &RuleTable, step: &Step) -> Result<Alive, AllocError>
         requires started { WasStarted table.now self.now }
         ensures { IfOk result (λ a. (at : Location) → HasReached table.now self.now at
@@ -82,8 +82,8 @@ impl Alive {
         best_alive(&self.entries, &table.body, self.steps)
     }
 
-    /// Whether the path of the chosen entry has as many tokens as steps were taken; false where none is chosen.
-    /// Takes no memory.
+    /// Whether the path of the chosen entry has as many tokens as steps were taken; false if none is chosen. Takes no
+    /// memory.
     pub fn own_place(&self, table: &RuleTable) -> bool
         requires started { WasStarted table.now self.now }
         ensures computed { (at : Location) → HasReached table.now self.now at

@@ -54,11 +54,11 @@ impl Verdict {
     }
 }
 
-/// Checks recorded replies against a pact. An interaction fails where it has no reply or its reply doesn't meet it:
-/// the status is equal, each expected header was sent with a value that fits, and the body meets the expected one.
-/// `UnknownInteraction` is looked at first, before any memory is taken; `Pattern` comes only where an interaction that
-/// has a reply has a pattern that is refused, and memory may run out in its place and in that of a verdict. (This
-/// project's own choice.)
+/// Checks recorded replies against a pact. An interaction fails if it has no reply or its reply doesn't meet it: the
+/// status is equal, each expected header was sent with a value that fits, and the body meets the expected one.
+/// `UnknownInteraction` is looked at first, before any memory is taken; `Pattern` comes only if an interaction that has
+/// a reply has a pattern that is refused, and memory may run out in its place and in that of a verdict. (This project's
+/// own choice.)
 #[tactic(auto, using(crate::proofs::VerdictLemmas::only_first, crate::proofs::VerdictLemmas::none_first))]
 pub fn check(alloc: Global, pact: &Pact, replies: &Replies) -> Result<Verdict, CheckFault>
     ensures verdict { IfOk result (λ v. AreKnown pact.now.interactions replies.now

@@ -90,8 +90,8 @@ impl fmt::Display for RepliesFault {
 }
 
 impl RepliesFault {
-    /// The fault's number and, where it helps, the place behind a space: what follows `replies ` in the fault's text.
-    /// An error means out of memory.
+    /// The fault's number and, if it helps, the place after a space: what follows `replies ` in the fault's text. An
+    /// error means out of memory.
     pub fn number(&self, alloc: Global) -> Result<String, AllocError>
         ensures { IfOk result (λ s. string_bytes s ≡ number_text self.now) }
     {

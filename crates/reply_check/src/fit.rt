@@ -20,8 +20,8 @@ use pact_rules::{Alive, Entry, MatchFault, Matcher, RuleTable, Step, Tree, has_k
 use std::alloc::Global;
 use std::collections::BTreeMap;
 
-/// Whether the actual tree fits the expected one at the root, with the table's rules for bodies. `Memory` comes only
-/// where no memory is left, `Pattern` only where the table has a Regex matcher whose pattern is refused.
+/// Whether the actual tree fits the expected one at the root, with the table's rules for bodies. `Memory` comes only if
+/// no memory is left, `Pattern` only if the table has a Regex matcher whose pattern is refused.
 pub fn fits(
     alloc: Global,
     rules: &RuleTable,
@@ -37,7 +37,7 @@ pub fn fits(
 }
 
 /// Whether the actual tree fits the expected one at the steps that the walk has taken. The actual tree, which the walk
-/// goes down, stands first in the calls that call one another.
+/// goes down, comes first in the calls that call one another.
 #[cycle(fitting)]
 fn fits_here(
     alloc: Global,
@@ -68,7 +68,7 @@ fn fits_here(
     }
 }
 
-/// The same, one step further down.
+/// The same, one more step down.
 #[cycle(fitting)]
 fn fits_below(
     alloc: Global,
@@ -160,14 +160,14 @@ fn members_fit(
     Ok(true)
 }
 
-/// The expected item at an index, or the first where the example is shorter.
+/// The expected item at an index, or the first if the example is shorter.
 fn example_at(expected: &Vec<Tree>, index: usize) -> Option<&Tree>
     ensures { optional_view result ≡ example (list_view expected.now.items) index }
 {
     expected.get(index).or(expected.first())
 }
 
-/// Whether the two meet at this node: the chosen entry holds, or they are alike where none is.
+/// Whether the two meet at this node: the chosen entry holds, or they are alike if none is.
 fn meets_here(
     alloc: Global,
     rules: &RuleTable,

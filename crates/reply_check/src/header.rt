@@ -18,8 +18,8 @@ use pact_rules::{MatchFault, RuleTable, Tree};
 use std::alloc::Global;
 use std::cmp::Ordering;
 
-/// Whether each expected header was sent with a value that fits, where those that were sent stand in the order of
-/// their names. Further headers are allowed.
+/// Whether each expected header was sent with a value that fits, if those that were sent are in the order of their
+/// names. Other headers are allowed.
 pub(crate) fn headers_meet(
     alloc: Global,
     rules: &RuleTable,

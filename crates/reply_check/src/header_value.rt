@@ -1,4 +1,4 @@
-//! Whether a header has the value that is expected where no rule speaks of it.
+//! Whether a header has the value that is expected if no rule speaks of it.
 
 ghost use Rattle.std.specs.Prelude.{◌≡◌, ◌↔◌, IfOk, IsTrue, string_bytes};
 ghost use Rattle.std.specs.Str.{str_to_ascii_lowercase};
@@ -9,9 +9,9 @@ ghost use Rattle.reply_check.specs.HeaderValues.{is_plain_type as is_plain_type_
 
 use std::alloc::{AllocError, Global};
 
-/// Whether what was sent under a header's name, which is in lower case, is the expected value where no rule speaks of
-/// it: spaces and tabs at both ends and behind commas don't count; and where a media type is expected without
-/// parameters, those of the reply and the case of letters don't count either. An error means out of memory.
+/// Whether what was sent under a header's name, which is in lower case, is the expected value if no rule speaks of it:
+/// spaces and tabs at both ends and after commas don't count; and if a media type is expected without parameters, those
+/// of the reply and the case of letters don't count either. An error means out of memory.
 pub(crate) fn has_value(
     alloc: Global,
     name: &str,

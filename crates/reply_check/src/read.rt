@@ -39,7 +39,7 @@ fn read_file(alloc: Global, bytes: &[u8]) -> Result<Value, RepliesFault>
     }
 }
 
-/// The values that stand as replies.
+/// The values that are written as replies.
 #[tactic(auto, using(pact_file::proofs::Lists::listed_view), unfolding(crate::specs::ReplyParts::items_of))]
 fn items_in(file: &Value) -> Result<&Vec<Value>, RepliesFault>
     ensures { GivesAlways (λ v. map view v.now.items) result (items_of (view file.now)) }

@@ -13,8 +13,7 @@ use pact_file::{Header, State};
 use pact_rules::Tree;
 use std::marker::Model;
 
-/// What a provider answered for the interaction of a description and provider states. The response stands in its text
-/// alone.
+/// What a provider answered for the interaction of a description and provider states. The response is only in its text.
 #[derive(Drop)]
 pub struct Reply {
     pub(crate) description: String,
@@ -83,7 +82,7 @@ impl Reply {
         self.headers.as_slice()
     }
 
-    /// The body, where there is one.
+    /// The body, if there is one.
     pub fn body(&self) -> Option<&Tree>
         ensures { optional_view result ≡ body_in self.now.response }
     {
