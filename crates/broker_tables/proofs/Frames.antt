@@ -9,6 +9,8 @@ use Rattle.sqlite.specs.State.{State, Shown}
 use Rattle.table_access.specs.Statements.{ChangesOnly}
 use Rattle.table_access.specs.Sound.{IsKept}
 use Rattle.table_access.proofs.Steps.{Means, shown_unchanged}
+use Rattle.table_access.proofs.Answered.{Runs}
+use Rattle.sqlite.specs.Query.{Query}
 use Rattle.broker_core.specs.declared.command.Version.{Version}
 use Rattle.broker_core.specs.declared.command.Marks.{Marks}
 use Rattle.broker_core.specs.Text.{Text, same_text}
@@ -26,6 +28,10 @@ use Rattle.broker_tables.specs.Holds.{Holds, IsBroker, IsMeta, AreTeams, ArePact
 -- a text means what it means over the broker's schema
 pub meant : {command : Command} (db : Database) → IsBroker db → (sql : List ℕ) → Means broker_schema sql command → Means db.schema sql command
 meant {command} db broker sql means = subst (λ s. Means s sql command) (sym broker.schema) means
+
+-- and a query that can be run over the broker's schema can be run over this one
+pub runs_here : (db : Database) → IsBroker db → (sql : List ℕ) (params : Row) (q : Query) → Runs broker_schema sql params q → Runs db.schema sql params q
+runs_here db broker sql params q runs = subst (λ s. Runs s sql params q) (sym broker.schema) runs
 
 -- after a query the same is held
 pub held_still : {command : Command} (sql : List ℕ) (params : Row) (old new : State) (rows : List Row) (s : Broker) → Means old.now.schema sql command → Shown sql params old new rows → Holds old.now s → Holds new.now s

@@ -1,5 +1,8 @@
 pub mod Definitions
 pub mod Frames
+pub mod QueryLemmas
+pub mod TruthLemmas
+pub mod ReadableRows
 pub mod Placed
 pub mod Orders
 pub mod Standing
@@ -13,5 +16,6 @@ pub mod Written
 pub mod NextRow
 pub mod Listed
 pub mod VersionRows
+pub mod NoVersion
 pub mod ByNumber
 pub mod Former

@@ -1,4 +1,4 @@
--- That a number in a column is the one of a version that is there, by the table's REFERENCES.
+-- That a number or a name in a column is the one of a row that is there, by the table's REFERENCES.
 use Rattle.std.proofs.Common.{◌≡◌, ℕ, ℤ, pos, ◌+◌, ◌<◌, List, [], ◌∷◌, map, length, Bool, true, false, ◌||◌, refl, sym, ap, subst, ◌∙◌, Some, codes, arith, inl, inr}
 use Rattle.std.specs.List.{enumerate_from, list_any}
 use Rattle.std.specs.Ordering.{is_eq, int_cmp}
@@ -14,7 +14,7 @@ use Rattle.sqlite.specs.Collation.TheVariants.{Binary}
 use Rattle.sqlite_sql.specs.Ops.{is_null}
 use Rattle.sqlite_schema.specs.declared.schema.Reference.{Reference}
 use Rattle.sqlite_schema.specs.declared.schema.Constraint.TheVariants.{ForeignKey}
-use Rattle.sqlite_schema.specs.Rules.{has_parent, has_null, is_held, parent_key, agree, equal}
+use Rattle.sqlite_schema.specs.Rules.{has_parent, is_held, parent_key, agree, equal}
 use Rattle.sqlite_value.specs.declared.keys.Order.{Order}
 use Rattle.sqlite_value.specs.Keys.{first_key}
 use Rattle.sqlite_rules.specs.Lists.{Has}
@@ -25,13 +25,14 @@ use Rattle.sqlite_keyed.proofs.RuleLemmas.{first_of_both}
 use Rattle.sqlite_tied.specs.Compute.{everything}
 use Rattle.table_access.specs.Columns.{text, text_cmp, whole_at}
 use Rattle.table_access.proofs.Values.{same_ints, same_texts}
+use Rattle.table_access.proofs.Members.{has_map, map_has}
 use Rattle.table_access.proofs.SoundLemmas.{at_has, has_place, text_at}
 use Rattle.std.proofs.lemmas.Bool.{cases_Bool}
 use Rattle.broker_core.specs.declared.command.Version.{Version}
 use Rattle.broker_tables.specs.Schema.{broker_schema, to}
 use Rattle.broker_tables.specs.Holds.{IsBroker, AreVersions}
 use Rattle.broker_tables.proofs.Orders.{exact_texts}
-use Rattle.broker_tables.proofs.Placed.{versions, versions_there, environments, environments_there}
+use Rattle.broker_tables.proofs.Placed.{pacticipants, pacticipants_there, versions, versions_there, environments, environments_there, contents, contents_there, results, results_there}
 
 to_versions : (p : ℕ) → (o : Order) × (parent_key broker_schema.tables (to p (codes "versions") (codes "number")) ≡ Some (6, 0 ∷ [], o)) × ((first_key o).collation ≡ Binary)
 unfolding everything
@@ -53,45 +54,79 @@ any_has p (x ∷ xs) t = elim (cases_Bool (p x)) [
   | inr not_here ↦ let later = any_has p xs (or_left (p x) (list_any p xs) t not_here) in (later.0, inr later.1, later.2)
 ]
 
-module _ (db : Database) (broker : IsBroker db) where
-  version_ids : (x : Row) → Has (db.trees 6) x → column x 0 ≡ Int (whole_at 0 x)
-  version_ids x has = int_is (rowid x) (at_has _ (db.trees 6) x (at_has _ db.schema.tables versions broker.kept.numbered (has_place _ 3 versions (versions_there db broker))).1 has)
+to_pacticipants : (p : ℕ) → (o : Order) × (parent_key broker_schema.tables (to p (codes "pacticipants") (codes "name")) ≡ Some (4, 1 ∷ [], o)) × ((first_key o).collation ≡ Binary)
+unfolding everything
+to_pacticipants p = (_, refl, refl)
 
-  pub refers_version : (t : Table) → Has db.schema.tables t → (p : ℕ) → Has t.references (to p (codes "versions") (codes "number")) → (r : Row) → Has (db.trees t.tree) r → column r p ≡ Int (whole_at p r)
-      → (x : Row) × Has (db.trees 6) x × (whole_at 0 x ≡ whole_at p r)
-  refers_version t listed p among r has typed =
-      let ref : Reference = to p (codes "versions") (codes "number") in
+to_contents : (p : ℕ) → (o : Order) × (parent_key broker_schema.tables (to p (codes "contents") (codes "number")) ≡ Some (14, 0 ∷ [], o)) × ((first_key o).collation ≡ Binary)
+unfolding everything
+to_contents p = (_, refl, refl)
+
+to_results : (p : ℕ) → (o : Order) × (parent_key broker_schema.tables (to p (codes "results") (codes "number")) ≡ Some (17, 0 ∷ [], o)) × ((first_key o).collation ≡ Binary)
+unfolding everything
+to_results p = (_, refl, refl)
+
+module _ (db : Database) (broker : IsBroker db) (t : Table) (listed : Has db.schema.tables t) (p : ℕ) (r : Row) (has : Has (db.trees t.tree) r) where
+  -- a column that REFERENCES a column of a table is equal to that column of one of its rows
+  refers : (name key : List ℕ) (tree at : ℕ) → ((o : Order) × (parent_key broker_schema.tables (to p name key) ≡ Some (tree, at ∷ [], o)) × ((first_key o).collation ≡ Binary)) → Has t.references (to p name key) → is_null (column r p) ≡ false
+      → (x : Row) × Has (db.trees tree) x × (equal Binary (column x at) (column r p) ≡ true)
+  refers name key tree at (order, keyed, binary) among filled =
+      let ref : Reference = to p name key in
       let all = keeps_at ForeignKey db.schema db.trees t r (broker.kept.sound.obeys.rules ForeignKey) listed has in
       let one : has_parent db.schema.tables db.trees r ref ≡ true = at_has _ t.references ref (all_from_test _ t.references all) among in
       let here : has_parent broker_schema.tables db.trees r ref ≡ true = subst (λ (s : Schema). has_parent s.tables db.trees r ref ≡ true) broker.schema one in
-      let filled : has_null (p ∷ []) r ≡ false = ap (λ v. is_null v || false) typed in
-      let key = to_versions p in
-      let held : is_held db.trees (p ∷ []) r (Some (6, 0 ∷ [], key.0)) ≡ true = ap (is_held db.trees (p ∷ []) r) (sym key.1) ∙ or_left _ _ here filled in
-      let found = any_has (λ parent. agree key.0 (0 ∷ []) parent (p ∷ []) r) (db.trees 6) held in
-      let same : equal Binary (column found.0 0) (column r p) ≡ true = ap (λ c. equal c (column found.0 0) (column r p)) (sym key.2) ∙ first_of_both _ _ found.2 in
+      let held : is_held db.trees (p ∷ []) r (Some (tree, at ∷ [], order)) ≡ true = ap (is_held db.trees (p ∷ []) r) (sym keyed) ∙ or_left _ _ here (ap (λ b. b || false) filled) in
+      let found = any_has (λ parent. agree order (at ∷ []) parent (p ∷ []) r) (db.trees tree) held in
+      (found.0, found.1, ap (λ c. equal c (column found.0 at) (column r p)) (sym binary) ∙ first_of_both _ _ found.2)
+
+  -- a number in a column that REFERENCES the numbers of a table is the one of a row of it
+  refers_number : (name key : List ℕ) (tree : ℕ) → ((o : Order) × (parent_key broker_schema.tables (to p name key) ≡ Some (tree, 0 ∷ [], o)) × ((first_key o).collation ≡ Binary)) → ((x : Row) → Has (db.trees tree) x → column x 0 ≡ Int (whole_at 0 x))
+      → Has t.references (to p name key) → column r p ≡ Int (whole_at p r) → (x : Row) × Has (db.trees tree) x × (whole_at 0 x ≡ whole_at p r)
+  refers_number name key tree keyed ids among typed =
+      let found = refers name key tree 0 keyed among (ap is_null typed) in
       let ints : is_eq (int_cmp (whole_at 0 found.0) (whole_at p r)) ≡ true =
-      sym (same_ints (whole_at 0 found.0) (whole_at p r)) ∙ ap (λ v. equal Binary v (Int (whole_at p r))) (sym (version_ids found.0 found.1)) ∙ ap (equal Binary (column found.0 0)) (sym typed) ∙ same in
+      sym (same_ints (whole_at 0 found.0) (whole_at p r)) ∙ ap (λ v. equal Binary v (Int (whole_at p r))) (sym (ids found.0 found.1)) ∙ ap (equal Binary (column found.0 0)) (sym typed) ∙ found.2 in
       (found.0, found.1, int_cmp-IsAntisymmetric _ _ ((Equal-is (int_cmp (whole_at 0 found.0) (whole_at p r))).0 ints))
+
+  -- a text in a column that REFERENCES the names of a table is the name in a row of it
+  refers_name : (name key : List ℕ) (tree : ℕ) → ((o : Order) × (parent_key broker_schema.tables (to p name key) ≡ Some (tree, 1 ∷ [], o)) × ((first_key o).collation ≡ Binary)) → ((x : Row) → Has (db.trees tree) x → column x 1 ≡ Text (text 1 x))
+      → Has t.references (to p name key) → column r p ≡ Text (text p r) → (x : Row) × Has (db.trees tree) x × (text 1 x ≡ text p r)
+  refers_name name key tree keyed names among typed =
+      let found = refers name key tree 1 keyed among (ap is_null typed) in
+      let texts : is_eq (text_cmp (text 1 found.0) (text p r)) ≡ true =
+      sym (same_texts (text 1 found.0) (text p r)) ∙ ap (λ v. equal Binary v (Text (text p r))) (sym (names found.0 found.1)) ∙ ap (equal Binary (column found.0 1)) (sym typed) ∙ found.2 in
+      (found.0, found.1, exact_texts _ _ ((Equal-is (text_cmp (text 1 found.0) (text p r))).0 texts))
+
+module _ (db : Database) (broker : IsBroker db) where
+  -- the numbers of a table that has them as its rowids
+  ids_of : (t : Table) → Has db.schema.tables t → (x : Row) → Has (db.trees t.tree) x → column x 0 ≡ Int (whole_at 0 x)
+  ids_of t listed x has = int_is (rowid x) (at_has _ (db.trees t.tree) x (at_has _ db.schema.tables t broker.kept.numbered listed).1 has)
+
+  pub refers_version : (t : Table) → Has db.schema.tables t → (p : ℕ) → Has t.references (to p (codes "versions") (codes "number")) → (r : Row) → Has (db.trees t.tree) r → column r p ≡ Int (whole_at p r)
+      → (x : Row) × Has (db.trees 6) x × (whole_at 0 x ≡ whole_at p r)
+  refers_version t listed p among r has typed = refers_number db broker t listed p r has (codes "versions") (codes "number") 6 (to_versions p) (ids_of versions (has_place _ 3 versions (versions_there db broker))) among typed
+
+  pub refers_content : (t : Table) → Has db.schema.tables t → (p : ℕ) → Has t.references (to p (codes "contents") (codes "number")) → (r : Row) → Has (db.trees t.tree) r → column r p ≡ Int (whole_at p r)
+      → (x : Row) × Has (db.trees 14) x × (whole_at 0 x ≡ whole_at p r)
+  refers_content t listed p among r has typed = refers_number db broker t listed p r has (codes "contents") (codes "number") 14 (to_contents p) (ids_of contents (has_place _ 7 contents (contents_there db broker))) among typed
+
+  pub refers_result : (t : Table) → Has db.schema.tables t → (p : ℕ) → Has t.references (to p (codes "results") (codes "number")) → (r : Row) → Has (db.trees t.tree) r → column r p ≡ Int (whole_at p r)
+      → (x : Row) × Has (db.trees 17) x × (whole_at 0 x ≡ whole_at p r)
+  refers_result t listed p among r has typed = refers_number db broker t listed p r has (codes "results") (codes "number") 17 (to_results p) (ids_of results (has_place _ 9 results (results_there db broker))) among typed
 
   environment_names : (x : Row) → Has (db.trees 10) x → column x 1 ≡ Text (text 1 x)
   environment_names x has = text_at db broker.kept.sound environments (has_place _ 5 environments (environments_there db broker)) x has 0 _ refl refl refl refl refl
 
-  -- a text in a column that REFERENCES the names of environments is the name in a row of environments
   pub refers_environment : (t : Table) → Has db.schema.tables t → (p : ℕ) → Has t.references (to p (codes "environments") (codes "name")) → (r : Row) → Has (db.trees t.tree) r → column r p ≡ Text (text p r)
       → (x : Row) × Has (db.trees 10) x × (text 1 x ≡ text p r)
-  refers_environment t listed p among r has typed =
-      let ref : Reference = to p (codes "environments") (codes "name") in
-      let all = keeps_at ForeignKey db.schema db.trees t r (broker.kept.sound.obeys.rules ForeignKey) listed has in
-      let one : has_parent db.schema.tables db.trees r ref ≡ true = at_has _ t.references ref (all_from_test _ t.references all) among in
-      let here : has_parent broker_schema.tables db.trees r ref ≡ true = subst (λ (s : Schema). has_parent s.tables db.trees r ref ≡ true) broker.schema one in
-      let filled : has_null (p ∷ []) r ≡ false = ap (λ v. is_null v || false) typed in
-      let key = to_environments p in
-      let held : is_held db.trees (p ∷ []) r (Some (10, 1 ∷ [], key.0)) ≡ true = ap (is_held db.trees (p ∷ []) r) (sym key.1) ∙ or_left _ _ here filled in
-      let found = any_has (λ parent. agree key.0 (1 ∷ []) parent (p ∷ []) r) (db.trees 10) held in
-      let same : equal Binary (column found.0 1) (column r p) ≡ true = ap (λ c. equal c (column found.0 1) (column r p)) (sym key.2) ∙ first_of_both _ _ found.2 in
-      let texts : is_eq (text_cmp (text 1 found.0) (text p r)) ≡ true =
-      sym (same_texts (text 1 found.0) (text p r)) ∙ ap (λ v. equal Binary v (Text (text p r))) (sym (environment_names found.0 found.1)) ∙ ap (equal Binary (column found.0 1)) (sym typed) ∙ same in
-      (found.0, found.1, exact_texts _ _ ((Equal-is (text_cmp (text 1 found.0) (text p r))).0 texts))
+  refers_environment t listed p among r has typed = refers_name db broker t listed p r has (codes "environments") (codes "name") 10 (to_environments p) environment_names among typed
+
+  pacticipant_names : (x : Row) → Has (db.trees 4) x → column x 1 ≡ Text (text 1 x)
+  pacticipant_names x has = text_at db broker.kept.sound pacticipants (has_place _ 2 pacticipants (pacticipants_there db broker)) x has 0 _ refl refl refl refl refl
+
+  pub refers_pacticipant : (t : Table) → Has db.schema.tables t → (p : ℕ) → Has t.references (to p (codes "pacticipants") (codes "name")) → (r : Row) → Has (db.trees t.tree) r → column r p ≡ Text (text p r)
+      → (x : Row) × Has (db.trees 4) x × (text 1 x ≡ text p r)
+  refers_pacticipant t listed p among r has typed = refers_name db broker t listed p r has (codes "pacticipants") (codes "name") 4 (to_pacticipants p) pacticipant_names among typed
 
 -- ---- the numbers of the versions
 
@@ -114,6 +149,18 @@ row_number {X} f (y ∷ rows) (x ∷ xs) n is r (inr more) =
     rest : List (ℤ × X) → List (ℤ × X)
     rest [] = []
     rest (p ∷ ps) = ps
+
+entry_has : {X : Type 0} (n : ℕ) (xs : List X) (e : ℕ × X) → Has (enumerate_from n xs) e → Has xs e.1
+entry_has n [] e has = absurd has
+entry_has n (x ∷ xs) e (inl same) = inl (ap (λ (p : ℕ × _). p.1) same)
+entry_has n (x ∷ xs) e (inr later) = inr (entry_has (n + 1) xs e later)
+
+-- and what a row has beside its number is one of the list
+pub row_entry : {X : Type 0} (f : Row → X) (rows : List Row) (xs : List X) (n : ℕ) → map {B = ℤ × X} (λ r. (whole_at 0 r, f r)) rows ≡ map (λ e. (pos e.0, e.1)) (enumerate_from n xs) → (r : Row) → Has rows r → Has xs (f r)
+row_entry {X} f rows xs n is r has =
+    let one = subst (λ (es : List (ℤ × X)). Has es (whole_at 0 r, f r)) is (has_map (λ x. (whole_at 0 x, f x)) rows r has) in
+    let it = map_has (λ (e : ℕ × X). (pos e.0, e.1)) (enumerate_from n xs) (whole_at 0 r, f r) one in
+    subst (Has xs) (sym (ap (λ (p : ℤ × X). p.1) it.2)) (entry_has n xs it.0 it.1)
 
 module _ (db : Database) (broker : IsBroker db) (vs : List Version) (are : AreVersions vs (db.trees 6)) where
   -- no row names a version of a number that isn't there

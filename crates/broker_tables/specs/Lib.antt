@@ -2,6 +2,8 @@ pub mod Schema
 pub mod Rows
 pub mod Names
 pub mod Numbers
+pub mod Readable
 pub mod Holds
+pub mod Calm
 pub mod Making
 pub mod Former

@@ -152,10 +152,10 @@ body_found digest z n is old new rows texts held h =
 abbrev pub found_sql : List ℕ
 found_sql = codes "SELECT number, body FROM contents WHERE digest = ?1 ORDER BY number"
 
-abbrev of_digest : List Term
+abbrev pub of_digest : List Term
 of_digest = op2 (Compare Eq Binary) (col 1 2) (col 0 0) ∷ []
 
-abbrev rising : List (Term × Key)
+abbrev pub rising : List (Term × Key)
 rising = (col 1 0, record { collation = Binary; descending = false }) ∷ []
 
 abbrev pub found_command : Command

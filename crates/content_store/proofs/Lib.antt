@@ -1,3 +1,4 @@
 pub mod TextNumbers
 pub mod ContentRows
+pub mod ReadableRows
 pub mod Held

@@ -1,11 +1,15 @@
 -- The contents that a database holds, by any digest, and how a call on them is stated.
-use Rattle.std.specs.Prelude.{◌≡◌, ◌==◌, ◌-◌, ◌+◌, ◌||◌, ℕ, List, [], ◌∷◌, ◌++◌, map, Bool, true, false, Option, Some, None, codes, slice_get, length, MatchOption, if◌then◌else◌}
+use Rattle.std.specs.Prelude.{◌≡◌, ◌==◌, ◌-◌, ◌+◌, ◌||◌, ◌<◌, ◌≤◌, ◌^◌, ℕ, List, [], ◌∷◌, ◌++◌, map, Bool, true, false, Option, Some, None, codes, slice_get, length, MatchOption, if◌then◌else◌}
 use Rattle.std.specs.List.{AllByRecursion, list_any, position_or_len}
 use Rattle.sqlite.specs.Order.{Row}
 use Rattle.sqlite.specs.Effect.{Database}
 use Rattle.sqlite.specs.State.{State}
 use Rattle.hex.specs.Hex.{encode_lower}
+use Rattle.sqlite_rules.specs.Lists.{Has}
+use Rattle.table_access.specs.declared.StoreFault.{StoreFault}
+use Rattle.table_access.specs.declared.StoreFault.TheVariants.{Store}
 use Rattle.table_access.specs.Columns.{text, whole_at}
+use Rattle.table_access.specs.Reading.{IsNumberRow, IsTextAt}
 use Rattle.broker_core.specs.Text.{Text, same_text}
 use Rattle.broker_core.specs.State.{State as Broker}
 use Rattle.broker_core.specs.Limit.{has_room}
@@ -58,11 +62,20 @@ found_in texts body = if is_among texts body then Some (number_in texts body) el
 abbrev pub text_in : List Text → ℕ → Option Text
 text_in texts number = if number == 0 then None else slice_get texts (number - 1)
 
+-- it is the text with this number; SQLite has no number from 2^63 on
+abbrev pub IsTextOf : List Text → ℕ → Option Text → Type 0
+IsTextOf texts number found = (number < 2 ^ 63 → found ≡ text_in texts number) × (2 ^ 63 ≤ number → found ≡ None)
+
 -- the text is one of them, at the end where it wasn't
 abbrev pub with_text : List Text → Text → List Text
 with_text texts body = if is_among texts body then texts else texts ++ body ∷ []
 
 -- ---- how a call is stated
+
+-- Store, if one of these rows has no number below 2^32, or no text in UTF-8 after it
+abbrev pub TellsUnreadable : List Row → StoreFault → Type 0
+TellsUnreadable rows fault =
+    (fault ≡ Store) × ((row : Row) × Has rows row × (¬ (IsNumberRow row × IsTextAt 1 row)))
 
 -- an answer about the contents, all stored by this digest; nothing changes
 abbrev pub IsReadBy : {A : Type 0} → (Text → Text) → State → State → (A → List Text → Type 0) → A → Type 0

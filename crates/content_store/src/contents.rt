@@ -6,8 +6,10 @@ ghost use Rattle.sqlite.specs.declared.types.Value.TheVariants.{Int};
 ghost use Rattle.hex.specs.Hex.{encode_lower};
 ghost use Rattle.table_access.specs.Calls.{CallsTables, CallsStore};
 ghost use Rattle.table_access.specs.Columns.{text};
+ghost use Rattle.table_access.specs.Reading.{IsTextAt};
 ghost use Rattle.broker_core.specs.Text.{Text, same_text};
-ghost use Rattle.content_store.specs.Contents.{hex_of, found_in, text_in, IsReadBy, IsReadByAny, IsPutBy, IsPutUnder, IsNewBy, IsNewAfter, IsNewIfRoom, IsPutIfRoom};
+ghost use Rattle.broker_tables.specs.Calm.{IsCalm, IsCalmInPlace};
+ghost use Rattle.content_store.specs.Contents.{hex_of, found_in, IsTextOf, TellsUnreadable, IsReadBy, IsReadByAny, IsPutBy, IsPutUnder, IsNewBy, IsNewAfter, IsNewIfRoom, IsPutIfRoom};
 
 use crate::digester::{Digester, digest_digits};
 use broker_core::limit::room;
@@ -16,13 +18,14 @@ use sqlite::types::{ToSql, ValueRef};
 use sqlite::{Alter, Connection, Row, params};
 use table_access::{StoreFault, change, number_in, number_of, select, text_at, text_of};
 
-/// The text with this number, or `None` where there is none.
+/// The text with this number, or `None` if there is none. No row has a number above 2^63 - 1.
 ///
 /// # Errors
-/// `StoreFault::Memory` where the database is out of memory, or there is none for the answer; `StoreFault::Store` where it refused the query, or for a number above 2^63 - 1, which no row can have.
+/// `StoreFault::Memory` if the database is out of memory, or there is none for the answer; `StoreFault::Store` if it refused the query.
 pub fn get<S: Alter>(conn: &mut Connection<S>, number: u64) -> Result<Option<String>, StoreFault>
-    ensures { CallsTables S.Store conn.old conn.new result
-        (λ found old new. IsReadByAny old new (λ found texts. option_map string_bytes found ≡ text_in texts number) found) }
+    ensures call { CallsTables S.Store conn.old conn.new result
+        (λ found old new. IsReadByAny old new (λ found texts. IsTextOf texts number (option_map string_bytes found)) found) }
+    ensures calm { IsCalm S.Store conn.old conn.new result }
 {
     match i64::try_from(number) {
         Ok(number) => text_of(
@@ -30,7 +33,7 @@ pub fn get<S: Alter>(conn: &mut Connection<S>, number: u64) -> Result<Option<Str
             "SELECT body FROM contents WHERE number = ?1",
             params![number],
         ),
-        Err(_) => Err(StoreFault::Store),
+        Err(_) => Ok(None),
     }
 }
 
@@ -39,8 +42,9 @@ pub fn get<S: Alter>(conn: &mut Connection<S>, number: u64) -> Result<Option<Str
 /// # Errors
 /// `StoreFault::Memory` where the database is out of memory; `StoreFault::Store` where it refused the query or holds no number there.
 pub fn content_count<S: Alter>(conn: &mut Connection<S>) -> Result<u64, StoreFault>
-    ensures { CallsStore S.Store conn.old conn.new result
+    ensures call { CallsStore S.Store conn.old conn.new result
         (λ count old new. IsReadByAny old new (λ count texts. count ≡ length texts) count) }
+    ensures calm { IsCalmInPlace S.Store conn.old conn.new result }
 {
     let newest = done!(number_of(
         conn,
@@ -53,7 +57,7 @@ pub fn content_count<S: Alter>(conn: &mut Connection<S>) -> Result<u64, StoreFau
 /// Whether this is the row's text. `StoreFault::Store` where the row has none.
 fn has_text(row: &Row, body: &str) -> Result<bool, StoreFault>
     ensures ok { IfOk result (λ has. has ≡ same_text body.now (text 1 row.now)) }
-    ensures store { IfErr result (λ f. f ≡ StoreFault.Store) }
+    ensures cause { IfErr result (λ f. (f ≡ StoreFault.Store) × (¬ IsTextAt 1 row.now)) }
 {
     match text_at(row, 1) {
         Some(found) => Ok(body == found),
@@ -66,7 +70,7 @@ fn number_among(rows: &[Row], body: &str) -> Result<Option<u32>, StoreFault>
     ensures ok { IfOk result
         (λ found. option_map (λ n. Int (pos n)) found ≡ option_map (λ row. column row 0)
         (first (λ row. same_text body.now (text 1 row)) rows.now)) }
-    ensures store { IfErr result (λ f. f ≡ StoreFault.Store) }
+    ensures cause { IfErr result (TellsUnreadable rows.now) }
 {
     for row in rows {
         if done!(has_text(row, body)) {
@@ -82,10 +86,11 @@ fn find_beside<S: Alter>(
     digest: &[u8],
     body: &str,
 ) -> Result<Option<u32>, StoreFault>
-    ensures { CallsStore S.Store conn.old conn.new result
+    ensures call { CallsStore S.Store conn.old conn.new result
         (λ found old new. (by : Text → Text) → by body.now ≡ digest.now →
         IsReadBy by old new
         (λ found texts. found ≡ found_in texts body.now) found) }
+    ensures calm { IsCalmInPlace S.Store conn.old conn.new result }
 {
     let rows = done!(select(
         conn,
@@ -104,8 +109,9 @@ pub fn find<S: Alter, D: Digester>(
     digester: &D,
     body: &str,
 ) -> Result<Option<u64>, StoreFault>
-    ensures { CallsStore S.Store conn.old conn.new result
+    ensures call { CallsStore S.Store conn.old conn.new result
         (λ found old new. IsReadBy (hex_of D.digest_of) old new (λ found texts. found ≡ found_in texts body.now) found) }
+    ensures calm { IsCalmInPlace S.Store conn.old conn.new result }
 {
     let digest = digest_digits(digester, body.as_bytes());
     match done!(find_beside(conn, &digest, body)) {

@@ -13,3 +13,5 @@ pub mod VersionResults
 pub mod QueryLemmas
 pub mod JoinRows
 pub mod LatestPass
+pub mod ReadableRows
+pub mod NoVersion

@@ -1,8 +1,9 @@
 //! The contracts of consumers' versions with providers.
-ghost use Rattle.std.specs.Prelude.{◌≡◌, Some};
+ghost use Rattle.std.specs.Prelude.{◌≡◌, Some, None};
 ghost use Rattle.broker_core.specs.declared.command.Version.{Version as VersionModel};
 ghost use Rattle.broker_tables.specs.Numbers.{number_of as number_in};
-ghost use Rattle.broker_tables.specs.Holds.{QueriesInPlace, Changes};
+ghost use Rattle.broker_tables.specs.Holds.{Changes};
+ghost use Rattle.broker_tables.specs.Calm.{CalmQueriesInPlace, IfNoVersion};
 ghost use Rattle.contract_tables.specs.Verified.{AddsContract};
 
 use sqlite::{Alter, Connection, params};
@@ -17,9 +18,10 @@ pub fn contract_of<S: Alter>(
     version_number: u32,
     provider: &str,
 ) -> Result<Option<u32>, StoreFault>
-    ensures { QueriesInPlace S.Store conn.old conn.new result
+    ensures answers { CalmQueriesInPlace S.Store conn.old conn.new result
         (λ found s. (v : VersionModel) → number_in s.versions v ≡ Some version_number →
         found ≡ s.contracts (v, provider.now)) }
+    ensures unknown { IfNoVersion S.Store conn.old conn.new result version_number (λ found. found ≡ None) }
 {
     number_of(
         conn,

@@ -1,12 +1,12 @@
 //! Contracts and their verification, listed.
-ghost use Rattle.std.specs.Prelude.{◌≡◌, Some, option_map};
+ghost use Rattle.std.specs.Prelude.{◌≡◌, Some, option_map, []};
 ghost use Rattle.broker_core.specs.declared.command.Version.{Version as VersionModel};
 ghost use Rattle.broker_core.specs.Listing.{Lists};
 ghost use Rattle.broker_core.specs.Machine.{version_cmp};
 ghost use Rattle.broker_core.specs.State.{latest_result};
 ghost use Rattle.broker_core.specs.Text.{version as version_named};
 ghost use Rattle.broker_tables.specs.Numbers.{number_of as number_known};
-ghost use Rattle.broker_tables.specs.Holds.{Queries};
+ghost use Rattle.broker_tables.specs.Calm.{CalmQueries, IfNoVersion};
 ghost use Rattle.contract_tables.specs.Listings.{contract_cmp, verified_cmp, content_cmp, IsContractRow, IsConsumerRow, IsVerifiedRow, IsContentRow, FailsAsMarked, FailsAsNames, FailsAsNumbers};
 
 use broker_core::command::Version;
@@ -114,9 +114,10 @@ pub fn contracts_of<S: Alter>(
     conn: &mut Connection<S>,
     version_number: u32,
 ) -> Result<Vec<Contract>, StoreFault>
-    ensures { Queries S.Store conn.old conn.new result
+    ensures answers { CalmQueries S.Store conn.old conn.new result
         (λ found s. (v : VersionModel) → number_known s.versions v ≡ Some version_number →
         Lists contract_cmp (λ c. s.contracts (v, c.provider) ≡ Some c.content) found.items) }
+    ensures unknown { IfNoVersion S.Store conn.old conn.new result version_number (λ found. found.items ≡ []) }
 {
     list_of::<ContractRow, S>(
         alloc,
@@ -136,7 +137,7 @@ pub fn consumers_of<S: Alter>(
     provider: &str,
     content: u32,
 ) -> Result<Vec<Version>, StoreFault>
-    ensures { Queries S.Store conn.old conn.new result
+    ensures { CalmQueries S.Store conn.old conn.new result
         (λ found s. Lists version_cmp (λ w. s.contracts (w, provider.now) ≡ Some content) found.items) }
 {
     list_of::<ConsumerRow, S>(
@@ -157,7 +158,7 @@ pub fn verified_versions<S: Alter>(
     provider: &str,
     content: u32,
 ) -> Result<Vec<VerifiedVersion>, StoreFault>
-    ensures { Queries S.Store conn.old conn.new result
+    ensures { CalmQueries S.Store conn.old conn.new result
         (λ found s. Lists verified_cmp
         (λ x. option_map (λ e. e.0) (latest_result s content (version_named provider.now x.name)) ≡ Some x.result)
         found.items) }
@@ -179,10 +180,11 @@ pub fn verified_contents<S: Alter>(
     conn: &mut Connection<S>,
     version_number: u32,
 ) -> Result<Vec<VerifiedContent>, StoreFault>
-    ensures { Queries S.Store conn.old conn.new result
+    ensures answers { CalmQueries S.Store conn.old conn.new result
         (λ found s. (v : VersionModel) → number_known s.versions v ≡ Some version_number →
         Lists content_cmp
         (λ x. option_map (λ e. e.0) (latest_result s x.content v) ≡ Some x.result) found.items) }
+    ensures unknown { IfNoVersion S.Store conn.old conn.new result version_number (λ found. found.items ≡ []) }
 {
     list_of::<ContentRow, S>(
         alloc,

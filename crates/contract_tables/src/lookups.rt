@@ -1,10 +1,10 @@
 //! What the results say: the latest one for a content and a version of its provider, and each by its number.
-ghost use Rattle.std.specs.Prelude.{◌≡◌, option_map, Some, length, IfOk, IfErr, slice_get};
+ghost use Rattle.std.specs.Prelude.{◌≡◌, option_map, Some, length, IfOk, IfErr, slice_get, None};
 ghost use Rattle.broker_core.specs.declared.command.Version.{Version as VersionModel};
 ghost use Rattle.broker_core.specs.State.{Verification, said_by, latest_result, latest};
 ghost use Rattle.broker_core.specs.Change.{result_of_run as run_result};
 ghost use Rattle.broker_tables.specs.Numbers.{number_of as number_in};
-ghost use Rattle.broker_tables.specs.Holds.{QueriesInPlace};
+ghost use Rattle.broker_tables.specs.Calm.{CalmQueriesInPlace, IfNoVersion};
 ghost use Rattle.sqlite.specs.Order.{Row as SqlRow};
 ghost use Rattle.contract_tables.specs.Verified.{result_with, cells, cells_of, ReadsAsResult, pass_cells, pass_of, passed_of, passed_as, by_numbers, numbers_are, told_of, told};
 ghost use Rattle.contract_tables.specs.VersionResults.{ReadsAsPass};
@@ -19,7 +19,7 @@ use table_access::{StoreFault, has_row, number_at, number_of, select};
 /// # Errors
 /// `StoreFault::Memory` where the database is out of memory; `StoreFault::Store` where it refused the query or holds no number there.
 pub fn result_count<S: Alter>(conn: &mut Connection<S>) -> Result<u64, StoreFault>
-    ensures { QueriesInPlace S.Store conn.old conn.new result (λ count s. count ≡ length s.results) }
+    ensures { CalmQueriesInPlace S.Store conn.old conn.new result (λ count s. count ≡ length s.results) }
 {
     let newest = done!(number_of(
         conn,
@@ -38,9 +38,10 @@ pub fn latest_number<S: Alter>(
     content: u32,
     version_number: u32,
 ) -> Result<Option<u32>, StoreFault>
-    ensures { QueriesInPlace S.Store conn.old conn.new result
+    ensures answers { CalmQueriesInPlace S.Store conn.old conn.new result
         (λ found s. (v : VersionModel) → number_in s.versions v ≡ Some version_number →
         found ≡ option_map (λ e. e.0) (latest_result s content v)) }
+    ensures unknown { IfNoVersion S.Store conn.old conn.new result version_number (λ found. found ≡ None) }
 {
     number_of(
         conn,
@@ -51,7 +52,7 @@ pub fn latest_number<S: Alter>(
 
 /// Whether the result with this number is a pass, or `None` where there is no such result.
 fn passed<S: Alter>(conn: &mut Connection<S>, number: u32) -> Result<Option<bool>, StoreFault>
-    ensures { QueriesInPlace S.Store conn.old conn.new result
+    ensures { CalmQueriesInPlace S.Store conn.old conn.new result
         (λ found s. found ≡ option_map (λ r. r.pass) (result_with s number)) }
 {
     let found = done!(number_of(
@@ -64,7 +65,7 @@ fn passed<S: Alter>(conn: &mut Connection<S>, number: u32) -> Result<Option<bool
 
 /// Whether the broker checked the result with this number, which is there.
 fn is_checked<S: Alter>(conn: &mut Connection<S>, number: u32) -> Result<bool, StoreFault>
-    ensures { QueriesInPlace S.Store conn.old conn.new result
+    ensures { CalmQueriesInPlace S.Store conn.old conn.new result
         (λ checked s. (r : Verification) → result_with s number ≡ Some r → checked ≡ r.checked) }
 {
     has_row(
@@ -82,7 +83,7 @@ pub fn result_said<S: Alter>(
     conn: &mut Connection<S>,
     number: u32,
 ) -> Result<Option<Latest>, StoreFault>
-    ensures { QueriesInPlace S.Store conn.old conn.new result
+    ensures { CalmQueriesInPlace S.Store conn.old conn.new result
         (λ found s. found ≡ option_map said_by (result_with s number)) }
 {
     match done!(passed(conn, number)) {
@@ -130,9 +131,10 @@ fn latest_pass<S: Alter>(
     content: u32,
     provider_version: u32,
 ) -> Result<Option<NumberedPass>, StoreFault>
-    ensures { QueriesInPlace S.Store conn.old conn.new result
+    ensures answers { CalmQueriesInPlace S.Store conn.old conn.new result
         (λ found s. (v : VersionModel) → number_in s.versions v ≡ Some provider_version →
         option_map (λ r. passed_as r.number r.pass) found ≡ option_map passed_of (latest_result s content v)) }
+    ensures unknown { IfNoVersion S.Store conn.old conn.new result provider_version (λ found. found ≡ None) }
 {
     let rows = done!(select(
         conn,
@@ -151,9 +153,10 @@ pub fn latest_of<S: Alter>(
     content: u32,
     version_number: u32,
 ) -> Result<Option<Latest>, StoreFault>
-    ensures { QueriesInPlace S.Store conn.old conn.new result
+    ensures answers { CalmQueriesInPlace S.Store conn.old conn.new result
         (λ found s. (v : VersionModel) → number_in s.versions v ≡ Some version_number →
         found ≡ latest s content v) }
+    ensures unknown { IfNoVersion S.Store conn.old conn.new result version_number (λ found. found ≡ None) }
 {
     match done!(latest_pass(conn, content, version_number)) {
         Some(found) => {
@@ -225,7 +228,7 @@ fn stored_of_run<S: Alter>(
     provider: &str,
     run: &str,
 ) -> Result<Option<StoredResult>, StoreFault>
-    ensures { QueriesInPlace S.Store conn.old conn.new result
+    ensures { CalmQueriesInPlace S.Store conn.old conn.new result
         (λ found s. option_map (λ r. numbers_are r.number r.content r.provider_version r.pass) found
         ≡ option_map (by_numbers s.versions) (run_result s provider.now (Some run.now))) }
 {
@@ -246,7 +249,7 @@ pub fn result_of_run<S: Alter>(
     provider: &str,
     run: &str,
 ) -> Result<Option<ResultRow>, StoreFault>
-    ensures { QueriesInPlace S.Store conn.old conn.new result
+    ensures { CalmQueriesInPlace S.Store conn.old conn.new result
         (λ found s. option_map (λ r. told r.number r.content r.provider_version r.pass r.checked) found
         ≡ option_map (told_of s.versions) (run_result s provider.now (Some run.now))) }
 {

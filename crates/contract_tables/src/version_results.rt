@@ -1,5 +1,5 @@
 //! The latest results of one version of a provider, for every content at once.
-ghost use Rattle.std.specs.Prelude.{◌≡◌, Some, IfOk, map, option_map, pos, true};
+ghost use Rattle.std.specs.Prelude.{◌≡◌, Some, IfOk, map, option_map, pos, true, []};
 ghost use Rattle.std.specs.List.Sorted.{IsStrictlySortedBy};
 ghost use Rattle.std.specs.Ordering.{nat_cmp};
 ghost use Rattle.sqlite.specs.Order.{column};
@@ -9,7 +9,7 @@ ghost use Rattle.broker_core.specs.declared.command.Version.{Version as VersionM
 ghost use Rattle.broker_core.specs.Listing.{Lists};
 ghost use Rattle.broker_core.specs.State.{State as Broker, latest_result, latest};
 ghost use Rattle.broker_tables.specs.Numbers.{number_of as number_known};
-ghost use Rattle.broker_tables.specs.Holds.{Queries};
+ghost use Rattle.broker_tables.specs.Calm.{CalmQueries, IfNoVersion};
 ghost use Rattle.contract_tables.specs.VersionResults.{pass_cmp, latest_cmp, IsPassRow, FailsAsPass, is_among, marked};
 
 use broker_core::need::Latest;
@@ -70,10 +70,11 @@ fn passes_of<S: Alter>(
     conn: &mut Connection<S>,
     version_number: u32,
 ) -> Result<Vec<ContentPass>, StoreFault>
-    ensures { Queries S.Store conn.old conn.new result
+    ensures answers { CalmQueries S.Store conn.old conn.new result
         (λ found s. (v : VersionModel) → number_known s.versions v ≡ Some version_number →
         Lists pass_cmp
         (λ x. option_map (λ e. e.1.pass) (latest_result s x.content v) ≡ Some x.pass) found.items) }
+    ensures unknown { IfNoVersion S.Store conn.old conn.new result version_number (λ found. found.items ≡ []) }
 {
     list_of::<PassRow, S>(
         alloc,
@@ -89,10 +90,11 @@ fn checked_of<S: Alter>(
     conn: &mut Connection<S>,
     version_number: u32,
 ) -> Result<Vec<u32>, StoreFault>
-    ensures { Queries S.Store conn.old conn.new result
+    ensures answers { CalmQueries S.Store conn.old conn.new result
         (λ found s. (v : VersionModel) → number_known s.versions v ≡ Some version_number →
         Lists nat_cmp
         (λ content. option_map (λ e. e.1.checked) (latest_result s content v) ≡ Some true) found.items) }
+    ensures unknown { IfNoVersion S.Store conn.old conn.new result version_number (λ found. found.items ≡ []) }
 {
     list_of::<NumberRow, S>(
         alloc,
@@ -141,9 +143,10 @@ pub fn latest_results<S: Alter>(
     conn: &mut Connection<S>,
     version_number: u32,
 ) -> Result<Vec<LatestResult>, StoreFault>
-    ensures { Queries S.Store conn.old conn.new result
+    ensures answers { CalmQueries S.Store conn.old conn.new result
         (λ found s. (v : VersionModel) → number_known s.versions v ≡ Some version_number →
         Lists latest_cmp (λ x. latest s x.content v ≡ Some x.latest) found.items) }
+    ensures unknown { IfNoVersion S.Store conn.old conn.new result version_number (λ found. found.items ≡ []) }
 {
     let passes = done!(passes_of(alloc, conn, version_number));
     let checked = done!(checked_of(alloc, conn, version_number));

@@ -5,7 +5,6 @@ use crate::tables::{is_text, made};
 use content_store::{Digester, content_count, find, get, put};
 use std::alloc::{AllocError, Global};
 use std::test::Fail;
-use table_access::StoreFault;
 
 /// A digester that answers zeros for each text.
 struct Zeros;
@@ -55,9 +54,9 @@ fn tells_texts_of_one_digest_apart(rt: HostRuntime) -> Result<(), Fail> {
         (4, Some("it's \"é\"")),
         (5, None),
         (4_294_967_297, None),
+        (9_223_372_036_854_775_808, None),
     ] {
         assert!(rt; is_text(get(&mut conn, number), text), "{number}");
     }
-    assert!(rt; get(&mut conn, 9_223_372_036_854_775_808).map(|_| ()) == Err(StoreFault::Store));
     Ok(())
 }

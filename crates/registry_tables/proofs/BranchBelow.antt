@@ -13,6 +13,7 @@ use Rattle.sqlite_sql.specs.declared.ops.BinaryOp.TheVariants.{Compare}
 use Rattle.sqlite_sql.specs.declared.ops.CompareOp.TheVariants.{Eq, Lt}
 use Rattle.sqlite_sql.specs.Ops.{binary, is_true}
 use Rattle.sqlite.specs.Command.{Command}
+use Rattle.sqlite.specs.Query.{Query}
 use Rattle.sqlite.specs.Command.TheVariants.{Select}
 use Rattle.sqlite.specs.Effect.{Database}
 use Rattle.sqlite.specs.State.{State, Shown}
@@ -33,7 +34,11 @@ use Rattle.table_access.proofs.SoundLemmas.{at_has}
 use Rattle.broker_core.specs.State.{State as Broker}
 use Rattle.broker_tables.specs.Schema.{broker_schema}
 use Rattle.broker_tables.specs.Holds.{Holds, IsBroker}
-use Rattle.broker_tables.proofs.Frames.{meant}
+use Rattle.table_access.specs.Reading.{IsNumberRow}
+use Rattle.table_access.proofs.Answered.{Runs, number_shown, first_pair_shown}
+use Rattle.broker_tables.specs.Readable.{IsReadable}
+use Rattle.registry_tables.proofs.VersionRows as of_versions
+use Rattle.broker_tables.proofs.Frames.{runs_here, meant}
 use Rattle.registry_tables.specs.Registry.{IsBranchNumber, IsNewestBelow}
 use Rattle.registry_tables.proofs.BranchNumbers.{terms, order, ids, number, by_number, total, kept_pairs, from_rows, sorted, apart_too, falls, from_pair, to_pair, exact_pos}
 
@@ -43,8 +48,11 @@ below_sql = codes "SELECT v.number FROM versions v JOIN branches b ON b.version_
 abbrev below_terms : List Term
 below_terms = op2 (Compare Eq Binary) (col 2 1) (col 1 0) ∷ op2 (Compare Eq Binary) (col 1 2) (col 0 0) ∷ op2 (Compare Eq Binary) (col 2 2) (col 0 1) ∷ op2 (Compare Lt Binary) (col 1 0) (col 0 2) ∷ []
 
+abbrev pub below_query : Query
+below_query = up_to 1 (from_both 6 8 below_terms (col 1 0 ∷ []) order)
+
 abbrev pub below_command : Command
-below_command = Select (record { lets = []; body = up_to 1 (from_both 6 8 below_terms (col 1 0 ∷ []) order) }) (codes "number" ∷ [])
+below_command = Select (record { lets = []; body = below_query }) (codes "number" ∷ [])
 
 below_text : Means broker_schema below_sql below_command
 unfolding understood everything
@@ -52,6 +60,20 @@ below_text = record { is = refl; plain = (refl, refl); unlisted = refl }
 
 pub below_means : (db : Database) → IsBroker db → Means db.schema below_sql below_command
 below_means db broker = meant db broker below_sql below_text
+
+below_there : (p b : List ℕ) (k : ℕ) → Runs broker_schema below_sql (Text p ∷ Text b ∷ Int (pos k) ∷ []) below_query
+unfolding understood everything
+below_there p b k = record { whole = refl; typed = refl; sumless = refl }
+
+pub below_runs : (db : Database) → IsBroker db → (p b : List ℕ) (k : ℕ) → Runs db.schema below_sql (Text p ∷ Text b ∷ Int (pos k) ∷ []) below_query
+below_runs db broker p b k = runs_here db broker below_sql (Text p ∷ Text b ∷ Int (pos k) ∷ []) below_query (below_there p b k)
+
+-- where the versions are few enough, the numbers can be read
+pub below_stand : (p b : List ℕ) (k : ℕ) (old new : State) (rows : List Row) (row : Row) (s : Broker) → Holds old.now s → IsReadable s → Shown below_sql (Text p ∷ Text b ∷ Int (pos k) ∷ []) old new rows → Has rows row → IsNumberRow row
+below_stand p b k old new rows row s held readable h has =
+    let it = first_pair_shown old.now (Text p ∷ Text b ∷ Int (pos k) ∷ []) 1 6 8 below_terms (col 1 0 ∷ []) order rows (shown_answers below_sql (Text p ∷ Text b ∷ Int (pos k) ∷ []) old new _ _ (below_means old.now held.broker) rows h) row has in
+    let n = of_versions.low old.now s held readable it.0 it.2 in
+    number_shown (Text p ∷ Text b ∷ Int (pos k) ∷ []) it.0 row 0 (of_versions.ids old.now held.broker it.0 it.2) it.4 n.0 n.1 n.2
 
 -- ---- the order of numbers, and of the columns that hold them
 

@@ -21,6 +21,7 @@ use Rattle.sqlite_sql.specs.Query.{sort_cmp}
 use Rattle.sqlite_value.specs.declared.keys.Key.{Key}
 use Rattle.sqlite_value.proofs.OrderLemmas.{value_cmp-Int, then-Equal}
 use Rattle.sqlite.specs.Command.{Command}
+use Rattle.sqlite.specs.Query.{Query}
 use Rattle.sqlite.specs.Command.TheVariants.{Select}
 use Rattle.sqlite.specs.Effect.{Database}
 use Rattle.sqlite.specs.State.{State, Shown}
@@ -47,7 +48,10 @@ use Rattle.broker_tables.specs.Schema.{broker_schema}
 use Rattle.broker_tables.specs.Rows.{stands_at}
 use Rattle.broker_tables.specs.Numbers.{number_of}
 use Rattle.broker_tables.specs.Holds.{Holds, IsBroker}
-use Rattle.broker_tables.proofs.Frames.{meant}
+use Rattle.table_access.specs.Reading.{IsNumberRow}
+use Rattle.table_access.proofs.Answered.{Runs, number_shown, pair_shown}
+use Rattle.broker_tables.specs.Readable.{IsReadable}
+use Rattle.broker_tables.proofs.Frames.{runs_here, meant}
 use Rattle.broker_tables.proofs.Orders.{exact_texts, pairs_total, exact_pair, marked_total, exact_marked}
 use Rattle.broker_tables.proofs.NumberLemmas.{version_row}
 use Rattle.broker_tables.proofs.References.{any_has}
@@ -65,8 +69,11 @@ terms = op2 (Compare Eq Binary) (col 2 1) (col 1 0) ∷ op2 (Compare Eq Binary) 
 abbrev pub order : List (Term × Key)
 order = (col 1 0, record { collation = Binary; descending = true }) ∷ []
 
+abbrev pub numbers_query : Query
+numbers_query = from_both 6 8 terms (col 1 0 ∷ []) order
+
 abbrev pub numbers_command : Command
-numbers_command = Select (record { lets = []; body = from_both 6 8 terms (col 1 0 ∷ []) order }) (codes "number" ∷ [])
+numbers_command = Select (record { lets = []; body = numbers_query }) (codes "number" ∷ [])
 
 numbers_text : Means broker_schema numbers_sql numbers_command
 unfolding understood everything
@@ -74,6 +81,20 @@ numbers_text = record { is = refl; plain = (refl, refl); unlisted = refl }
 
 pub numbers_means : (db : Database) → IsBroker db → Means db.schema numbers_sql numbers_command
 numbers_means db broker = meant db broker numbers_sql numbers_text
+
+numbers_there : (p b : List ℕ) → Runs broker_schema numbers_sql (Text p ∷ Text b ∷ []) numbers_query
+unfolding understood everything
+numbers_there p b = record { whole = refl; typed = refl; sumless = refl }
+
+pub numbers_runs : (db : Database) → IsBroker db → (p b : List ℕ) → Runs db.schema numbers_sql (Text p ∷ Text b ∷ []) numbers_query
+numbers_runs db broker p b = runs_here db broker numbers_sql (Text p ∷ Text b ∷ []) numbers_query (numbers_there p b)
+
+-- where the versions are few enough, the numbers can be read
+pub numbers_stand : (p b : List ℕ) (old new : State) (rows : List Row) (row : Row) (s : Broker) → Holds old.now s → IsReadable s → Shown numbers_sql (Text p ∷ Text b ∷ []) old new rows → Has rows row → IsNumberRow row
+numbers_stand p b old new rows row s held readable h has =
+    let it = pair_shown old.now (Text p ∷ Text b ∷ []) 6 8 terms (col 1 0 ∷ []) order rows (shown_answers numbers_sql (Text p ∷ Text b ∷ []) old new _ _ (numbers_means old.now held.broker) rows h) row has in
+    let n = of_versions.low old.now s held readable it.0 it.2 in
+    number_shown (Text p ∷ Text b ∷ []) it.0 row 0 (of_versions.ids old.now held.broker it.0 it.2) it.4 n.0 n.1 n.2
 
 -- ---- lists of numbers
 

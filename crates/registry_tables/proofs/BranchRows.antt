@@ -1,5 +1,5 @@
 -- The statements on branches.
-use Rattle.std.proofs.Common.{◌≡◌, ℕ, ℤ, pos, codes, List, [], ◌∷◌, Bool, true, false, cond, ◌&&◌, ◌||◌, refl, sym, ap, ◌∙◌, slice_get, Some, None, Option, Ok}
+use Rattle.std.proofs.Common.{◌≡◌, inl, ℕ, ℤ, pos, codes, List, [], ◌∷◌, Bool, true, false, cond, ◌&&◌, ◌||◌, refl, sym, ap, ◌∙◌, slice_get, Some, None, Option, Ok}
 use Rattle.std.specs.Prelude.{option_map, is_some}
 use Rattle.std.specs.Option.{option_map_or}
 use Rattle.std.specs.Ordering.{eq_by_cmp, int_cmp}
@@ -15,6 +15,7 @@ use Rattle.sqlite.specs.Kind.TheVariants.{Integer}
 use Rattle.sqlite.specs.Term.{col, lit}
 use Rattle.sqlite.specs.Source.TheVariants.{Values}
 use Rattle.sqlite.specs.Command.{Command}
+use Rattle.sqlite.specs.Query.{Query}
 use Rattle.sqlite.specs.Command.TheVariants.{Insert, Select}
 use Rattle.sqlite.specs.Schema.{Schema}
 use Rattle.sqlite.specs.Effect.{Database}
@@ -25,6 +26,7 @@ use Rattle.sqlite_tied.specs.Compute.{everything}
 use Rattle.table_access.specs.Columns.{text, text_cmp, whole_at, by_both}
 use Rattle.table_access.specs.Statements.{from_table, by_two, keeps}
 use Rattle.table_access.proofs.Values.{cast_null, cast_int}
+use Rattle.table_access.proofs.Answered.{Runs, shown_of}
 use Rattle.table_access.proofs.Steps.{Means, selects, inserts}
 use Rattle.table_access.proofs.Maps.{looks_up_at}
 use Rattle.table_access.proofs.Keys.{apart_by}
@@ -37,10 +39,12 @@ use Rattle.broker_tables.specs.Schema.{broker_schema}
 use Rattle.broker_tables.specs.Rows.{stands_at}
 use Rattle.broker_tables.specs.Numbers.{number_of}
 use Rattle.broker_tables.specs.Holds.{Holds, IsBroker}
-use Rattle.broker_tables.proofs.Frames.{meant, frame_of, branches_change}
+use Rattle.broker_tables.proofs.Frames.{runs_here, meant, frame_of, branches_change}
 use Rattle.broker_tables.proofs.Orders.{marked_total, exact_marked}
 use Rattle.broker_tables.proofs.Ties.{both_eq, two_tests}
 use Rattle.broker_tables.proofs.NumberLemmas.{number_ties, version_unknown}
+use Rattle.sqlite_keyed.proofs.RuleLemmas.{first_of_both}
+use Rattle.broker_tables.proofs.NoVersion.{no_row}
 use Rattle.broker_tables.proofs.Standing.{stands_found, stands_put}
 use Rattle.broker_tables.proofs.Placed.{branches, branches_there}
 
@@ -69,8 +73,11 @@ module _ (db : Database) (broker : IsBroker db) where
 abbrev pub on_sql : List ℕ
 on_sql = codes "SELECT branch FROM branches WHERE version_number = ?1 AND branch = ?2"
 
+abbrev pub on_query : Query
+on_query = from_table 8 (by_two 1 2) (col 1 2 ∷ []) []
+
 abbrev pub on_command : Command
-on_command = Select (record { lets = []; body = from_table 8 (by_two 1 2) (col 1 2 ∷ []) [] }) (codes "branch" ∷ [])
+on_command = Select (record { lets = []; body = on_query }) (codes "branch" ∷ [])
 
 on_text : Means broker_schema on_sql on_command
 unfolding understood everything
@@ -78,6 +85,19 @@ on_text = record { is = refl; plain = (refl, refl); unlisted = refl }
 
 pub on_means : (db : Database) → IsBroker db → Means db.schema on_sql on_command
 on_means db broker = meant db broker on_sql on_text
+
+on_there : (n : ℕ) (b : List ℕ) → Runs broker_schema on_sql (Int (pos n) ∷ Text b ∷ []) on_query
+unfolding understood everything
+on_there n b = record { whole = refl; typed = refl; sumless = refl }
+
+pub on_runs : (db : Database) → IsBroker db → (n : ℕ) (b : List ℕ) → Runs db.schema on_sql (Int (pos n) ∷ Text b ∷ []) on_query
+on_runs db broker n b = runs_here db broker on_sql (Int (pos n) ∷ Text b ∷ []) on_query (on_there n b)
+
+-- no row is shown for a number that no version has
+pub no_branch : (n : ℕ) (b : List ℕ) (old new : State) (rows : List Row) (s : Broker) → Holds old.now s → ((v : Version) → ¬ (number_of s.versions v ≡ Some n)) → Shown on_sql (Int (pos n) ∷ Text b ∷ []) old new rows → (row : Row) → Has rows row → ⊥
+no_branch n b old new rows s held none h row has =
+    let it = shown_of on_sql (Int (pos n) ∷ Text b ∷ []) old new 8 _ _ _ _ (on_means old.now held.broker) rows row h has in
+    no_row old.now s held n none branches (has_place _ 4 branches (branches_there old.now held.broker)) 1 (inl refl) it.0 it.1 ((numbers old.now held.broker).typed it.0 it.1) (first_of_both _ _ it.2)
 
 pub branch_found : (n : ℕ) (b : List ℕ) (old new : State) (rows : List Row) (s : Broker) (v : Version) → Holds old.now s → number_of s.versions v ≡ Some n → Shown on_sql (Int (pos n) ∷ Text b ∷ []) old new rows
     → is_some (option_map (text 0) (slice_get rows 0)) ≡ s.branches (v, b)

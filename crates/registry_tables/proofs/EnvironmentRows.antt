@@ -1,12 +1,14 @@
 -- The statements on environments and their marks.
-use Rattle.std.proofs.Common.{◌≡◌, ◌==◌, ℕ, pos, codes, List, [], ◌∷◌, Bool, true, false, cond, ◌||◌, refl, sym, ap, ◌∙◌, slice_get, Some, None, Option, Ok}
-use Rattle.std.specs.Prelude.{option_map, is_some}
+use Rattle.std.proofs.Common.{◌≡◌, ◌==◌, ℕ, pos, codes, List, [], ◌∷◌, Bool, true, false, cond, ◌||◌, refl, sym, ap, ◌∙◌, slice_get, Some, None, Option, Ok, ◌<◌, ◌≤◌, ◌^◌, arith}
+use Rattle.std.specs.Prelude.{option_map, is_some, IsSomeAnd}
+use Rattle.std.specs.Option.{option_map_or}
 use Rattle.std.specs.Ordering.{eq_by_cmp}
 use Rattle.std.specs.Cmp.{Equal-is, eq_by_cmp_equiv}
 use Rattle.std.specs.Cmp.Lexicographic.{nat_list_cmp_total, texts_ties}
 use Rattle.sqlite.specs.Tree.{IsAscending}
 use Rattle.sqlite.specs.Edit.{next_rowid, with_rowid}
 use Rattle.sqlite.specs.Rowids.TheVariants.{Chosen}
+use Rattle.sqlite.specs.declared.types.Value.{Value}
 use Rattle.sqlite.specs.declared.types.Value.TheVariants.{Null, Int, Text}
 use Rattle.sqlite.specs.Order.{Row, column}
 use Rattle.sqlite.specs.Cast.{cast}
@@ -17,6 +19,7 @@ use Rattle.sqlite_sql.specs.declared.ops.BinaryOp.TheVariants.{Compare}
 use Rattle.sqlite_sql.specs.declared.ops.CompareOp.TheVariants.{Eq}
 use Rattle.sqlite.specs.Source.TheVariants.{Values}
 use Rattle.sqlite.specs.Command.{Command}
+use Rattle.sqlite.specs.Query.{Query}
 use Rattle.sqlite.specs.Command.TheVariants.{Insert, Select}
 use Rattle.sqlite.specs.Schema.{Schema}
 use Rattle.sqlite.specs.Effect.{Database}
@@ -24,21 +27,26 @@ use Rattle.sqlite.specs.State.{State, Shown, Executes}
 use Rattle.sqlite.specs.Listing.{understood}
 use Rattle.sqlite_rules.specs.Lists.{Has}
 use Rattle.sqlite_tied.specs.Compute.{everything}
-use Rattle.table_access.specs.Columns.{text, text_cmp}
+use Rattle.sqlite.specs.Edit.{id_in}
+use Rattle.sqlite_keyed.proofs.RuleLemmas.{first_of_both}
+use Rattle.table_access.specs.Reading.{IsNumberRow}
+use Rattle.table_access.specs.Columns.{text, text_cmp, whole_at}
 use Rattle.table_access.specs.Statements.{from_table}
 use Rattle.table_access.proofs.Values.{cast_null, cast_int}
+use Rattle.table_access.proofs.Answered.{Runs, first_has, shown_of, number_stands}
 use Rattle.table_access.proofs.Steps.{Means, selects, inserts}
 use Rattle.table_access.proofs.Maps.{looks_up_at, puts_at, find_has, none_has}
 use Rattle.table_access.proofs.Keys.{apart_by, text_keys, by_text}
-use Rattle.table_access.proofs.SoundLemmas.{text_at, has_place}
+use Rattle.table_access.proofs.SoundLemmas.{text_at, whole_in, checks_hold, has_place}
 use Rattle.broker_core.specs.declared.command.Marks.{Marks}
 use Rattle.broker_core.specs.Text.{put_at, same_text}
 use Rattle.broker_core.specs.State.{State as Broker}
 use Rattle.broker_tables.specs.Schema.{broker_schema}
 use Rattle.broker_tables.specs.Rows.{truth, truth_in, value_at, stands_at}
 use Rattle.broker_tables.specs.Holds.{Holds, IsBroker, marks_in}
-use Rattle.broker_tables.proofs.Frames.{meant, frame_of, Frame, environments_change}
+use Rattle.broker_tables.proofs.Frames.{runs_here, meant, frame_of, Frame, environments_change}
 use Rattle.broker_tables.proofs.Orders.{exact_texts}
+use Rattle.broker_tables.proofs.TruthLemmas.{is_low}
 use Rattle.broker_tables.proofs.Growth.{none_stands}
 use Rattle.broker_tables.proofs.References.{refers_environment}
 use Rattle.broker_tables.proofs.Standing.{stands_found, stands_put, value_map}
@@ -53,6 +61,9 @@ module _ (db : Database) (broker : IsBroker db) where
   keys : IsAscending (λ a b. eq_by_cmp text_cmp (text 1 a) (text 1 b) ≡ false) (db.trees 10)
   keys = text_keys (db.trees 10) 1 names (apart_by db broker.kept environments 5 (environments_there db broker) _ 5 (ap (λ (s : Schema). slice_get s.indexes 5) broker.schema) refl)
 
+  wholes : (r : Row) → Has (db.trees 10) r → column r 2 ≡ Int (whole_at 2 r)
+  wholes r has = whole_in db broker.kept.sound environments (has_place _ 5 environments (environments_there db broker)) r has 1 _ refl refl refl refl refl
+
   strict_names : (r : Row) → Has (db.trees 26) r → column r 1 ≡ Text (text 1 r)
   strict_names r has = text_at db broker.kept.sound strict_environments (has_place _ 14 strict_environments (strict_environments_there db broker)) r has 0 _ refl refl refl refl refl
 
@@ -64,8 +75,11 @@ module _ (db : Database) (broker : IsBroker db) where
 abbrev pub gated_sql : List ℕ
 gated_sql = codes "SELECT gated FROM environments WHERE name = ?1"
 
+abbrev pub gated_query : Query
+gated_query = from_table 10 (op2 (Compare Eq Binary) (col 1 1) (col 0 0) ∷ []) (col 1 2 ∷ []) []
+
 abbrev pub gated_command : Command
-gated_command = Select (record { lets = []; body = from_table 10 (op2 (Compare Eq Binary) (col 1 1) (col 0 0) ∷ []) (col 1 2 ∷ []) [] }) (codes "gated" ∷ [])
+gated_command = Select (record { lets = []; body = gated_query }) (codes "gated" ∷ [])
 
 gated_text : Means broker_schema gated_sql gated_command
 unfolding understood everything
@@ -73,6 +87,13 @@ gated_text = record { is = refl; plain = (refl, refl); unlisted = refl }
 
 pub gated_means : (db : Database) → IsBroker db → Means db.schema gated_sql gated_command
 gated_means db broker = meant db broker gated_sql gated_text
+
+gated_there : (e : List ℕ) → Runs broker_schema gated_sql (Text e ∷ []) gated_query
+unfolding understood everything
+gated_there e = record { whole = refl; typed = refl; sumless = refl }
+
+pub gated_runs : (db : Database) → IsBroker db → (e : List ℕ) → Runs db.schema gated_sql (Text e ∷ []) gated_query
+gated_runs db broker e = runs_here db broker gated_sql (Text e ∷ []) gated_query (gated_there e)
 
 pub gated_found : (e : List ℕ) (old new : State) (rows : List Row) (s : Broker) (found : Option ℕ) → Holds old.now s → Shown gated_sql (Text e ∷ []) old new rows
     → option_map (λ n. Int (pos n)) found ≡ option_map (λ row. column row 0) (slice_get rows 0) → option_map (λ n. n == 1) found ≡ option_map (λ (m : Marks). m.gated) (s.environments e)
@@ -90,13 +111,45 @@ gated_found e old new rows s found held h read =
     two None = refl
     two (Some r) = refl
 
+-- a mark is 0 or 1
+gated_low : (db : Database) → IsBroker db → (r : Row) → Has (db.trees 10) r → (n : ℕ) × (whole_at 2 r ≡ pos n) × (n ≤ 1)
+gated_low db broker r has =
+    let listed = has_place _ 5 environments (environments_there db broker) in
+    is_low r 2 (whole_at 2 r) (wholes db broker r has) (first_of_both _ true (checks_hold db broker.kept.sound environments listed r has))
+
+-- the mark can be read as a number
+pub gated_stands : (e : List ℕ) (old new : State) (rows : List Row) (row : Row) (s : Broker) → Holds old.now s → Shown gated_sql (Text e ∷ []) old new rows → slice_get rows 0 ≡ Some row → IsNumberRow row
+gated_stands e old new rows row s held h head =
+    number_stands gated_sql (Text e ∷ []) old new 10 2 _ _ _ (gated_means old.now held.broker) (wholes old.now held.broker)
+    (λ r has. let n = gated_low old.now held.broker r has in (n.0, n.1, omega (arith, n.2))) rows row h head
+
+-- and as a truth value
+pub gated_true : (e : List ℕ) (old new : State) (rows : List Row) (s : Broker) (found : Option ℕ) → Holds old.now s → Shown gated_sql (Text e ∷ []) old new rows
+    → option_map (λ n. Int (pos n)) found ≡ option_map (λ row. column row 0) (slice_get rows 0) → IsSomeAnd found (λ n. 1 < n) → ⊥
+gated_true e old new rows s None held h read high = high
+gated_true e old new rows s (Some n) held h read high = go (slice_get rows 0) refl
+  where
+    go : (o : Option Row) → slice_get rows 0 ≡ o → ⊥
+    go None none = let e = read ∙ ap (option_map (λ row. column row 0)) none in cc
+    go (Some row) head =
+        let it = shown_of gated_sql (Text e ∷ []) old new 10 _ _ _ _ (gated_means old.now held.broker) rows row h (first_has rows row head) in
+        let one : Some (Int (pos n)) ≡ Some (column row 0) = read ∙ ap (option_map (λ (x : Row). column x 0)) head in
+        let whole : pos n ≡ whole_at 0 row = ap (λ (o : Option Value). option_map_or id_in o (pos 0)) one in
+        let k = gated_low old.now held.broker it.0 it.1 in
+        let same : pos n ≡ pos k.0 = whole ∙ ap (whole_at 0) it.3 ∙ k.1 in
+        let nats : n ≡ k.0 = cc in
+        omega (arith, high, nats, k.2)
+
 -- ---- the mark strict
 
 abbrev pub strict_sql : List ℕ
 strict_sql = codes "SELECT environment FROM strict_environments WHERE environment = ?1"
 
+abbrev pub strict_query : Query
+strict_query = from_table 26 (op2 (Compare Eq Binary) (col 1 1) (col 0 0) ∷ []) (col 1 1 ∷ []) []
+
 abbrev pub strict_command : Command
-strict_command = Select (record { lets = []; body = from_table 26 (op2 (Compare Eq Binary) (col 1 1) (col 0 0) ∷ []) (col 1 1 ∷ []) [] }) (codes "environment" ∷ [])
+strict_command = Select (record { lets = []; body = strict_query }) (codes "environment" ∷ [])
 
 strict_text : Means broker_schema strict_sql strict_command
 unfolding understood everything
@@ -104,6 +157,13 @@ strict_text = record { is = refl; plain = (refl, refl); unlisted = refl }
 
 pub strict_means : (db : Database) → IsBroker db → Means db.schema strict_sql strict_command
 strict_means db broker = meant db broker strict_sql strict_text
+
+strict_there : (e : List ℕ) → Runs broker_schema strict_sql (Text e ∷ []) strict_query
+unfolding understood everything
+strict_there e = record { whole = refl; typed = refl; sumless = refl }
+
+pub strict_runs : (db : Database) → IsBroker db → (e : List ℕ) → Runs db.schema strict_sql (Text e ∷ []) strict_query
+strict_runs db broker e = runs_here db broker strict_sql (Text e ∷ []) strict_query (strict_there e)
 
 pub strict_found : (e : List ℕ) (old new : State) (rows : List Row) (s : Broker) (m : Marks) → Holds old.now s → s.environments e ≡ Some m → Shown strict_sql (Text e ∷ []) old new rows → is_some (option_map (text 0) (slice_get rows 0)) ≡ m.strict
 strict_found e old new rows s m held is h =

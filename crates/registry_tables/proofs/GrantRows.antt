@@ -10,6 +10,7 @@ use Rattle.sqlite.specs.Order.{Row, column}
 use Rattle.sqlite.specs.Term.{col, lit}
 use Rattle.sqlite.specs.Source.TheVariants.{Values}
 use Rattle.sqlite.specs.Command.{Command}
+use Rattle.sqlite.specs.Query.{Query}
 use Rattle.sqlite.specs.Command.TheVariants.{Insert, Select, Delete}
 use Rattle.sqlite.specs.Schema.{Schema}
 use Rattle.sqlite.specs.Effect.{Database}
@@ -20,6 +21,7 @@ use Rattle.sqlite_tied.specs.Compute.{everything}
 use Rattle.table_access.specs.Columns.{text, pair_cmp}
 use Rattle.table_access.specs.Statements.{from_table, by_two, keeps}
 use Rattle.table_access.proofs.Values.{cast_null}
+use Rattle.table_access.proofs.Answered.{Runs}
 use Rattle.table_access.proofs.Steps.{Means, selects, inserts, deletes}
 use Rattle.table_access.proofs.Maps.{looks_up_at}
 use Rattle.table_access.proofs.Keys.{apart_by, pair_keys, by_pair}
@@ -28,7 +30,7 @@ use Rattle.broker_core.specs.Text.{put_at, same_text, same_pair}
 use Rattle.broker_core.specs.State.{State as Broker}
 use Rattle.broker_tables.specs.Schema.{broker_schema}
 use Rattle.broker_tables.specs.Holds.{Holds, IsBroker}
-use Rattle.broker_tables.proofs.Frames.{meant, frame_of, grants_change}
+use Rattle.broker_tables.proofs.Frames.{runs_here, meant, frame_of, grants_change}
 use Rattle.broker_tables.proofs.Orders.{pairs_total, exact_pair}
 use Rattle.broker_tables.proofs.Ties.{grant_ties}
 use Rattle.broker_tables.proofs.Standing.{stands_found, stands_put, stands_out}
@@ -49,8 +51,11 @@ module _ (db : Database) (broker : IsBroker db) where
 abbrev pub granted_sql : List ℕ
 granted_sql = codes "SELECT team FROM grants WHERE team = ?1 AND environment = ?2"
 
+abbrev pub granted_query : Query
+granted_query = from_table 12 (by_two 1 2) (col 1 1 ∷ []) []
+
 abbrev pub granted_command : Command
-granted_command = Select (record { lets = []; body = from_table 12 (by_two 1 2) (col 1 1 ∷ []) [] }) (codes "team" ∷ [])
+granted_command = Select (record { lets = []; body = granted_query }) (codes "team" ∷ [])
 
 granted_text : Means broker_schema granted_sql granted_command
 unfolding understood everything
@@ -58,6 +63,13 @@ granted_text = record { is = refl; plain = (refl, refl); unlisted = refl }
 
 pub granted_means : (db : Database) → IsBroker db → Means db.schema granted_sql granted_command
 granted_means db broker = meant db broker granted_sql granted_text
+
+granted_there : (team e : List ℕ) → Runs broker_schema granted_sql (Text team ∷ Text e ∷ []) granted_query
+unfolding understood everything
+granted_there team e = record { whole = refl; typed = refl; sumless = refl }
+
+pub granted_runs : (db : Database) → IsBroker db → (team e : List ℕ) → Runs db.schema granted_sql (Text team ∷ Text e ∷ []) granted_query
+granted_runs db broker team e = runs_here db broker granted_sql (Text team ∷ Text e ∷ []) granted_query (granted_there team e)
 
 pub grant_found : (team e : List ℕ) (old new : State) (rows : List Row) (s : Broker) → Holds old.now s → Shown granted_sql (Text team ∷ Text e ∷ []) old new rows → is_some (option_map (text 0) (slice_get rows 0)) ≡ s.grants (team, e)
 grant_found team e old new rows s held h =

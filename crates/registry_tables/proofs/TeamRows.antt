@@ -14,6 +14,7 @@ use Rattle.sqlite_sql.specs.declared.ops.BinaryOp.TheVariants.{Compare}
 use Rattle.sqlite_sql.specs.declared.ops.CompareOp.TheVariants.{Eq}
 use Rattle.sqlite.specs.Source.TheVariants.{Values}
 use Rattle.sqlite.specs.Command.{Command}
+use Rattle.sqlite.specs.Query.{Query}
 use Rattle.sqlite.specs.Command.TheVariants.{Insert, Select}
 use Rattle.sqlite.specs.Schema.{Schema}
 use Rattle.sqlite.specs.Effect.{Database}
@@ -24,6 +25,7 @@ use Rattle.sqlite_tied.specs.Compute.{everything}
 use Rattle.table_access.specs.Columns.{text, text_cmp}
 use Rattle.table_access.specs.Statements.{from_table}
 use Rattle.table_access.proofs.Values.{cast_null}
+use Rattle.table_access.proofs.Answered.{Runs, text_stands}
 use Rattle.table_access.proofs.Steps.{Means, selects, inserts}
 use Rattle.table_access.proofs.Maps.{looks_up_at, puts_at, other_way, no_other_way}
 use Rattle.table_access.proofs.Keys.{apart_by, text_keys, by_text}
@@ -31,10 +33,12 @@ use Rattle.table_access.proofs.SoundLemmas.{text_at, has_place}
 use Rattle.broker_core.specs.Text.{put_at, same_text}
 use Rattle.broker_core.specs.State.{State as Broker}
 use Rattle.broker_core.specs.Laws.{TeamsDiffer}
+use Rattle.table_access.specs.Reading.{IsTextAt}
+use Rattle.broker_tables.specs.Readable.{IsReadable}
 use Rattle.broker_tables.specs.Schema.{broker_schema}
 use Rattle.broker_tables.specs.Rows.{value_at}
 use Rattle.broker_tables.specs.Holds.{Holds, IsBroker}
-use Rattle.broker_tables.proofs.Frames.{meant, frame_of, teams_change}
+use Rattle.broker_tables.proofs.Frames.{runs_here, meant, frame_of, teams_change}
 use Rattle.broker_tables.proofs.Orders.{exact_texts}
 use Rattle.broker_tables.proofs.Placed.{teams, teams_there}
 
@@ -56,8 +60,11 @@ module _ (db : Database) (broker : IsBroker db) where
 abbrev pub digest_sql : List ℕ
 digest_sql = codes "SELECT token_digest FROM teams WHERE name = ?1"
 
+abbrev pub digest_query : Query
+digest_query = from_table 1 (op2 (Compare Eq Binary) (col 1 1) (col 0 0) ∷ []) (col 1 2 ∷ []) []
+
 abbrev pub digest_command : Command
-digest_command = Select (record { lets = []; body = from_table 1 (op2 (Compare Eq Binary) (col 1 1) (col 0 0) ∷ []) (col 1 2 ∷ []) [] }) (codes "token_digest" ∷ [])
+digest_command = Select (record { lets = []; body = digest_query }) (codes "token_digest" ∷ [])
 
 digest_text : Means broker_schema digest_sql digest_command
 unfolding understood everything
@@ -66,18 +73,34 @@ digest_text = record { is = refl; plain = (refl, refl); unlisted = refl }
 pub digest_means : (db : Database) → IsBroker db → Means db.schema digest_sql digest_command
 digest_means db broker = meant db broker digest_sql digest_text
 
+digest_there : (team : List ℕ) → Runs broker_schema digest_sql (Text team ∷ []) digest_query
+unfolding understood everything
+digest_there team = record { whole = refl; typed = refl; sumless = refl }
+
+pub digest_runs : (db : Database) → IsBroker db → (team : List ℕ) → Runs db.schema digest_sql (Text team ∷ []) digest_query
+digest_runs db broker team = runs_here db broker digest_sql (Text team ∷ []) digest_query (digest_there team)
+
 pub digest_found : (team : List ℕ) (old new : State) (rows : List Row) (s : Broker) → Holds old.now s → Shown digest_sql (Text team ∷ []) old new rows → option_map (text 0) (slice_get rows 0) ≡ s.teams team
 digest_found team old new rows s held h =
     looks_up_at nat_list_cmp_total exact_texts (text 1) (text 2) _ (text 0) (λ r. refl) team _ (old.now.trees 1) rows (by_text (old.now.trees 1) 1 team (names old.now held.broker)) (team_keys old.now held.broker)
     (selects digest_sql (Text team ∷ []) old new 1 _ _ _ _ (digest_means old.now held.broker) rows h) ∙ held.teams team
+
+-- where the digest is a text in UTF-8, it can be read
+pub digest_stands : (team : List ℕ) (old new : State) (rows : List Row) (row : Row) (s : Broker) → Holds old.now s → IsReadable s → Shown digest_sql (Text team ∷ []) old new rows → slice_get rows 0 ≡ Some row → IsTextAt 0 row
+digest_stands team old new rows row s held readable h head =
+    text_stands digest_sql (Text team ∷ []) old new 1 2 _ _ _ (digest_means old.now held.broker) (digests old.now held.broker) rows row h head
+    (readable.teams team (text 0 row) (sym (digest_found team old new rows s held h) ∙ ap (option_map (text 0)) head)).1
 
 -- ---- the team of a digest
 
 abbrev pub team_sql : List ℕ
 team_sql = codes "SELECT name FROM teams WHERE token_digest = ?1"
 
+abbrev pub team_query : Query
+team_query = from_table 1 (op2 (Compare Eq Binary) (col 1 2) (col 0 0) ∷ []) (col 1 1 ∷ []) []
+
 abbrev pub team_command : Command
-team_command = Select (record { lets = []; body = from_table 1 (op2 (Compare Eq Binary) (col 1 2) (col 0 0) ∷ []) (col 1 1 ∷ []) [] }) (codes "name" ∷ [])
+team_command = Select (record { lets = []; body = team_query }) (codes "name" ∷ [])
 
 team_text : Means broker_schema team_sql team_command
 unfolding understood everything
@@ -85,6 +108,13 @@ team_text = record { is = refl; plain = (refl, refl); unlisted = refl }
 
 pub team_means : (db : Database) → IsBroker db → Means db.schema team_sql team_command
 team_means db broker = meant db broker team_sql team_text
+
+team_there : (digest : List ℕ) → Runs broker_schema team_sql (Text digest ∷ []) team_query
+unfolding understood everything
+team_there digest = record { whole = refl; typed = refl; sumless = refl }
+
+pub team_runs : (db : Database) → IsBroker db → (digest : List ℕ) → Runs db.schema team_sql (Text digest ∷ []) team_query
+team_runs db broker digest = runs_here db broker team_sql (Text digest ∷ []) team_query (team_there digest)
 
 found_by_digest : (digest : List ℕ) (old new : State) (rows : List Row) (s : Broker) → Holds old.now s → Shown team_sql (Text digest ∷ []) old new rows → option_map (text 0) (slice_get rows 0) ≡ value_at text_cmp (text 2) (text 1) (old.now.trees 1) digest
 found_by_digest digest old new rows s held h =
@@ -101,6 +131,12 @@ team_found digest old new rows s held h = subst (IsTeamOf s digest) (sym (found_
     go : (o : Option (List ℕ)) → value_at text_cmp (text 2) (text 1) (old.now.trees 1) digest ≡ o → IsTeamOf s digest o
     go None e = λ t has. no_other_way nat_list_cmp_total exact_texts nat_list_cmp_total exact_texts (text 1) (text 2) (old.now.trees 1) t digest e (held.teams t ∙ has)
     go (Some name) e = sym (held.teams name) ∙ other_way nat_list_cmp_total exact_texts nat_list_cmp_total exact_texts (text 1) (text 2) (old.now.trees 1) name digest (team_keys old.now held.broker) e
+
+-- where the team's name is a text in UTF-8, it can be read
+pub team_stands : (digest : List ℕ) (old new : State) (rows : List Row) (row : Row) (s : Broker) → Holds old.now s → IsReadable s → Shown team_sql (Text digest ∷ []) old new rows → slice_get rows 0 ≡ Some row → IsTextAt 0 row
+team_stands digest old new rows row s held readable h head =
+    text_stands team_sql (Text digest ∷ []) old new 1 1 _ _ _ (team_means old.now held.broker) (names old.now held.broker) rows row h head
+    (readable.teams (text 0 row) digest (subst (IsTeamOf s digest) (ap (option_map (text 0)) head) (team_found digest old new rows s held h))).0.0
 
 pub by_view : {X : Type 0} (view : X → List ℕ) (s : Broker) (digest : List ℕ) (found : Option X) → IsTeamOf s digest (option_map view found) → MatchOption found ((t : List ℕ) → ¬ (s.teams t ≡ Some digest)) (λ name. s.teams (view name) ≡ Some digest)
 by_view view s digest None h = h

@@ -1,5 +1,5 @@
 -- The statements on versions.
-use Rattle.std.proofs.Common.{◌≡◌, ℕ, pos, ◌+◌, codes, List, [], ◌∷◌, ◌++◌, length, false, refl, sym, ap, ◌∙◌, slice_get, Some, None, Option, Ok, unwrap_or}
+use Rattle.std.proofs.Common.{◌≡◌, ℕ, pos, ◌+◌, codes, List, [], ◌∷◌, ◌++◌, length, false, refl, sym, ap, ◌∙◌, slice_get, ◌<◌, ◌^◌, arith, Some, None, Option, Ok, unwrap_or}
 use Rattle.std.specs.Prelude.{option_map, is_some}
 use Rattle.std.specs.Ordering.{eq_by_cmp, int_cmp}
 use Rattle.sqlite.specs.Tree.{IsAscending}
@@ -12,6 +12,7 @@ use Rattle.sqlite.specs.Order.{Row, column}
 use Rattle.sqlite.specs.Term.{col, lit}
 use Rattle.sqlite.specs.Source.TheVariants.{Values}
 use Rattle.sqlite.specs.Command.{Command}
+use Rattle.sqlite.specs.Query.{Query}
 use Rattle.sqlite.specs.Command.TheVariants.{Insert, Select}
 use Rattle.sqlite.specs.Schema.{Schema}
 use Rattle.sqlite.specs.Effect.{Database}
@@ -23,6 +24,7 @@ use Rattle.table_access.specs.Columns.{text, text_cmp, pair_cmp, whole_at, by_bo
 use Rattle.table_access.specs.Statements.{from_table, up_to, newest, by_two}
 use Rattle.table_access.specs.Sound.{IsNumbered}
 use Rattle.table_access.proofs.Values.{cast_null, cast_int}
+use Rattle.table_access.proofs.Answered.{Runs, first_has, first_shown_of, number_shown, number_stands}
 use Rattle.table_access.proofs.Steps.{Means, selects, inserts}
 use Rattle.table_access.proofs.Maps.{looks_up_at}
 use Rattle.table_access.proofs.Newest.{newest_number}
@@ -38,10 +40,14 @@ use Rattle.broker_tables.specs.Schema.{broker_schema}
 use Rattle.broker_tables.specs.Rows.{stands_at}
 use Rattle.broker_tables.specs.Numbers.{number_of}
 use Rattle.broker_tables.specs.Holds.{Holds, IsBroker}
-use Rattle.broker_tables.proofs.Frames.{meant, frame_of, Frame}
+use Rattle.broker_tables.proofs.Frames.{runs_here, meant, frame_of, Frame}
 use Rattle.broker_tables.proofs.Growth.{versions_grow}
 use Rattle.broker_tables.proofs.Newest.{newest as newest_count}
 use Rattle.broker_tables.proofs.NextRow.{next_row}
+use Rattle.sqlite_rules.proofs.TableLemmas.{int_is}
+use Rattle.table_access.specs.Reading.{IsNumberRow}
+use Rattle.broker_tables.specs.Readable.{IsReadable}
+use Rattle.broker_tables.proofs.References.{row_number}
 use Rattle.broker_tables.proofs.NumberLemmas.{version_row, known_numbered, newly_numbered, none_numbered}
 use Rattle.broker_tables.proofs.Orders.{pairs_total, exact_pair}
 use Rattle.broker_tables.proofs.Placed.{versions, versions_there}
@@ -59,13 +65,26 @@ module _ (db : Database) (broker : IsBroker db) where
   pub numbered_rows : IsNumbered (db.trees 6)
   numbered_rows = at_has _ db.schema.tables versions broker.kept.numbered (has_place _ 3 versions (versions_there db broker))
 
+  pub ids : (r : Row) → Has (db.trees 6) r → column r 0 ≡ Int (whole_at 0 r)
+  ids r has = int_is (column r 0) (at_has _ (db.trees 6) r numbered_rows.1 has)
+
+-- where the versions are few enough, their numbers can be read
+pub low : (db : Database) (s : Broker) → Holds db s → IsReadable s → (r : Row) → Has (db.trees 6) r → (n : ℕ) × (whole_at 0 r ≡ pos n) × (n < 2 ^ 32)
+low db s held readable r has =
+    let n = row_number (λ x. version (text 2 x) (text 3 x)) (db.trees 6) s.versions 1 held.versions r has in
+    let few : length s.versions < 2 ^ 32 = readable.few_versions in
+    (n.0, n.1, omega (arith, n.2, few))
+
 -- ---- the number of a version
 
 abbrev pub version_sql : List ℕ
 version_sql = codes "SELECT number FROM versions WHERE pacticipant = ?1 AND version = ?2"
 
+abbrev pub version_query : Query
+version_query = from_table 6 (by_two 2 3) (col 1 0 ∷ []) []
+
 abbrev pub version_command : Command
-version_command = Select (record { lets = []; body = from_table 6 (by_two 2 3) (col 1 0 ∷ []) [] }) (codes "number" ∷ [])
+version_command = Select (record { lets = []; body = version_query }) (codes "number" ∷ [])
 
 version_text : Means broker_schema version_sql version_command
 unfolding understood everything
@@ -74,20 +93,31 @@ version_text = record { is = refl; plain = (refl, refl); unlisted = refl }
 pub version_means : (db : Database) → IsBroker db → Means db.schema version_sql version_command
 version_means db broker = meant db broker version_sql version_text
 
+version_there : (p name : List ℕ) → Runs broker_schema version_sql (Text p ∷ Text name ∷ []) version_query
+unfolding understood everything
+version_there p name = record { whole = refl; typed = refl; sumless = refl }
+
+pub version_runs : (db : Database) → IsBroker db → (p name : List ℕ) → Runs db.schema version_sql (Text p ∷ Text name ∷ []) version_query
+version_runs db broker p name = runs_here db broker version_sql (Text p ∷ Text name ∷ []) version_query (version_there p name)
+
 read_number : (found n : Option ℕ) → option_map (λ k. whole_at 0 (Int (pos k) ∷ [])) found ≡ option_map pos n → found ≡ n
 read_number None None e = refl
 read_number None (Some k) e = absurd cc
 read_number (Some k) None e = absurd cc
 read_number (Some k) (Some n) e = let same : k ≡ n = cc in ap Some same
 
+row_found : (p name : List ℕ) (old new : State) (rows : List Row) (s : Broker) → Holds old.now s → Shown version_sql (Text p ∷ Text name ∷ []) old new rows → option_map (whole_at 0) (slice_get rows 0) ≡ option_map pos (number_of s.versions (version p name))
+row_found p name old new rows s held h =
+    looks_up_at pairs_total exact_pair (λ r. (text 2 r, text 3 r)) (whole_at 0) _ (whole_at 0) (λ r. refl) (p, name) _ (old.now.trees 6) rows
+    (by_pair (old.now.trees 6) 2 3 p name (owners old.now held.broker) (names old.now held.broker)) (keys old.now held.broker)
+    (selects version_sql (Text p ∷ Text name ∷ []) old new 6 _ _ _ _ (version_means old.now held.broker) rows h)
+    ∙ version_row (old.now.trees 6) s.versions p name held.versions
+
 pub version_found : (p name : List ℕ) (old new : State) (rows : List Row) (s : Broker) (found : Option ℕ) → Holds old.now s → Shown version_sql (Text p ∷ Text name ∷ []) old new rows
     → option_map (λ n. Int (pos n)) found ≡ option_map (λ row. column row 0) (slice_get rows 0) → (found ≡ number_of s.versions (version p name)) × (is_some found ≡ is_known s (version p name))
 version_found p name old new rows s found held h read =
-    let looked = looks_up_at pairs_total exact_pair (λ r. (text 2 r, text 3 r)) (whole_at 0) _ (whole_at 0) (λ r. refl) (p, name) _ (old.now.trees 6) rows
-    (by_pair (old.now.trees 6) 2 3 p name (owners old.now held.broker) (names old.now held.broker)) (keys old.now held.broker)
-    (selects version_sql (Text p ∷ Text name ∷ []) old new 6 _ _ _ _ (version_means old.now held.broker) rows h) in
     let here : option_map (λ k. whole_at 0 (Int (pos k) ∷ [])) found ≡ option_map pos (number_of s.versions (version p name)) =
-    sym (twice found) ∙ ap (option_map (λ (v : Value). whole_at 0 (v ∷ []))) read ∙ shown (slice_get rows 0) ∙ looked ∙ version_row (old.now.trees 6) s.versions p name held.versions in
+    sym (twice found) ∙ ap (option_map (λ (v : Value). whole_at 0 (v ∷ []))) read ∙ shown (slice_get rows 0) ∙ row_found p name old new rows s held h in
     let same = read_number found (number_of s.versions (version p name)) here in
     (same, ap is_some same ∙ known_numbered s (version p name))
   where
@@ -99,13 +129,21 @@ version_found p name old new rows s found held h read =
     shown None = refl
     shown (Some r) = refl
 
+-- where the versions are few enough, the number can be read
+pub version_stands : (p name : List ℕ) (old new : State) (rows : List Row) (row : Row) (s : Broker) → Holds old.now s → IsReadable s → Shown version_sql (Text p ∷ Text name ∷ []) old new rows → slice_get rows 0 ≡ Some row → IsNumberRow row
+version_stands p name old new rows row s held readable h head =
+    number_stands version_sql (Text p ∷ Text name ∷ []) old new 6 0 _ _ _ (version_means old.now held.broker) (ids old.now held.broker) (low old.now s held readable) rows row h head
+
 -- ---- how many versions there are
 
 abbrev pub count_sql : List ℕ
 count_sql = codes "SELECT number FROM versions ORDER BY number DESC LIMIT 1"
 
+abbrev pub count_query : Query
+count_query = up_to 1 (from_table 6 [] (col 1 0 ∷ []) newest)
+
 abbrev pub count_command : Command
-count_command = Select (record { lets = []; body = up_to 1 (from_table 6 [] (col 1 0 ∷ []) newest) }) (codes "number" ∷ [])
+count_command = Select (record { lets = []; body = count_query }) (codes "number" ∷ [])
 
 count_text : Means broker_schema count_sql count_command
 unfolding understood everything
@@ -114,11 +152,24 @@ count_text = record { is = refl; plain = (refl, refl); unlisted = refl }
 pub count_means : (db : Database) → IsBroker db → Means db.schema count_sql count_command
 count_means db broker = meant db broker count_sql count_text
 
+count_there : Runs broker_schema count_sql [] count_query
+unfolding understood everything
+count_there = record { whole = refl; typed = refl; sumless = refl }
+
+pub count_runs : (db : Database) → IsBroker db → Runs db.schema count_sql [] count_query
+count_runs db broker = runs_here db broker count_sql [] count_query count_there
+
 pub versions_counted : (old new : State) (rows : List Row) (s : Broker) (found : Option ℕ) → Holds old.now s → Shown count_sql [] old new rows → option_map (λ n. Int (pos n)) found ≡ option_map (λ row. column row 0) (slice_get rows 0)
     → unwrap_or found 0 ≡ length s.versions
 versions_counted old new rows s found held h read =
     newest_count (λ r. version (text 2 r) (text 3 r)) (old.now.trees 6) s.versions found held.versions
     (newest_number count_sql old new 6 _ (count_means old.now held.broker) (numbered_rows old.now held.broker) rows h found read)
+
+pub count_stands : (old new : State) (rows : List Row) (row : Row) (s : Broker) → Holds old.now s → IsReadable s → Shown count_sql [] old new rows → slice_get rows 0 ≡ Some row → IsNumberRow row
+count_stands old new rows row s held readable h head =
+    let it = first_shown_of count_sql [] old new 1 6 _ _ _ _ (count_means old.now held.broker) rows row h (first_has rows row head) in
+    let n = low old.now s held readable it.0 it.1 in
+    number_shown [] it.0 row 0 (ids old.now held.broker it.0 it.1) it.3 n.0 n.1 n.2
 
 -- ---- a new version
 

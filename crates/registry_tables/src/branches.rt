@@ -1,5 +1,5 @@
 //! The branches that versions are on.
-ghost use Rattle.std.specs.Prelude.{◌≡◌, Some, pos};
+ghost use Rattle.std.specs.Prelude.{◌≡◌, Some, false, pos};
 ghost use Rattle.std.specs.Ordering.{nat_cmp, flip_args};
 ghost use Rattle.sqlite.specs.Order.{column};
 ghost use Rattle.sqlite.specs.declared.types.Value.TheVariants.{Int};
@@ -7,14 +7,15 @@ ghost use Rattle.table_access.specs.Reading.{TellsNumber};
 ghost use Rattle.broker_core.specs.Listing.{Lists};
 ghost use Rattle.broker_core.specs.declared.command.Version.{Version as VersionModel};
 ghost use Rattle.broker_tables.specs.Numbers.{number_of as number_at};
-ghost use Rattle.broker_tables.specs.Holds.{Queries, QueriesInPlace, Changes};
+ghost use Rattle.broker_tables.specs.Holds.{Changes};
+ghost use Rattle.broker_tables.specs.Calm.{CalmQueries, CalmQueriesInPlace, IfNoVersion};
 ghost use Rattle.registry_tables.specs.Registry.{AddsBranch, IsBranchNumber, IsNewestBelow};
 
 use sqlite::{Alter, Connection, Row, params};
 use std::alloc::Global;
 use table_access::{ReadRow, StoreFault, change, has_row, list_of, number_in, number_of};
 
-/// Whether the version with this number is on the branch.
+/// Whether the version with this number is on the branch; none is that no version has.
 ///
 /// # Errors
 /// `StoreFault::Memory` where the database is out of memory; `StoreFault::Store` where it refused the query.
@@ -23,9 +24,10 @@ pub fn on_branch<S: Alter>(
     number: u32,
     branch: &str,
 ) -> Result<bool, StoreFault>
-    ensures { QueriesInPlace S.Store conn.old conn.new result
+    ensures answers { CalmQueriesInPlace S.Store conn.old conn.new result
         (λ has s. (v : VersionModel) → number_at s.versions v ≡ Some number →
         has ≡ s.branches (v, branch.now)) }
+    ensures unknown { IfNoVersion S.Store conn.old conn.new result number (λ has. has ≡ false) }
 {
     has_row(
         conn,
@@ -77,7 +79,7 @@ pub fn branch_numbers<S: Alter>(
     pacticipant: &str,
     branch: &str,
 ) -> Result<Vec<u32>, StoreFault>
-    ensures { Queries S.Store conn.old conn.new result
+    ensures { CalmQueries S.Store conn.old conn.new result
         (λ numbers s. Lists (flip_args nat_cmp)
         (IsBranchNumber s pacticipant.now branch.now) numbers.items) }
 {
@@ -99,7 +101,7 @@ pub fn branch_number_below<S: Alter>(
     branch: &str,
     below: u32,
 ) -> Result<Option<u32>, StoreFault>
-    ensures { QueriesInPlace S.Store conn.old conn.new result
+    ensures { CalmQueriesInPlace S.Store conn.old conn.new result
         (λ found s. IsNewestBelow s pacticipant.now branch.now below found) }
 {
     number_of(

@@ -1,7 +1,8 @@
 //! Environments and their two marks: whether the gate judges what comes in, and whether it trusts checked results alone.
 ghost use Rattle.std.specs.Prelude.{◌≡◌, ◌==◌, false, Some, option_map};
 ghost use Rattle.broker_core.specs.declared.command.Marks.{Marks as MarksModel};
-ghost use Rattle.broker_tables.specs.Holds.{QueriesInPlace, Changes};
+ghost use Rattle.broker_tables.specs.Holds.{Changes};
+ghost use Rattle.broker_tables.specs.Calm.{CalmQueriesInPlace};
 ghost use Rattle.registry_tables.specs.Registry.{AddsEnvironment, marks, MakesStrict};
 
 use broker_core::command::Marks;
@@ -17,7 +18,7 @@ pub fn gated<S: Alter>(
     conn: &mut Connection<S>,
     environment: &str,
 ) -> Result<Option<bool>, StoreFault>
-    ensures { QueriesInPlace S.Store conn.old conn.new result
+    ensures { CalmQueriesInPlace S.Store conn.old conn.new result
         (λ found s. found ≡ option_map (λ m. m.gated) (s.environments environment.now)) }
 {
     let found = done!(number_of(
@@ -30,7 +31,7 @@ pub fn gated<S: Alter>(
 
 /// Whether an environment that is there is strict.
 fn is_strict<S: Alter>(conn: &mut Connection<S>, environment: &str) -> Result<bool, StoreFault>
-    ensures { QueriesInPlace S.Store conn.old conn.new result
+    ensures { CalmQueriesInPlace S.Store conn.old conn.new result
         (λ strict s. (m : MarksModel) → s.environments environment.now ≡ Some m → strict ≡ m.strict) }
 {
     has_row(
@@ -48,7 +49,8 @@ pub fn marks_of<S: Alter>(
     conn: &mut Connection<S>,
     environment: &str,
 ) -> Result<Option<Marks>, StoreFault>
-    ensures { QueriesInPlace S.Store conn.old conn.new result (λ found s. found ≡ s.environments environment.now) }
+    ensures { CalmQueriesInPlace S.Store conn.old conn.new result
+        (λ found s. found ≡ s.environments environment.now) }
 {
     match done!(gated(conn, environment)) {
         Some(gated) => {
@@ -67,7 +69,7 @@ pub fn strict_of<S: Alter>(
     conn: &mut Connection<S>,
     environment: &str,
 ) -> Result<Option<bool>, StoreFault>
-    ensures { QueriesInPlace S.Store conn.old conn.new result
+    ensures { CalmQueriesInPlace S.Store conn.old conn.new result
         (λ found s. found ≡ option_map (λ m. m.strict) (s.environments environment.now)) }
 {
     match done!(marks_of(conn, environment)) {

@@ -1,6 +1,7 @@
 //! Grants: the teams that may change what stands in an environment.
 ghost use Rattle.std.specs.Prelude.{◌≡◌};
-ghost use Rattle.broker_tables.specs.Holds.{QueriesInPlace, Changes};
+ghost use Rattle.broker_tables.specs.Holds.{Changes};
+ghost use Rattle.broker_tables.specs.Calm.{CalmQueriesInPlace};
 ghost use Rattle.registry_tables.specs.Registry.{AddsGrant, RemovesGrant};
 
 use sqlite::{Alter, Connection, params};
@@ -15,7 +16,8 @@ pub fn granted<S: Alter>(
     team: &str,
     environment: &str,
 ) -> Result<bool, StoreFault>
-    ensures { QueriesInPlace S.Store conn.old conn.new result (λ has s. has ≡ s.grants (team.now, environment.now)) }
+    ensures { CalmQueriesInPlace S.Store conn.old conn.new result
+        (λ has s. has ≡ s.grants (team.now, environment.now)) }
 {
     has_row(
         conn,

@@ -3,7 +3,8 @@ ghost use Rattle.std.specs.Prelude.{◌≡◌, ◌↔◌, [], IsTrue, codes, str
 ghost use Rattle.sqlite.specs.Held.{state};
 ghost use Rattle.broker_tables.specs.Schema.{no_schema};
 ghost use Rattle.table_access.specs.Calls.{TellsMemory};
-ghost use Rattle.broker_tables.specs.Holds.{IsBroker, Queries};
+ghost use Rattle.broker_tables.specs.Holds.{IsBroker};
+ghost use Rattle.broker_tables.specs.Calm.{CalmQueries};
 ghost use Rattle.broker_tables.specs.Rows.{rows_of};
 
 use sqlite::{Alter, Connection};
@@ -15,7 +16,7 @@ use table_access::{StoreFault, text_of};
 /// `StoreFault::Memory` where the database is out of memory, or there is no room for the digest;
 /// `StoreFault::Store` where it refused the query or has no such row.
 pub fn office_digest<S: Alter>(conn: &mut Connection<S>) -> Result<String, StoreFault>
-    ensures reads { Queries S.Store conn.old conn.new result (λ digest s. string_bytes digest ≡ s.office) }
+    ensures reads { CalmQueries S.Store conn.old conn.new result (λ digest s. string_bytes digest ≡ s.office) }
     ensures memory { IsBroker (state S.Store conn.old).now →
         rows_of (state S.Store conn.old).now (codes "meta") ≡ [] →
         TellsMemory (state S.Store conn.old) (state S.Store conn.new) result }

@@ -1,6 +1,7 @@
 //! Pacticipants, and the teams that own them.
 ghost use Rattle.std.specs.Prelude.{◌≡◌, option_map, string_bytes};
-ghost use Rattle.broker_tables.specs.Holds.{Queries, Changes};
+ghost use Rattle.broker_tables.specs.Holds.{Changes};
+ghost use Rattle.broker_tables.specs.Calm.{CalmQueries};
 ghost use Rattle.registry_tables.specs.Registry.{AddsPacticipant};
 
 use sqlite::{Alter, Connection, params};
@@ -14,7 +15,7 @@ pub fn owner_of<S: Alter>(
     conn: &mut Connection<S>,
     pacticipant: &str,
 ) -> Result<Option<String>, StoreFault>
-    ensures { Queries S.Store conn.old conn.new result
+    ensures { CalmQueries S.Store conn.old conn.new result
         (λ owner s. option_map string_bytes owner ≡ s.pacticipants pacticipant.now) }
 {
     text_of(

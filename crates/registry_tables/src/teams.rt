@@ -1,6 +1,7 @@
 //! Teams, and the digests of their tokens.
 ghost use Rattle.std.specs.Prelude.{◌≡◌, ℕ, List, Some, None, MatchOption, option_map, string_bytes, is_some};
-ghost use Rattle.broker_tables.specs.Holds.{Queries, QueriesInPlace, Changes};
+ghost use Rattle.broker_tables.specs.Holds.{Changes};
+ghost use Rattle.broker_tables.specs.Calm.{CalmQueries, CalmQueriesInPlace};
 ghost use Rattle.registry_tables.specs.Registry.{AddsTeam};
 
 use sqlite::{Alter, Connection, params};
@@ -16,7 +17,7 @@ pub fn digest_of<S: Alter>(
     conn: &mut Connection<S>,
     team: &str,
 ) -> Result<Option<String>, StoreFault>
-    ensures { Queries S.Store conn.old conn.new result
+    ensures { CalmQueries S.Store conn.old conn.new result
         (λ digest s. option_map string_bytes digest ≡ s.teams team.now) }
 {
     text_of(conn, DIGEST_OF_TEAM, params![team])
@@ -27,7 +28,7 @@ pub fn digest_of<S: Alter>(
 /// # Errors
 /// `StoreFault::Memory` where the database is out of memory; `StoreFault::Store` where it refused the query.
 pub fn has_team<S: Alter>(conn: &mut Connection<S>, team: &str) -> Result<bool, StoreFault>
-    ensures { QueriesInPlace S.Store conn.old conn.new result (λ has s. has ≡ is_some (s.teams team.now)) }
+    ensures { CalmQueriesInPlace S.Store conn.old conn.new result (λ has s. has ≡ is_some (s.teams team.now)) }
 {
     has_row(conn, DIGEST_OF_TEAM, params![team])
 }
@@ -40,7 +41,7 @@ pub fn team_of_digest<S: Alter>(
     conn: &mut Connection<S>,
     digest: &str,
 ) -> Result<Option<String>, StoreFault>
-    ensures { Queries S.Store conn.old conn.new result
+    ensures { CalmQueries S.Store conn.old conn.new result
         (λ team s. MatchOption team
         ((t : List ℕ) → ¬ (s.teams t ≡ Some digest.now))
         (λ name. s.teams (string_bytes name) ≡ Some digest.now)) }

@@ -3,7 +3,8 @@ ghost use Rattle.std.specs.Prelude.{◌≡◌, length, is_some};
 ghost use Rattle.broker_core.specs.Text.{version as version_named};
 ghost use Rattle.broker_core.specs.Request.{is_known};
 ghost use Rattle.broker_tables.specs.Numbers.{number_of as number_in};
-ghost use Rattle.broker_tables.specs.Holds.{QueriesInPlace, Changes, ChangesAndAnswers};
+ghost use Rattle.broker_tables.specs.Holds.{Changes, ChangesAndAnswers};
+ghost use Rattle.broker_tables.specs.Calm.{CalmQueriesInPlace};
 ghost use Rattle.registry_tables.specs.Registry.{AllowsVersion, AllowsVersionAs, AddsVersion, PutsVersion};
 
 use broker_tables::next_number;
@@ -19,7 +20,7 @@ pub fn version_of<S: Alter>(
     pacticipant: &str,
     version: &str,
 ) -> Result<Option<u32>, StoreFault>
-    ensures { QueriesInPlace S.Store conn.old conn.new result
+    ensures { CalmQueriesInPlace S.Store conn.old conn.new result
         (λ found s. (found ≡ number_in s.versions (version_named pacticipant.now version.now))
         × (is_some found ≡ is_known s (version_named pacticipant.now version.now))) }
 {
@@ -35,7 +36,7 @@ pub fn version_of<S: Alter>(
 /// # Errors
 /// `StoreFault::Memory` where the database is out of memory; `StoreFault::Store` where it refused the query or holds no number there.
 pub fn version_count<S: Alter>(conn: &mut Connection<S>) -> Result<u64, StoreFault>
-    ensures { QueriesInPlace S.Store conn.old conn.new result (λ count s. count ≡ length s.versions) }
+    ensures { CalmQueriesInPlace S.Store conn.old conn.new result (λ count s. count ≡ length s.versions) }
 {
     let newest = done!(number_of(
         conn,

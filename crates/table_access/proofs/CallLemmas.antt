@@ -115,7 +115,7 @@ was_outside a b stays outside = elim (cases_Bool a.in_transaction) [ inl in_one 
 was_shut : (a b : State) → (IsTrue a.is_open → IsTrue b.is_open) → b.is_open ≡ false → a.is_open ≡ false
 was_shut a b stays shut = elim (cases_Bool a.is_open) [ inl is_open ↦ absurd (let e = stays is_open in cc) | inr none ↦ none ]
 
-commits_then : (a b c : State) → KeepsLastCommit a b → KeepsLastCommit b c → KeepsLastCommit a c
+pub commits_then : (a b c : State) → KeepsLastCommit a b → KeepsLastCommit b c → KeepsLastCommit a c
 commits_then a b c one two = record { was_open = λ now. one.was_open (two.was_open now); committed = λ now. two.committed now ∙ one.committed (two.was_open now) }
 
 -- a cause of a later call is one of both
@@ -127,7 +127,7 @@ has_since a b c Full stays up h = omega (arith, up, h)
 has_since a b c Broken stays up h = was_shut a b stays h
 has_since a b c Unstorable stays up h = tt
 
-ended_since : (a b c : State) (e : StoreFault) → GoesOn a b → a.faults ≤ b.faults → IsEnded b c e → IsEnded a c e
+pub ended_since : (a b c : State) (e : StoreFault) → GoesOn a b → a.faults ≤ b.faults → IsEnded b c e → IsEnded a c e
 ended_since a b c e on up ended = record { cause = ended.cause; fault_is = ended.fault_is; has = has_since a b c ended.cause on.1 up ended.has; over = ended.over; blamed = ended.blamed }
 
 fails_since : (a b c : State) (e : StoreFault) → GoesOn a b → a.faults ≤ b.faults → FailsAs b c e → FailsAs a c e

@@ -7,6 +7,8 @@ pub mod Removal
 pub mod Maps
 pub mod Keys
 pub mod Steps
+pub mod Answered
+pub mod Refused
 pub mod CallLemmas
 pub mod EndLemmas
 pub mod Creation

@@ -41,16 +41,21 @@ module _ (db : Database) (params : Row) (t : ℕ) (terms project : List Term) (o
       → rows ≡ take n (map (shows project params) (sort_by (λ a b. sort_cmp order (params ∷ a ∷ []) (params ∷ b ∷ [])) (filter (keeps terms params) (db.trees t))))
   selects_first apart = first_rows.2 ∙ ap (take n) (selects_in_order db params t terms project order first_rows.0 first_rows.1 apart)
 
+-- the first rows of an answer of the query of two tables without LIMIT
+pub first_joined : (db : Database) (params : Row) (t u : ℕ) (terms project : List Term) (order : List (Term × Key)) (n : ℕ) (rows : List Row) → Answers db (record { lets = []; body = up_to n (from_both t u terms project order) }) params rows
+    → (all : List Row) × Answers db (record { lets = []; body = from_both t u terms project order }) params all × (rows ≡ take n all)
+first_joined db params t u terms project order n rows h =
+    let a : IsAnswer (up_to n (from_both t u terms project order)) (overlay db.trees []) params rows = h.answer Null in
+    let all = map (λ o. o.1) a.ordered in
+    (all, record { typed = h.typed; answer = λ lost. record { staged = a.staged; grouped = a.grouped; kept = a.kept; distinct = a.distinct; ordered = a.ordered; same = a.same; sorted = a.sorted; shown = refl } }, a.shown)
+
 -- SELECT project FROM a table JOIN another WHERE terms ORDER BY order LIMIT n, where no two pairs tie
 pub joins_first : (db : Database) (params : Row) (t u : ℕ) (terms project : List Term) (order : List (Term × Key)) (n : ℕ) (rows : List Row) → Answers db (record { lets = []; body = up_to n (from_both t u terms project order) }) params rows
     → IsAscending (λ a b. is_eq (sort_cmp order (params ∷ a.0 ∷ a.1 ∷ []) (params ∷ b.0 ∷ b.1 ∷ [])) ≡ false) (pairs_kept terms params (db.trees t) (db.trees u))
     → rows ≡ take n (map (λ p. eval_all project (params ∷ p.0 ∷ p.1 ∷ [])) (sort_by (λ a b. sort_cmp order (params ∷ a.0 ∷ a.1 ∷ []) (params ∷ b.0 ∷ b.1 ∷ [])) (pairs_kept terms params (db.trees t) (db.trees u))))
 joins_first db params t u terms project order n rows h apart =
-    let a : IsAnswer (up_to n (from_both t u terms project order)) (overlay db.trees []) params rows = h.answer Null in
-    let all = map (λ o. o.1) a.ordered in
-    let whole : Answers db (record { lets = []; body = from_both t u terms project order }) params all =
-    record { typed = h.typed; answer = λ lost. record { staged = a.staged; grouped = a.grouped; kept = a.kept; distinct = a.distinct; ordered = a.ordered; same = a.same; sorted = a.sorted; shown = refl } } in
-    a.shown ∙ ap (take n) (joins_in_order db params t u terms project order all whole apart)
+    let all = first_joined db params t u terms project order n rows h in
+    all.2 ∙ ap (take n) (joins_in_order db params t u terms project order all.0 all.1 apart)
 
 -- ---- a list that falls, sorted
 

@@ -8,9 +8,9 @@ use Rattle.sqlite.specs.Order.{Row, column, value_cmp}
 use Rattle.sqlite.specs.Table.{Table}
 use Rattle.sqlite_schema.specs.declared.schema.Column.{Column}
 use Rattle.sqlite.specs.Kind.TheVariants as kind
-use Rattle.sqlite_schema.specs.declared.schema.Constraint.TheVariants.{Datatype, NotNull}
+use Rattle.sqlite_schema.specs.declared.schema.Constraint.TheVariants.{Datatype, NotNull, Check}
 use Rattle.sqlite_schema.specs.Names.{is_key}
-use Rattle.sqlite_schema.specs.Rules.{are_typed, are_present, is_of, suits, has_affinity, agree, clashes, differ}
+use Rattle.sqlite_schema.specs.Rules.{passes_checks, are_typed, are_present, is_of, suits, has_affinity, agree, clashes, differ}
 use Rattle.sqlite_value.specs.declared.keys.Order.{Order}
 use Rattle.sqlite_sql.specs.Ops.{is_null, binary, is_true, from_truth}
 use Rattle.sqlite.specs.View.{is_int}
@@ -121,6 +121,10 @@ module _ (db : Database) (sound : IsDatabase db) (t : Table) (listed : Has db.sc
   -- a strict NOT NULL column of type INTEGER, other than the rowid, has a whole number in each row
   pub whole_in : c.kind ≡ kind.Integer → column row (at + 1) ≡ Int (id_in (column row (at + 1)))
   whole_in is = integer_is _ (subst (λ k. is_of k (column row (at + 1)) ≡ true) is of_kind.0) of_kind.1
+
+-- each CHECK holds of each row
+pub checks_hold : (db : Database) → IsDatabase db → (t : Table) → Has db.schema.tables t → (row : Row) → Has (db.trees t.tree) row → passes_checks t row ≡ true
+checks_hold db sound t listed row has = keeps_at Check db.schema db.trees t row (sound.obeys.rules Check) listed has
 
 -- ---- a UNIQUE key stands once
 

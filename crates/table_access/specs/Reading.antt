@@ -43,6 +43,10 @@ FailsToTake Tells sql params old new fault =
 abbrev pub IsTextAt : ℕ → Row → Type 0
 IsTextAt at row = (at < length row) × ((text : List ℕ) × (column row at ≡ Text text) × IsUtf8 text)
 
+-- the first row, if there is one, has a text in its first column
+abbrev pub BeginsWithText : List Row → Type 0
+BeginsWithText rows = (row : Row) → slice_get rows 0 ≡ Some row → IsTextAt 0 row
+
 -- there is such a column, and it is a number from 0 to 2^32 - 1
 abbrev pub IsNumberAt : ℕ → Row → Type 0
 IsNumberAt at row = (at < length row) × ((n : ℕ) × (column row at ≡ Int (pos n)) × (n < 2 ^ 32))

@@ -7,11 +7,10 @@
 
 ghost use Rattle.std.specs.Prelude.{◌≡◌, ◌⊎◌, ℕ, Ok, Err, false, [], IsTrue, IfErr, OnOk, OnErr, codes};
 ghost use Rattle.sqlite.specs.State.{HasCleanDisk, Commits, IsUnchanged, IsRolledBack, Survives, IsLive, Executes, Shown};
-ghost use Rattle.sqlite.specs.declared.error.Error.{Error as SqlError};
 ghost use Rattle.sqlite.specs.Held.{state};
 ghost use Rattle.sqlite.specs.Values.{bound};
 ghost use Rattle.sqlite_resolve.specs.Compile.{first};
-ghost use Rattle.table_access.specs.Unit.{Begins, IsLeft, IsEndedAnyway, IsOver};
+ghost use Rattle.table_access.specs.Unit.{Begins, IsLeft, IsEndedAnyway, IsOver, TellsRollback, RefusesCommit};
 ghost use Rattle.table_access.specs.Calls.{KeepsLastCommit, CallsStore, FailsToRun};
 ghost use Rattle.table_access.specs.Calls as spec;
 ghost use Rattle.table_access.specs.Reading.{IsRefusedAs};
@@ -82,6 +81,8 @@ fn run_commit<S: Alter>(conn: &mut Connection<S>) -> Result<usize, Error>
         × Commits (state S.Store conn.old) (state S.Store conn.new)) }
     ensures refused { HasCleanDisk (state S.Store conn.new) →
         OnErr result (IsLeft (state S.Store conn.old) (state S.Store conn.new)) }
+    ensures cause { HasCleanDisk (state S.Store conn.new) →
+        IfErr result (λ e. Executes (codes "COMMIT") [] (state S.Store conn.old) (state S.Store conn.new) (Err e)) }
     ensures survives { Survives (state S.Store conn.old) (state S.Store conn.new)
         (λ db. db ≡ (state S.Store conn.old).now.trees) }
 {
@@ -125,8 +126,8 @@ pub fn rollback<S: Alter>(conn: &mut Connection<S>) -> bool
     ensures over { HasCleanDisk (state S.Store conn.new) → IsOver (state S.Store conn.new) }
     ensures commit { HasCleanDisk (state S.Store conn.new) →
         KeepsLastCommit (state S.Store conn.old) (state S.Store conn.new) }
-    ensures cause { HasCleanDisk (state S.Store conn.new) → result ≡ false →
-        (e : SqlError) × Executes (codes "ROLLBACK") [] (state S.Store conn.old) (state S.Store conn.new) (Err e) }
+    ensures tells { HasCleanDisk (state S.Store conn.new) →
+        TellsRollback (state S.Store conn.old) (state S.Store conn.new) result }
     ensures survives { Survives (state S.Store conn.old) (state S.Store conn.new) (λ _. ⊥) }
 {
     conn.is_autocommit() || run_rollback(conn).is_ok()
@@ -139,7 +140,8 @@ pub fn commit<S: Alter>(conn: &mut Connection<S>) -> bool
     ensures done { HasCleanDisk (state S.Store conn.new) → IsTrue result →
         Commits (state S.Store conn.old) (state S.Store conn.new) }
     ensures refused { HasCleanDisk (state S.Store conn.new) → result ≡ false →
-        KeepsLastCommit (state S.Store conn.old) (state S.Store conn.new) × IsOver (state S.Store conn.new) }
+        KeepsLastCommit (state S.Store conn.old) (state S.Store conn.new) × IsOver (state S.Store conn.new)
+        × RefusesCommit S.Store conn.old }
     ensures survives { Survives (state S.Store conn.old) (state S.Store conn.new)
         (λ db. db ≡ (state S.Store conn.old).now.trees) }
 {

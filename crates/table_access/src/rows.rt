@@ -9,7 +9,7 @@ ghost use Rattle.sqlite_rules.specs.Lists.{Has};
 ghost use Rattle.sqlite.specs.declared.types.Value.TheVariants.{Int, Text as SqlText};
 ghost use Rattle.table_access.specs.Calls.{CallsTables, CallsStore};
 ghost use Rattle.table_access.specs.Columns.{text};
-ghost use Rattle.table_access.specs.Reading.{AreRead, IsRefusedAs, FailsToRead, FailsToReadRow, FailsToTake, IsTextAt, TellsText, TellsNumber, TellsNumberAt};
+ghost use Rattle.table_access.specs.Reading.{AreRead, IsRefusedAs, FailsToRead, FailsToReadRow, FailsToTake, IsTextAt, BeginsWithText, TellsText, TellsNumber, TellsNumberAt};
 
 use crate::{StoreFault, fault_of, select};
 use sqlite::types::ValueRef;
@@ -101,7 +101,8 @@ pub fn text_at(row: &Row, at: usize) -> Option<&str>
 /// The text in the first column of the first row, if there is a row.
 /// `StoreFault::Store` where there is no text, and `StoreFault::Memory` where there is one and no room for it.
 fn first_text(alloc: Global, rows: &[Row]) -> Result<Option<String>, StoreFault>
-    ensures ok { IfOk result (λ found. option_map string_bytes found ≡ option_map (text 0) (slice_get rows.now 0)) }
+    ensures ok { IfOk result (λ found. (option_map string_bytes found ≡ option_map (text 0) (slice_get rows.now 0))
+        × BeginsWithText rows.now) }
     ensures cause { IfErr result (λ f. (row : SqlRow) × (slice_get rows.now 0 ≡ Some row) × TellsText row f) }
 {
     match rows.first() {
@@ -151,7 +152,8 @@ fn first_number(rows: &[Row]) -> Result<Option<u32>, StoreFault>
     }
 }
 
-/// The text in the first column of the first row that a query shows. None where it shows no row.
+/// The text in the first column of the first row that a query shows. None if it shows no row; `StoreFault::Store` if
+/// there is NULL, a number or no UTF-8.
 pub fn text_of<S: Alter>(
     conn: &mut Connection<S>,
     sql: &str,
@@ -160,7 +162,8 @@ pub fn text_of<S: Alter>(
     ensures leaves { CallsTables S.Store conn.old conn.new result
         (λ found old new. (rows : List SqlRow)
         × Shown sql.now (bound params.now) old new rows
-        × (option_map string_bytes found ≡ option_map (text 0) (slice_get rows 0))) }
+        × (option_map string_bytes found ≡ option_map (text 0) (slice_get rows 0))
+        × BeginsWithText rows) }
     ensures cause { HasCleanDisk (state S.Store conn.new) →
         IfErr result (FailsToTake TellsText sql.now (bound params.now)
         (state S.Store conn.old) (state S.Store conn.new)) }

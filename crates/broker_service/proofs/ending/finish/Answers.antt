@@ -9,7 +9,7 @@ returns-then-keeps g c =
     let new = state g.S.Store c.commit.new.conn in
     record {
       committed = λ clean _ did. c.commit.ensures.done clean did;
-      over = λ clean undone. elim undone [ inl never ↦ absurd (cc) | inr refused ↦ c.commit.ensures.refused clean refused ];
+      over = λ clean undone. elim undone [ inl never ↦ absurd (cc) | inr refused ↦ (let it = c.commit.ensures.refused clean refused in (it.0, it.1)) ];
       live = λ _. c.commit.ensures.live;
       settled = λ trees now may. g.met.S.Store.settled _ trees now may;
       survives = outlives_as old new (λ trees is. (c.if-keeps.true, is)) c.commit.ensures.survives;

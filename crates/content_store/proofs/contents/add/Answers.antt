@@ -14,4 +14,4 @@ returns g c =
     let read = one by texts held in
     subst (λ d. IsPut by c.args.body.now texts number d new.now) read.1
     (two by is texts (subst (λ d. ContentsBy by d texts) (sym read.1) held) free read.0))
-    c.in-Ok.ensures c.add_after.ensures
+    c.in-Ok.ensures.call c.add_after.ensures

@@ -22,7 +22,7 @@ returns-in-Ok-add_after g c =
       subst (λ d. IsPut by c.args.body.now texts number d new.now) read.1
           (two by is texts (subst (λ d. ContentsBy by d texts) (sym read.1) held) free read.0),
     ))
-    c.in-Ok.ensures c.in-Ok-add_after.ensures)
+    c.in-Ok.ensures.call c.in-Ok-add_after.ensures)
 
 pub returns-else-room : goal.returns-else-room
 returns-else-room g c =
@@ -30,4 +30,4 @@ returns-else-room g c =
     (λ one by is texts held free.
     let read = one by texts held in
     (room_is texts c.in-Ok.value c.room.result c.room.ensures read.0 ∙ c.if-room.false, read.1))
-    c.in-Ok.ensures
+    c.in-Ok.ensures.call

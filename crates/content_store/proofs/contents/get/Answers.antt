@@ -1,15 +1,34 @@
-use Rattle.std.proofs.Common.{◌∙◌, sym, subst, w64, SFits}
+use Rattle.std.proofs.Common.{◌≡◌, ℕ, pos, ◌<◌, ◌≤◌, ◌^◌, ◌∙◌, sym, subst, w64, SFits, refl, None, Ok, inl, arith}
 use Rattle.std.proofs.lemmas.Int.{to_z-of_z}
 use Rattle.sqlite.specs.Held.{state}
-use Rattle.table_access.proofs.CallLemmas.{call_with}
+use Rattle.table_access.proofs.Answered.{text_ends}
+use Rattle.table_access.proofs.CallLemmas.{call_with, idle}
+use Rattle.broker_tables.proofs.QueryLemmas.{calm_by}
 use Rattle.content_store.proofs.ContentRows.{body_sql, body_means, body_found, read_same}
+use Rattle.content_store.proofs.ReadableRows.{body_runs, body_stands}
 use Rattle.content_store.proofs.contents.get.Goals as goal
 
-pub returns-in-Ok : goal.returns-in-Ok
-returns-in-Ok g c =
+-- a number that fits is below 2^63
+is_low : (n : ℕ) → SFits w64 (pos n) → 2 ^ 63 ≤ n → ⊥
+is_low n fits high = grind arith
+
+pub returns-in-Ok-clause-call : goal.returns-in-Ok-clause-call
+returns-in-Ok-clause-call g c =
     let old = state g.S.Store c.args.conn.now in
     let new = state g.S.Store c.text_of.new.conn in
     let is = c.in-Ok.ensures.1 in
     call_with old new c.text_of.result _ _
-    (λ found h digest texts held. (h.2 ∙ body_found digest _ c.args.number (to_z-of_z w64 c.in-Ok.number (subst (SFits w64) (sym is) c.in-Ok.ensures.0) ∙ is) old new h.0 texts held h.1, read_same body_sql _ old new h.0 (body_means old.now held.broker) h.1))
+    (λ found h digest texts held. ((λ low. h.2 ∙ body_found digest _ c.args.number (to_z-of_z w64 c.in-Ok.number (subst (SFits w64) (sym is) c.in-Ok.ensures.0) ∙ is) old new h.0 texts held h.1, λ high. absurd (is_low c.args.number c.in-Ok.ensures.0 high)), read_same body_sql _ old new h.0 (body_means old.now held.broker) h.1))
     (rw c.params-to_sql.ensures at c.text_of.ensures.leaves)
+
+pub returns-in-Ok-clause-calm : goal.returns-in-Ok-clause-calm
+returns-in-Ok-clause-calm g c =
+    let old = state g.S.Store c.args.conn.now in
+    let new = state g.S.Store c.text_of.new.conn in
+    calm_by old new c.text_of.result _ _
+    (λ s here. text_ends _ _ old new _ _ (body_means old.now here.held.broker) (body_runs old.now here.held.broker _) here.unlimited (λ rows row h head. body_stands _ old new rows row s here.held here.readable h head))
+    (rw c.params-to_sql.ensures at c.text_of.ensures.cause)
+
+-- no row has a number that doesn't fit
+pub returns-in-Err-clause-call : goal.returns-in-Err-clause-call
+returns-in-Err-clause-call g c = idle (state g.S.Store c.args.conn.now) (Ok None) _ (λ digest texts held. ((λ low. absurd (grind arith), λ high. refl), refl))

@@ -14,7 +14,7 @@ returns-in-Ok-contract_of-clause-read g c =
       subst (λ (b : Text). IsNewestBelow s c.args.consumer.now b c.args.bound (Some number)) c.as_str-2.ensures
           (subst (λ (p : Text). IsNewestBelow s p c.as_str-2.result.now c.args.bound (Some number)) c.as_str.ensures newest),
       λ v is. contract v is ∙ ap (λ (p : Text). s.contracts (v, p)) c.as_str-then-number-bound.ensures,
-    )) (rw c.in-Some.is at c.in-Ok.ensures.call) c.in-Ok-contract_of.ensures.call
+    )) (rw c.in-Some.is at c.in-Ok.ensures.call) c.in-Ok-contract_of.ensures.answers.call
 
 pub returns-in-None-clause-read : goal.returns-in-None-clause-read
 returns-in-None-clause-read g c =

@@ -1,16 +1,27 @@
 use Rattle.std.proofs.Common.{◌∙◌}
 use Rattle.std.proofs.lemmas.Result.{IfOk-weaker, IfErr-weaker}
 use Rattle.sqlite.specs.Held.{state}
-use Rattle.table_access.proofs.CallLemmas.{statement_result}
+use Rattle.table_access.proofs.Answered.{number_ends}
+use Rattle.broker_tables.proofs.QueryLemmas.{looked_result, looked_err}
 use Rattle.broker_tables.proofs.Frames.{held_still}
-use Rattle.registry_tables.proofs.EnvironmentRows.{gated_means, gated_found}
+use Rattle.registry_tables.proofs.EnvironmentRows.{gated_means, gated_runs, gated_found, gated_stands, gated_true}
 use Rattle.registry_tables.proofs.environments.gated.Goals as goal
 
 pub returns : goal.returns
 returns g c =
     let old = state g.S.Store c.args.conn.now in
     let new = state g.S.Store c.number_of.new.conn in
-    statement_result old new c.in-Ok.value c.truth_of.result _ _
+    looked_result old new c.in-Ok.value c.truth_of.result _ _
     (IfOk-weaker c.truth_of.result _ _ (λ truth is h s held. (is ∙ gated_found c.args.environment.now old new h.0 s c.in-Ok.value held h.1 h.2, held_still _ _ old new h.0 s (gated_means old.now held.broker) h.1 held)) c.truth_of.ensures.ok)
     (IfErr-weaker c.truth_of.result _ _ (λ fault why. why.0) c.truth_of.ensures.cause)
+    (λ s here h. IfErr-weaker c.truth_of.result _ _ (λ fault why. gated_true c.args.environment.now old new h.0 s c.in-Ok.value here.held h.1 h.2 why.1) c.truth_of.ensures.cause)
     (rw c.params-to_sql.ensures at c.in-Ok.ensures.leaves)
+
+pub returns-in-Err : goal.returns-in-Err
+returns-in-Err g c =
+    let old = state g.S.Store c.args.conn.now in
+    let new = state g.S.Store c.number_of.new.conn in
+    let said = rw c.params-to_sql.ensures at c.in-Err.ensures in
+    looked_err old new c.in-Err.fault _ _ _
+    (λ s here. number_ends _ _ old new _ _ (gated_means old.now here.held.broker) (gated_runs old.now here.held.broker c.args.environment.now) here.unlimited (λ rows row h head. gated_stands c.args.environment.now old new rows row s here.held h head))
+    said.leaves said.cause

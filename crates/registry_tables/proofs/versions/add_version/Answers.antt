@@ -4,6 +4,7 @@ use Rattle.broker_core.specs.Text.{version as version_named}
 use Rattle.broker_core.specs.State.{State}
 use Rattle.broker_tables.specs.Holds.{Holds}
 use Rattle.table_access.proofs.CallLemmas.{statement_seq, statement_ok}
+use Rattle.broker_tables.proofs.QueryLemmas.{in_store}
 use Rattle.registry_tables.specs.Registry.{AllowsVersionAs, AddsVersion}
 use Rattle.registry_tables.proofs.versions.add_version.Goals as goal
 
@@ -16,6 +17,6 @@ returns g c =
     statement_seq old mid new c.in-Ok.value (Ok c.in-Some.number) _ _ _ (λ one number two s held allowed.
     let read = one s held in
     two s read.1 (allowed, c.in-Some.ensures.some ∙ ap (λ k. k + 1) read.0))
-    c.in-Ok.ensures
+    (in_store old mid (Ok c.in-Ok.value) _ c.in-Ok.ensures)
     (statement_ok mid new c.in-Ok-add_version_as.value c.in-Some.number _
     (λ number. (s : State) → Holds mid.now s → AllowsVersionAs c.in-Some.number v s → (t : State) × AddsVersion v number s t × Holds new.now t) (λ adds. adds) c.in-Ok-add_version_as.ensures)

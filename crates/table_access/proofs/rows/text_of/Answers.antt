@@ -7,7 +7,7 @@ use Rattle.table_access.proofs.rows.text_of.Goals as goal
 pub returns-clause-leaves : goal.returns-clause-leaves
 returns-clause-leaves g c =
     then_result (state g.S.Store c.args.conn.now) (state g.S.Store c.select.new.conn) c.in-Ok.value c.first_text.result _ _
-    (IfOk-weaker c.first_text.result _ _ (λ found is shown. (c.in-Ok.value.items, shown, is)) (rw c.deref.ensures.value at c.first_text.ensures.ok)) c.in-Ok.ensures.leaves.call
+    (IfOk-weaker c.first_text.result _ _ (λ found is shown. (c.in-Ok.value.items, shown, is.0, is.1)) (rw c.deref.ensures.value at c.first_text.ensures.ok)) c.in-Ok.ensures.leaves.call
 
 pub returns-clause-cause : goal.returns-clause-cause
 returns-clause-cause g c clean = IfErr-weaker c.first_text.result _ _ (λ fault why. inr (c.in-Ok.value.items, c.in-Ok.ensures.leaves.call.ok clean, why.0, why.1, why.2)) (rw c.deref.ensures.value at c.first_text.ensures.cause)

@@ -1,0 +1,48 @@
+-- Rows that name a version by its number: where no version has the number, no such row is there.
+use Rattle.std.proofs.Common.{◌≡◌, ◌∙◌, ◌↔◌, inl, inr, ℕ, ℤ, pos, List, [], ◌∷◌, Option, Some, None, true, refl, sym, ap, codes, slice_get}
+use Rattle.std.specs.Prelude.{option_map}
+use Rattle.sqlite.specs.declared.types.Value.TheVariants.{Int}
+use Rattle.sqlite.specs.Order.{Row, column}
+use Rattle.sqlite.specs.Collation.TheVariants.{Binary}
+use Rattle.sqlite_sql.specs.Ops.{binary, is_true}
+use Rattle.sqlite_sql.specs.declared.ops.BinaryOp.TheVariants.{Compare}
+use Rattle.sqlite_sql.specs.declared.ops.CompareOp.TheVariants.{Eq}
+use Rattle.sqlite.specs.Table.{Table}
+use Rattle.sqlite.specs.Effect.{Database}
+use Rattle.sqlite_rules.specs.Lists.{Has}
+use Rattle.table_access.specs.Columns.{text, whole_at}
+use Rattle.table_access.specs.Reading.{AreRead}
+use Rattle.broker_core.specs.declared.command.Version.{Version}
+use Rattle.broker_core.specs.Text.{version}
+use Rattle.broker_core.specs.State.{State as Broker}
+use Rattle.broker_tables.specs.Schema.{to}
+use Rattle.broker_tables.specs.Numbers.{number_of}
+use Rattle.broker_tables.specs.Holds.{Holds}
+use Rattle.broker_tables.proofs.References.{refers_version}
+use Rattle.broker_tables.proofs.VersionRows.{row_number, whole_test}
+
+-- a row whose column refers to versions has the number of one
+pub no_row : (db : Database) (s : Broker) → Holds db s → (n : ℕ) → ((v : Version) → ¬ (number_of s.versions v ≡ Some n)) → (t : Table) → Has db.schema.tables t → (p : ℕ) → Has t.references (to p (codes "versions") (codes "number"))
+    → (r : Row) → Has (db.trees t.tree) r → column r p ≡ Int (whole_at p r) → is_true (binary (Compare Eq Binary) (column r p) (Int (pos n))) ≡ true → ⊥
+no_row db s held n none t listed p among r has typed tested =
+    let x = refers_version db held.broker t listed p among r has typed in
+    let k = row_number db held.broker s.versions held.versions x.0 x.1 in
+    let is : whole_at p r ≡ pos n = (whole_test (column r p) (Int (pos n)) (whole_at p r) (pos n) typed refl).0 tested in
+    let ints : pos k.0 ≡ pos n = sym k.2 ∙ x.2 ∙ is in
+    let same : k.0 ≡ n = cc in
+    none (version (text 2 x.0) (text 3 x.0)) (k.1 ∙ ap Some same)
+
+-- ---- where no row is shown, nothing is read
+
+pub no_first : (rows : List Row) → ((row : Row) → Has rows row → ⊥) → slice_get rows 0 ≡ None
+no_first [] none = refl
+no_first (row ∷ rows) none = absurd (none row (inl refl))
+
+pub no_answer : {X Y : Type 0} (f : X → Y) (g : Row → Y) (rows : List Row) (found : Option X) → ((row : Row) → Has rows row → ⊥) → option_map f found ≡ option_map g (slice_get rows 0) → found ≡ None
+no_answer f g rows None none read = refl
+no_answer f g rows (Some x) none read = absurd (let e = read ∙ ap (option_map g) (no_first rows none) in cc)
+
+pub no_items : {B : Type 0} (reads : Row → B → Type 0) (rows : List Row) (items : List B) → ((row : Row) → Has rows row → ⊥) → AreRead reads rows items → items ≡ []
+no_items reads [] [] none are = refl
+no_items reads [] (x ∷ items) none are = absurd are
+no_items reads (row ∷ rows) items none are = absurd (none row (inl refl))

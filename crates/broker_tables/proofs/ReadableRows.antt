@@ -1,0 +1,116 @@
+-- The rows of a state that can be read back: numbers are low, names are names, and marks are 0 or 1.
+use Rattle.std.proofs.Common.{◌≡◌, ◌∙◌, ◌<◌, ◌≤◌, ◌^◌, ℕ, ℤ, pos, List, [], ◌∷◌, map, length, true, false, Some, refl, sym, ap, subst, codes, slice_get, arith}
+use Rattle.std.specs.Prelude.{IsUtf8}
+use Rattle.std.specs.Ordering.{eq_by_cmp}
+use Rattle.std.specs.Cmp.Lexicographic.{nat_list_cmp_total}
+use Rattle.std.proofs.lemmas.List.{length-map}
+use Rattle.std.proofs.lemmas.List.Elements.{All-contains}
+use Rattle.sqlite.specs.declared.types.Value.TheVariants.{Int, Text as SqlText}
+use Rattle.sqlite.specs.Order.{Row, column}
+use Rattle.sqlite.specs.Schema.{Schema}
+use Rattle.sqlite.specs.Table.{Table}
+use Rattle.sqlite.specs.Tree.{IsAscending}
+use Rattle.sqlite.specs.Effect.{Database}
+use Rattle.sqlite_rules.specs.Lists.{Has}
+use Rattle.sqlite_keyed.proofs.RuleLemmas.{first_of_both}
+use Rattle.table_access.specs.Columns.{text, text_cmp, whole_at}
+use Rattle.table_access.specs.Reading.{IsNumberAt}
+use Rattle.table_access.proofs.Keys.{apart_by, text_keys}
+use Rattle.table_access.proofs.Maps.{has_find}
+use Rattle.table_access.proofs.Members.{map_has, has_contains}
+use Rattle.table_access.proofs.SoundLemmas.{text_at, whole_in, checks_hold, has_place}
+use Rattle.broker_core.specs.declared.command.Version.{Version}
+use Rattle.broker_core.specs.Text.{Text, version}
+use Rattle.broker_core.specs.State.{State as Broker}
+use Rattle.broker_tables.specs.Schema.{to}
+use Rattle.broker_tables.specs.Rows.{IsTruthAt}
+use Rattle.broker_tables.specs.Names.{IsNameAt}
+use Rattle.broker_tables.specs.Numbers.{numbered}
+use Rattle.broker_tables.specs.Holds.{Holds, with_digest, result_in, result_of}
+use Rattle.broker_tables.specs.Readable.{IsReadable, IsNamed, AreFew}
+use Rattle.broker_tables.proofs.Orders.{exact_texts}
+use Rattle.broker_tables.proofs.Placed.{pacticipants, pacticipants_there, results, results_there}
+use Rattle.broker_tables.proofs.References.{row_number, row_entry, refers_version, refers_content, refers_result, refers_pacticipant}
+use Rattle.broker_tables.proofs.TruthLemmas.{is_low}
+
+-- it is a number below 2^32
+abbrev pub IsLow : ℤ → Type 0
+IsLow z = (n : ℕ) × (z ≡ pos n) × (n < 2 ^ 32)
+
+-- ---- a column of a row that is shown
+
+pub number_cell : (row : Row) (at : ℕ) (z : ℤ) → at < length row → column row at ≡ Int z → IsLow z → IsNumberAt at row
+number_cell row at z there is low = (there, (low.0, is ∙ ap Int low.1, low.2))
+
+pub name_cell : (row : Row) (at : ℕ) (name : Text) → at < length row → column row at ≡ SqlText name → IsNamed name → IsNameAt at row
+name_cell row at name there is named = (there, (name, is, named.0, named.1))
+
+pub truth_cell : (row : Row) (at : ℕ) (z : ℤ) → at < length row → column row at ≡ Int z → ((n : ℕ) × (z ≡ pos n) × (n ≤ 1)) → IsTruthAt at row
+truth_cell row at z there is low = (there, (low.0, is ∙ ap Int low.1, low.2))
+
+-- ---- the rows of the tables
+
+low_in : {X : Type 0} (f : Row → X) (rows : List Row) (xs : List X) → map {B = ℤ × X} (λ r. (whole_at 0 r, f r)) rows ≡ numbered xs → AreFew xs → (r : Row) → Has rows r → IsLow (whole_at 0 r)
+low_in f rows xs is few r has = let n = row_number f rows xs 1 is r has in (n.0, n.1, omega (arith, n.2, few))
+
+mapped_few : {X Y : Type 0} (f : X → Y) (xs : List X) → AreFew xs → AreFew (map f xs)
+mapped_few f xs few = subst (λ n. n < 2 ^ 32) (sym (length-map xs f)) few
+
+module _ (db : Database) (s : Broker) (held : Holds db s) (readable : IsReadable s) where
+  pub version_low : (r : Row) → Has (db.trees 6) r → IsLow (whole_at 0 r)
+  version_low = low_in (λ r. version (text 2 r) (text 3 r)) (db.trees 6) s.versions held.versions readable.few_versions
+
+  pub content_low : (r : Row) → Has (db.trees 14) r → IsLow (whole_at 0 r)
+  content_low = low_in (λ r. (text 2 r, text 3 r)) (db.trees 14) (map with_digest s.contents) held.contents (mapped_few with_digest s.contents readable.few_contents)
+
+  pub result_low : (r : Row) → Has (db.trees 17) r → IsLow (whole_at 0 r)
+  result_low = low_in (result_in (db.trees 25)) (db.trees 17) (map (result_of s.versions) s.results) held.results (mapped_few (result_of s.versions) s.results readable.few_results)
+
+  -- a number that refers to one of these
+  module _ (t : Table) (listed : Has db.schema.tables t) (p : ℕ) (r : Row) (has : Has (db.trees t.tree) r) (typed : column r p ≡ Int (whole_at p r)) where
+    pub to_version_low : Has t.references (to p (codes "versions") (codes "number")) → IsLow (whole_at p r)
+    to_version_low among = let x = refers_version db held.broker t listed p among r has typed in subst IsLow x.2 (version_low x.0 x.1)
+
+    pub to_content_low : Has t.references (to p (codes "contents") (codes "number")) → IsLow (whole_at p r)
+    to_content_low among = let x = refers_content db held.broker t listed p among r has typed in subst IsLow x.2 (content_low x.0 x.1)
+
+    pub to_result_low : Has t.references (to p (codes "results") (codes "number")) → IsLow (whole_at p r)
+    to_result_low among = let x = refers_result db held.broker t listed p among r has typed in subst IsLow x.2 (result_low x.0 x.1)
+
+  -- the names of a version
+  pub version_named : (r : Row) → Has (db.trees 6) r → IsNamed (text 2 r) × IsNamed (text 3 r)
+  version_named r has =
+      let one = row_entry (λ x. version (text 2 x) (text 3 x)) (db.trees 6) s.versions 1 held.versions r has in
+      All-contains (λ (v : Version). IsNamed v.pacticipant × IsNamed v.name) s.versions (version (text 2 r) (text 3 r)) readable.versions (has_contains s.versions (version (text 2 r) (text 3 r)) one)
+
+  -- a body is a text in UTF-8
+  pub body_utf8 : (r : Row) → Has (db.trees 14) r → IsUtf8 (text 3 r)
+  body_utf8 r has =
+      let one = row_entry (λ x. (text 2 x, text 3 x)) (db.trees 14) (map with_digest s.contents) 1 held.contents r has in
+      let it = map_has with_digest s.contents (text 2 r, text 3 r) one in
+      let same : text 3 r ≡ it.0 = ap (λ (e : Text × Text). e.1) it.2 in
+      subst IsUtf8 (sym same) (All-contains IsUtf8 s.contents it.0 readable.contents (has_contains s.contents it.0 it.1))
+
+  pacticipant_names : (r : Row) → Has (db.trees 4) r → column r 1 ≡ SqlText (text 1 r)
+  pacticipant_names r has = text_at db held.broker.kept.sound pacticipants (has_place _ 2 pacticipants (pacticipants_there db held.broker)) r has 0 _ refl refl refl refl refl
+
+  pacticipant_keys : IsAscending (λ a b. eq_by_cmp text_cmp (text 1 a) (text 1 b) ≡ false) (db.trees 4)
+  pacticipant_keys = text_keys (db.trees 4) 1 pacticipant_names (apart_by db held.broker.kept pacticipants 2 (pacticipants_there db held.broker) _ 2 (ap (λ (x : Schema). slice_get x.indexes 2) held.broker.schema) refl)
+
+  -- the name of a pacticipant
+  pub pacticipant_named : (r : Row) → Has (db.trees 4) r → IsNamed (text 1 r)
+  pacticipant_named r has =
+      let found = has_find nat_list_cmp_total exact_texts (text 1) (text 2) (db.trees 4) r pacticipant_keys has in
+      (readable.pacticipants (text 1 r) (text 2 r) (sym (held.pacticipants (text 1 r)) ∙ found)).0
+
+  -- a name that refers to one
+  pub to_pacticipant_named : (t : Table) → Has db.schema.tables t → (p : ℕ) → Has t.references (to p (codes "pacticipants") (codes "name")) → (r : Row) → Has (db.trees t.tree) r → column r p ≡ SqlText (text p r) → IsNamed (text p r)
+  to_pacticipant_named t listed p among r has typed =
+      let x = refers_pacticipant db held.broker t listed p among r has typed in subst IsNamed x.2 (pacticipant_named x.0 x.1)
+
+  -- whether a result is a pass
+  pub pass_low : (r : Row) → Has (db.trees 17) r → (n : ℕ) × (whole_at 5 r ≡ pos n) × (n ≤ 1)
+  pass_low r has =
+      let listed = has_place _ 9 results (results_there db held.broker) in
+      let typed : column r 5 ≡ Int (whole_at 5 r) = whole_in db held.broker.kept.sound results listed r has 4 _ refl refl refl refl refl in
+      is_low r 5 (whole_at 5 r) typed (first_of_both _ true (checks_hold db held.broker.kept.sound results listed r has))

@@ -1,0 +1,37 @@
+-- A column that CHECK makes a truth value.
+use Rattle.std.proofs.Common.{◌≡◌, ◌≤◌, ℕ, ℤ, pos, [], ◌∷◌, Bool, true, false, not, refl, sym, ap, subst, ◌∙◌, arith, Some}
+use Rattle.std.specs.Ordering.{is_eq, int_cmp}
+use Rattle.std.specs.Cmp.{Equal-is}
+use Rattle.std.specs.FinMap.{int_cmp-IsAntisymmetric}
+use Rattle.sqlite.specs.Order.{Row, column}
+use Rattle.sqlite.specs.Term.{eval}
+use Rattle.sqlite.specs.declared.types.Value.TheVariants.{Int}
+use Rattle.sqlite_sql.specs.Ops.{binary, is_false, from_truth}
+use Rattle.sqlite_sql.specs.declared.ops.BinaryOp.TheVariants.{Compare, Or}
+use Rattle.sqlite_sql.specs.declared.ops.CompareOp.TheVariants.{Eq}
+use Rattle.sqlite.specs.Collation.TheVariants.{Binary}
+use Rattle.sqlite_value.proofs.OrderLemmas.{value_cmp-Int}
+use Rattle.broker_tables.specs.Schema.{is_truth}
+
+equal : (a b : ℤ) → binary (Compare Eq Binary) (Int a) (Int b) ≡ from_truth (Some (is_eq (int_cmp a b)))
+unfolding binary
+equal a b = ap (λ o. from_truth (Some (is_eq o))) (value_cmp-Int a b)
+
+either : (a b : Bool) → not (is_false (binary Or (from_truth (Some a)) (from_truth (Some b)))) ≡ true → a ≡ false → b ≡ true
+unfolding binary
+either true b t none = absurd cc
+either false true t none = refl
+either false false t none = absurd cc
+
+-- it is 0 or 1
+pub is_low : (row : Row) (place : ℕ) (z : ℤ) → column row place ≡ Int z → not (is_false (eval (is_truth place) ([] ∷ row ∷ []))) ≡ true → (n : ℕ) × (z ≡ pos n) × (n ≤ 1)
+is_low row place z is t = go (is_eq (int_cmp z (pos 0))) refl
+  where
+    tested : not (is_false (binary Or (from_truth (Some (is_eq (int_cmp z (pos 0))))) (from_truth (Some (is_eq (int_cmp z (pos 1))))))) ≡ true
+    tested = subst (λ v. not (is_false (binary Or v (from_truth (Some (is_eq (int_cmp z (pos 1))))))) ≡ true) (equal z (pos 0))
+        (subst (λ v. not (is_false (binary Or (binary (Compare Eq Binary) (Int z) (Int (pos 0))) v)) ≡ true) (equal z (pos 1))
+        (subst (λ v. not (is_false (binary Or (binary (Compare Eq Binary) v (Int (pos 0))) (binary (Compare Eq Binary) v (Int (pos 1))))) ≡ true) is t))
+
+    go : (b : Bool) → is_eq (int_cmp z (pos 0)) ≡ b → (n : ℕ) × (z ≡ pos n) × (n ≤ 1)
+    go true e = (0, int_cmp-IsAntisymmetric z (pos 0) ((Equal-is (int_cmp z (pos 0))).0 e), omega arith)
+    go false e = (1, int_cmp-IsAntisymmetric z (pos 1) ((Equal-is (int_cmp z (pos 1))).0 (either (is_eq (int_cmp z (pos 0))) (is_eq (int_cmp z (pos 1))) tested e)), omega arith)

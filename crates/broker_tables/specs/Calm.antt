@@ -1,0 +1,72 @@
+-- Why a query fails: in a transaction that shows a state of the broker, only as the store fails.
+use Rattle.std.specs.Prelude.{◌≡◌, ◌⊎◌, ℕ, IsTrue, Option, Some, None, Result, IfOk, IfErr}
+use Rattle.sqlite.specs.Held.{Held, state}
+use Rattle.sqlite.specs.State.{State, HasCleanDisk}
+use Rattle.sqlite_trees.specs.declared.store.Store.{Ghosts}
+use Rattle.table_access.specs.declared.StoreFault.{StoreFault}
+use Rattle.table_access.specs.declared.StoreFault.TheVariants.{Memory}
+use Rattle.table_access.specs.Calls.{IsEnded, TellsMemory}
+use Rattle.broker_core.specs.declared.command.Version.{Version}
+use Rattle.broker_core.specs.State.{State as Broker}
+use Rattle.broker_tables.specs.Numbers.{number_of}
+use Rattle.broker_tables.specs.Holds.{Holds, QueriesBetween}
+use Rattle.broker_tables.specs.Readable.{IsReadable}
+
+-- the transaction is open and shows this state, which can be read back, and no query has a limit of steps
+pub record Serves (c : State) (s : Broker) : Type 0 where
+  pub inside : IsTrue c.in_transaction
+  pub unlimited : c.step_limit ≡ None
+  pub held : Holds c.now s
+  pub readable : IsReadable s
+
+-- if such a state is shown, the call fails for this cause alone
+abbrev pub FailsOnlyBy : {A : Type 0} → State → State → Result A StoreFault → (StoreFault → Type 0) → Type 0
+FailsOnlyBy old new r Cause = HasCleanDisk new → (s : Broker) → Serves old s → IfErr r Cause
+
+-- the store failed, which ended the transaction, or a growth was refused
+abbrev pub IsEndedOrMemory : State → State → StoreFault → Type 0
+IsEndedOrMemory old new fault = IsEnded old new fault ⊎ (fault ≡ Memory)
+
+-- a query, where there may be no room for its answer
+pub record CalmQueriesBetween {A : Type 0} (old new : State) (r : Result A StoreFault) (P : A → Broker → Type 0)
+    : Type 0 where
+  -- what it answers
+  pub call : QueriesBetween old new r P
+  -- why it fails
+  pub calm : FailsOnlyBy old new r (IsEndedOrMemory old new)
+
+-- a query whose answer takes no memory
+pub record CalmQueriesInPlaceBetween {A : Type 0} (old new : State) (r : Result A StoreFault)
+    (P : A → Broker → Type 0) : Type 0 where
+  -- what it answers
+  pub call : QueriesBetween old new r P
+  -- only the store is ever out of memory
+  pub memory : TellsMemory old new r
+  -- why it fails
+  pub calm : FailsOnlyBy old new r (IsEnded old new)
+
+-- ---- of a version's number
+
+-- if no version of the state that the database holds has this number, the answer is such
+abbrev pub IfNoVersionBetween : {A : Type 0} → State → State → Result A StoreFault → ℕ → (A → Type 0) → Type 0
+IfNoVersionBetween old new r number Nothing = HasCleanDisk new → (s : Broker) → Holds old.now s
+    → ((v : Version) → ¬ (number_of s.versions v ≡ Some number)) → IfOk r Nothing
+
+-- ---- the same of a connection over this store
+
+module _ {X : Type 0} (store : Ghosts X) (old new : Held X) where
+  abbrev pub CalmQueries : {A : Type 0} → Result A StoreFault → (A → Broker → Type 0) → Type 0
+  CalmQueries r P = CalmQueriesBetween (state store old) (state store new) r P
+
+  abbrev pub CalmQueriesInPlace : {A : Type 0} → Result A StoreFault → (A → Broker → Type 0) → Type 0
+  CalmQueriesInPlace r P = CalmQueriesInPlaceBetween (state store old) (state store new) r P
+
+  abbrev pub IfNoVersion : {A : Type 0} → Result A StoreFault → ℕ → (A → Type 0) → Type 0
+  IfNoVersion r number Nothing = IfNoVersionBetween (state store old) (state store new) r number Nothing
+
+  -- why a call fails whose answer is stated otherwise, if there may be no room for it, or if it takes no memory
+  abbrev pub IsCalm : {A : Type 0} → Result A StoreFault → Type 0
+  IsCalm r = FailsOnlyBy (state store old) (state store new) r (IsEndedOrMemory (state store old) (state store new))
+
+  abbrev pub IsCalmInPlace : {A : Type 0} → Result A StoreFault → Type 0
+  IsCalmInPlace r = FailsOnlyBy (state store old) (state store new) r (IsEnded (state store old) (state store new))

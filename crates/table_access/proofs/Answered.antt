@@ -1,0 +1,206 @@
+-- A query whose text is understood, and whose parameters are of the right kinds, fails only as the store fails.
+use Rattle.std.proofs.Common.{◌≡◌, ◌⊎◌, inl, inr, ℕ, zero, suc, take, List, [], ◌∷◌, ◌++◌, map, filter, length, slice_get, Bool, true, false, nat_le, ◌==◌, ◌&&◌, Some, None, Option, Ok, Err, Result, refl, sym, ap, subst, subst₂, ◌∙◌, append-nil, ◌<◌, ◌^◌, pos, arith}
+use Rattle.std.specs.List.Sorted.{IsPermutation}
+use Rattle.std.proofs.lemmas.Bool.{leb-true, eqb-true}
+use Rattle.std.proofs.lemmas.List.Sorted.{Contains-permutation, IsPermutation-sym}
+use Rattle.sqlite_keyed.proofs.RuleLemmas.{first_of_both, second_of_both}
+use Rattle.sqlite.specs.Order.{Row, column}
+use Rattle.sqlite.specs.declared.types.Value.TheVariants.{Int, Text}
+use Rattle.sqlite.specs.Tree.{Trees}
+use Rattle.sqlite.specs.Schema.{Schema}
+use Rattle.sqlite.specs.Command.TheVariants.{Select}
+use Rattle.sqlite.specs.Term.{Term, Env, col, eval_all}
+use Rattle.sqlite_sql.specs.Query.{Query, Join, end, inner, left, counted, made, folded, first, has_no_fold, FoldOverflows}
+use Rattle.sqlite_sql.specs.Program.{QueryOverflows, overlay}
+use Rattle.sqlite_sql.specs.Group.{Grouping, Overflows}
+use Rattle.sqlite_typing.specs.Types.{accepts_program}
+use Rattle.sqlite_value.specs.declared.keys.Key.{Key}
+use Rattle.sqlite_resolve.specs.declared.compiled.Compiled.{Compiled}
+use Rattle.sqlite_resolve.specs.declared.error.CompileError.{CompileError}
+use Rattle.sqlite.specs.declared.error.Error.{Error}
+use Rattle.std.specs.List.{flat_map}
+use Rattle.sqlite.specs.Effect.{Database, Answers, RefusesQuery, RefusesToRead}
+use Rattle.sqlite.specs.Listing.{understood, IsSourceOf}
+use Rattle.sqlite.specs.State.{State, Shown, FailsToQuery, FailsToShow, IsNotRun, IsNoStatement, Fails}
+use Rattle.sqlite.specs.Clock.{timed}
+use Rattle.sqlite.proofs.Callers.{IsPlain, command_of}
+use Rattle.sqlite_rules.specs.Lists.{Has}
+use Rattle.std.specs.Prelude.{⊤, IsUtf8}
+use Rattle.table_access.specs.declared.StoreFault.{StoreFault}
+use Rattle.table_access.specs.declared.StoreFault.TheVariants.{Memory, Store}
+use Rattle.table_access.specs.Calls.{IsEnded, fault_of}
+use Rattle.table_access.specs.Reading.{IsRefusedAs, FailsToRead, FailsToReadRow, FailsToTake, TellsText, TellsNumber, IsTextAt, IsNumberRow}
+use Rattle.table_access.specs.Columns.{text, whole_at}
+use Rattle.table_access.specs.Statements.{from_table, from_both, up_to, keeps, keeps_both, shows}
+use Rattle.table_access.proofs.Members.{has_either, contains_has, has_contains, map_has, filter_has}
+use Rattle.table_access.proofs.Newest.{first_rows, first_joined}
+use Rattle.table_access.proofs.Joins.{joined}
+use Rattle.table_access.proofs.Steps.{Means, selects, answered, shown_answers}
+use Rattle.table_access.proofs.Texts.{caused}
+
+-- the whole text is one statement, with so many parameters
+abbrev pub is_whole : List ℕ → ℕ → Result Compiled CompileError → Bool
+is_whole sql given (Ok c) = nat_le (length sql) c.tail && (given == length c.names)
+is_whole sql given (Err e) = false
+
+abbrev pub is_ungrouped : Option Grouping → Bool
+is_ungrouped None = true
+is_ungrouped (Some g) = false
+
+-- nothing is summed up
+abbrev pub sums_nothing : Query → Bool
+sums_nothing q = is_ungrouped q.group && has_no_fold q.from
+
+-- The query can be run with these parameters: `refl` finds each field, under `unfolding understood everything`, also where
+-- the parameters are variables, as only their kinds count.
+pub record Runs (schema : Schema) (sql : List ℕ) (params : Row) (q : Query) : Type 0 where
+  pub whole : is_whole sql (length params) (understood schema sql) ≡ true
+  pub typed : accepts_program schema [] q params ≡ true
+  pub sumless : sums_nothing q ≡ true
+
+no_fold : (db : Trees) (from : Join) (env : Env) → has_no_fold from ≡ true → ¬ FoldOverflows db from env
+no_fold db end env plain h = h
+no_fold db (inner t more) env plain h = no_fold db more _ plain h.4
+no_fold db (left t on more) env plain h = no_fold db more _ plain h.4
+no_fold db (counted most from test more) env plain (inl h) = no_fold db from env (first_of_both _ _ plain) h
+no_fold db (counted most from test more) env plain (inr h) = no_fold db more _ (second_of_both _ _ plain) h
+no_fold db (made m more) env plain h = no_fold db more _ plain h
+no_fold db (folded from test all more) env plain h = absurd cc
+no_fold db (first from test order shown more) env plain (inl h) = no_fold db from env (first_of_both _ _ plain) h
+no_fold db (first from test order shown more) env plain (inr h) = no_fold db more _ (second_of_both _ _ plain) h
+
+no_group : (g : Option Grouping) (all : List Env) → is_ungrouped g ≡ true → ¬ Overflows g all
+no_group None all plain h = h
+no_group (Some g) all plain h = absurd cc
+
+no_sum : (db : Trees) (params : Row) (q : Query) → sums_nothing q ≡ true → ¬ QueryOverflows q db params
+no_sum db params q plain (inl h) = no_group q.group _ (first_of_both _ _ plain) h
+no_sum db params q plain (inr h) = no_fold db q.from (params ∷ []) (second_of_both _ _ plain) h
+
+-- a plain text that is whole is a statement
+pub is_statement : (sql : List ℕ) (params : Row) (old : State) → IsPlain (understood old.now.schema sql) → is_whole sql (length params) (understood old.now.schema sql) ≡ true → (e : Error) → ¬ IsNoStatement old sql params e
+is_statement sql params old plain is_it e (inl h) = let none : false ≡ true = subst (λ r. is_whole sql (length params) r ≡ true) h.1 is_it in cc
+is_statement sql params old plain is_it e (inr (c, is, why)) =
+    let whole = subst (λ r. is_whole sql (length params) r ≡ true) is is_it in
+    elim why [
+      | inl many ↦ many.0 (leb-true (length sql) c.tail (first_of_both _ _ whole))
+      | inr more ↦ elim more [ inl count ↦ count.0 (eqb-true (length params) (length c.names) (second_of_both _ _ whole)) | inr clock ↦ clock.0 (subst IsPlain is plain).1 ]
+    ]
+
+module _ (sql : List ℕ) (params : Row) (old new : State) (q : Query) (names : List (List ℕ)) (means : Means old.now.schema sql (Select (record { lets = []; body = q }) names)) (runs : Runs old.now.schema sql params q)
+    (unlimited : old.step_limit ≡ None) where
+  is_answered : (e : Error) → ¬ RefusesQuery old.step_limit old.now (record { lets = []; body = q }) params e
+  is_answered e (inl kind) = let clash : true ≡ false = sym runs.typed ∙ kind.1 in cc
+  is_answered e (inr (inl sum)) = no_sum _ params q runs.sumless sum.1
+  is_answered e (inr (inr stopped)) = let some = rw unlimited at stopped.1 in cc
+
+  -- a failure is one of the store
+  fails : (e : Error) → FailsToQuery sql params old new e → Fails old new ⊤ e
+  unfolding FailsToQuery IsNotRun
+  fails e (inl (inl h)) = absurd (is_statement sql params old means.plain runs.whole e h.0)
+  fails e (inl (inr h)) = (h.0, h.1, caused old new _ h.0 h.2, h.3, h.4)
+  fails e (inr h) =
+      let bare = subst IsPlain h.1.is means.plain in
+      let it = rw (bare.0, bare.1, append-nil params) at h.2 in
+      let db : it.0 ≡ old.now = subst (λ b. IsSourceOf b old.now it.0) means.unlisted it.1 in
+      absurd (is_answered e (subst₂ (λ k d. RefusesToRead old.step_limit k d params e) (ap command_of (sym h.1.is) ∙ means.is) db it.2))
+
+  -- the transaction is over
+  pub refusal_ends : (fault : StoreFault) → IsRefusedAs sql params old new fault → IsEnded old new fault
+  refusal_ends fault (e, is, h) = let it = fails e h in record { cause = it.0; fault_is = is ∙ ap fault_of it.1; has = it.2; over = it.3.autocommit; blamed = it.4 }
+
+  -- where the first row has a text, a text isn't read only where the store failed, or where there was no room for it
+  pub text_ends : ((rows : List Row) (row : Row) → Shown sql params old new rows → slice_get rows 0 ≡ Some row → IsTextAt 0 row) → (fault : StoreFault) → FailsToTake TellsText sql params old new fault → IsEnded old new fault ⊎ (fault ≡ Memory)
+  text_ends stands fault (inl refused) = inl (refusal_ends fault refused)
+  text_ends stands fault (inr (rows, shown, row, head, tells)) = elim tells [ inl none ↦ absurd (none.1 (stands rows row shown head)) | inr room ↦ inr room.0 ]
+
+  -- where the first row has a number, a number isn't read only where the store failed
+  pub number_ends : ((rows : List Row) (row : Row) → Shown sql params old new rows → slice_get rows 0 ≡ Some row → IsNumberRow row) → (fault : StoreFault) → FailsToTake TellsNumber sql params old new fault → IsEnded old new fault
+  number_ends stands fault (inl refused) = refusal_ends fault refused
+  number_ends stands fault (inr (rows, shown, row, head, tells)) = absurd (tells.1 (stands rows row shown head))
+
+  -- where no row fails for another cause than want of memory, a list isn't read only where the store failed, or for that
+  pub list_ends : {A : Type 0} (Reads : Row → A → Type 0) (Fails : Row → StoreFault → Type 0) → ((rows : List Row) (row : Row) → Shown sql params old new rows → Has rows row → (fault : StoreFault) → Fails row fault → fault ≡ Memory) → (fault : StoreFault)
+      → FailsToRead Reads Fails sql params old new fault → IsEnded old new fault ⊎ (fault ≡ Memory)
+  list_ends Reads Fails reads fault (inl refused) = inl (refusal_ends fault refused)
+  list_ends Reads Fails reads fault (inr (rows, shown, row, has, why)) = inr (elim why [ inl failed ↦ reads rows row shown has fault failed | inr room ↦ room.0 ])
+
+-- ---- the rows that are shown
+
+-- the first row is one of the rows
+pub first_has : (rows : List Row) (row : Row) → slice_get rows 0 ≡ Some row → Has rows row
+first_has [] row is = absurd cc
+first_has (r ∷ rows) row is = inl (let same : r ≡ row = cc in sym same)
+
+-- each is one of the rows in another order
+pub permuted_has : {X : Type 0} (xs ys : List X) (x : X) → IsPermutation xs ys → Has ys x → Has xs x
+permuted_has xs ys x same has = contains_has xs x (Contains-permutation ys xs x (IsPermutation-sym xs ys same) (has_contains ys x has))
+
+-- a row that is shown of one table is what is shown of a row that WHERE keeps
+pub shown_of : (sql : List ℕ) (params : Row) (old new : State) (t : ℕ) (terms project : List Term) (order : List (Term × Key)) (names : List (List ℕ)) → Means old.now.schema sql (Select (record { lets = []; body = from_table t terms project order }) names)
+    → (rows : List Row) (row : Row) → Shown sql params old new rows → Has rows row → (r : Row) × Has (old.now.trees t) r × (keeps terms params r ≡ true) × (row ≡ shows project params r)
+shown_of sql params old new t terms project order names means rows row shown has =
+    let kept = filter (keeps terms params) (old.now.trees t) in
+    let one = map_has (shows project params) kept row (permuted_has _ rows row (selects sql params old new t terms project order names means rows shown) has) in
+    let it = filter_has (keeps terms params) (old.now.trees t) one.0 one.1 in
+    (one.0, it.0, it.1, one.2)
+
+-- LIMIT shows no other rows
+take_has : {X : Type 0} (n : ℕ) (xs : List X) (x : X) → Has (take n xs) x → Has xs x
+take_has zero xs x has = absurd has
+take_has (suc n) [] x has = absurd has
+take_has (suc n) (y ∷ xs) x (inl same) = inl same
+take_has (suc n) (y ∷ xs) x (inr later) = inr (take_has n xs x later)
+
+pub first_shown_of : (sql : List ℕ) (params : Row) (old new : State) (n t : ℕ) (terms project : List Term) (order : List (Term × Key)) (names : List (List ℕ))
+    → Means old.now.schema sql (Select (record { lets = []; body = up_to n (from_table t terms project order) }) names) → (rows : List Row) (row : Row) → Shown sql params old new rows → Has rows row
+    → (r : Row) × Has (old.now.trees t) r × (keeps terms params r ≡ true) × (row ≡ shows project params r)
+first_shown_of sql params old new n t terms project order names means rows row shown has =
+    let all = first_rows old.now params t terms project order n rows (shown_answers sql params old new _ names means rows shown) in
+    let kept = filter (keeps terms params) (old.now.trees t) in
+    let one = map_has (shows project params) kept row (permuted_has _ all.0 row (answered old.now params t terms project order all.0 all.1) (take_has n all.0 row (subst (λ xs. Has xs row) all.2 has))) in
+    let it = filter_has (keeps terms params) (old.now.trees t) one.0 one.1 in
+    (one.0, it.0, it.1, one.2)
+
+-- a row that is shown of two tables is what is shown of a row of each
+flat_map_has : {X Y : Type 0} (f : X → List Y) (xs : List X) (y : Y) → Has (flat_map f xs) y → (x : X) × Has xs x × Has (f x) y
+flat_map_has f [] y has = absurd has
+flat_map_has f (x ∷ xs) y has = elim (has_either (f x) (flat_map f xs) y has) [ inl here ↦ (x, inl refl, here) | inr later ↦ let it = flat_map_has f xs y later in (it.0, inr it.1, it.2) ]
+
+pub pair_shown : (db : Database) (params : Row) (t u : ℕ) (terms project : List Term) (order : List (Term × Key)) (rows : List Row) → Answers db (record { lets = []; body = from_both t u terms project order }) params rows
+    → (row : Row) → Has rows row → (r s : Row) × Has (db.trees t) r × Has (db.trees u) s × (row ≡ eval_all project (params ∷ r ∷ s ∷ [])) × (keeps_both terms params r s ≡ true)
+pair_shown db params t u terms project order rows h row has =
+    let one = flat_map_has (λ r. map (λ s. eval_all project (params ∷ r ∷ s ∷ [])) (filter (keeps_both terms params r) (db.trees u))) (db.trees t) row (permuted_has _ rows row (joined db params t u terms project order rows h) has) in
+    let two = map_has (λ s. eval_all project (params ∷ one.0 ∷ s ∷ [])) (filter (keeps_both terms params one.0) (db.trees u)) row one.2 in
+    let kept = filter_has (keeps_both terms params one.0) (db.trees u) two.0 two.1 in
+    (one.0, two.0, one.1, kept.0, two.2, kept.1)
+
+pub first_pair_shown : (db : Database) (params : Row) (n t u : ℕ) (terms project : List Term) (order : List (Term × Key)) (rows : List Row) → Answers db (record { lets = []; body = up_to n (from_both t u terms project order) }) params rows
+    → (row : Row) → Has rows row → (r s : Row) × Has (db.trees t) r × Has (db.trees u) s × (row ≡ eval_all project (params ∷ r ∷ s ∷ [])) × (keeps_both terms params r s ≡ true)
+first_pair_shown db params n t u terms project order rows h row has =
+    let all = first_joined db params t u terms project order n rows h in
+    pair_shown db params t u terms project order all.0 all.1 row (take_has n all.0 row (subst (λ xs. Has xs row) all.2 has))
+
+-- ---- what can be read of a row that is shown of one column
+
+pub text_shown : (params r row : Row) (place : ℕ) → column r place ≡ Text (text place r) → row ≡ shows (col 1 place ∷ []) params r → IsUtf8 (text 0 row) → IsTextAt 0 row
+text_shown params r row place typed is utf8 = subst (IsTextAt 0) (sym is) (omega arith, (text place r, typed, subst (λ x. IsUtf8 (text 0 x)) is utf8))
+
+pub number_shown : (params r row : Row) (place : ℕ) → column r place ≡ Int (whole_at place r) → row ≡ shows (col 1 place ∷ []) params r → (n : ℕ) → whole_at place r ≡ pos n → n < 2 ^ 32 → IsNumberRow row
+number_shown params r row place typed is n number low = subst IsNumberRow (sym is) (omega arith, (n, typed ∙ ap Int number, low))
+
+module _ (sql : List ℕ) (params : Row) (old new : State) (t place : ℕ) (terms : List Term) (order : List (Term × Key)) (names : List (List ℕ))
+    (means : Means old.now.schema sql (Select (record { lets = []; body = from_table t terms (col 1 place ∷ []) order }) names)) where
+  -- a text, where each row of the table has one there
+  pub text_stands : ((r : Row) → Has (old.now.trees t) r → column r place ≡ Text (text place r)) → (rows : List Row) (row : Row) → Shown sql params old new rows → slice_get rows 0 ≡ Some row → IsUtf8 (text 0 row) → IsTextAt 0 row
+  text_stands texts rows row shown head utf8 =
+      let it = shown_of sql params old new t terms (col 1 place ∷ []) order names means rows row shown (first_has rows row head) in
+      text_shown params it.0 row place (texts it.0 it.1) it.3 utf8
+
+  -- a number, where each row of the table has a low one there
+  pub number_stands : ((r : Row) → Has (old.now.trees t) r → column r place ≡ Int (whole_at place r)) → ((r : Row) → Has (old.now.trees t) r → (n : ℕ) × (whole_at place r ≡ pos n) × (n < 2 ^ 32))
+      → (rows : List Row) (row : Row) → Shown sql params old new rows → slice_get rows 0 ≡ Some row → IsNumberRow row
+  number_stands numbers low rows row shown head =
+      let it = shown_of sql params old new t terms (col 1 place ∷ []) order names means rows row shown (first_has rows row head) in
+      let n = low it.0 it.1 in
+      number_shown params it.0 row place (numbers it.0 it.1) it.3 n.0 n.1 n.2

@@ -1,0 +1,127 @@
+-- Why an INSERT of one row is refused while the store works: a rule of its table, or a row that it refers to isn't there.
+use Rattle.std.proofs.Common.{◌≡◌, ◌⊎◌, inl, inr, ℕ, zero, suc, List, [], ◌∷◌, ◌++◌, length, slice_get, Bool, true, false, not, ◌&&◌, ◌||◌, Some, None, Option, option_map, Ok, Err, Result, refl, sym, ap, subst, subst₂, ◌∙◌, append-nil, length-append, ◌/◌, arith}
+use Rattle.std.specs.Prelude.{⊤, is_some, MatchBool}
+use Rattle.std.proofs.lemmas.Bool.{cases_Bool}
+use Rattle.sqlite.specs.Order.{Row}
+use Rattle.sqlite.specs.Tree.{Trees}
+use Rattle.sqlite.specs.Schema.{Schema}
+use Rattle.sqlite.specs.Table.{Table}
+use Rattle.sqlite.specs.Command.{Command}
+use Rattle.sqlite.specs.Command.TheVariants.{Insert}
+use Rattle.sqlite.specs.Source.TheVariants.{Values}
+use Rattle.sqlite.specs.Term.{Term}
+use Rattle.sqlite.specs.Rowids.TheVariants.{Chosen}
+use Rattle.sqlite.specs.Edit.{Edit, edit_of}
+use Rattle.sqlite_schema.specs.declared.schema.Keys.{Keys}
+use Rattle.sqlite_schema.specs.declared.schema.Column.{Column}
+use Rattle.sqlite_schema.specs.declared.schema.Reference.{Reference}
+use Rattle.sqlite_value.specs.declared.keys.Order.{Order}
+use Rattle.sqlite_schema.specs.Rules.{Refers}
+use Rattle.sqlite_rules.specs.Edit.{IsRefused}
+use Rattle.sqlite_rules.specs.Action.{Leads, Writes, Settles, works}
+use Rattle.sqlite_rules.specs.declared.error.Refusal.{Refusal}
+use Rattle.sqlite_typing.specs.Types.{accepts_terms}
+use Rattle.sqlite.specs.declared.error.Error.{Error}
+use Rattle.sqlite.specs.declared.run.Mode.{Mode}
+use Rattle.sqlite.specs.Effect.{Database, value_rows, edit_error}
+use Rattle.sqlite.specs.Rows.{Part, Then, Written, Task, Edited, Inserts}
+use Rattle.sqlite.specs.Does.{Tally, OnTable, OnRows, AtPlace, WritesRows, Does, due}
+use Rattle.sqlite.specs.Listing.{understood}
+use Rattle.sqlite.specs.State.{State, Executes, ExecutesIn, IsNotRun, IsMisplaced, Fails, RunsCommand, shows_rows, is_pragma, text_of, mode_of}
+use Rattle.sqlite.specs.Effect.{is_query}
+use Rattle.sqlite.specs.Clock.{timed}
+use Rattle.sqlite.proofs.Callers.{IsPlain, command_of}
+use Rattle.table_access.specs.Statements.{plain_table}
+use Rattle.table_access.proofs.Answered.{is_whole, is_statement}
+use Rattle.table_access.proofs.Steps.{Means, no_works}
+use Rattle.table_access.proofs.Texts.{caused}
+
+-- it ends as this part stopped
+abbrev EndsAs : (B : Type 0) → Result B (Option Error) → Option Error → Type 0
+EndsAs B out stop = out ≡ Err stop
+
+-- a part that stopped, or the next that did
+stopped : {B R : Type 0} {Stops : Option Error → Type 0} (stop : Option Error) → ((s : Option Error) × Stops s × EndsAs B (Err stop) s) ⊎ R → Stops stop ⊎ R
+stopped {B} {R} {Stops} stop (inl h) = let same : h.0 ≡ stop = (let is = h.2 in cc) in inl (subst Stops same h.1)
+stopped stop (inr h) = inr h
+
+module _ (name : List ℕ) (tree : ℕ) (columns : List Column) (key : Option ℕ) (primary : List ℕ) (uniques : List (List ℕ)) (orders : List Order) (checks : List Term) (references : List Reference) where
+  abbrev here : Table
+  here = plain_table name tree columns key primary uniques orders checks references
+
+  -- an edit that takes no row out is refused by a rule, and by no action of a foreign key
+  edit_refused : (schema : Schema) (keys : Keys) (db : Trees) (rows : List Row) (e : Error) → Edited schema keys db (edit_of db here [] Chosen 0 rows) (Err (Some e))
+      → (why : Refusal) × IsRefused schema keys db (edit_of db here [] Chosen 0 rows) why × (e ≡ edit_error why)
+  edit_refused schema keys db rows e (None, writes, is) = absurd cc
+  edit_refused schema keys db rows e (Some why, inl refused, is) = let same : refused.0 ≡ why = (let h = refused.2 in cc) in (why, subst (IsRefused schema keys db (edit_of db here [] Chosen 0 rows)) same refused.1, (let h = is in cc))
+  edit_refused schema keys db rows e (Some why, inr (inl big), is) = absurd (let h = big.3 in cc)
+  edit_refused schema keys db rows e (Some why, inr (inr went), is) = absurd (settled went.2.0 (subst (λ stack. Leads schema keys went.2.0 went.0 stack (Err (Some why))) (no_works schema keys 0 tree (edit_of db here [] Chosen 0 rows).news) went.2.1))
+    where
+      settled : (n : ℕ) → Leads schema keys n went.0 [] (Err (Some why)) → ⊥
+      settled zero h = let e = h.1 in cc
+      settled (suc n) h = omega (arith, ap length h.2, length-append h.0 (h.1 ∷ []))
+
+  module _ (sql : List ℕ) (params : Row) (old new : State) (at : ℕ) (found : slice_get old.now.schema.tables at ≡ Some here) (terms : List Term) (width : ℕ) (means : Means old.now.schema sql (Insert at (Values terms width)))
+      (whole : is_whole sql (length params) (understood old.now.schema sql) ≡ true) (typed : accepts_terms terms params ≡ true) (unlimited : old.step_limit ≡ None) where
+    abbrev task : Task
+    task = record { limit = old.step_limit; keys = (mode_of old).keys; schema = old.now.schema; table = here; params = params }
+
+    abbrev edit : Edit
+    edit = edit_of old.now.trees here [] Chosen 0 (value_rows params width (length terms / width) terms)
+
+    -- a rule of the table refuses the row, or it refers to a row that isn't there
+    abbrev pub IsUnfit : Error → Type 0
+    IsUnfit e =
+        ((why : Refusal) × IsRefused old.now.schema (mode_of old).keys old.now.trees edit why × (e ≡ edit_error why))
+        ⊎ ((w : Written) × WritesRows task old.now.trees (Insert at (Values terms width)) (Ok w) × (¬ Refers (due (mode_of old)) old.now.schema w.trees))
+
+    rows_refused : (e : Error) → Inserts task (Values terms width) old.now.trees (Err (Some e)) → IsUnfit e
+    rows_refused e h = elim (stopped (Some e) h) [
+      | inl source ↦ elim source [
+          | inl kind ↦ absurd (let clash = subst (λ ps. accepts_terms terms ps ≡ false) (append-nil params) kind.1 in let e2 : true ≡ false = sym typed ∙ clash in cc)
+          | inr limited ↦ absurd (let some = rw unlimited at limited.1 in cc)
+        ]
+      | inr given ↦ elim (stopped (Some e) given.2) [
+          | inl counter ↦ absurd (let h = counter in cc)
+          | inr counted ↦ elim (stopped (Some e) counted.2) [
+              | inl edited ↦ inl (edit_refused old.now.schema (mode_of old).keys old.now.trees _ e (subst (λ rows. Edited old.now.schema (mode_of old).keys old.now.trees (edit_of old.now.trees here [] Chosen 0 rows) (Err (Some e))) (given.1.1 ∙ ap (λ ps. value_rows ps width (length terms / width) terms) (append-nil params)) edited))
+              | inr done ↦ elim (stopped (Some e) done.2) [ inl counts ↦ absurd (let h = counts in cc) | inr last ↦ absurd (let h = last.2 in cc) ]
+            ]
+        ]
+    ]
+
+    row_refused : (e : Error) → OnRows task (mode_of old) None (Insert at (Values terms width)) old.now.trees (Err (Some e)) → IsUnfit e
+    row_refused e h = elim (stopped (Some e) h) [
+      | inl written ↦ rows_refused e written
+      | inr written ↦ elim (stopped (Some e) written.2) [
+          | inl tested ↦ inr (written.0, written.1, tested.0)
+          | inr passed ↦ elim (stopped (Some e) passed.2) [ inl shown ↦ absurd (let h = shown in cc) | inr last ↦ absurd (let h = last.2 in cc) ]
+        ]
+    ]
+
+    -- an INSERT of one row fails as the store fails, or since the row is unfit
+    pub insert_fails : (e : Error) → Executes sql params old new (Err e) → Fails old new ⊤ e ⊎ IsUnfit e
+    unfolding ExecutesIn IsNotRun
+    insert_fails e (inl (inl h)) = absurd (is_statement sql params old means.plain whole e h.0)
+    insert_fails e (inl (inr h)) = inl (h.0, h.1, caused old new _ h.0 h.2, h.3, h.4)
+    insert_fails e (inr h) =
+        let bare = subst IsPlain h.1.is means.plain in
+        let known : h.0.command ≡ Insert at (Values terms width) = ap command_of (sym h.1.is) ∙ means.is in
+        elim (cases_Bool (shows_rows false h.0)) [
+          | inl shows ↦ absurd (let e2 : false ≡ true = subst₂ (λ k r. (is_query k || (not false && (is_pragma k || is_some r))) ≡ true) known bare.0 shows in cc)
+          | inr runs ↦ elim (rw runs at h.2) [
+              | inl same ↦ elim same.0 [
+                  | inl misplaced ↦ absurd (subst (λ k. IsMisplaced old k e → ⊥) (sym known) (placed e) misplaced)
+                  | inr does ↦ inr (row_refused e (subst (λ o. AtPlace (λ table. OnRows (record task { table = table }) (mode_of old) None (Insert at (Values terms width)) old.now.trees) o (Err (Some e))) found
+                      (subst₂ (λ k r. Does old.step_limit (mode_of old) params old.now (text_of sql h.0) r k (Err (Some e))) known bare.0 (subst (λ ps. Does old.step_limit (mode_of old) ps old.now (text_of sql h.0) h.0.returning h.0.command (Err (Some e))) (ap (λ formats. timed params formats h.1.now) bare.1 ∙ append-nil params) does.1))))
+                ]
+              | inr fails ↦ inl (fails.0, fails.1, caused old new _ fails.0 fails.2, fails.3, fails.4)
+            ]
+        ]
+      where
+        placed : (e : Error) → IsMisplaced old (Insert at (Values terms width)) e → ⊥
+        placed e (inl (is, inl begins)) = let k = begins.0 in cc
+        placed e (inl (is, inr (inl commits, outside))) = let k = commits in cc
+        placed e (inl (is, inr (inr rolls, outside))) = let k = rolls in cc
+        placed e (inr (is, name, inl releases, none)) = let k = releases in cc
+        placed e (inr (is, name, inr back, none)) = let k = back in cc
