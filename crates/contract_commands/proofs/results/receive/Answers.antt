@@ -6,6 +6,7 @@ use Rattle.broker_core.specs.State.{State}
 use Rattle.broker_core.specs.Change.{result_of_run}
 use Rattle.broker_tables.specs.Holds.{Holds}
 use Rattle.contract_tables.specs.Verified.{told_of}
+use Rattle.broker_tables.proofs.QueryLemmas.{in_store}
 use Rattle.contract_commands.specs.Results.{reported_version, reported_result, IsNumbered, told_row}
 use Rattle.contract_commands.proofs.ResultLemmas.{row_told, none_told, numbered}
 use Rattle.contract_commands.proofs.results.receive.Goals as goal
@@ -31,7 +32,7 @@ returns-in-Some g c =
     let known = first s held in
     let used = second s known.1 in
     ((numbered s provider report c.as_str.result.now c.as_str-2.result.now number c.as_str.ensures c.as_str-2.ensures known.0, used.0), used.1))
-    c.in-Ok.ensures c.in-Ok-read_run.ensures)
+    (in_store old mid (Ok number) _ c.in-Ok.ensures) c.in-Ok-read_run.ensures)
 
 pub returns-in-None : goal.returns-in-None
 returns-in-None g c =
@@ -52,5 +53,5 @@ returns-in-None g c =
     let known = first s held in
     let used = second s known.1 in
     ((numbered s provider report c.as_str.result.now c.as_str-2.result.now number c.as_str.ensures c.as_str-2.ensures known.0, used.0), used.1))
-    c.in-Ok.ensures c.in-Ok-read_run.ensures)
+    (in_store old one (Ok number) _ c.in-Ok.ensures) c.in-Ok-read_run.ensures)
     c.receive_new.ensures

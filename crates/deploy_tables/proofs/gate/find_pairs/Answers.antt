@@ -28,5 +28,5 @@ returns g c =
     (λ s read pairs listed number. needs_read s v n e own there c.in-Ok-contracts_with.value.items read.0.0 read.0.1 read.1 pairs.items listed number)
     (rw (c.deref-2.ensures.value, c.deref-3.ensures.value, c.deref-4.ensures.value) at c.pairs_of.ensures.all)
     (query_then old two new c.in-Ok-contracts_of.value _ _ _ _ (λ s read consumers found. (read, found))
-    (query_then old one two c.in-Ok.value _ _ _ (λ mine s. (Lists standing_cmp (IsStanding s e) there × AreNumbered s e) × ((w : Version) → number_of s.versions w ≡ Some n → Lists contract_cmp (IsOwnContract s w) mine.items)) (λ s stands own mine. (stands, mine)) c.in-Ok.ensures c.in-Ok-contracts_of.ensures)
+    (query_then old one two c.in-Ok.value _ _ _ (λ mine s. (Lists standing_cmp (IsStanding s e) there × AreNumbered s e) × ((w : Version) → number_of s.versions w ≡ Some n → Lists contract_cmp (IsOwnContract s w) mine.items)) (λ s stands own mine. (stands, mine)) c.in-Ok.ensures c.in-Ok-contracts_of.ensures.answers.call)
     (rw c.deref.ensures.value at c.in-Ok-contracts_with.ensures))

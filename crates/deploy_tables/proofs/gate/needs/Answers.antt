@@ -20,5 +20,5 @@ returns g c =
     query_then old two new c.in-Ok-latest_results.value c.with_latest.result _ _ _
     (λ s read found told number. subst (Lists need_cmp (IsNeed s v e)) (sym (told read.1 (read.0 number).0)) (read.0 number).1)
     (query_then old one two c.in-Ok.value _ _ _ (λ results s. (number_of s.versions v ≡ Some n → AreNumberedPairs s pairs × Lists need_cmp (IsNeed s v e) (map (need_in s) pairs)) × AreLatestOf s n results.items)
-    (λ s paired results listed. (paired, listed)) c.in-Ok.ensures c.in-Ok-latest_results.ensures)
+    (λ s paired results listed. (paired, listed)) c.in-Ok.ensures c.in-Ok-latest_results.ensures.answers.call)
     (rw c.deref.ensures.value at c.with_latest.ensures)

@@ -23,5 +23,5 @@ returns g c =
     (λ s both rows told is. let it = both is in
     told v (is, subst (Lists contract_cmp (IsOwnContract s v)) (sym c.deref-2.ensures.value) it.0, subst (Lists entry_cmp (IsEntry s v)) (sym c.deref-3.ensures.value) it.1))
     (query_then old read paired contracts (Ok entries) _ _ (λ found s. number_of s.versions v ≡ Some n → Lists contract_cmp (IsOwnContract s v) contracts.items × Lists entry_cmp (IsEntry s v) found.items)
-    (λ s one found two is. let own = one v is in (own, two is (subst (Lists contract_cmp (IsOwnContract s v)) (sym c.deref.ensures.value) own))) c.in-Ok.ensures c.in-Ok-entries_of.ensures)
+    (λ s one found two is. let own = one v is in (own, two is (subst (Lists contract_cmp (IsOwnContract s v)) (sym c.deref.ensures.value) own))) c.in-Ok.ensures.answers.call c.in-Ok-entries_of.ensures)
     c.with_results.ensures

@@ -11,4 +11,4 @@ returns g c =
     let v = c.args.version.now in
     query_then (state g.S.Store c.args.conn.now) (state g.S.Store c.verified_contents.new.conn) (state g.S.Store c.of_contents.new.conn) c.in-Ok.value c.of_contents.result _ _ _
     (λ s listed found here is x. of_listed (λ d. IsOfContent s v d x) (λ d. IsNewest s d.content v d.result) content_cmp c.in-Ok.value.items c.deref.result.now (listed v is) c.deref.ensures.value (Contains found.items x) (here x))
-    c.in-Ok.ensures c.of_contents.ensures
+    c.in-Ok.ensures.answers.call c.of_contents.ensures
