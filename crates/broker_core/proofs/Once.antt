@@ -180,4 +180,4 @@ module _ (parts : Primitives) (is_refusal : FormFault → Bool) (s : State) (one
 -- the law
 pub step_once : (parts : Primitives) → StepOnce parts
 unfolding Same
-step_once parts is_refusal s token c a b one are x y = one_step parts is_refusal s one token c are a b x y
+step_once parts is_refusal c are s token a b one x y = one_step parts is_refusal s one token c are a b x y

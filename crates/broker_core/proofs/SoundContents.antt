@@ -326,8 +326,8 @@ module _ (parts : Primitives) (again : ReadsAgain parts) (s : State) (sound : Ha
   acts_sound (Malformed fault) out x = absurd x
 
 -- sound contents stay sound, whatever is asked
-pub contents_stay : (parts : Primitives) → ContentsStay parts
-contents_stay parts s token c out again sound x = elim (acts-or-same parts s token c out x) [
+pub contents_stay : (parts : Primitives) → ReadsAgain parts → ContentsStay parts
+contents_stay parts again s token c out sound x = elim (acts-or-same parts s token c out x) [
   | inl still ↦ subst (HasSoundContents parts) (sym still) sound
   | inr acts ↦ acts_sound parts again s sound c out acts
 ]

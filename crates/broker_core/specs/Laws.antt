@@ -15,7 +15,7 @@ use Rattle.broker_core.specs.Request.{is_known, consumer_version}
 use Rattle.broker_core.specs.Change.{Transition}
 use Rattle.broker_core.specs.Machine.{Primitives, Reading, HasDigest, pact_text, Step, Request, Run}
 use Rattle.broker_core.specs.Machine.Reading.{IsPact, IsRefused}
-use Rattle.broker_core.specs.Contents.{HasSoundContents, ReadsAgain}
+use Rattle.broker_core.specs.Contents.{HasSoundContents}
 use Rattle.broker_core.specs.Listed.{IsListed}
 
 -- no two teams have tokens with one digest: else a digest would have two callers. No step gives two teams one digest
@@ -39,7 +39,7 @@ OpeningIsSound parts = (office : Text) → HasSoundContents parts (opening offic
 -- sound contents stay sound, whatever is asked
 abbrev pub ContentsStay : Primitives → Type 0
 ContentsStay parts =
-    (s : State) (token : Option Text) (command : Command) (out : Transition) → ReadsAgain parts
+    (s : State) (token : Option Text) (command : Command) (out : Transition)
     → HasSoundContents parts s → Step parts s token command out → HasSoundContents parts out.state
 
 -- the version v, or one that stands in e
@@ -175,12 +175,6 @@ LeavesSessions parts s [] last = last ≡ s
 LeavesSessions parts s (cs ∷ css) last =
     (next : State) × IsSession cs × LeavesAll parts s cs next × LeavesSessions parts next css last
 
--- the clauses of the calls compose over every list of sessions
-abbrev pub SessionsCompose : Primitives → Type 0
-SessionsCompose parts =
-    (s last : State) (css : List (List (Request × Exit))) → LeavesSessions parts s css last
-    → Sessions parts s (sessions_of css) last
-
 -- each session's cut request comes first in the next session, and it isn't a result without a run
 abbrev pub BeginsWith : Option Request → List Session → Type 0
 BeginsWith None xs = Unit {0}
@@ -267,10 +261,15 @@ IsReadOnce parts is_refusal (Malformed fault) = Unit {0}
 abbrev pub AnswersRefusal : (FormFault → Bool) → Answer → Type 0
 AnswersRefusal is_refusal answer = (fault : FormFault) × (answer ≡ BadForm fault) × IsTrue (is_refusal fault)
 
--- two steps of one command in one state are one, unless one of them answers that a pattern was refused
-abbrev pub StepOnce : Primitives → Type 0
-StepOnce parts =
-    (is_refusal : FormFault → Bool) (s : State) (token : Option Text) (command : Command) (a b : Transition)
-    → TeamsDiffer s → IsReadOnce parts is_refusal command
+-- two steps of this command in one state are one, unless one of them answers that a pattern was refused
+abbrev pub HasOneStep : Primitives → (FormFault → Bool) → Command → Type 0
+HasOneStep parts is_refusal command =
+    (s : State) (token : Option Text) (a b : Transition) → TeamsDiffer s
     → Step parts s token command a → Step parts s token command b
     → (a ≡ b) ⊎ (AnswersRefusal is_refusal a.answer ⊎ AnswersRefusal is_refusal b.answer)
+
+-- a command has one step where it is read in one way
+abbrev pub StepOnce : Primitives → Type 0
+StepOnce parts =
+    (is_refusal : FormFault → Bool) (command : Command) → IsReadOnce parts is_refusal command
+    → HasOneStep parts is_refusal command

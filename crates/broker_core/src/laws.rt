@@ -1,7 +1,8 @@
 //! Laws of the definitions. The program calls none of these.
+ghost use Rattle.broker_core.specs.Contents.{ReadsAgain};
 ghost use Rattle.broker_core.specs.Machine.{Primitives};
 ghost use Rattle.broker_core.specs.Headline.{DeploysExactly, ReleasesExactly, PermitsVerified};
-ghost use Rattle.broker_core.specs.Laws.{OnlyDoneChanges, OpeningIsSound, ContentsStay, GateLocality, GateAnswersOnce, Retry, SessionsCompose, RunsOnce, StepExists, StepOnce};
+ghost use Rattle.broker_core.specs.Laws.{OnlyDoneChanges, OpeningIsSound, ContentsStay, GateLocality, GateAnswersOnce, Retry, RunsOnce, StepExists, StepOnce};
 ghost use Rattle.broker_core.specs.RunHeadline.{RunsDeployExactly, RunsReleaseExactly, TeamsStayApart, TeamsBeginApart};
 ghost use Rattle.broker_core.specs.Sessions.{SessionsRun};
 
@@ -37,17 +38,16 @@ pub fn only_done_changes<M: Machine>()
     ensures { OnlyDoneChanges M.primitives }
 {}
 
-/// Each stored text is one pact's normal text, stands once, and belongs to its contracts and
-/// results: of a new broker, and after every step from such a state, where the normal text of a
-/// pact reads as this pact.
+/// Each stored text is one pact's normal text, is stored once, and belongs to its contracts and
+/// results: of a new broker, and after every step from such a state, if the normal text of a pact
+/// reads as this pact.
 pub fn contents_stay<M: Machine>()
     ensures opening { OpeningIsSound M.primitives }
-    ensures steps { ContentsStay M.primitives }
+    ensures steps { ReadsAgain M.primitives → ContentsStay M.primitives }
 {}
 
 /// The answer to a deployment depends on its caller, on what the version and its environment have,
-/// and on the contracts and
-/// latest results of the version and of what stands there, and on nothing else.
+/// and on the contracts and latest results of the version and of what is there, and on nothing else.
 pub fn gate_locality<M: Machine>()
     ensures every_state { GateLocality M.primitives }
     ensures one_answer { GateAnswersOnce M.primitives }
@@ -59,12 +59,6 @@ pub fn retry<M: Machine>()
     ensures { Retry M.primitives (λ s. Unit {0}) }
 {}
 
-/// What the calls of each session leave, one session after another, is a list of runs, each with at
-/// most one request that was cut.
-pub fn sessions_compose<M: Machine>()
-    ensures { SessionsCompose M.primitives }
-{}
-
 /// The states after a list of sessions are just those of runs over what is done of them: of each
 /// session the requests that were answered by a step, and the one that was cut, or not that one. So
 /// of each session just a prefix is done, which holds every request that was answered.
@@ -72,19 +66,19 @@ pub fn sessions_run<M: Machine>()
     ensures { SessionsRun M.primitives }
 {}
 
-/// Where each request that was cut comes again, the state is that of a run over all requests, each
-/// once.
+/// If each request that was cut comes again, the state is that of a run over all requests, each once.
 pub fn runs_once<M: Machine>()
     ensures { RunsOnce M.primitives }
 {}
 
-/// Every command has a step, in each state whose tables are finite and whose contents are sound,
-/// where its file is read and its replies are compared.
+/// Every command has a step, in each state whose tables are finite and whose contents are sound, if
+/// its file is read and its replies are compared.
 pub fn step_exists<M: Machine>()
     ensures { StepExists M.primitives }
 {}
 
-/// A command has one step, unless one of the two answers that a pattern was refused.
+/// A command that is read in one way has one step, unless one of the two answers that a pattern was
+/// refused.
 pub fn step_once<M: Machine>()
     ensures { StepOnce M.primitives }
 {}

@@ -11,3 +11,5 @@ pub mod Blank
 pub mod Judgements
 pub mod MigrationLemmas
 pub mod MakeLemmas
+pub mod ListedLemmas
+pub mod StoredLemmas

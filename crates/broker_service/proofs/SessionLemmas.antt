@@ -19,7 +19,7 @@ use Rattle.broker_service.specs.BrokerView.{BrokerView}
 use Rattle.broker_service.specs.Handed.{left_by}
 use Rattle.command_facts.specs.Primitives.{broker_primitives}
 use Rattle.broker_service.specs.Stored.{Stores, HoldsState}
-use Rattle.broker_service.specs.Sessions.{FindsOnly, HoldsOne, Only, exit_of, LeavesOne, OpensOne, RunsCalls, GivenLeaves, IsOpenedOn, SessionLeaves, SessionsLeave, LedTo, SessionsFromFound, SessionsFromNew, SessionsRetried}
+use Rattle.broker_service.specs.Sessions.{FindsOnly, HoldsOne, Only, exit_of, LeavesOne, OpensOne, RunsCalls, GivenLeaves, IsOpenedOn, SessionLeaves, SessionsLeave, LedTo, SessionsFromFound, SessionsFromNew, SessionsKeepLatest, SessionsRetried}
 use Rattle.broker_service.specs.declared.broker.Refused.{Refused}
 use Rattle.broker_service.proofs.SchemaLemmas.{one_schema}
 
@@ -175,6 +175,9 @@ module _ {X : Type 0} (shown : Held X → State) (settled : (c : Held X) (t : Tr
       let one = given_lead shown (opening office) (Ok b) calls mid (makes.blank clean blank none) first in
       let rest = all_lead one.0 mid left all one.3 it in
       led (opening office) rest.0 (calls ∷ all) left (one.0, one.1, one.2, rest.1) rest.2
+
+pub keeps_latest : {X : Type 0} (shown : Held X → State) → SessionsKeepLatest shown
+keeps_latest shown s left all led = record { schema = led.on_disk.schema; sound = led.on_disk.sound; has = led.on_disk.has.tables.latest }
 
 pub retried : {X : Type 0} (shown : Held X → State) → SessionsRetried shown
 retried shown s left all again led = runs_once broker_primitives s led.state (sessions_of all) again led.is_after

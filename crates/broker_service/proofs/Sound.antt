@@ -11,7 +11,7 @@ use Rattle.pact_reading.proofs.Again.{reads_again}
 use Rattle.command_facts.specs.Primitives.{broker_primitives}
 
 pub stays_sound : (s : State) (token : Option Text) (command : Command) (out : Transition) → HasSoundContents broker_primitives s → Step broker_primitives s token command out → HasSoundContents broker_primitives out.state
-stays_sound s token command out sound step = contents_stay broker_primitives s token command out reads_again sound step
+stays_sound s token command out sound step = contents_stay broker_primitives reads_again s token command out sound step
 
 pub opens_sound : (office : Text) → HasSoundContents broker_primitives (opening office)
 opens_sound office = opening_is_sound broker_primitives office

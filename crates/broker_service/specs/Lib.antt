@@ -7,5 +7,6 @@ pub mod Migration
 pub mod Handed
 pub mod Sessions
 pub mod SessionFiles
+pub mod Laws
 pub mod Calls
 pub mod Transaction

@@ -2,7 +2,7 @@
 -- project's own). A program may be stopped at any call on the disk, from which on no call on the disk does anything.
 -- So a call in which the program is stopped leaves what it leaves at its end over a disk that fails, and its answer is
 -- seen by nobody.
-use Rattle.std.specs.Prelude.{◌≡◌, ◌≤◌, ◌⊎◌, ◌↔◌, List, [], ◌∷◌, false, IsTrue, Result, Ok, Err}
+use Rattle.std.specs.Prelude.{◌≡◌, ◌≤◌, ◌⊎◌, ◌↔◌, List, [], ◌∷◌, false, IsTrue, codes, Result, Ok, Err}
 use Rattle.sqlite.specs.Tree.{Trees}
 use Rattle.sqlite.specs.Effect.{Database}
 use Rattle.sqlite.specs.Held.{Held}
@@ -16,7 +16,9 @@ use Rattle.broker_core.specs.Laws.{Exit, CallLeaves, LeavesSessions, Sessions, s
 use Rattle.broker_core.specs.Laws.Exit.{Stepped, NoStep, WasCut}
 use Rattle.broker_core.specs.declared.answer.Answer.{Answer}
 use Rattle.broker_core.specs.declared.answer.Answer.TheVariants as answer
+use Rattle.broker_tables.specs.Holds.{AreLatest}
 use Rattle.broker_tables.specs.Making.{IsBlank}
+use Rattle.broker_tables.specs.Rows.{rows_of}
 use Rattle.broker_tables.specs.Schema.{no_schema}
 use Rattle.broker_service.specs.BrokerView.{BrokerView}
 use Rattle.broker_service.specs.Handed.{left_by}
@@ -181,6 +183,13 @@ module _ {X : Type 0} (shown : Held X → State) where
       (calls : List (Request × Exit)) (sessions : List (List (Request × Exit)))
       → HoldsDurably IsBlank (shown conn) → (shown conn).now.schema ≡ no_schema → MakingLeaves conn office (Ok b)
       → GivenLeaves (Ok b) calls mid → SessionsLeave mid sessions left → LedTo (opening office) (calls ∷ sessions) left
+
+  -- and what is found there of latest results is right: for each content and each version of its provider the result
+  -- with the greatest number
+  abbrev pub SessionsKeepLatest : Type 0
+  SessionsKeepLatest =
+      (s : Broker) (left : Trees) (sessions : List (List (Request × Exit))) (led : LedTo s sessions left)
+      → IsOnDisk (λ db. AreLatest led.state (rows_of db (codes "latest"))) left
 
   -- where each cut command comes first in the next session and is answered by a step there, the state is that of a
   -- run over all commands, each once

@@ -1,11 +1,13 @@
 //! The laws of the machine as this broker runs it. The program calls none of these.
 ghost use Rattle.broker_core.specs.Headline.{DeploysExactly, ReleasesExactly, PermitsVerified};
-ghost use Rattle.broker_core.specs.Laws.{OnlyDoneChanges, OpeningIsSound, ContentsStay, GateLocality, GateAnswersOnce, Retry, SessionsCompose, RunsOnce, StepExists, StepOnce};
-ghost use Rattle.broker_core.specs.Sessions.{SessionsRun};
+ghost use Rattle.broker_core.specs.Laws.{OpeningIsSound, ContentsStay, GateLocality, GateAnswersOnce, HasOneStep, Retry};
+ghost use Rattle.broker_core.specs.declared.command.Command.{Command};
+ghost use Rattle.pact_reading.specs.Readings.{is_refusal};
 ghost use Rattle.sqlite.specs.Held.{state};
 ghost use Rattle.command_facts.specs.Primitives.{broker_primitives};
+ghost use Rattle.broker_service.specs.Laws.{StoredRunsDeployExactly, StoredRunsReleaseExactly, StoredTeamsDiffer, StoredStepExists};
 ghost use Rattle.broker_service.specs.SessionFiles.{FilesFromFound, FilesFromNew};
-ghost use Rattle.broker_service.specs.Sessions.{SessionsFromFound, SessionsFromNew, SessionsRetried};
+ghost use Rattle.broker_service.specs.Sessions.{SessionsFromFound, SessionsFromNew, SessionsKeepLatest, SessionsRetried};
 
 use broker_core::laws::{self, Machine};
 use sqlite::Alter;
@@ -27,20 +29,24 @@ pub fn headline()
     laws::headline::<BrokerMachine>()
 }
 
-/// See [`laws::only_done_changes`].
-pub fn only_done_changes()
-    ensures { OnlyDoneChanges broker_primitives }
-{
-    laws::only_done_changes::<BrokerMachine>()
-}
+/// The sentence for which this broker exists, over a list of requests. In each run of the machine from
+/// a state that a database holds, each deployment is recorded exactly when every contract between the
+/// version and the partners there has a successful latest verification, no required provider is absent
+/// and the caller's team is granted, all in the state in which it comes; otherwise its answer names
+/// every failing or missing pair, or the denying rule, and nothing changes. So is each release. `serve`
+/// promises such a run of the requests of a stream. No two teams have tokens with one digest in a state
+/// that a database holds, and so in none of these (`callers`).
+pub fn headline_of_run()
+    ensures deployments { StoredRunsDeployExactly }
+    ensures releases { StoredRunsReleaseExactly }
+    ensures callers { StoredTeamsDiffer }
+{}
 
-/// See [`laws::contents_stay`].
+/// See [`laws::contents_stay`]: here the normal text of a pact reads as this pact.
 pub fn contents_stay()
     ensures opening { OpeningIsSound broker_primitives }
     ensures steps { ContentsStay broker_primitives }
-{
-    laws::contents_stay::<BrokerMachine>()
-}
+{}
 
 /// See [`laws::gate_locality`].
 pub fn gate_locality()
@@ -62,59 +68,39 @@ pub fn retry<S: Alter>()
 }
 
 /// Stopped at any call on the disk, in a command or between two, any number of times, and opened
-/// again, the tables are those of the commands done: wherever sessions of calls of [`Broker`] lead,
+/// again, the tables are those of the commands done. A session is from a connection that is open to
+/// its end; what a stop leaves while a connection is opened, `open_files` of `sqlite` says. Wherever sessions of calls of [`Broker`] lead,
 /// the state that is found in the files is one that the machine reaches by taking, session after
 /// session, a step for each command that was answered by a step, with that answer, and then the step
 /// of the command that was cut or answered `Store`, or nothing. So of each session just a prefix is
-/// done, which holds every acknowledged command ([`sessions_run`]). Sessions begin from files in
-/// which a state is found, as `open` finds it, or with the making of a broker. The disk is one that
-/// returns what was written and that nobody else writes.
+/// done, which holds every acknowledged command ([`laws::sessions_run`]). And the latest results that
+/// are found are right: for each content and each version of its provider the one with the greatest
+/// number of that state (`latest`). Sessions begin from files in which a state is found, as `open`
+/// finds it, or with the making of a broker. The disk is one that returns what was written and that
+/// nobody else writes.
 ///
 /// [`Broker`]: crate::Broker
 pub fn sessions<S: Alter>()
     ensures found { SessionsFromFound (state S.Store) }
     ensures new { SessionsFromNew (state S.Store) }
+    ensures latest { SessionsKeepLatest (state S.Store) }
 {}
 
 /// The same down to the files of a disk: each session opens files like those that a crash may leave
-/// behind the one before, and the files that are left at the end hold a state to which the sessions
-/// lead.
+/// after the one before, whether its connection was closed, as at a program's end, or given up; and the
+/// files that are left at the end hold a state to which the sessions lead.
 pub fn sessions_on_files<D: Disk>()
     ensures found { FilesFromFound D.Disk }
     ensures new { FilesFromNew D.Disk }
 {}
 
-/// See [`laws::sessions_compose`].
-pub fn sessions_compose()
-    ensures { SessionsCompose broker_primitives }
-{
-    laws::sessions_compose::<BrokerMachine>()
-}
-
-/// See [`laws::sessions_run`].
-pub fn sessions_run()
-    ensures { SessionsRun broker_primitives }
-{
-    laws::sessions_run::<BrokerMachine>()
-}
-
-/// See [`laws::runs_once`].
-pub fn runs_once()
-    ensures { RunsOnce broker_primitives }
-{
-    laws::runs_once::<BrokerMachine>()
-}
-
-/// See [`laws::step_exists`].
+/// Every command has a step in each state that a database holds, if its file is read and its replies
+/// are compared.
 pub fn step_exists()
-    ensures { StepExists broker_primitives }
-{
-    laws::step_exists::<BrokerMachine>()
-}
+    ensures { StoredStepExists }
+{}
 
-/// See [`laws::step_once`].
+/// A command has one step, unless one of the two answers that a pattern was refused.
 pub fn step_once()
-    ensures { StepOnce broker_primitives }
-{
-    laws::step_once::<BrokerMachine>()
-}
+    ensures { (command : Command) → HasOneStep broker_primitives is_refusal command }
+{}

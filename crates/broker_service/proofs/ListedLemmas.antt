@@ -1,0 +1,144 @@
+-- The tables of a state that a database holds are finite.
+use Rattle.std.proofs.Common.{◌≡◌, ℕ, ℤ, pos, List, [], ◌∷◌, ◌++◌, map, true, false, inl, inr, refl, sym, ap, subst, ◌∙◌, Some, None, Option, codes}
+use Rattle.std.specs.Prelude.{Contains, is_some, option_map, option_and_then}
+use Rattle.std.specs.Option.{option_map_or}
+use Rattle.std.specs.Ordering.{int_cmp}
+use Rattle.std.specs.Cmp.Lexicographic.{nat_list_cmp_total}
+use Rattle.std.proofs.lemmas.List.Elements.{Contains-append_left, Contains-append_right}
+use Rattle.std.proofs.lemmas.Map.Views.{Contains-from_any}
+use Rattle.sqlite.specs.Order.{Row}
+use Rattle.sqlite.specs.Effect.{Database}
+use Rattle.sqlite_rules.specs.Lists.{Has}
+use Rattle.table_access.specs.Columns.{text, text_cmp, whole_at, by_both}
+use Rattle.table_access.proofs.Maps.{find_has}
+use Rattle.broker_core.specs.declared.command.Version.{Version}
+use Rattle.broker_core.specs.Listed.{Covers, IsListed}
+use Rattle.broker_core.specs.State.{State as Broker}
+use Rattle.broker_core.specs.Text.{Text, version}
+use Rattle.broker_core.proofs.Judgement.{version_is}
+use Rattle.broker_core.proofs.Lists.{contains_none, contains_cases, contains_here, contains_later}
+use Rattle.broker_tables.specs.Holds.{Holds}
+use Rattle.broker_tables.specs.Numbers.{number_of}
+use Rattle.broker_tables.specs.Rows.{rows_of, value_at, stands_at}
+use Rattle.broker_tables.proofs.NumberLemmas.{known_numbered}
+use Rattle.broker_tables.proofs.Orders.{exact_texts, marked_total, exact_marked, triples_total, exact_triple, placed_total, exact_placed}
+use Rattle.broker_tables.proofs.Standing.{stands_found}
+
+-- ---- lists
+
+-- what a row has is among what the rows have
+of_rows : {K : Type 0} (f : Row → K) (rows : List Row) (r : Row) → Has rows r → Contains (map f rows) (f r)
+of_rows f [] r has = absurd has
+of_rows f (x ∷ rows) r (inl is) = subst (λ (y : Row). Contains (f x ∷ map f rows) (f y)) (sym is) (contains_here (f x) (map f rows))
+of_rows f (x ∷ rows) r (inr later) = contains_later (f x) (map f rows) (f r) (of_rows f rows r later)
+
+mapped : {A B : Type 0} (f : A → B) (xs : List A) (x : A) → Contains xs x → Contains (map f xs) (f x)
+mapped f [] x c = absurd (contains_none x c)
+mapped {A} f (y ∷ ys) x c = elim (contains_cases y ys x c) [
+  | inl here ↦ subst (λ (z : A). Contains (f y ∷ map f ys) (f z)) here (contains_here (f y) (map f ys))
+  | inr later ↦ contains_later (f y) (map f ys) (f x) (mapped f ys x later)
+]
+
+-- each element of one list with each of another
+abbrev with_each : {A B : Type 0} → List A → List B → List (A × B)
+with_each [] ys = []
+with_each {A} {B} (x ∷ xs) ys = map {B = A × B} (λ y. (x, y)) ys ++ with_each xs ys
+
+all_pairs : {A B : Type 0} (xs : List A) (ys : List B) (x : A) (y : B) → Contains xs x → Contains ys y → Contains (with_each xs ys) (x, y)
+all_pairs [] ys x y c d = absurd (contains_none x c)
+all_pairs {A} {B} (w ∷ xs) ys x y c d = elim (contains_cases w xs x c) [
+  | inl here ↦ Contains-append_left (map {B = A × B} (λ q. (w, q)) ys) (with_each xs ys) (x, y) (subst (λ (z : A). Contains (map {B = A × B} (λ q. (w, q)) ys) (z, y)) here (mapped (λ q. (w, q)) ys y d))
+  | inr later ↦ Contains-append_right (map {B = A × B} (λ q. (w, q)) ys) (with_each xs ys) (x, y) (all_pairs xs ys x y later d)
+]
+
+-- a version that has a number is there
+is_there : (s : Broker) (v : Version) (n : ℕ) → number_of s.versions v ≡ Some n → Contains s.versions v
+is_there s v n is = Contains-from_any version_is v s.versions (sym (known_numbered s v) ∙ ap is_some is)
+
+-- ---- the tables
+
+module _ (db : Database) (s : Broker) (held : Holds db s) where
+  abbrev teams : List Row
+  teams = rows_of db (codes "teams")
+
+  abbrev contracts : List Row
+  contracts = rows_of db (codes "contracts")
+
+  abbrev deployed : List Row
+  deployed = rows_of db (codes "deployed")
+
+  abbrev released : List Row
+  released = rows_of db (codes "released")
+
+  abbrev contract_key : Row → ℤ × Text
+  contract_key r = (whole_at 1 r, text 2 r)
+
+  abbrev place : Row → Text × (Text × Text)
+  place r = (text 1 r, (text 2 r, text 3 r))
+
+  abbrev flat : Text × (Text × Text) → Text × Text × Text
+  flat k = (k.0, k.1.0, k.1.1)
+
+  abbrev release_key : Row → Text × ℤ
+  release_key r = (text 1 r, whole_at 2 r)
+
+  all_teams : Covers s.teams (map (text 1) teams)
+  all_teams team digest is =
+      let row = find_has nat_list_cmp_total exact_texts (text 1) (text 2) team digest teams (held.teams team ∙ is) in
+      subst (Contains (map (text 1) teams)) (sym row.2) (of_rows (text 1) teams row.0 row.1)
+
+  all_contracts : Covers s.contracts (with_each s.versions (map (text 2) contracts))
+  all_contracts (v, provider) content is = go (number_of s.versions v) refl (held.contracts v provider ∙ ap (option_map pos) is)
+    where
+      go : (o : Option ℕ) → number_of s.versions v ≡ o
+          → option_and_then (λ (n : ℕ). value_at (by_both int_cmp text_cmp) contract_key (whole_at 3) contracts (pos n, provider)) o ≡ Some (pos content)
+          → Contains (with_each s.versions (map (text 2) contracts)) (v, provider)
+      go None none e = absurd cc
+      go (Some n) numbered e =
+          let row = find_has marked_total exact_marked contract_key (whole_at 3) (pos n, provider) (pos content) contracts e in
+          all_pairs s.versions (map (text 2) contracts) v provider (is_there s v n numbered)
+          (subst (Contains (map (text 2) contracts)) (sym (ap (λ (k : ℤ × Text). k.1) row.2)) (of_rows (text 2) contracts row.0 row.1))
+
+  all_deployed : Covers s.deployed (map (λ r. flat (place r)) deployed)
+  all_deployed (e, p, instance) name is =
+      go (value_at (by_both text_cmp (by_both text_cmp text_cmp)) place (whole_at 4) deployed (e, (p, instance))) refl
+      (held.deployed e p instance ∙ ap (option_map (λ (q : Text). option_map pos (number_of s.versions (version p q)))) is)
+    where
+      go : (o : Option ℤ) → value_at (by_both text_cmp (by_both text_cmp text_cmp)) place (whole_at 4) deployed (e, (p, instance)) ≡ o
+          → option_map Some o ≡ Some (option_map pos (number_of s.versions (version p name))) → Contains (map (λ r. flat (place r)) deployed) (e, p, instance)
+      go None none wrong = absurd cc
+      go (Some n) found right =
+          let row = find_has triples_total exact_triple place (whole_at 4) (e, (p, instance)) n deployed found in
+          subst (Contains (map (λ r. flat (place r)) deployed)) (sym (ap flat row.2)) (of_rows (λ r. flat (place r)) deployed row.0 row.1)
+
+  all_released : (k : Text × Version) → s.released k ≡ true → Contains (with_each (map (text 1) released) s.versions) k
+  all_released (e, v) is = go (number_of s.versions v) refl (held.released e v ∙ is)
+    where
+      go : (o : Option ℕ) → number_of s.versions v ≡ o
+          → option_map_or (λ (n : ℕ). stands_at (by_both text_cmp int_cmp) release_key released (e, pos n)) o false ≡ true
+          → Contains (with_each (map (text 1) released) s.versions) (e, v)
+      go None none wrong = absurd cc
+      go (Some n) numbered stands =
+          at_row (value_at (by_both text_cmp int_cmp) release_key release_key released (e, pos n)) refl (stands_found (by_both text_cmp int_cmp) release_key release_key released (e, pos n) ∙ stands)
+        where
+          at_row : (o : Option (Text × ℤ)) → value_at (by_both text_cmp int_cmp) release_key release_key released (e, pos n) ≡ o → is_some o ≡ true
+              → Contains (with_each (map (text 1) released) s.versions) (e, v)
+          at_row None none wrong = absurd cc
+          at_row (Some k) found there =
+              let row = find_has placed_total exact_placed release_key release_key (e, pos n) k released found in
+              all_pairs (map (text 1) released) s.versions e v
+              (subst (Contains (map (text 1) released)) (sym (ap (λ (q : Text × ℤ). q.0) row.2)) (of_rows (text 1) released row.0 row.1)) (is_there s v n numbered)
+
+  pub listed : IsListed s
+  listed = record {
+    keys = record {
+      contracts = with_each s.versions (map (text 2) contracts);
+      deployed = map (λ r. flat (place r)) deployed;
+      released = with_each (map (text 1) released) s.versions;
+      all_contracts = all_contracts;
+      all_deployed = all_deployed;
+      all_released = all_released;
+    };
+    teams = map (text 1) teams;
+    all_teams = all_teams;
+  }
