@@ -13,3 +13,4 @@ pub mod MigrationLemmas
 pub mod MakeLemmas
 pub mod ListedLemmas
 pub mod StoredLemmas
+pub mod FormerOpening
