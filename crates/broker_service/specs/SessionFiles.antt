@@ -1,11 +1,13 @@
 -- Sessions over files: what a crash leaves of the files of one session, the next session opens.
-use Rattle.std.specs.Prelude.{◌≡◌, List, [], ◌∷◌, Result, Ok, IsTrue}
+use Rattle.std.specs.Prelude.{◌≡◌, ◌⊎◌, List, [], ◌∷◌, Result, Ok, IsTrue}
 use Rattle.sqlite_disk.specs.declared.Disk.{Ghosts}
 use Rattle.sqlite_disk.specs.declared.Files.{Files}
+use Rattle.sqlite.specs.Closing.{IsCopied}
 use Rattle.sqlite.specs.Tree.{Trees}
 use Rattle.sqlite.specs.Recovery.{Image}
 use Rattle.sqlite.specs.declared.FileStore.{FileStore}
 use Rattle.sqlite_store.specs.FileStore.{state as store_state, view, recovers}
+use Rattle.sqlite.specs.WalFiles.{outcomes}
 use Rattle.sqlite.specs.Held.{Held, AreDatabases}
 use Rattle.sqlite.specs.State.{HasCleanDisk}
 use Rattle.sqlite.specs.Files.{HoldsDatabase, Finds, IsOpened, file_state, image_of}
@@ -28,12 +30,19 @@ module _ {D : Type 0} (g : Ghosts D) where
     pub sound : AreDatabases (recovers store)
     pub outcomes : (trees : Trees) → recovers store trees → (file_state conn).may_leave trees
 
-  -- what a crash may leave of the files behind a session
+  -- A connection is over, and a crash may leave these files: its store was given back, as after a stop or a failure; or
+  -- its files were closed, as at a program's end.
+  abbrev pub EndsWith : Held (FileStore D g) → Image → Type 0
+  EndsWith conn left =
+      ((store : FileStore D g) × IsGivenBack conn store × (store_state store).may_leave left)
+      ⊎ ((files : Files D) × IsCopied conn files × outcomes g files.log files.db left)
+
+  -- what a crash may leave of the files after a session
   abbrev pub LeavesFiles : Result (BrokerView (FileStore D g)) (Refused (FileStore D g)) → List (Request × Exit)
       → Image → Type 0
   LeavesFiles given calls left =
-      (last : Held (FileStore D g)) × (store : FileStore D g) × GivenRuns file_state given calls last
-      × HasCleanDisk (file_state last) × IsGivenBack last store × (store_state store).may_leave left
+      (last : Held (FileStore D g)) × GivenRuns file_state given calls last
+      × HasCleanDisk (file_state last) × EndsWith last left
 
   -- a session on files like these
   abbrev pub SessionOnFiles : Image → List (Request × Exit) → Image → Type 0
