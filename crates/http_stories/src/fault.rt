@@ -2,7 +2,7 @@
 use crate::flaw::Flaw;
 use broker_http::ServeFault;
 use broker_service::OpenFault;
-use std::alloc::{AllocError, AllocFailed};
+use std::alloc::AllocError;
 use std::io;
 use thiserror::Error;
 
@@ -20,7 +20,7 @@ pub(crate) enum Fault {
     Broker,
     /// A statement was refused.
     #[error("a statement: {0}")]
-    Statement(sqlite::Error),
+    Statement(#[from] sqlite::Error),
     /// The broker isn't opened again.
     #[error("no broker: {0}")]
     Opening(OpenFault),
@@ -29,41 +29,11 @@ pub(crate) enum Fault {
     Flaw(Flaw),
     /// Serving failed.
     #[error("serving failed: {0}")]
-    Serve(ServeFault),
+    Serve(#[from] ServeFault),
     /// A file couldn't be read.
     #[error("a file: {0}")]
-    File(io::Error),
+    File(#[from] io::Error),
     /// There was no memory.
     #[error("out of memory")]
-    Memory,
-}
-
-impl From<AllocError> for Fault {
-    fn from(_: AllocError) -> Fault {
-        Fault::Memory
-    }
-}
-
-impl<T: Drop> From<AllocFailed<T>> for Fault {
-    fn from(_: AllocFailed<T>) -> Fault {
-        Fault::Memory
-    }
-}
-
-impl From<io::Error> for Fault {
-    fn from(error: io::Error) -> Fault {
-        Fault::File(error)
-    }
-}
-
-impl From<sqlite::Error> for Fault {
-    fn from(error: sqlite::Error) -> Fault {
-        Fault::Statement(error)
-    }
-}
-
-impl From<ServeFault> for Fault {
-    fn from(fault: ServeFault) -> Fault {
-        Fault::Serve(fault)
-    }
+    Memory(#[from(alloc)] AllocError),
 }
