@@ -13,7 +13,7 @@ use broker_core::need::PairFault;
 use json::Writer;
 use std::alloc::AllocError;
 
-/// What stands under a key of an item.
+/// What is under a key of an item.
 #[derive(Clone, Copy, Drop)]
 pub(crate) enum Scalar<'a> {
     Null,

@@ -1,4 +1,4 @@
-//! What stands under the keys of an answer's body.
+//! What is under the keys of an answer's body.
 ghost use Rattle.answer_texts.specs.Parts.{part_data};
 
 use crate::writing::{ToJson, write_items};
@@ -8,7 +8,7 @@ use broker_core::need::PairFault;
 use json::Writer;
 use std::alloc::AllocError;
 
-/// What stands under a key.
+/// What is under a key.
 #[derive(Clone, Copy, Drop)]
 pub(crate) enum Part<'a> {
     Text(&'a str),

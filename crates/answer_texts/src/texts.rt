@@ -117,7 +117,7 @@ fn matrix_text(alloc: Global, rows: &[MatrixRow]) -> Result<String, AllocError>
     object_text(alloc, &members)
 }
 
-/// The text of an environment; `strict` stands in it where the environment is strict.
+/// The text of an environment; `strict` is in it if the environment is strict.
 fn environment_text<'a>(
     alloc: Global,
     environment: &'a str,
@@ -143,7 +143,7 @@ fn environment_text<'a>(
     }
 }
 
-/// The text of a judgement; `strict` stands in it where the environment is strict.
+/// The text of a judgement; `strict` is in it if the environment is strict.
 fn gate_text<'a>(
     alloc: Global,
     environment: &'a str,

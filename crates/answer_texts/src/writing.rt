@@ -16,7 +16,7 @@ pub(crate) trait ToJson {
     /// The value.
     ghost as_json: { Self → Data };
 
-    /// Writes it behind what is written. An `Err` is want of memory.
+    /// Writes it after what is written. An `Err` means out of memory.
     fn write(&self, out: &mut Writer) -> Result<(), AllocError>
         ensures { OnOk result (Adds (tokens_of (as_json self.now)) out.old out.new) };
 }

@@ -23,7 +23,7 @@ pub struct MatrixRow {
     pub consumer: Name,
     pub consumer_version: Name,
     pub provider: Name,
-    /// None where no version of the provider has a result for the contract's content.
+    /// None if no version of the provider has a result for the contract's content.
     pub verified: Option<Verified>,
 }
 
@@ -36,7 +36,7 @@ pub struct Verified {
     pub latest: Latest,
 }
 
-/// Items in an order that is told where they are used. What a contract sees of them is the list.
+/// Items in an order that is said where they are used. What a contract sees of them is the list.
 #[derive(Debug, Drop)]
 pub struct Items<T> {
     items: Vec<T>,
@@ -81,7 +81,7 @@ pub type Versions = Items<Version>;
 /// The rows of a matrix, in the order of faults.
 pub type MatrixRows = Items<MatrixRow>;
 
-/// What `done` and `already` tell beside the word.
+/// What `done` and `already` say beside the word.
 #[derive(Debug, Drop)]
 pub enum Detail {
     Plain,
@@ -103,14 +103,14 @@ pub enum Detail {
 pub enum Shown {
     /// A pact, as its normal text.
     Pact(Text),
-    /// What stands in an environment.
+    /// What is in an environment.
     Environment {
         environment: Name,
         marks: Marks,
         deployed: DeployedItems,
         released: Versions,
     },
-    /// What can-i-deploy says. The faults are told also where the environment isn't gated.
+    /// What can-i-deploy says. The faults are listed also if the environment isn't gated.
     Gate {
         environment: Name,
         marks: Marks,
@@ -168,10 +168,10 @@ impl fmt::Display for Missing {
     }
 }
 
-/// What stands already, otherwise.
+/// What is there already, with something else.
 #[derive(Clone, Copy, Debug, PartialEq, Eq)]
 pub enum Clash {
-    /// The name stands with something else beside it.
+    /// The name is there, with something else beside it.
     Name,
     /// The token is another caller's.
     Token,
@@ -208,12 +208,12 @@ impl fmt::Display for Clash {
     }
 }
 
-/// The answer to a command. `Done` alone tells of a change.
+/// The answer to a command. Only `Done` reports a change.
 #[derive(Debug, Drop)]
 pub enum Answer {
     /// The command did what it asks for.
     Done(Detail),
-    /// What it asks for stood already.
+    /// What it asks for was there already.
     Already(Detail),
     /// What it asked to see.
     Shown(Shown),
@@ -223,7 +223,7 @@ pub enum Answer {
     Unknown(Missing),
     /// Its form is at fault.
     BadForm(FormFault),
-    /// Something else stands in its place.
+    /// Something else is in its place.
     Taken(Clash),
     /// It would need a number over 1,000,000,000.
     Full,

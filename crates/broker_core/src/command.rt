@@ -21,13 +21,12 @@ pub struct Version {
     pub name: Name,
 }
 
-/// What an environment asks of a deployment: that the gate judges it, and that the gate trusts
-/// checked results alone.
+/// What an environment asks of a deployment: that the gate judges it, and that the gate trusts only checked results.
 #[derive(Clone, Copy, Debug, PartialEq, Eq)]
 pub struct Marks {
     /// The gate judges deployments and releases.
     pub gated: bool,
-    /// The gate takes checked results alone. A strict environment is a gated one.
+    /// The gate takes only checked results. A strict environment is a gated one.
     pub strict: bool,
 }
 
@@ -119,7 +118,7 @@ pub enum Command {
         environment: Name,
         marks: Marks,
     },
-    /// Lets a team deploy into an environment.
+    /// Allows a team to deploy into an environment.
     PutGrant {
         team: Name,
         environment: Name,
@@ -129,7 +128,7 @@ pub enum Command {
         team: Name,
         environment: Name,
     },
-    /// Names a version, and puts it on a branch where one is given.
+    /// Names a version, and puts it on a branch if one is given.
     PutVersion {
         version: Version,
         branch: Option<Name>,
@@ -150,13 +149,13 @@ pub enum Command {
         consumer: Name,
         branch: Name,
     },
-    /// Tells the outcome of a verification, as its sender claims it.
+    /// Reports the outcome of a verification, as its sender claims it.
     PostResult {
         path: PactPath,
         report: Report,
         success: bool,
     },
-    /// Tells recorded replies, which the broker checks: the whole body.
+    /// Sends recorded replies, which the broker checks: the whole body.
     PostReplies {
         path: PactPath,
         report: Report,
@@ -184,7 +183,7 @@ pub enum Command {
         environment: Name,
         version: Version,
     },
-    /// Lists what stands in an environment.
+    /// Lists what is in an environment.
     GetEnvironment {
         environment: Name,
     },
@@ -197,7 +196,6 @@ pub enum Command {
     GetMatrix {
         version: Version,
     },
-    /// A request of a known route whose path, query or body is at fault: it is told after the token
-    /// was looked at.
+    /// A request of a known route whose path, query or body is at fault: it is reported after the token was looked at.
     Malformed(FormFault),
 }

@@ -19,10 +19,10 @@ fn faults_of(alloc: Global, needs: &[Need], strict: bool) -> Result<Vec<PairFaul
     Ok(faults)
 }
 
-/// The fault of each need that isn't good, once, in the order of faults. A strict environment takes
-/// checked results alone.
+/// The fault of each need that isn't good, once, in the order of faults. A strict environment takes only checked
+/// results.
 ///
-/// The error is want of memory.
+/// The error means out of memory.
 pub fn decide(alloc: Global, needs: &[Need], strict: bool) -> Result<Vec<PairFault>, AllocError>
     ensures { IfOk result (λ faults. Lists fault_cmp (IsFaultAmong strict needs.now) faults.items) }
 {

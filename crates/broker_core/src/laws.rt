@@ -11,10 +11,10 @@ pub trait Machine {
     ghost primitives: { Primitives };
 }
 
-/// A deployment into a gated environment is recorded exactly when every contract between the
-/// version and the partners standing there has a successful latest verification, no required
-/// provider is absent and the caller's team is granted; otherwise the answer names every failing or
-/// missing pair, or the denying rule, and nothing changes. A release is judged in the same way.
+/// A deployment into a gated environment is recorded exactly when every contract between the version and the partners
+/// that are there has a successful latest verification, no required provider is absent and the caller's team is
+/// granted; otherwise the answer names every failing or missing pair, or the denying rule, and nothing changes. A
+/// release is judged in the same way.
 pub fn headline<M: Machine>()
     ensures deployments { DeploysExactly M.primitives }
     ensures releases { ReleasesExactly M.primitives }
@@ -53,15 +53,14 @@ pub fn gate_locality<M: Machine>()
     ensures one_answer { GateAnswersOnce M.primitives }
 {}
 
-/// A command that comes twice leaves what it leaves once; a result without a run, which is counted
-/// each time, aside.
+/// A command that comes twice leaves what it leaves once, except a result without a run, which is counted each time.
 pub fn retry<M: Machine>()
     ensures { Retry M.primitives (λ s. Unit {0}) }
 {}
 
-/// The states after a list of sessions are just those of runs over what is done of them: of each
-/// session the requests that were answered by a step, and the one that was cut, or not that one. So
-/// of each session just a prefix is done, which holds every request that was answered.
+/// The states after a list of sessions are exactly those of runs over what is done of them: of each session the
+/// requests that were answered by a step, and the one that was cut, or not that one. So of each session exactly a
+/// prefix is done, which holds every request that was answered.
 pub fn sessions_run<M: Machine>()
     ensures { SessionsRun M.primitives }
 {}

@@ -5,7 +5,7 @@ ghost use Rattle.broker_core.specs.Limit.{HasRoom};
 /// The greatest number of a version, of a content and of a result (this project's own choice).
 pub const GREATEST_NUMBER: u64 = 1_000_000_000;
 
-/// Whether one more may be numbered where `count` stand: numbers go from 1 to [`GREATEST_NUMBER`].
+/// Whether one more may be numbered if there are `count`: numbers go from 1 to [`GREATEST_NUMBER`].
 pub fn room(count: u64) -> bool
     ensures { IsTrue result ↔ HasRoom count }
 {

@@ -53,8 +53,7 @@ pub enum NameFault {
 impl Name {
     /// A copy of the text as a name.
     ///
-    /// [`NameFault::BadName`] comes exactly where the text isn't a name, before memory is asked
-    /// for.
+    /// [`NameFault::BadName`] comes if and only if the text isn't a name, before memory is asked for.
     pub fn new(alloc: Global, text: &str) -> Result<Name, NameFault>
         ensures ok { IfOk result (λ name. (name ≡ text.now) × IsName text.now) }
         ensures bad { IsErrOf result NameFault.BadName ↔ (¬ (IsName text.now)) }
@@ -173,8 +172,7 @@ fn is_token_byte(byte: u8) -> bool
 impl Token {
     /// A copy of the text as a token.
     ///
-    /// [`TokenFault::BadToken`] comes exactly where the text isn't a token, before memory is asked
-    /// for.
+    /// [`TokenFault::BadToken`] comes if and only if the text isn't a token, before memory is asked for.
     pub fn new(alloc: Global, text: &str) -> Result<Token, TokenFault>
         ensures ok { IfOk result (λ token. (token ≡ text.now) × IsToken text.now) }
         ensures bad { IsErrOf result TokenFault.BadToken ↔ (¬ (IsToken text.now)) }

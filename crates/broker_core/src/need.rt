@@ -27,16 +27,16 @@ pub struct Need {
     pub consumer: Name,
     pub consumer_version: Name,
     pub provider: Name,
-    /// None where the provider is absent from the environment.
+    /// None if the provider is absent from the environment.
     pub provider_version: Option<Name>,
-    /// None where that version has no result for the contract's content.
+    /// None if that version has no result for the contract's content.
     pub latest: Option<Latest>,
 }
 
 /// What a need lacks.
 #[derive(Clone, Copy, Debug)]
 pub enum Kind {
-    /// No version of the provider stands in the environment.
+    /// No version of the provider is in the environment.
     Absent,
     /// The version of the provider has no result for the contract's content.
     Missing,
@@ -139,7 +139,7 @@ pub struct PairFault {
     pub consumer: Name,
     pub consumer_version: Name,
     pub provider: Name,
-    /// None where the provider is absent.
+    /// None if the provider is absent.
     pub provider_version: Option<Name>,
     pub kind: Kind,
 }
@@ -147,7 +147,7 @@ pub struct PairFault {
 impl Need {
     ghost use Rattle.broker_core.specs.Faults.{kind_of, fault_of};
 
-    /// What this need lacks, none where it is good.
+    /// What this need lacks, none if it is good.
     fn kind(&self, strict: bool) -> Option<Kind>
         ensures { result ≡ kind_of strict self.now.provider_version self.now.latest }
     {
@@ -166,7 +166,7 @@ impl Need {
         }
     }
 
-    /// The fault of this need, none where it is good.
+    /// The fault of this need, none if it is good.
     pub(crate) fn fault(&self, strict: bool) -> Result<Option<PairFault>, AllocError>
         ensures { IfOk result (λ fault. fault ≡ fault_of strict self.now) }
     {

@@ -14,14 +14,12 @@ pub enum Caller {
     Team(Name),
 }
 
-/// The rules of the policy. Each command is judged by one of them, which the answer names where it
-/// denies.
+/// The rules of the policy. Each command is judged by one of them, which the answer names if it denies.
 #[derive(Clone, Copy, Debug, PartialEq, Eq)]
 pub enum Rule {
     /// The token is the office's or a team's.
     A1,
-    /// The office alone names teams, pacticipants with their owners, and environments, and gives
-    /// and takes grants.
+    /// Only the office names teams, pacticipants with their owners, and environments, and gives and takes grants.
     A2,
     /// A version is named by the pacticipant's owner, and a pact published by the consumer's.
     A3,
@@ -74,7 +72,7 @@ impl fmt::Display for Rule {
 pub struct Ask {
     /// The rule by which the command is judged.
     pub rule: Rule,
-    /// The teams that own the pacticipants which count here; empty where none counts.
+    /// The teams that own the pacticipants which count here; empty if none counts.
     pub owners: Vec<Name>,
     /// Whether the caller's team has a grant for the command's environment.
     pub granted: bool,
@@ -89,7 +87,7 @@ impl Caller {
         matches!(self, Caller::Office)
     }
 
-    /// Whether the caller is a team that stands among the owners.
+    /// Whether the caller is a team that is among the owners.
     fn is_owner(&self, owners: &[Name]) -> bool
         ensures { result ≡ is_owner self.now owners.now }
     {
@@ -119,8 +117,7 @@ impl Caller {
     }
 }
 
-/// Whether the policy lets the caller do what is asked: nothing, or the rule that denies, which is
-/// the one asked for.
+/// Whether the policy allows the caller what is asked: nothing, or the rule that denies, which is the one asked for.
 ///
 /// `A1` and `A8` let every caller that is known. Takes no memory.
 pub fn allowed(caller: &Caller, ask: &Ask) -> Result<(), Rule>

@@ -6,7 +6,7 @@ use std::marker::Model;
 
 /// The bytes of a stream that were read and aren't taken yet. A contract sees them as a list, its `items`.
 ///
-/// What is taken stays in front of them until more is read, so that a message moves nothing where it came with others.
+/// What is taken stays in front of them until more is read, so that a message moves nothing if it came with others.
 #[derive(Drop)]
 pub struct Buffer {
     bytes: Vec<u8>,
@@ -57,7 +57,7 @@ impl Buffer {
         self.bytes.len() == self.taken
     }
 
-    /// Puts bytes behind them. An `Err` is want of memory.
+    /// Puts bytes after them. An `Err` means out of memory.
     pub(crate) fn extend(&mut self, bytes: &[u8]) -> Result<(), AllocError>
         ensures ok { OnOk result (self.new.items ≡ self.old.items ++ bytes.now) }
         ensures err { OnErr result (self.new.items ≡ self.old.items) }

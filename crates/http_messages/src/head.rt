@@ -127,7 +127,7 @@ pub struct Head {
     pub method: Method,
     /// How many bytes of body follow.
     pub body_len: usize,
-    /// Whether the connection closes behind the answer.
+    /// Whether the connection closes after the answer.
     pub closes: bool,
 }
 
@@ -157,7 +157,7 @@ fn is_too_large(text: &[u8]) -> bool
     head_len(text).is_none() || line_count(text) > FIELD_LIMIT + 2
 }
 
-/// Whether the connection closes behind the answer to a head of this minor version with these fields.
+/// Whether the connection closes after the answer to a head of this minor version with these fields.
 fn is_last(text: &[u8], minor: u8, fields: &[HeaderSpan]) -> bool
     requires { All (IsHeaderWithin (length text.now)) fields.now }
     ensures { result ≡ is_last minor
@@ -169,7 +169,7 @@ fn is_last(text: &[u8], minor: u8, fields: &[HeaderSpan]) -> bool
 /// Reads a head and makes the checks on it.
 ///
 /// `text` is a head text, or as many bytes as a head may have in which none ends.
-/// The first check that fails is told.
+/// The first check that fails is reported.
 pub fn read_head(text: &[u8]) -> Result<Head, Refused>
     ensures small { announced result ≤ BODY_LIMIT }
     ensures read { IsHeadRead text.now result }

@@ -6,7 +6,7 @@ const LINE_FEED: u8 = b'\n';
 
 const CARRIAGE_RETURN: u8 = b'\r';
 
-/// Whether nothing, or a carriage return alone, stands before the line feed.
+/// Whether nothing, or only a carriage return, is before the line feed.
 fn is_empty_line(line: &[u8]) -> bool
     ensures { result ≡ is_empty_line line.now }
 {

@@ -14,7 +14,7 @@ use thiserror::Error;
 /// How many bytes one read of a head takes at most, with what follows it.
 const PIECE: usize = HEAD_LIMIT;
 
-/// How many bytes one read of a body takes at most, where more of them are wanted than `PIECE`.
+/// How many bytes one read of a body takes at most, if more of them are wanted than `PIECE`.
 const LARGE_PIECE: usize = 32_768;
 
 /// Why no message could be read.
@@ -41,7 +41,7 @@ pub enum ReadOutcome {
     End,
 }
 
-/// How many bytes of body a head announces: none where it is refused.
+/// How many bytes of body a head announces: none if it is refused.
 fn announced(head: &Result<Head, Refused>) -> usize
     ensures { result ≡ announced head.now }
 {
@@ -84,7 +84,7 @@ fn read_piece<R: Read, const SIZE: usize>(
     }
 }
 
-/// Reads once of a body of which so many bytes are wanted, at most as many, in a large piece where it pays.
+/// Reads once of a body of which so many bytes are wanted, at most as many, in a large piece if it pays.
 fn read_body_piece<R: Read>(
     reader: &mut R,
     buffer: &mut Buffer,
@@ -108,7 +108,7 @@ fn read_body_piece<R: Read>(
     }
 }
 
-/// Reads until the buffer begins with a whole head, and gives its length: none where the reader ends before.
+/// Reads until the buffer begins with a whole head, and gives its length: none if the reader ends before.
 fn read_head_bytes<R: Read>(reader: &mut R, buffer: &mut Buffer) -> Result<Option<usize>, ReadFault>
     ensures ok { OnOk result
         (Gains (R.remaining reader.old) (R.remaining reader.new)
@@ -131,7 +131,7 @@ fn read_head_bytes<R: Read>(reader: &mut R, buffer: &mut Buffer) -> Result<Optio
     }
 }
 
-/// Reads until the buffer has so many bytes, and tells whether it has them: not where the reader ends before.
+/// Reads until the buffer has so many bytes, and says whether it has them: not if the reader ends before.
 fn read_up_to<R: Read>(reader: &mut R, buffer: &mut Buffer, len: usize) -> Result<bool, ReadFault>
     ensures ok { OnOk result
         (Gains (R.remaining reader.old) (R.remaining reader.new)

@@ -233,7 +233,7 @@ module _ (h : RequestHead) (body : List ℕ) where
   operation_one asked a b x y =
       x.4
       ∙ ap₂ (λ (token : Option (List ℕ)) (c : Command). request.Asks token c (is_last_head h)) (token_one (values_named (codes "authorization") (fields_of h)) x.1 y.1 x.3 y.3)
-          (command_one asked (path_of h.target) (query_of h.target) body x.0 y.0 x.2 y.2)
+      (command_one asked (path_of h.target) (query_of h.target) body x.0 y.0 x.2 y.2)
       ∙ sym y.4
 
   asked_one : (resource : Resource) (asked : Option Operation) (a b : Request) → ByAsked h body resource asked a → ByAsked h body resource asked b → a ≡ b

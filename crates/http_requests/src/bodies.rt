@@ -13,7 +13,7 @@ use broker_core::name::{Name, Text, Token, TokenFault};
 use serde_json::Value;
 use std::alloc::{AllocError, Global};
 
-/// The fields of a body: none where the body is no object of JSON.
+/// The fields of a body: none if the body is no object of JSON.
 #[derive(Drop)]
 pub(crate) struct Fields {
     object: Option<Value>,

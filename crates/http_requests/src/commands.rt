@@ -298,9 +298,9 @@ fn or_malformed(parsed: Result<Command, FormFault>) -> Command
 
 /// The command that an operation asks of a path, a query and a body.
 ///
-/// A command whose form is at fault is `Malformed` with its first fault: those of the names in the path
-/// come first, in the path's order, and then those of the body's fields or the query's keys in the
-/// order in which the command asks for them. An `Err` is want of memory.
+/// A command whose form is at fault is `Malformed` with its first fault: those of the names in the path come first, in
+/// the path's order, and then those of the body's fields or the query's keys in the order in which the command asks for
+/// them. An `Err` means out of memory.
 pub fn command_of(
     alloc: Global,
     operation: Operation,

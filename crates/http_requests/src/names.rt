@@ -9,7 +9,7 @@ use http_routes::segment;
 use percent_encoding::{DecodeError, percent_decode};
 use std::alloc::{AllocError, Global};
 
-/// A part of a command, or its fault. An `Err` is want of memory.
+/// A part of a command, or its fault. An `Err` means out of memory.
 pub(crate) type Parsed<T> = Result<Result<T, FormFault>, AllocError>;
 
 /// The name that a text is, if it is one.
@@ -23,7 +23,7 @@ pub(crate) fn name_of(alloc: Global, text: &str) -> Result<Option<Name>, AllocEr
     }
 }
 
-/// The name that a segment of a path stands for, if it stands for one.
+/// The name that a segment of a path means, if it means one.
 fn decode_name(alloc: Global, segment: &[u8]) -> Result<Option<Name>, AllocError>
     ensures { IfOk result (IsNamed (percent_decode segment.now)) }
 {

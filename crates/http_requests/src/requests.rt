@@ -20,8 +20,7 @@ use std::alloc::{AllocError, Global};
 /// What a message asks.
 #[derive(Drop)]
 pub enum Request {
-    /// The head is refused, and the connection closes. The answer goes without its body where `is_bodiless`
-    /// is true.
+    /// The head is refused, and the connection closes. The answer goes without its body if `is_bodiless` is true.
     Refused {
         refusal: Refusal,
         is_bodiless: bool,
@@ -35,7 +34,7 @@ pub enum Request {
         resource: Resource,
         closes: bool,
     },
-    /// A command. The connection closes behind its answer where `closes` is true.
+    /// A command. The connection closes after its answer if `closes` is true.
     Asks {
         token: Option<Token>,
         command: Command,
@@ -101,7 +100,7 @@ fn request_of(
     }
 }
 
-/// What a message asks, by its head, what was read of it, and its body. An `Err` is want of memory.
+/// What a message asks, by its head, what was read of it, and its body. An `Err` means out of memory.
 ///
 /// The checks are made in this order: those on the head, the route, the method, and then what the command
 /// reads.

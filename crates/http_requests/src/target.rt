@@ -2,7 +2,7 @@
 ghost use Rattle.std.specs.Prelude.{◌≡◌};
 ghost use Rattle.http_requests.specs.Requests.{path_of, query_of};
 
-/// A target's part before its first question mark, and the part behind it.
+/// A target's part before its first question mark, and the part after it.
 pub(crate) fn split_target(target: &[u8]) -> (&[u8], &[u8])
     ensures path { result.0.now ≡ path_of target.now }
     ensures query { result.1.now ≡ query_of target.now }

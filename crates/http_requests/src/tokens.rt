@@ -23,7 +23,7 @@ fn skip_spaces(text: &[u8]) -> &[u8]
     rest
 }
 
-/// What stands behind one or more spaces.
+/// What is after one or more spaces.
 fn behind_spaces(text: &[u8]) -> Option<&[u8]>
     ensures { option_map (λ t. t.now) result ≡ behind_spaces text.now }
 {
@@ -33,7 +33,7 @@ fn behind_spaces(text: &[u8]) -> Option<&[u8]>
     }
 }
 
-/// What stands behind the scheme Bearer.
+/// What is after the scheme Bearer.
 #[tactic(auto, unfolding(http_messages::specs::Fields::same_name))]
 fn credentials(value: &[u8]) -> Option<&[u8]>
     ensures { option_map (λ t. t.now) result ≡ credentials value.now }
@@ -73,8 +73,8 @@ fn only_credentials(field: Field<'_>) -> Option<&[u8]>
     }
 }
 
-/// The token of the field authorization, where it is there once with the scheme Bearer, one or more
-/// spaces and a token; the scheme is compared without ASCII case. An `Err` is want of memory.
+/// The token of the field authorization, if it is there once with the scheme Bearer, one or more spaces and a token;
+/// the scheme is compared without ASCII case. An `Err` means out of memory.
 pub fn caller_token(alloc: Global, field: Field<'_>) -> Result<Option<Token>, AllocError>
     ensures { (values : List (List ℕ)) → IsField values field.entry → IfOk result (IsTokenOf values) }
 {

@@ -13,7 +13,7 @@ const PHRASE_LIMIT: usize = 32;
 /// How many bytes the line with the status has at most: the version, 3 digits, and the phrase.
 const STATUS_LINE_LIMIT: usize = 15 + PHRASE_LIMIT;
 
-/// How many bytes the fields that tell of the body have at most, with 20 digits of its length.
+/// How many bytes the fields that describe the body have at most, with 20 digits of its length.
 const CONTENT_LIMIT: usize = 70;
 
 /// How many bytes the methods of a resource have at most, each with what parts it from the one before.
@@ -138,7 +138,7 @@ fn append_own_field(text: &mut Vec<u8>, status: StatusCode, resource: Option<Res
     }
 }
 
-/// Appends the fields that tell of the body.
+/// Appends the fields that describe the body.
 #[tactic(auto, unfolding(crate::specs::Head::content_fields))]
 fn append_content(text: &mut Vec<u8>, size: usize)
     requires fits { vec_len text.old + CONTENT_LIMIT ≤ vec_capacity text.old }
@@ -151,7 +151,7 @@ fn append_content(text: &mut Vec<u8>, size: usize)
     append(text, "\r\n");
 }
 
-/// Appends the field that closes the connection, where it does.
+/// Appends the field that closes the connection, if it does.
 #[tactic(auto, unfolding(crate::specs::Head::close_field))]
 fn append_close(text: &mut Vec<u8>, closes: bool)
     requires fits { vec_len text.old + CLOSE_LIMIT ≤ vec_capacity text.old }
@@ -167,7 +167,7 @@ fn append_close(text: &mut Vec<u8>, closes: bool)
 /// Writes the head of a response into an empty buffer that has the capacity for it. This takes no memory, so
 /// it can't fail.
 ///
-/// The methods of `resource` are written for the status 405 alone, `size` is the length of the body in bytes, also if it
+/// The methods of `resource` are written only for the status 405, `size` is the length of the body in bytes, also if it
 /// isn't sent.
 pub fn write_head(
     text: &mut Vec<u8>,

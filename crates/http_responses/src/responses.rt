@@ -46,7 +46,7 @@ fn append_front<'a>(text: &mut Vec<u8>, body: &'a [u8]) -> &'a [u8]
     rest
 }
 
-/// Writes the two parts of a response, the second by no call where it is empty.
+/// Writes the two parts of a response, the second by no call if it is empty.
 fn write_parts<W: Write>(writer: &mut W, front: &[u8], rest: &[u8]) -> Result<(), WriteFault>
     ensures ok { OnOk result (Appends (W.contents writer.old) (W.contents writer.new) (front.now ++ rest.now)) }
     ensures err { OnErr result ((n : ℕ) × (n < length (front.now ++ rest.now))
@@ -56,9 +56,9 @@ fn write_parts<W: Write>(writer: &mut W, front: &[u8], rest: &[u8]) -> Result<()
     write_whole(writer, rest)
 }
 
-/// Writes a response and tells whether the connection closes behind it. Its head goes through the empty
-/// buffer, which has the capacity for it, and with it what the buffer has room for of the body: so a response
-/// that fits goes out by one call of the writer, and the rest of one that doesn't by another.
+/// Writes a response and says whether the connection closes after it. Its head goes through the empty buffer, which has
+/// the capacity for it, and with it what the buffer has room for of the body: so a response that fits goes out by one
+/// call of the writer, and the rest of one that doesn't by another.
 fn write_response<W: Write>(
     writer: &mut W,
     head_buffer: Vec<u8>,
@@ -109,7 +109,7 @@ fn refusal_text(refusal: Refusal) -> &'static str
     }
 }
 
-/// Tells that a head is refused. The connection closes, which is the result `true`.
+/// Says that a head is refused. The connection closes, which is the result `true`.
 ///
 /// `head_buffer` is an empty buffer with the capacity of the head of a response, here and below.
 pub fn write_refusal<W: Write>(
@@ -132,7 +132,7 @@ pub fn write_refusal<W: Write>(
     write_response(writer, head_buffer, form, refusal_text(refusal))
 }
 
-/// Tells that a path has no route.
+/// Says that a path has no route.
 pub fn write_no_route<W: Write>(
     writer: &mut W,
     head_buffer: Vec<u8>,
@@ -151,7 +151,7 @@ pub fn write_no_route<W: Write>(
     write_response(writer, head_buffer, form, "{\"answer\":\"no route\"}")
 }
 
-/// Tells that a resource doesn't have the method, and which it has.
+/// Says that a resource doesn't have the method, and which it has.
 pub fn write_no_method<W: Write>(
     writer: &mut W,
     head_buffer: Vec<u8>,

@@ -55,7 +55,7 @@ pub enum Operation {
     GetMatrix,
 }
 
-/// One segment of a path, counted from 0, empty where there is none.
+/// One segment of a path, counted from 0, empty if there is none.
 #[tactic(auto, unfolding(crate::specs::Routes::segment))]
 pub fn segment(path: &[u8], index: usize) -> &[u8]
     ensures { result.now ≡ segment index path.now }

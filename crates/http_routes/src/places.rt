@@ -1,5 +1,5 @@
-//! Where the names stand in a path: which segment, counted from 0 by the slashes, so that what stands before the
-//! first slash is 0. `laws::places_are_right` says that they stand there in the routes.
+//! The places of the names in a path: which segment, counted from 0 by the slashes, so that what is before the first
+//! slash is 0. `laws::places_are_right` says that they are there in the routes.
 
 /// The name that a path is of: `/teams/{team}`, `/pacticipants/{pacticipant}`, `/environments/{environment}`.
 pub const OWN_NAME: usize = 2;

@@ -15,7 +15,7 @@ pub struct RouteTable {
     ghost whole: { router ≡ table },
 }
 
-/// Adds a route. An `Err` is want of memory, since no two of the routes conflict.
+/// Adds a route. An `Err` means out of memory, since no two of the routes conflict.
 fn add(router: &mut Router<Resource>, route: &str, resource: Resource) -> Result<(), AllocError>
     ensures { OnOk result (router.new ≡ with_route (parse_route route.now) resource router.old) }
 {
@@ -98,7 +98,7 @@ fn add_question_routes(router: &mut Router<Resource>) -> Result<(), AllocError>
 }
 
 impl RouteTable {
-    /// The table of all routes. An `Err` is want of memory.
+    /// The table of all routes. An `Err` means out of memory.
     pub fn new(alloc: Global) -> Result<RouteTable, AllocError> {
         let mut router = Router::new(alloc);
         add_registry_routes(&mut router)?;
