@@ -1,6 +1,8 @@
 -- From brokers to the machine.
 use Rattle.std.proofs.Common.{◌≡◌, ◌≢◌, ◌↔◌, inl, inr, ℕ, ◌≤◌, Bool, true, false, IsTrue, List, [], ◌∷◌, Option, refl, sym, ap, ◌∙◌, subst, arith}
-use Rattle.std.specs.Bool.{⊤}
+use Rattle.std.specs.Prelude.{length, Contains}
+use Rattle.sqlite.specs.Tree.{Trees}
+use Rattle.sqlite.proofs.StateLemmas.{survives_then}
 use Rattle.sqlite.specs.Held.{Held}
 use Rattle.sqlite.specs.State.{State, HasCleanDisk, Survives}
 use Rattle.broker_core.specs.Machine.{is_step}
@@ -11,8 +13,8 @@ use Rattle.broker_core.specs.declared.answer.Answer.TheVariants as answers
 use Rattle.broker_core.specs.declared.command.Command.{Command}
 use Rattle.broker_service.specs.BrokerView.{BrokerView}
 use Rattle.broker_service.specs.Calls.{Applied}
-use Rattle.broker_service.specs.Ends.{Applies}
-use Rattle.broker_service.proofs.Transaction.{outlives_itself, outlives}
+use Rattle.broker_service.specs.Ends.{Applies, CommitsAtMostOnce}
+use Rattle.broker_service.proofs.Transaction.{outlives_itself}
 use Rattle.http_responses.specs.Responses.{Response}
 use Rattle.broker_http.specs.Stream.{Responses}
 use Rattle.http_requests.specs.declared.requests.Request.{Request}
@@ -31,10 +33,20 @@ no_step answer e same = let wrong = ap is_step same in cc
 still_clean : (m n : ℕ) → m ≤ n → n ≡ 0 → m ≡ 0
 still_clean m n le e = omega (arith, le, e)
 
+-- one more commit, before the others
+first_commit : (commit : Trees) (commits : List Trees) (trees : Trees) → trees ≡ commit → Contains (commit ∷ commits) trees
+first_commit commit commits trees is = (0, omega arith, sym is)
+
+later_commit : (commit : Trees) (commits : List Trees) (trees : Trees) → Contains commits trees → Contains (commit ∷ commits) trees
+later_commit commit commits trees it = let below = it.1 in (suc it.0, omega arith, it.2)
+
 module _ {X : Type 0} (shown : Held X → State) where
-  untouched : (old new : BrokerView X) → new ≡ old → Survives (shown old.connection) (shown new.connection) (λ _. ⊤)
-  untouched old new same =
-      subst (λ (b : BrokerView X). Survives (shown old.connection) (shown b.connection) (λ _. ⊤)) (sym same) (outlives_itself (shown old.connection))
+  untouched : {P : Trees → Type 0} (old new : BrokerView X) → new ≡ old → Survives (shown old.connection) (shown new.connection) P
+  untouched {P} old new same =
+      subst (λ (b : BrokerView X). Survives (shown old.connection) (shown b.connection) P) (sym same) (outlives_itself (shown old.connection))
+
+  unwritten : (old new : BrokerView X) → new ≡ old → CommitsAtMostOnce (shown old.connection) (shown new.connection)
+  unwritten old new same = ((shown old.connection).now.trees, untouched old new same)
 
   -- an answer of a broker that runs
   applied : (s : Broker) (token : Option Text) (command : Command) (answer : Answer) (new : BrokerView X)
@@ -70,26 +82,31 @@ module _ {X : Type 0} (shown : Held X → State) where
 
   -- what the store promises of the connection, over one message
   survives : (old new : BrokerView X) (asked : Request) (response : Response) → exchange.Responds (Applied shown) old asked response new
-      → Survives (shown old.connection) (shown new.connection) (λ _. ⊤)
-  survives old new (Refused refusal is_bodiless) response p = untouched old new p.1
-  survives old new (NoRoute closes) response p = untouched old new p.1
-  survives old new (NoMethod resource closes) response p = untouched old new p.1
+      → CommitsAtMostOnce (shown old.connection) (shown new.connection)
+  survives old new (Refused refusal is_bodiless) response p = unwritten old new p.1
+  survives old new (NoRoute closes) response p = unwritten old new p.1
+  survives old new (NoMethod resource closes) response p = unwritten old new p.1
   survives old new (Asks token command closes) response p = p.1.survives
 
   -- and over a stream
   pub all_survive : (old : BrokerView X) (stream : List ℕ) (responses : List Response) (new : BrokerView X) (rest : List ℕ)
       → Responses (exchange.Exchange (Applied shown)) old stream responses new rest
-      → Survives (shown old.connection) (shown new.connection) (λ _. ⊤)
-  all_survive old stream [] new rest p = untouched old new p.0
+      → (commits : List Trees) × Survives (shown old.connection) (shown new.connection) (Contains commits) × (length commits ≤ length responses)
+  all_survive old stream [] new rest p = ([], untouched old new p.0, omega arith)
   all_survive old stream (response ∷ responses) new rest p =
-      outlives (shown old.connection) (shown p.1.connection) (shown new.connection)
-      (survives old p.1 p.4.0 response p.4.2) (all_survive p.1 p.2 responses new rest p.5)
+      let one = survives old p.1 p.4.0 response p.4.2 in
+      let later = all_survive p.1 p.2 responses new rest p.5 in
+      let fewer = later.2 in (
+        one.0 ∷ later.0,
+        survives_then (shown old.connection) (shown p.1.connection) (shown new.connection) _ _ _ (λ _ trees is. first_commit one.0 later.0 trees is) (λ _ trees is. later_commit one.0 later.0 trees is) one.1 later.1,
+        omega arith,
+      )
 
   -- a disk that is clean behind a stream was clean before
   all_clean : (old : BrokerView X) (stream : List ℕ) (responses : List Response) (new : BrokerView X) (rest : List ℕ)
       → Responses (exchange.Exchange (Applied shown)) old stream responses new rest
       → HasCleanDisk (shown new.connection) → HasCleanDisk (shown old.connection)
-  all_clean old stream responses new rest p clean = still_clean _ _ (all_survive old stream responses new rest p).clean clean
+  all_clean old stream responses new rest p clean = still_clean _ _ (all_survive old stream responses new rest p).1.clean clean
 
   -- what a broker answers is what the machine answers
   pub machine : (mode : Mode) (old : BrokerView X) (stream : List ℕ) (responses : List Response) (new : BrokerView X) (rest : List ℕ)

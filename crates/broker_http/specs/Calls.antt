@@ -1,5 +1,6 @@
 -- What the public call promises: how a broker answers a stream, and that the machine answers it so.
-use Rattle.std.specs.Prelude.{⊤, ℕ, Bool, List, Option, Result}
+use Rattle.std.specs.Prelude.{◌≤◌, ℕ, Bool, List, length, Contains, Option, Result, IfOk}
+use Rattle.sqlite.specs.Tree.{Trees}
 use Rattle.sqlite.specs.Held.{Held}
 use Rattle.sqlite.specs.State.{State, HasCleanDisk, Survives}
 use Rattle.broker_service.specs.BrokerView.{BrokerView}
@@ -46,5 +47,7 @@ module _ {X : Type 0} (shown : Held X → State) (s t : BrokerView X) (before af
     pub machine : HasCleanDisk (shown t.connection) → (mode : Mode) → IsInMode shown mode s
         → (last : Journal) × IsInMode shown last.mode t × IsRunFrom mode last
         × ServesStream ByMachine (blank mode) last before after old new result
-    -- what the store promises of the connection: it is shut by a fault of the disk alone, and its step limit stays
-    pub survives : Survives (shown s.connection) (shown t.connection) (λ _. ⊤)
+    -- what the store promises of the connection: it is shut by a fault of the disk alone, its step limit stays, and
+    -- what a crash may leave it could leave before, or it is one of these commits, at most one a message
+    pub survives : (commits : List Trees) × Survives (shown s.connection) (shown t.connection) (Contains commits)
+        × IfOk result (λ served. length commits ≤ served.answered)

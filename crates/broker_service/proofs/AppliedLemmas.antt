@@ -1,8 +1,8 @@
 -- What the broker's call leaves, put together from what its transaction leaves.
-use Rattle.std.proofs.Common.{◌≡◌, ◌↔◌, inl, inr, Option, Result, Ok, Err, IfOk, false, IsTrue, refl, sym, subst, arith, ◌∙◌}
-use Rattle.std.specs.Prelude.{◌≢◌, ⊤}
+use Rattle.std.proofs.Common.{◌≡◌, ◌↔◌, inl, inr, Option, Result, Ok, Err, IfOk, IfErr, false, IsTrue, refl, sym, subst, ◌∙◌}
+use Rattle.std.specs.Prelude.{◌≢◌}
 use Rattle.sqlite.specs.Held.{Held}
-use Rattle.sqlite.specs.State.{State, HasCleanDisk, Survives}
+use Rattle.sqlite.specs.State.{State, HasCleanDisk}
 use Rattle.table_access.specs.Calls.{KeepsLastCommit}
 use Rattle.table_access.specs.declared.StoreFault.{StoreFault}
 use Rattle.table_access.specs.declared.StoreFault.TheVariants as fault
@@ -14,10 +14,12 @@ use Rattle.broker_core.specs.declared.answer.Answer.TheVariants as answers
 use Rattle.broker_core.specs.declared.command.Command.{Command}
 use Rattle.broker_service.specs.BrokerView.{BrokerView}
 use Rattle.broker_service.specs.Calls.{Applied}
-use Rattle.broker_service.specs.Ends.{Applies, Ends, IsAsBefore, IsUnchangedUnlessDone}
+use Rattle.broker_service.specs.Causes.{HasReason, answer_of}
+use Rattle.broker_service.specs.Ends.{Applies, Ends, IsAsBefore, IsUnchangedUnlessDone, IsNoFailure, CommitsAtMostOnce, LeavesNoTransaction}
 use Rattle.broker_service.specs.Stored.{HoldsState}
 use Rattle.broker_service.proofs.EndLemmas.{deployed_exactly, released_exactly}
 use Rattle.broker_service.proofs.LeavingLemmas.{command_leaves, stopped_leaves}
+use Rattle.broker_service.proofs.Transaction.{outlives_itself}
 
 -- the answer that a transaction's end is told as
 abbrev pub told : Result Answer StoreFault → Answer
@@ -41,29 +43,41 @@ fails_told old new (Ok answer) it is = (it (subst (λ (a : Answer). ¬ (IsDone a
 fails_told old new (Err fault.Memory) it is = it.commit
 fails_told old new (Err fault.Store) it is = it
 
-runs_told : (r : Result Answer StoreFault) → IfOk r (λ answer. answer ≢ answers.Stopped) → told r ≢ answers.Stopped
-runs_told (Ok answer) it is = it is
+runs_told : (r : Result Answer StoreFault) → IfOk r IsNoFailure → told r ≢ answers.Stopped
+runs_told (Ok answer) it is = it.2 is
 runs_told (Err fault.Memory) it is = absurd (cc)
 runs_told (Err fault.Store) it is = absurd (cc)
+
+-- a fault is told of a failure alone
+cause_told : (P : StoreFault → Type 0) (r : Result Answer StoreFault) (failure : StoreFault) → IfOk r IsNoFailure → IfErr r P → told r ≡ answer_of failure → P failure
+cause_told P (Ok answer) fault.Memory it cause is = absurd (it.0 is)
+cause_told P (Ok answer) fault.Store it cause is = absurd (it.1 is)
+cause_told P (Err fault.Memory) fault.Memory it cause is = cause
+cause_told P (Err fault.Memory) fault.Store it cause is = absurd (cc)
+cause_told P (Err fault.Store) fault.Memory it cause is = absurd (cc)
+cause_told P (Err fault.Store) fault.Store it cause is = cause
 
 module _ {X : Type 0} (shown : Held X → State) where
   -- what a running broker's transaction leaves
   pub ran : (old : BrokerView X) (token : Option Text) (command : Command) (r : Result Answer StoreFault) (answer : Answer) (new : BrokerView X) → answer ≡ told r
       → (HasCleanDisk (shown new.connection) → (s : Broker) → HoldsState s (shown old.connection) → Ends s token command (shown new.connection) r)
       → (HasCleanDisk (shown new.connection) → IsUnchangedUnlessDone (shown old.connection) (shown new.connection) r)
-      → Survives (shown old.connection) (shown new.connection) (λ _. ⊤)
-      → IfOk r (λ a. a ≢ answers.Stopped) → (IsTrue new.is_stopped ↔ (answer ≡ answers.Store)) → old.is_stopped ≡ false → Applied shown old token command answer new
-  ran old token command r answer new is ends unchanged survives runs stops running = record {
+      → (HasCleanDisk (shown new.connection) → IfErr r (HasReason shown token command old.connection new.connection))
+      → LeavesNoTransaction (shown old.connection) (shown new.connection) → CommitsAtMostOnce (shown old.connection) (shown new.connection)
+      → IfOk r IsNoFailure → (IsTrue new.is_stopped ↔ (answer ≡ answers.Store)) → old.is_stopped ≡ false → Applied shown old token command answer new
+  ran old token command r answer new is ends unchanged cause over survives answered stops running = record {
     applies = λ clean _. applies clean;
     deployments = λ clean _ step s holds. deployed_exactly s token command _ answer (applies clean s holds) step;
     releases = λ clean _ step s holds. released_exactly s token command _ answer (applies clean s holds) step;
     unchanged = λ clean _ other undone. unchanged_told _ _ r (unchanged clean) (subst (λ (a : Answer). a ≢ answers.Store) is other) (subst (λ (a : Answer). ¬ (IsDone a)) is undone);
     fails = λ clean store. fails_told _ _ r (unchanged clean) (sym is ∙ store);
+    cause = λ clean _ failure told_as. cause_told (HasReason shown token command old.connection new.connection) r failure answered (cause clean) (sym is ∙ told_as);
+    over = over;
     stops = λ _. stops;
     stopped = λ stopped. absurd (cc);
-    runs = λ _. subst (λ (a : Answer). a ≢ answers.Stopped) (sym is) (runs_told r runs);
+    runs = λ _. subst (λ (a : Answer). a ≢ answers.Stopped) (sym is) (runs_told r answered);
     survives = survives;
-    leaves = command_leaves shown old (record { token = token; command = command }) answer new applies stops running survives.clean;
+    leaves = command_leaves shown old (record { token = token; command = command }) answer new applies stops running survives.1.clean;
   }
     where
       applies : HasCleanDisk (shown new.connection) → (s : Broker) → HoldsState s (shown old.connection) → Applies s token command (shown new.connection) answer
@@ -77,9 +91,11 @@ module _ {X : Type 0} (shown : Held X → State) where
     releases = λ clean running. absurd (cc);
     unchanged = λ clean running. absurd (cc);
     fails = λ clean store. absurd (cc);
+    cause = λ clean running. absurd (cc);
+    over = λ clean was. was;
     stops = λ running. absurd (cc);
     stopped = λ _. (refl, refl);
     runs = λ running. absurd (cc);
-    survives = record { clean = omega arith; shield = λ h. h; counts = omega arith; limit = refl; closes = λ _ h. inl h; crash = λ _ db h. inl h };
+    survives = ((shown b.connection).now.trees, outlives_itself (shown b.connection));
     leaves = stopped_leaves shown b (record { token = token; command = command }) is;
   }

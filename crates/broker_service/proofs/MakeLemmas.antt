@@ -12,7 +12,7 @@ use Rattle.broker_tables.specs.Former.{former_format}
 use Rattle.registry_tables.specs.Format.{FindsFormer}
 use Rattle.broker_service.specs.Ends.{IsAsBefore}
 use Rattle.broker_service.specs.Migration.{StoresFormer, HoldsFormerState, MigratesOrFails, IsUnchangedUnlessFormer, BringsUp}
-use Rattle.broker_service.specs.Opening.{CreatesOrFails, FailsUnchanged}
+use Rattle.broker_service.specs.Opening.{CreatesOrFails, FailsUnchanged, Refuses, open_fault}
 use Rattle.broker_service.specs.Stored.{Stores}
 use Rattle.broker_service.proofs.MigrationLemmas.{former_found}
 use Rattle.broker_service.proofs.Transaction.{IsTransaction, done_clean, seen, opened, kept, as_before, unsure, last_commit, keeps_on}
@@ -33,6 +33,11 @@ module _ (P Q : Database → Type 0) where
       (t.works.ok (done_clean old mid done new (Ok u) _ true false t clean) (seen old mid done new (Ok u) _ true false t clean P holds))
   make_ends old mid done new (Err fault) true t clean holds = creates_as_before old new fault (as_before old mid done new (Err fault) _ false true t clean refl) holds
   make_ends old mid done new (Err fault) false t clean holds = creates_as_before old new Store (as_before old mid done new (Err fault) _ false false t clean refl) holds
+
+-- as a failure is handed on
+pub refuses_as : (P Q : Database → Type 0) (new : State) (fault : StoreFault) → CreatesOrFails P Q new (Err fault) → Refuses P Q new (open_fault fault)
+refuses_as P Q new Memory it = it
+refuses_as P Q new Store it = it
 
 pub unmade_as_before : (old new : State) (fault : StoreFault) → IsAsBefore old new → FailsUnchanged old new (Err fault)
 unmade_as_before old new Memory is = is

@@ -1,10 +1,10 @@
 -- What a migration finds, and what it leaves of a state.
 use Rattle.std.proofs.Common.{◌≡◌, ◌≢◌, ◌==◌, ◌⊎◌, ◌++◌, ◌∷◌, [], inl, inr, ℕ, List, Bool, true, false, not, ◌&&◌, refl, sym, ap, subst, ◌∙◌, drop, Option, Some, None, Result, Ok, Err}
-use Rattle.std.specs.Prelude.{if◌then◌else◌, option_map, IsTrue, ◌↔◌, IsSomeAnd, Result, Ok, Err, OnOk, IfErr, ⊤}
+use Rattle.std.specs.Prelude.{if◌then◌else◌, option_map, IsTrue, ◌↔◌, IsSomeAnd, Result, Ok, Err, OnOk, IfErr}
 use Rattle.std.proofs.lemmas.Bool.{eqb-true, eqb-false}
 use Rattle.std.specs.Option.{option_map_or}
 use Rattle.sqlite.specs.Effect.{Database}
-use Rattle.sqlite.specs.State.{State, HasCleanDisk, Survives}
+use Rattle.sqlite.specs.State.{State, HasCleanDisk}
 use Rattle.table_access.specs.declared.StoreFault.{StoreFault}
 use Rattle.table_access.specs.declared.StoreFault.TheVariants as store_fault
 use Rattle.table_access.specs.Durability.{HoldsDurably}
@@ -35,6 +35,7 @@ use Rattle.broker_tables.proofs.Former.{unmarked}
 use Rattle.registry_tables.specs.Format.{AreLike, AreKeys, HasForm, HasFormerTables, IsOfFormat, FindsFormer}
 use Rattle.command_facts.specs.Primitives.{broker_primitives}
 use Rattle.broker_service.specs.Calls.{Migrated}
+use Rattle.broker_service.specs.Ends.{CommitsAtMostOnce, LeavesNoTransaction}
 use Rattle.broker_service.specs.Migration.{StoresFormer, HoldsFormerState, MigratesOrFails, IsUnchangedUnlessFormer, IsJudgedFormer, WasGood, WasPermitted, WasFault, WasJudged, Showed, JudgesAsBefore, former_kind, former_fault, former_marks}
 use Rattle.broker_service.specs.Opening.{Refuses, IsUnchangedUnlessStore, judgement, open_fault}
 use Rattle.broker_service.specs.Stored.{Stores, HoldsState}
@@ -228,8 +229,8 @@ refused_other old new (Some n) it = go (n == former_format) refl
 pub migrated : (old new : State) (found : Option ℕ) → (HasCleanDisk new → IsTrue old.is_open × FindsFormer old.now found)
     → (HasCleanDisk new → (s : Broker) → HoldsFormerState s old → MigratesOrFails s new (Ok found))
     → (HasCleanDisk new → IsUnchangedUnlessFormer old new (Ok found))
-    → Survives old new (λ _. ⊤) → Migrated old new (judgement former_format found)
-migrated old new found is_found ends unchanged survives = record {
+    → LeavesNoTransaction old new → CommitsAtMostOnce old new → Migrated old new (judgement former_format found)
+migrated old new found is_found ends unchanged over survives = record {
   migrates = λ clean s keeps. always (judgement former_format found) (HoldsState s new) (ends clean s keeps).1;
   permits = λ clean s keeps. always (judgement former_format found) (JudgesAsBefore s) (judges_former old.now s (held_now (λ db. StoresFormer db s) old keeps (is_found clean).0).tables);
   refuses = λ clean s keeps.
@@ -243,6 +244,7 @@ migrated old new found is_found ends unchanged survives = record {
       let it = is_found clean in
       inl (ap (judgement former_format) (marked_former n office old.now found other (held_now (IsMarked n office) old keeps it.0) it.1));
   unchanged = λ clean. refused_other old new found (unchanged clean);
+  over = over;
   survives = survives;
 }
 
@@ -250,8 +252,8 @@ migrated old new found is_found ends unchanged survives = record {
 pub unmigrated : (old new : State) (fault : StoreFault)
     → (HasCleanDisk new → (s : Broker) → HoldsFormerState s old → MigratesOrFails s new (Err fault))
     → (HasCleanDisk new → IsUnchangedUnlessFormer old new (Err fault))
-    → Survives old new (λ _. ⊤) → Migrated old new (Err (open_fault fault))
-unmigrated old new store_fault.Memory ends unchanged survives = record {
+    → LeavesNoTransaction old new → CommitsAtMostOnce old new → Migrated old new (Err (open_fault fault))
+unmigrated old new store_fault.Memory ends unchanged over survives = record {
   migrates = λ _ _ _. tt;
   permits = λ _ _ _. tt;
   refuses = ends;
@@ -259,9 +261,10 @@ unmigrated old new store_fault.Memory ends unchanged survives = record {
   blank = λ _ _. inr (inl refl);
   marked = λ _ _ _ _ _. inr (inl refl);
   unchanged = unchanged;
+  over = over;
   survives = survives;
 }
-unmigrated old new store_fault.Store ends unchanged survives = record {
+unmigrated old new store_fault.Store ends unchanged over survives = record {
   migrates = λ _ _ _. tt;
   permits = λ _ _ _. tt;
   refuses = ends;
@@ -269,5 +272,6 @@ unmigrated old new store_fault.Store ends unchanged survives = record {
   blank = λ _ _. inr (inr refl);
   marked = λ _ _ _ _ _. inr (inr refl);
   unchanged = unchanged;
+  over = over;
   survives = survives;
 }

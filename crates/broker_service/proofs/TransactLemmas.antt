@@ -1,7 +1,9 @@
 -- What the transaction of a command leaves.
-use Rattle.std.proofs.Common.{◌≡◌, ◌↔◌, Option, Result, Ok, Err, IsOkAnd, Bool, true, false, IsTrue, refl}
+use Rattle.std.proofs.Common.{◌≡◌, ◌↔◌, inl, inr, Option, Result, Ok, Err, IsOkAnd, IfErr, Bool, true, false, IsTrue, refl, sym, subst}
 use Rattle.std.specs.Prelude.{if◌then◌else◌}
-use Rattle.sqlite.specs.State.{State, HasCleanDisk}
+use Rattle.sqlite.specs.Held.{Held}
+use Rattle.sqlite.specs.State.{State, HasCleanDisk, Survives}
+use Rattle.table_access.specs.Unit.{Begins, IsOver}
 use Rattle.table_access.specs.declared.StoreFault.{StoreFault}
 use Rattle.table_access.specs.declared.StoreFault.TheVariants.{Memory, Store}
 use Rattle.table_access.proofs.EndLemmas.{keeps_unsure}
@@ -11,10 +13,12 @@ use Rattle.broker_core.specs.Text.{Text}
 use Rattle.broker_core.specs.declared.answer.Answer.{Answer}
 use Rattle.broker_core.specs.declared.command.Command.{Command}
 use Rattle.broker_tables.specs.Holds.{Holds}
-use Rattle.command_facts.specs.Performs.{TokensStep}
-use Rattle.broker_service.specs.Ends.{Ends, HoldsNext, IsAsBefore, IsUnchangedUnlessDone}
+use Rattle.command_facts.specs.Performs.{PerformsBetween, TokensStep}
+use Rattle.broker_service.specs.Causes.{Concludes, Works, HasReason}
+use Rattle.broker_service.specs.Ends.{Ends, HoldsNext, IsAsBefore, IsUnchangedUnlessDone, CommitsAtMostOnce}
 use Rattle.broker_service.specs.Stored.{Stores, HoldsState}
-use Rattle.broker_service.proofs.Transaction.{IsTransaction, done_clean, seen, kept, as_before, unsure, last_commit, keeps_on}
+use Rattle.broker_service.specs.Transaction.{Finishes}
+use Rattle.broker_service.proofs.Transaction.{IsTransaction, done_clean, seen, kept, as_before, unsure, last_commit, keeps_on, commits_once, finished_over}
 use Rattle.broker_service.proofs.EndLemmas.{done_steps, next_stored, steps_on, undone_keeps}
 
 module _ (token : Option Text) (command : Command) where
@@ -62,3 +66,38 @@ module _ (token : Option Text) (command : Command) where
   transact_unchanged old mid done new (Err fault) false true t is_kept clean = unchanged_as_before old new fault (as_before old mid done new (Err fault) _ false true t clean refl)
   transact_unchanged old mid done new (Err fault) true true t is_kept clean = absurd (is_kept.0 refl)
   transact_unchanged old mid done new r keeps false t is_kept clean = last_commit old mid done new r _ keeps false t clean refl
+
+  -- a transaction that was begun, and concluded by what the command came to
+  module _ (old mid done new : State) (worked result : Result Answer StoreFault) (begun : HasCleanDisk mid → Begins old mid) (begins : Survives old mid (λ _. ⊥))
+      (works : PerformsBetween mid done (TokensStep token command) worked) (it : Concludes done new worked result) where
+    transaction : IsTransaction old mid done new worked (IsPerformed mid done) it.keeps it.did
+    transaction = record { begun = begun; begins = begins; works = works; ends = it.ends }
+
+    pub concluded_ends : HasCleanDisk new → (s : Broker) → HoldsState s old → Ends s token command new result
+    concluded_ends clean s holds =
+        subst (λ (r : Result Answer StoreFault). Ends s token command new r) (sym it.answer) (transact_ends s old mid done new worked it.keeps it.did transaction it.kept clean holds)
+
+    pub concluded_unchanged : HasCleanDisk new → IsUnchangedUnlessDone old new result
+    concluded_unchanged clean =
+        subst (λ (r : Result Answer StoreFault). IsUnchangedUnlessDone old new r) (sym it.answer) (transact_unchanged old mid done new worked it.keeps it.did transaction it.kept clean)
+
+    pub concluded_once : CommitsAtMostOnce old new
+    concluded_once = commits_once old mid done new worked _ it.keeps it.did transaction
+
+    pub concluded_over : HasCleanDisk new → IsOver new
+    concluded_over clean = finished_over done new it.keeps it.did it.ends clean
+
+-- why it failed
+module _ {X : Type 0} (shown : Held X → State) (token : Option Text) (command : Command) (old mid done new : Held X) where
+  reason_of : (worked : Result Answer StoreFault) (keeps did : Bool) → Begins (shown old) (shown mid) → Works shown token command mid done worked → (IsTrue keeps ↔ IsOkAnd worked IsDone)
+      → Finishes (shown done) (shown new) keeps did → HasCleanDisk (shown new) → IfErr (if did then worked else Err Store) (HasReason shown token command old new)
+  reason_of (Ok answer) keeps true begun works kept ends clean = tt
+  reason_of (Err fault) false true begun works kept ends clean = inr (mid, done, begun, inl (works, ends))
+  reason_of (Err fault) true did begun works kept ends clean = absurd (kept.0 refl)
+  reason_of (Ok answer) true false begun works kept ends clean = inr (mid, done, begun, inr (refl, inr (answer, kept.0 refl, works, ends)))
+  reason_of worked false false begun works kept ends clean = inr (mid, done, begun, inr (refl, inl (worked, works, (λ is. let kept_is = kept.1 is in cc), ends.refused clean refl refl)))
+
+  pub has_reason : (worked result : Result Answer StoreFault) → Begins (shown old) (shown mid) → Works shown token command mid done worked → Concludes (shown done) (shown new) worked result
+      → HasCleanDisk (shown new) → IfErr result (HasReason shown token command old new)
+  has_reason worked result begun works it clean =
+      subst (λ (r : Result Answer StoreFault). IfErr r (HasReason shown token command old new)) (sym it.answer) (reason_of worked it.keeps it.did begun works it.kept it.ends clean)

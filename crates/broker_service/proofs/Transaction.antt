@@ -1,22 +1,34 @@
 -- What a transaction leaves of the connection that it began on.
-use Rattle.std.proofs.Common.{◌≡◌, inl, inr, Bool, false, refl, IsTrue, Result, Ok, Err, sym, subst, ◌∙◌, arith}
+use Rattle.std.proofs.Common.{◌≡◌, inl, inr, Bool, true, false, refl, IsTrue, Result, Ok, Err, sym, subst, ◌∙◌, arith}
 use Rattle.sqlite.specs.Effect.{Database, IsDatabase}
 use Rattle.std.specs.Prelude.{⊤}
 use Rattle.sqlite.specs.Tree.{Trees}
 use Rattle.sqlite.proofs.StateLemmas.{survives_then}
 use Rattle.sqlite.specs.State.{State, HasCleanDisk, Survives}
-use Rattle.table_access.specs.Unit.{Begins, IsLeft}
+use Rattle.table_access.specs.Unit.{Begins, IsLeft, IsOver}
 use Rattle.table_access.specs.declared.StoreFault.{StoreFault}
 use Rattle.table_access.specs.Calls.{CallsTablesBetween, CallsStoreBetween, KeepsLastCommit, GoesOn}
 use Rattle.table_access.specs.Durability.{HoldsDurably, HoldsEither}
 use Rattle.table_access.proofs.CallLemmas.{left_commit, statement_err, statement_seq}
 use Rattle.table_access.proofs.EndLemmas.{begins, commits, refused}
-use Rattle.broker_service.specs.Ends.{IsAsBefore, AddsNoCrashState}
+use Rattle.broker_service.specs.Ends.{IsAsBefore, AddsNoCrashState, CommitsAtMostOnce}
 use Rattle.broker_service.specs.Transaction.{Finishes}
 
 ended_left : (old new : State) → IsLeft old new → old.in_transaction ≡ false → old.now ≡ old.committed → IsTrue new.is_open → (new.in_transaction ≡ false) × (new.now ≡ new.committed)
 ended_left old new (inl same) outside settled now = (same.0.mode ∙ outside, same.0.now_is ∙ settled ∙ sym same.0.committed_is)
 ended_left old new (inr back) outside settled now = (back.autocommit, (back.undone now).0 ∙ sym (back.undone now).1)
+
+-- and if none was open before, none is
+pub left_over : (old new : State) → IsLeft old new → IsOver old → IsOver new
+left_over old new it over now =
+    let was = over ((left_commit old new it).was_open now) in
+    ended_left old new it was.0 was.1 now
+
+-- behind its end no transaction is open
+pub finished_over : (done new : State) (keeps did : Bool) → Finishes done new keeps did → HasCleanDisk new → IsOver new
+finished_over done new true true it clean now = let commit = it.committed clean refl refl in (commit.0.mode, commit.0.now_is ∙ sym commit.0.committed_is)
+finished_over done new false did it clean now = (it.over clean (inl refl)).1 now
+finished_over done new true false it clean now = (it.over clean (inr refl)).1 now
 
 -- the transaction isn't begun
 pub not_begun : (old new : State) → IsLeft old new → Survives old new (λ _. ⊥) → HasCleanDisk new → IsAsBefore old new
@@ -63,15 +75,8 @@ keeps_on P old new it keeps = record {
 -- ---- what calls in turn leave of the connection, whatever they commit
 
 -- a connection that is left alone survives
-pub outlives_itself : (c : State) → Survives c c (λ _. ⊤)
-outlives_itself c = record { clean = omega arith; shield = λ h. h; counts = omega arith; limit = refl; closes = λ _ h. inl h; crash = λ _ db h. inl h }
-
-pub outlives_one : {P : Trees → Type 0} (a b : State) → Survives a b P → Survives a b (λ _. ⊤)
-outlives_one a b one = record { clean = one.clean; shield = one.shield; counts = one.counts; limit = one.limit; closes = one.closes; crash = λ _ db h. inr tt }
-
--- calls in turn that each survive survive together
-pub outlives : {P Q : Trees → Type 0} (a b c : State) → Survives a b P → Survives b c Q → Survives a c (λ _. ⊤)
-outlives a b c one two = survives_then a b c _ _ _ (λ _ db h. tt) (λ _ db h. tt) one two
+pub outlives_itself : {P : Trees → Type 0} (c : State) → Survives c c P
+outlives_itself {P} c = record { clean = omega arith; shield = λ h. h; counts = omega arith; limit = refl; closes = λ _ h. inl h; crash = λ _ db h. inl h }
 
 -- ---- calls in turn within a transaction
 
@@ -91,6 +96,13 @@ outlives_as a b f s = record {
   crash = λ clean trees may. elim (s.crash clean trees may) [ inl was ↦ inl was | inr is ↦ inr (f trees is) ];
 }
 
+-- where nothing is committed, no more is left by a crash, and there is one commit at most
+pub adds_nothing : (a b : State) → Survives a b (λ _. ⊥) → HasCleanDisk b → AddsNoCrashState a b
+adds_nothing a b s clean trees may = elim (s.crash clean trees may) [ inl was ↦ was | inr never ↦ absurd never ]
+
+pub once_at_most : (a b : State) → Survives a b (λ _. ⊥) → CommitsAtMostOnce a b
+once_at_most a b s = (a.now.trees, outlives_as a b (λ trees never. absurd never) s)
+
 -- ---- a whole transaction: begun, worked in, and committed or rolled back
 
 pub record IsTransaction {A : Type 0} (old mid done new : State) (r : Result A StoreFault) (X : A → Type 0) (keeps did : Bool) : Type 0 where
@@ -100,8 +112,19 @@ pub record IsTransaction {A : Type 0} (old mid done new : State) (r : Result A S
   pub ends : Finishes done new keeps did
 
 module _ {A : Type 0} (old mid done new : State) (r : Result A StoreFault) (X : A → Type 0) (keeps did : Bool) (t : IsTransaction old mid done new r X keeps did) where
-  pub survives_all : Survives old new (λ _. ⊤)
-  survives_all = outlives old done new (outlives old mid done t.begins t.works.survives) t.ends.survives
+  -- nothing is committed before the end
+  within : Survives old done (λ _. ⊥)
+  within = survives_then old mid done (λ _. ⊥) _ (λ _. ⊥) (λ _ db never. never) (λ clean db outside.
+      let mid_clean : HasCleanDisk mid = omega (arith, t.works.survives.clean, clean) in
+      let inside = (t.begun mid_clean).1.mode in
+      absurd (cc)) t.begins t.works.survives
+
+  -- so there is one commit at most, and none where nothing is kept
+  pub commits_once : CommitsAtMostOnce old new
+  commits_once = (done.now.trees, survives_then old done new _ _ _ (λ _ db never. absurd never) (λ _ db is. is.1) within t.ends.survives)
+
+  pub commits_nothing : keeps ≡ false → Survives old new (λ _. ⊥)
+  commits_nothing unkept = survives_then old done new _ _ _ (λ _ db never. never) (λ _ db is. absurd (let kept = is.0 in cc)) within t.ends.survives
 
   pub done_clean : HasCleanDisk new → HasCleanDisk done
   done_clean clean = omega (arith, t.ends.survives.clean, clean)

@@ -1,9 +1,10 @@
 -- what a public call of the broker promises, on any disk and any database: one record a call
-use Rattle.std.specs.Prelude.{◌≡◌, ◌≢◌, ◌↔◌, ⊤, ℕ, List, false, IsTrue, Option, Some, None, Result, OnOk, IfOk, IfErr, IsErrAnd}
+use Rattle.std.specs.Prelude.{◌≡◌, ◌≢◌, ◌↔◌, ℕ, List, false, IsTrue, Option, Some, None, Result, OnOk, IfOk, IfErr, IsErrAnd}
 use Rattle.sqlite.specs.Held.{Held}
 use Rattle.sqlite.specs.State.{State, HasCleanDisk, Survives}
 use Rattle.table_access.specs.Calls.{KeepsLastCommit}
 use Rattle.table_access.specs.Durability.{HoldsDurably}
+use Rattle.table_access.specs.declared.StoreFault.{StoreFault}
 use Rattle.broker_core.specs.Change.{instance_of}
 use Rattle.broker_core.specs.Laws.{IsDone}
 use Rattle.broker_core.specs.Machine.{is_step}
@@ -19,7 +20,8 @@ use Rattle.broker_tables.specs.Holds.{format}
 use Rattle.broker_tables.specs.Making.{IsBlank, IsMarked}
 use Rattle.broker_tables.specs.Schema.{no_schema}
 use Rattle.broker_service.specs.BrokerView.{BrokerView}
-use Rattle.broker_service.specs.Ends.{Applies, IsAsBefore, AddsNoCrashState}
+use Rattle.broker_service.specs.Causes.{HasReason, answer_of}
+use Rattle.broker_service.specs.Ends.{Applies, IsAsBefore, CommitsAtMostOnce, LeavesNoTransaction}
 use Rattle.broker_service.specs.Handed.{left_by, verdict}
 use Rattle.broker_service.specs.Headline.{RecordsExactly}
 use Rattle.broker_service.specs.Migration.{StoresFormer, HoldsFormerState, JudgesAsBefore, IsJudgedFormer}
@@ -56,13 +58,19 @@ module _ {X : Type 0} (shown : Held X → State) where
     -- Store: the last commit is the old one
     pub fails : HasCleanDisk (shown new.connection) → answer ≡ answers.Store
         → KeepsLastCommit (shown old.connection) (shown new.connection)
+    -- whatever the database is: Memory and Store are answered only for the fault of BEGIN, of the command's work or of
+    -- the transaction's end
+    pub cause : HasCleanDisk (shown new.connection) → old.is_stopped ≡ false → (failure : StoreFault)
+        → answer ≡ answer_of failure → HasReason shown token command old.connection new.connection failure
+    -- whatever the answer is, no transaction is left open
+    pub over : LeavesNoTransaction (shown old.connection) (shown new.connection)
     -- Store alone stops the broker
     pub stops : old.is_stopped ≡ false → (IsTrue new.is_stopped ↔ (answer ≡ answers.Store))
     -- a stopped broker answers Stopped and is left as it is, and no other one answers so
     pub stopped : IsTrue old.is_stopped → (answer ≡ answers.Stopped) × (new ≡ old)
     pub runs : old.is_stopped ≡ false → answer ≢ answers.Stopped
-    -- on a disk that fails, and when the program is stopped in the call
-    pub survives : Survives (shown old.connection) (shown new.connection) (λ _. ⊤)
+    -- on a disk that fails, and when the program is stopped in the call: at most one commit
+    pub survives : CommitsAtMostOnce (shown old.connection) (shown new.connection)
     -- the same in the words of sessions
     pub leaves : CommandLeaves shown old (record { token = token; command = command }) answer new
 
@@ -81,8 +89,10 @@ module _ {X : Type 0} (shown : Held X → State) where
         → IsUnchangedUnlessStore (shown old) (shown r.connection) r.fault)
     -- a new broker isn't stopped
     pub runs : IfOk given (λ b. b.is_stopped ≡ false)
-    -- on a disk that fails, and when the program is stopped in the call
-    pub survives : Survives (shown old) (shown (left_by given)) (λ _. ⊤)
+    -- whatever is handed back, no transaction is left open
+    pub over : LeavesNoTransaction (shown old) (shown (left_by given))
+    -- on a disk that fails, and when the program is stopped in the call: at most one commit
+    pub survives : CommitsAtMostOnce (shown old) (shown (left_by given))
     -- the same in the words of sessions
     pub leaves : MakingLeaves shown old office given
 
@@ -104,12 +114,12 @@ module _ {X : Type 0} (shown : Held X → State) where
     -- where no broker is opened, the database is as it was too, or after Store the last commit is the old one
     pub unchanged : IfErr given (λ r. HasCleanDisk (shown r.connection)
         → IsUnchangedUnlessStore (shown old) (shown r.connection) r.fault)
-    -- what a crash leaves, it left before
-    pub crash : HasCleanDisk (shown (left_by given)) → AddsNoCrashState (shown old) (shown (left_by given))
     -- an opened broker isn't stopped
     pub runs : IfOk given (λ b. b.is_stopped ≡ false)
-    -- on a disk that fails, and when the program is stopped in the call
-    pub survives : Survives (shown old) (shown (left_by given)) (λ _. ⊤)
+    -- whatever is handed back, no transaction is left open
+    pub over : LeavesNoTransaction (shown old) (shown (left_by given))
+    -- on a disk that fails, and when the program is stopped in the call: what a crash leaves, it left before
+    pub survives : Survives (shown old) (shown (left_by given)) (λ _. ⊥)
     -- the same in the words of sessions
     pub leaves : OpeningLeaves shown old given
 
@@ -131,5 +141,7 @@ pub record Migrated (old new : State) (given : Result (Unit {0}) OpenFault) : Ty
       → Judged former_format (Some n) given
   -- whatever the database is: where it isn't migrated it is as it was, or after Store the last commit is the old one
   pub unchanged : HasCleanDisk new → IfErr given (IsUnchangedUnlessStore old new)
-  -- on a disk that fails, and when the program is stopped in the call
-  pub survives : Survives old new (λ _. ⊤)
+  -- whatever the answer is, no transaction is left open
+  pub over : LeavesNoTransaction old new
+  -- on a disk that fails, and when the program is stopped in the call: at most one commit
+  pub survives : CommitsAtMostOnce old new

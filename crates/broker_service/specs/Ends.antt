@@ -1,19 +1,20 @@
 -- what a command leaves of the broker's connection
-use Rattle.std.specs.Prelude.{◌≡◌, ◌⊎◌, true, false, IsTrue, Option, Result, Ok, Err}
+use Rattle.std.specs.Prelude.{◌≡◌, ◌≢◌, ◌⊎◌, true, false, IsTrue, Option, Result, Ok, Err}
 use Rattle.sqlite.specs.Tree.{Trees}
 use Rattle.sqlite.specs.Effect.{Database}
-use Rattle.sqlite.specs.State.{State}
+use Rattle.sqlite.specs.State.{State, HasCleanDisk, Survives}
 use Rattle.table_access.specs.declared.StoreFault.{StoreFault}
 use Rattle.table_access.specs.declared.StoreFault.TheVariants as fault
 use Rattle.table_access.specs.Calls.{KeepsLastCommit}
 use Rattle.table_access.specs.Durability.{HoldsEither}
+use Rattle.table_access.specs.Unit.{IsOver}
 use Rattle.broker_core.specs.Text.{Text}
 use Rattle.broker_core.specs.State.{State as Broker}
 use Rattle.broker_core.specs.Machine.{Step, is_step}
 use Rattle.broker_core.specs.Laws.{IsDone, TeamsDiffer}
 use Rattle.broker_core.specs.declared.command.Command.{Command}
 use Rattle.broker_core.specs.declared.answer.Answer.{Answer}
-use Rattle.broker_core.specs.declared.answer.Answer.TheVariants.{Pattern, Memory, Store}
+use Rattle.broker_core.specs.declared.answer.Answer.TheVariants.{Pattern, Memory, Store, Stopped}
 use Rattle.command_facts.specs.Primitives.{broker_primitives}
 use Rattle.command_facts.specs.Patterns.{AsksPattern}
 use Rattle.broker_service.specs.Stored.{Stores, HoldsState}
@@ -21,6 +22,19 @@ use Rattle.broker_service.specs.Stored.{Stores, HoldsState}
 -- what a crash leaves, it left before
 abbrev pub AddsNoCrashState : State → State → Type 0
 AddsNoCrashState old new = (trees : Trees) → new.may_leave trees → old.may_leave trees
+
+-- What the store promises of a call, whatever the disk does: at most one commit. What a crash may leave afterwards it
+-- could leave before, or it is that commit. If the program is stopped in the call, it leaves no more than that.
+abbrev pub CommitsAtMostOnce : State → State → Type 0
+CommitsAtMostOnce old new = (commit : Trees) × Survives old new (λ trees. trees ≡ commit)
+
+-- no transaction is open afterwards if none was before
+abbrev pub LeavesNoTransaction : State → State → Type 0
+LeavesNoTransaction old new = HasCleanDisk new → IsOver old → IsOver new
+
+-- an answer that a command may come to inside its transaction; the broker alone answers a failure, or Stopped
+abbrev pub IsNoFailure : Answer → Type 0
+IsNoFailure answer = (answer ≢ Memory) × (answer ≢ Store) × (answer ≢ Stopped)
 
 -- The database is as it was: what was last committed still is, a crash leaves nothing that it didn't leave before,
 -- and no transaction is open where none was.

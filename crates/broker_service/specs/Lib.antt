@@ -9,4 +9,5 @@ pub mod Sessions
 pub mod SessionFiles
 pub mod Laws
 pub mod Calls
+pub mod Causes
 pub mod Transaction

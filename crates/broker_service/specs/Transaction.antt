@@ -1,15 +1,22 @@
 -- how a transaction ends
-use Rattle.std.specs.Prelude.{◌≡◌, ◌⊎◌, Bool, false, IsTrue}
+use Rattle.std.specs.Prelude.{◌≡◌, ◌⊎◌, Bool, false, [], IsTrue, Err, codes}
 use Rattle.sqlite.specs.Tree.{Trees}
-use Rattle.sqlite.specs.State.{State, HasCleanDisk, Survives, Commits, IsLive}
+use Rattle.sqlite.specs.State.{State, HasCleanDisk, Survives, Commits, IsLive, Executes}
+use Rattle.sqlite.specs.declared.error.Error.{Error}
 use Rattle.table_access.specs.Calls.{KeepsLastCommit}
 use Rattle.table_access.specs.Unit.{IsOver}
+
+-- the database refused ROLLBACK
+abbrev pub RefusesRollback : State → State → Type 0
+RefusesRollback old new = (e : Error) × Executes (codes "ROLLBACK") [] old new (Err e)
 
 -- It is committed where something is to be kept, and else rolled back. Did: whether the database did so.
 pub record Finishes (old new : State) (keeps did : Bool) : Type 0 where
   pub committed : HasCleanDisk new → IsTrue keeps → IsTrue did → Commits old new
   -- else nothing is committed, and no transaction is open any more
   pub over : HasCleanDisk new → (keeps ≡ false) ⊎ (did ≡ false) → KeepsLastCommit old new × IsOver new
+  -- where nothing is to be kept, that wasn't done only if the database refused ROLLBACK
+  pub refused : HasCleanDisk new → keeps ≡ false → did ≡ false → RefusesRollback old new
   -- what is committed is a database
   pub live : IsTrue keeps → IsLive old
   -- what a crash leaves while the connection is open was committed last

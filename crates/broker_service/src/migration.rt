@@ -1,6 +1,6 @@
 //! Making today's database of one that a broker of format 1 left.
-ghost use Rattle.std.specs.Prelude.{◌≡◌, ◌↔◌, ⊤, Some, IsTrue, IfOk, IsOkAnd};
-ghost use Rattle.sqlite.specs.State.{HasCleanDisk, Survives};
+ghost use Rattle.std.specs.Prelude.{◌≡◌, ◌↔◌, Some, IsTrue, IfOk, IsOkAnd};
+ghost use Rattle.sqlite.specs.State.{HasCleanDisk};
 ghost use Rattle.sqlite.specs.Held.{state};
 ghost use Rattle.table_access.specs.Calls.{CallsStore};
 ghost use Rattle.broker_core.specs.State.{State as BrokerState};
@@ -8,6 +8,7 @@ ghost use Rattle.broker_tables.specs.Holds.{format};
 ghost use Rattle.broker_tables.specs.Former.{HoldsFormer, HoldsUnmarked, former_format, added_tables};
 ghost use Rattle.registry_tables.specs.Format.{FindsFormer};
 ghost use Rattle.broker_service.specs.Calls.{Migrated};
+ghost use Rattle.broker_service.specs.Ends.{CommitsAtMostOnce, LeavesNoTransaction};
 ghost use Rattle.broker_service.specs.Migration.{BringsUp, HoldsFormerState, MigratesOrFails, IsUnchangedUnlessFormer};
 
 use crate::ending::finish;
@@ -66,7 +67,8 @@ fn run<S: Alter>(conn: &mut Connection<S>) -> Result<Option<u32>, StoreFault>
         → HoldsFormerState s (state S.Store conn.old) → MigratesOrFails s (state S.Store conn.new) result }
     ensures unchanged { HasCleanDisk (state S.Store conn.new)
         → IsUnchangedUnlessFormer (state S.Store conn.old) (state S.Store conn.new) result }
-    ensures survives { Survives (state S.Store conn.old) (state S.Store conn.new) (λ _. ⊤) }
+    ensures over { LeavesNoTransaction (state S.Store conn.old) (state S.Store conn.new) }
+    ensures survives { CommitsAtMostOnce (state S.Store conn.old) (state S.Store conn.new) }
 {
     done!(begin(conn));
     let found = bring_up(conn);

@@ -1,5 +1,5 @@
 //! Making a broker's tables, and opening a database that a broker left.
-ghost use Rattle.std.specs.Prelude.{◌≡◌, ◌↔◌, ◌++◌, ◌∷◌, ⊤, ℕ, List, Err, IfErr, OnOk, OnErr, IsTrue, Some, None, IfOk};
+ghost use Rattle.std.specs.Prelude.{◌≡◌, ◌↔◌, ◌++◌, ◌∷◌, ℕ, List, Err, IfErr, OnOk, OnErr, IsTrue, Some, None, IfOk};
 ghost use Rattle.sqlite.specs.State.{HasCleanDisk, Survives};
 ghost use Rattle.sqlite.specs.Held.{state};
 ghost use Rattle.table_access.specs.Calls.{CallsStore};
@@ -11,7 +11,7 @@ ghost use Rattle.broker_tables.specs.Holds.{Holds, format};
 ghost use Rattle.broker_tables.specs.Making.{IsBlank, HasTables, IsMarked};
 ghost use Rattle.registry_tables.specs.Format.{Finds};
 ghost use Rattle.command_facts.specs.Primitives.{broker_primitives};
-ghost use Rattle.broker_service.specs.Ends.{IsAsBefore, AddsNoCrashState};
+ghost use Rattle.broker_service.specs.Ends.{IsAsBefore, CommitsAtMostOnce, LeavesNoTransaction};
 ghost use Rattle.broker_service.specs.Stored.{Stores};
 ghost use Rattle.broker_service.specs.Opening as spec;
 ghost use Rattle.broker_service.specs.Opening.{MakesRest, CreatesOrFails, FailsUnchanged, MakesNew, RefusesNew, IsUnchangedUnlessStore, Judged, IsJudged, judgement};
@@ -103,7 +103,8 @@ fn make<S: Alter>(conn: &mut Connection<S>, digest: &str) -> Result<(), StoreFau
         → CreatesOrFails IsBlank (λ db. Stores db (opening digest.now)) (state S.Store conn.new) result }
     ensures unchanged { HasCleanDisk (state S.Store conn.new)
         → FailsUnchanged (state S.Store conn.old) (state S.Store conn.new) result }
-    ensures survives { Survives (state S.Store conn.old) (state S.Store conn.new) (λ _. ⊤) }
+    ensures over { LeavesNoTransaction (state S.Store conn.old) (state S.Store conn.new) }
+    ensures survives { CommitsAtMostOnce (state S.Store conn.old) (state S.Store conn.new) }
 {
     done!(begin(conn));
     let made = make_all(conn, digest);
@@ -129,7 +130,8 @@ pub(crate) fn create<S: Alter>(
     ensures same { result ≡ Err OpenFault.NotEmpty → conn.new ≡ conn.old }
     ensures unchanged { HasCleanDisk (state S.Store conn.new)
         → IfErr result (IsUnchangedUnlessStore (state S.Store conn.old) (state S.Store conn.new)) }
-    ensures survives { Survives (state S.Store conn.old) (state S.Store conn.new) (λ _. ⊤) }
+    ensures over { LeavesNoTransaction (state S.Store conn.old) (state S.Store conn.new) }
+    ensures survives { CommitsAtMostOnce (state S.Store conn.old) (state S.Store conn.new) }
 {
     if !is_blank(conn) {
         return Err(OpenFault::NotEmpty);
@@ -162,7 +164,8 @@ fn find_format<S: Alter>(conn: &mut Connection<S>) -> Result<Option<u32>, StoreF
     ensures found { HasCleanDisk (state S.Store conn.new)
         → IfOk result (λ found. IsTrue (state S.Store conn.old).is_open × Finds (state S.Store conn.old).now found) }
     ensures same { HasCleanDisk (state S.Store conn.new) → IsAsBefore (state S.Store conn.old) (state S.Store conn.new) }
-    ensures survives { Survives (state S.Store conn.old) (state S.Store conn.new) (λ _. ⊤) }
+    ensures over { LeavesNoTransaction (state S.Store conn.old) (state S.Store conn.new) }
+    ensures survives { Survives (state S.Store conn.old) (state S.Store conn.new) (λ _. ⊥) }
 {
     done!(begin(conn));
     let found = format_of(conn);
@@ -185,9 +188,8 @@ pub(crate) fn open<S: Alter>(conn: &mut Connection<S>) -> Result<(), OpenFault>
         → OnOk result (IsAsBefore (state S.Store conn.old) (state S.Store conn.new)) }
     ensures unchanged { HasCleanDisk (state S.Store conn.new)
         → IfErr result (IsUnchangedUnlessStore (state S.Store conn.old) (state S.Store conn.new)) }
-    ensures crash { HasCleanDisk (state S.Store conn.new)
-        → AddsNoCrashState (state S.Store conn.old) (state S.Store conn.new) }
-    ensures survives { Survives (state S.Store conn.old) (state S.Store conn.new) (λ _. ⊤) }
+    ensures over { LeavesNoTransaction (state S.Store conn.old) (state S.Store conn.new) }
+    ensures survives { Survives (state S.Store conn.old) (state S.Store conn.new) (λ _. ⊥) }
 {
     match find_format(conn) {
         Ok(found) => judge(2, found),

@@ -1,13 +1,14 @@
 //! A command inside its transaction, and the transaction round it.
-ghost use Rattle.std.specs.Prelude.{◌≡◌, ◌≢◌, ◌↔◌, ⊤, IsTrue, IfOk, IfErr, IsOkAnd};
-ghost use Rattle.sqlite.specs.State.{HasCleanDisk, Survives};
+ghost use Rattle.std.specs.Prelude.{◌≡◌, ◌↔◌, IsTrue, IfOk, IfErr, IsOkAnd};
+ghost use Rattle.sqlite.specs.State.{HasCleanDisk};
 ghost use Rattle.sqlite.specs.Held.{state};
 ghost use Rattle.broker_core.specs.State.{State as BrokerState};
 ghost use Rattle.broker_core.specs.Laws.{IsDone};
-ghost use Rattle.broker_core.specs.declared.answer.Answer.TheVariants.{BadForm, Stopped};
+ghost use Rattle.broker_core.specs.declared.answer.Answer.TheVariants.{BadForm};
 ghost use Rattle.command_facts.specs.Callers.{token_of};
 ghost use Rattle.command_facts.specs.Performs.{Performs, CallersStep, TokensStep};
-ghost use Rattle.broker_service.specs.Ends.{Ends, IsUnchangedUnlessDone};
+ghost use Rattle.broker_service.specs.Causes.{Concludes, HasReason};
+ghost use Rattle.broker_service.specs.Ends.{Ends, IsUnchangedUnlessDone, CommitsAtMostOnce, LeavesNoTransaction, IsNoFailure};
 ghost use Rattle.broker_service.specs.Stored.{HoldsState};
 
 use crate::ending::finish;
@@ -155,12 +156,13 @@ fn step_of<S: Alter>(
     }
 }
 
-/// The answer with its body. That the broker is stopped is told by `Broker::apply` alone, and never of a command.
+/// The answer with its body. A failure, and that the broker is stopped, is answered by `Broker::apply` alone: no command
+/// comes to it.
 fn answer_of(alloc: Global, outcome: Outcome) -> Result<Answer, StoreFault>
-    ensures ok { IfOk result (λ answer. (answer ≡ outcome) × (answer ≢ Stopped)) }
-    ensures cause { outcome ≢ Stopped → IfErr result (λ e. e ≡ StoreFault.Memory) }
+    ensures ok { IfOk result (λ answer. (answer ≡ outcome) × IsNoFailure answer) }
+    ensures cause { IsNoFailure outcome → IfErr result (λ e. e ≡ StoreFault.Memory) }
 {
-    if matches!(outcome, Outcome::Stopped) {
+    if matches!(outcome, Outcome::Memory | Outcome::Store | Outcome::Stopped) {
         return Err(StoreFault::Store);
     }
     match Answer::new(alloc, outcome) {
@@ -177,7 +179,7 @@ fn work<S: Alter>(
     command: &Command,
 ) -> Result<Answer, StoreFault>
     ensures performs { Performs S.Store conn.old conn.new result (TokensStep (token_of token.entry) command.now) }
-    ensures runs { IfOk result (λ answer. answer ≢ Stopped) }
+    ensures answers { IfOk result IsNoFailure }
 {
     let outcome = done!(step_of(alloc, conn, token, command));
     Ok(done!(answer_of(alloc, outcome)))
@@ -193,6 +195,21 @@ fn is_done(worked: &Result<Answer, StoreFault>) -> bool
     }
 }
 
+/// Ends the transaction of a command that came to this: commits what was done, and else rolls back. The answer is what
+/// the command came to, or `Store`, if the database refused that end.
+fn conclude<S: Alter>(
+    conn: &mut Connection<S>,
+    worked: Result<Answer, StoreFault>,
+) -> Result<Answer, StoreFault>
+    ensures { Concludes (state S.Store conn.old) (state S.Store conn.new) worked result }
+{
+    if finish(conn, is_done(&worked)) {
+        worked
+    } else {
+        Err(StoreFault::Store)
+    }
+}
+
 /// One command in one transaction. It is committed where something was done, else it is rolled
 /// back.
 pub(crate) fn transact<S: Alter>(
@@ -205,14 +222,13 @@ pub(crate) fn transact<S: Alter>(
         → Ends s (token_of token.entry) command.now (state S.Store conn.new) result }
     ensures unchanged { HasCleanDisk (state S.Store conn.new)
         → IsUnchangedUnlessDone (state S.Store conn.old) (state S.Store conn.new) result }
-    ensures survives { Survives (state S.Store conn.old) (state S.Store conn.new) (λ _. ⊤) }
-    ensures runs { IfOk result (λ answer. answer ≢ Stopped) }
+    ensures cause { HasCleanDisk (state S.Store conn.new)
+        → IfErr result (HasReason (state S.Store) (token_of token.entry) command.now conn.old conn.new) }
+    ensures over { LeavesNoTransaction (state S.Store conn.old) (state S.Store conn.new) }
+    ensures survives { CommitsAtMostOnce (state S.Store conn.old) (state S.Store conn.new) }
+    ensures answers { IfOk result IsNoFailure }
 {
     done!(begin(conn));
     let worked = work(alloc, conn, token, command);
-    if finish(conn, is_done(&worked)) {
-        worked
-    } else {
-        Err(StoreFault::Store)
-    }
+    conclude(conn, worked)
 }

@@ -1,7 +1,8 @@
-use Rattle.std.proofs.Common.{Result, Ok, Err, Option, List, ℕ, [], ◌≢◌}
+use Rattle.std.proofs.Common.{◌≤◌, Result, Ok, Err, IfOk, Option, List, ℕ, [], ◌≢◌, subst, sym}
+use Rattle.std.specs.Prelude.{length, Contains}
+use Rattle.sqlite.specs.Tree.{Trees}
 use Rattle.sqlite.specs.Held.{Held, state}
 use Rattle.sqlite.specs.State.{State, HasCleanDisk, Survives}
-use Rattle.std.specs.Bool.{⊤}
 use Rattle.broker_service.specs.BrokerView.{BrokerView}
 use Rattle.broker_http.specs.Calls.{ByBroker, ByMachine}
 use Rattle.broker_http.specs.Journal.{Journal, IsRunFrom, blank}
@@ -14,9 +15,15 @@ use Rattle.broker_http.proofs.serving.serve.Goals as goal
 
 module _ {X : Type 0} (shown : Held X → State) (s t : BrokerView X) (before after old new : Option (List ℕ)) where
   survives : (result : Result Served ServeFault) → ServesStream (ByBroker shown) s t before after old new result
-      → Survives (shown s.connection) (shown t.connection) (λ _. ⊤)
-  survives (Ok served) answers = let p = answers.ok in all_survive shown s p.0 p.1 t p.2 p.4
-  survives (Err fault) answers = let p = answers.fault in all_survive shown s p.0 p.1 t p.2 p.5
+      → (commits : List Trees) × Survives (shown s.connection) (shown t.connection) (Contains commits) × IfOk result (λ served. length commits ≤ served.answered)
+  survives (Ok served) answers =
+      let p = answers.ok in
+      let all = all_survive shown s p.0 p.1 t p.2 p.4 in
+      (all.0, all.1, subst (λ (n : ℕ). length all.0 ≤ n) (sym p.6) all.2)
+  survives (Err fault) answers =
+      let p = answers.fault in
+      let all = all_survive shown s p.0 p.1 t p.2 p.5 in
+      (all.0, all.1, tt)
 
   machines : (result : Result Served ServeFault) → ServesStream (ByBroker shown) s t before after old new result
       → HasCleanDisk (shown t.connection) → (mode : Mode) → IsInMode shown mode s

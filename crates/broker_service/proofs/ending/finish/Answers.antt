@@ -10,6 +10,7 @@ returns-then-keeps g c =
     record {
       committed = λ clean _ did. c.commit.ensures.done clean did;
       over = λ clean undone. elim undone [ inl never ↦ absurd (cc) | inr refused ↦ (let it = c.commit.ensures.refused clean refused in (it.0, it.1)) ];
+      refused = λ _ unkept _. absurd (cc);
       live = λ _. c.commit.ensures.live;
       settled = λ trees now may. g.met.S.Store.settled _ trees now may;
       survives = outlives_as old new (λ trees is. (c.if-keeps.true, is)) c.commit.ensures.survives;
@@ -22,6 +23,7 @@ returns-else-keeps g c =
     record {
       committed = λ _ kept _. absurd (cc);
       over = λ clean _. (c.rollback.ensures.commit clean, c.rollback.ensures.over clean);
+      refused = λ clean _ undone. c.rollback.ensures.cause clean undone;
       live = λ kept. absurd (cc);
       settled = λ trees now may. g.met.S.Store.settled _ trees now may;
       survives = outlives_as old new (λ trees never. absurd never) c.rollback.ensures.survives;

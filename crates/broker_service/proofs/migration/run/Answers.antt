@@ -1,7 +1,7 @@
 use Rattle.std.proofs.Common.{true, false}
 use Rattle.sqlite.specs.Held.{state}
 use Rattle.registry_tables.specs.Format.{FindsFormer}
-use Rattle.broker_service.proofs.Transaction.{IsTransaction, survives_all, outlives_one, not_begun}
+use Rattle.broker_service.proofs.Transaction.{IsTransaction, commits_once, once_at_most, not_begun, left_over, finished_over}
 use Rattle.broker_service.proofs.MakeLemmas.{finds, migration_ends, migration_unchanged, migrates_as_before}
 use Rattle.broker_service.proofs.migration.run.Goals as goal
 
@@ -38,13 +38,22 @@ returns-in-Err-clause-ends g c clean s holds =
 
 pub returns-then-finish-clause-survives : goal.returns-then-finish-clause-survives
 returns-then-finish-clause-survives g c =
-    survives_all (state g.S.Store c.args.conn.now) (state g.S.Store c.begin.new.conn) (state g.S.Store c.bring_up-found.new.conn) (state g.S.Store c.finish.new.conn) c.bring_up-found.result _ c.is_former.result _
+    commits_once (state g.S.Store c.args.conn.now) (state g.S.Store c.begin.new.conn) (state g.S.Store c.bring_up-found.new.conn) (state g.S.Store c.finish.new.conn) c.bring_up-found.result _ c.is_former.result _
     (record { begun = c.in-Ok.ensures.begun; begins = c.begin.ensures.survives; works = c.bring_up-found.ensures.call; ends = c.if-finish.ensures })
 
 pub returns-else-finish-clause-survives : goal.returns-else-finish-clause-survives
 returns-else-finish-clause-survives g c =
-    survives_all (state g.S.Store c.args.conn.now) (state g.S.Store c.begin.new.conn) (state g.S.Store c.bring_up-found.new.conn) (state g.S.Store c.finish.new.conn) c.bring_up-found.result _ c.is_former.result _
+    commits_once (state g.S.Store c.args.conn.now) (state g.S.Store c.begin.new.conn) (state g.S.Store c.bring_up-found.new.conn) (state g.S.Store c.finish.new.conn) c.bring_up-found.result _ c.is_former.result _
     (record { begun = c.in-Ok.ensures.begun; begins = c.begin.ensures.survives; works = c.bring_up-found.ensures.call; ends = c.if-finish.ensures })
 
 pub returns-in-Err-clause-survives : goal.returns-in-Err-clause-survives
-returns-in-Err-clause-survives g c = outlives_one (state g.S.Store c.args.conn.now) (state g.S.Store c.begin.new.conn) c.begin.ensures.survives
+returns-in-Err-clause-survives g c = once_at_most (state g.S.Store c.args.conn.now) (state g.S.Store c.begin.new.conn) c.begin.ensures.survives
+
+pub returns-then-finish-clause-over : goal.returns-then-finish-clause-over
+returns-then-finish-clause-over g c clean was = finished_over (state g.S.Store c.bring_up-found.new.conn) (state g.S.Store c.finish.new.conn) _ true c.if-finish.ensures clean
+
+pub returns-else-finish-clause-over : goal.returns-else-finish-clause-over
+returns-else-finish-clause-over g c clean was = finished_over (state g.S.Store c.bring_up-found.new.conn) (state g.S.Store c.finish.new.conn) _ false c.if-finish.ensures clean
+
+pub returns-in-Err-clause-over : goal.returns-in-Err-clause-over
+returns-in-Err-clause-over g c clean was = left_over (state g.S.Store c.args.conn.now) (state g.S.Store c.begin.new.conn) (c.in-Err.ensures.refused clean) was

@@ -1,7 +1,7 @@
 use Rattle.std.proofs.Common.{true, false, refl}
 use Rattle.sqlite.specs.Held.{state}
 use Rattle.registry_tables.specs.Format.{Finds}
-use Rattle.broker_service.proofs.Transaction.{IsTransaction, survives_all, outlives_one, not_begun, as_before}
+use Rattle.broker_service.proofs.Transaction.{IsTransaction, commits_nothing, not_begun, left_over, finished_over, as_before}
 use Rattle.broker_service.proofs.MakeLemmas.{finds}
 use Rattle.broker_service.proofs.opening.find_format.Goals as goal
 
@@ -28,13 +28,19 @@ returns-in-Err-clause-same g c clean =
 
 pub returns-then-finish-clause-survives : goal.returns-then-finish-clause-survives
 returns-then-finish-clause-survives g c =
-    survives_all (state g.S.Store c.args.conn.now) (state g.S.Store c.begin.new.conn) (state g.S.Store c.format_of-found.new.conn) (state g.S.Store c.finish.new.conn) c.format_of-found.result _ false _
-    (record { begun = c.in-Ok.ensures.begun; begins = c.begin.ensures.survives; works = c.format_of-found.ensures.call; ends = c.if-finish.ensures })
+    commits_nothing (state g.S.Store c.args.conn.now) (state g.S.Store c.begin.new.conn) (state g.S.Store c.format_of-found.new.conn) (state g.S.Store c.finish.new.conn) c.format_of-found.result _ false _
+    (record { begun = c.in-Ok.ensures.begun; begins = c.begin.ensures.survives; works = c.format_of-found.ensures.call; ends = c.if-finish.ensures }) refl
 
 pub returns-else-finish-clause-survives : goal.returns-else-finish-clause-survives
 returns-else-finish-clause-survives g c =
-    survives_all (state g.S.Store c.args.conn.now) (state g.S.Store c.begin.new.conn) (state g.S.Store c.format_of-found.new.conn) (state g.S.Store c.finish.new.conn) c.format_of-found.result _ false _
-    (record { begun = c.in-Ok.ensures.begun; begins = c.begin.ensures.survives; works = c.format_of-found.ensures.call; ends = c.if-finish.ensures })
+    commits_nothing (state g.S.Store c.args.conn.now) (state g.S.Store c.begin.new.conn) (state g.S.Store c.format_of-found.new.conn) (state g.S.Store c.finish.new.conn) c.format_of-found.result _ false _
+    (record { begun = c.in-Ok.ensures.begun; begins = c.begin.ensures.survives; works = c.format_of-found.ensures.call; ends = c.if-finish.ensures }) refl
 
-pub returns-in-Err-clause-survives : goal.returns-in-Err-clause-survives
-returns-in-Err-clause-survives g c = outlives_one (state g.S.Store c.args.conn.now) (state g.S.Store c.begin.new.conn) c.begin.ensures.survives
+pub returns-then-finish-clause-over : goal.returns-then-finish-clause-over
+returns-then-finish-clause-over g c clean was = finished_over (state g.S.Store c.format_of-found.new.conn) (state g.S.Store c.finish.new.conn) false true c.if-finish.ensures clean
+
+pub returns-else-finish-clause-over : goal.returns-else-finish-clause-over
+returns-else-finish-clause-over g c clean was = finished_over (state g.S.Store c.format_of-found.new.conn) (state g.S.Store c.finish.new.conn) false false c.if-finish.ensures clean
+
+pub returns-in-Err-clause-over : goal.returns-in-Err-clause-over
+returns-in-Err-clause-over g c clean was = left_over (state g.S.Store c.args.conn.now) (state g.S.Store c.begin.new.conn) (c.in-Err.ensures.refused clean) was

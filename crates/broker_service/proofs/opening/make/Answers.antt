@@ -6,7 +6,7 @@ use Rattle.broker_service.specs.Stored.{Stores}
 use Rattle.broker_service.specs.Transaction.{Finishes}
 use Rattle.broker_service.proofs.Sound.{opens_sound}
 use Rattle.table_access.proofs.CallLemmas.{call_with}
-use Rattle.broker_service.proofs.Transaction.{IsTransaction, survives_all, outlives_one, not_begun}
+use Rattle.broker_service.proofs.Transaction.{IsTransaction, commits_once, once_at_most, not_begun, left_over, finished_over}
 use Rattle.broker_service.proofs.MakeLemmas.{make_ends, make_unchanged, creates_as_before, unmade_as_before}
 use Rattle.broker_service.proofs.opening.make.Goals as goal
 
@@ -48,13 +48,22 @@ returns-in-Err-clause-ends g c clean holds =
 
 pub returns-then-finish-clause-survives : goal.returns-then-finish-clause-survives
 returns-then-finish-clause-survives g c =
-    survives_all (state g.S.Store c.args.conn.now) (state g.S.Store c.begin.new.conn) (state g.S.Store c.make_all-made.new.conn) (state g.S.Store c.finish.new.conn) c.make_all-made.result _ (is_ok c.make_all-made.result) _
+    commits_once (state g.S.Store c.args.conn.now) (state g.S.Store c.begin.new.conn) (state g.S.Store c.make_all-made.new.conn) (state g.S.Store c.finish.new.conn) c.make_all-made.result _ (is_ok c.make_all-made.result) _
     (record { begun = c.in-Ok.ensures.begun; begins = c.begin.ensures.survives; works = c.make_all-made.ensures.call; ends = (subst (λ (k : Bool). Finishes (state g.S.Store c.make_all-made.new.conn) (state g.S.Store c.finish.new.conn) k true) c.is_ok.ensures.value c.if-finish.ensures) })
 
 pub returns-else-finish-clause-survives : goal.returns-else-finish-clause-survives
 returns-else-finish-clause-survives g c =
-    survives_all (state g.S.Store c.args.conn.now) (state g.S.Store c.begin.new.conn) (state g.S.Store c.make_all-made.new.conn) (state g.S.Store c.finish.new.conn) c.make_all-made.result _ (is_ok c.make_all-made.result) _
+    commits_once (state g.S.Store c.args.conn.now) (state g.S.Store c.begin.new.conn) (state g.S.Store c.make_all-made.new.conn) (state g.S.Store c.finish.new.conn) c.make_all-made.result _ (is_ok c.make_all-made.result) _
     (record { begun = c.in-Ok.ensures.begun; begins = c.begin.ensures.survives; works = c.make_all-made.ensures.call; ends = (subst (λ (k : Bool). Finishes (state g.S.Store c.make_all-made.new.conn) (state g.S.Store c.finish.new.conn) k false) c.is_ok.ensures.value c.if-finish.ensures) })
 
 pub returns-in-Err-clause-survives : goal.returns-in-Err-clause-survives
-returns-in-Err-clause-survives g c = outlives_one (state g.S.Store c.args.conn.now) (state g.S.Store c.begin.new.conn) c.begin.ensures.survives
+returns-in-Err-clause-survives g c = once_at_most (state g.S.Store c.args.conn.now) (state g.S.Store c.begin.new.conn) c.begin.ensures.survives
+
+pub returns-then-finish-clause-over : goal.returns-then-finish-clause-over
+returns-then-finish-clause-over g c clean was = finished_over (state g.S.Store c.make_all-made.new.conn) (state g.S.Store c.finish.new.conn) _ true c.if-finish.ensures clean
+
+pub returns-else-finish-clause-over : goal.returns-else-finish-clause-over
+returns-else-finish-clause-over g c clean was = finished_over (state g.S.Store c.make_all-made.new.conn) (state g.S.Store c.finish.new.conn) _ false c.if-finish.ensures clean
+
+pub returns-in-Err-clause-over : goal.returns-in-Err-clause-over
+returns-in-Err-clause-over g c clean was = left_over (state g.S.Store c.args.conn.now) (state g.S.Store c.begin.new.conn) (c.in-Err.ensures.refused clean) was

@@ -12,8 +12,9 @@ returns-in-Ok g c = record {
   same = tt;
   unchanged = tt;
   runs = refl;
+  over = c.create.ensures.over;
   survives = c.create.ensures.survives;
-  leaves = making_made (state g.S.Store) c.args.conn _ _ refl c.in-Ok.ensures.made c.create.ensures.survives.clean;
+  leaves = making_made (state g.S.Store) c.args.conn _ _ refl c.in-Ok.ensures.made c.create.ensures.survives.1.clean;
 }
 
 pub returns-in-Err : goal.returns-in-Err
@@ -24,6 +25,7 @@ returns-in-Err g c = record {
   same = λ is. c.in-Err.ensures.same (ap Err is);
   unchanged = c.in-Err.ensures.unchanged;
   runs = tt;
+  over = c.create.ensures.over;
   survives = c.create.ensures.survives;
-  leaves = making_refused (state g.S.Store) c.args.conn _ _ c.in-Err.ensures.refuses c.create.ensures.survives.clean;
+  leaves = making_refused (state g.S.Store) c.args.conn _ _ c.in-Err.ensures.refuses c.create.ensures.survives.1.clean;
 }

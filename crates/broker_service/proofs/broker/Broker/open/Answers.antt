@@ -1,7 +1,7 @@
 use Rattle.std.proofs.Common.{refl}
 use Rattle.sqlite.specs.Held.{state}
 use Rattle.broker_service.proofs.LeavingLemmas.{opening_opened, opening_refused}
-use Rattle.broker_service.proofs.Transaction.{keeps_on}
+use Rattle.broker_service.proofs.Transaction.{keeps_on, adds_nothing}
 use Rattle.broker_service.proofs.broker.Broker.open.Goals as goal
 
 pub returns-in-Ok : goal.returns-in-Ok
@@ -12,8 +12,8 @@ returns-in-Ok g c = record {
   kept = c.in-Ok.ensures.kept;
   holds = λ clean s holds. keeps_on _ _ _ (c.in-Ok.ensures.kept clean) holds;
   unchanged = tt;
-  crash = c.open.ensures.crash;
   runs = refl;
+  over = c.open.ensures.over;
   survives = c.open.ensures.survives;
   leaves = opening_opened (state g.S.Store) c.args.conn _ refl c.in-Ok.ensures.kept c.open.ensures.survives.clean;
 }
@@ -26,8 +26,8 @@ returns-in-Err g c = record {
   kept = tt;
   holds = tt;
   unchanged = c.in-Err.ensures.unchanged;
-  crash = c.open.ensures.crash;
   runs = tt;
+  over = c.open.ensures.over;
   survives = c.open.ensures.survives;
-  leaves = opening_refused (state g.S.Store) c.args.conn _ c.in-Err.ensures.crash c.open.ensures.survives.clean;
+  leaves = opening_refused (state g.S.Store) c.args.conn _ (adds_nothing _ _ c.open.ensures.survives) c.open.ensures.survives.clean;
 }
