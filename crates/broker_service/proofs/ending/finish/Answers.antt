@@ -23,7 +23,7 @@ returns-else-keeps g c =
     record {
       committed = λ _ kept _. absurd (cc);
       over = λ clean _. (c.rollback.ensures.commit clean, c.rollback.ensures.over clean);
-      refused = λ clean _ undone. c.rollback.ensures.cause clean undone;
+      refused = λ clean _ undone. (c.rollback.ensures.tells clean).1 undone;
       live = λ kept. absurd (cc);
       settled = λ trees now may. g.met.S.Store.settled _ trees now may;
       survives = outlives_as old new (λ trees never. absurd never) c.rollback.ensures.survives;
