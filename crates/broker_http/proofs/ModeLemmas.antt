@@ -1,5 +1,5 @@
 -- From brokers to the machine.
-use Rattle.std.proofs.Common.{◌≡◌, ◌≢◌, ◌↔◌, inl, inr, ℕ, ◌≤◌, Bool, true, false, IsTrue, List, [], ◌∷◌, Option, refl, sym, ap, ◌∙◌, subst, arith}
+use Rattle.std.proofs.Common.{◌≡◌, ◌≢◌, ◌↔◌, inl, inr, ℕ, suc, ◌≤◌, Bool, true, false, IsTrue, List, [], ◌∷◌, Option, refl, sym, ap, ◌∙◌, subst, arith}
 use Rattle.std.specs.Prelude.{length, Contains}
 use Rattle.sqlite.specs.Tree.{Trees}
 use Rattle.sqlite.proofs.StateLemmas.{survives_then}
@@ -38,7 +38,7 @@ first_commit : (commit : Trees) (commits : List Trees) (trees : Trees) → trees
 first_commit commit commits trees is = (0, omega arith, sym is)
 
 later_commit : (commit : Trees) (commits : List Trees) (trees : Trees) → Contains commits trees → Contains (commit ∷ commits) trees
-later_commit commit commits trees it = let below = it.1 in (suc it.0, omega arith, it.2)
+later_commit commit commits trees it = (suc it.0, omega (arith, it.1), it.2)
 
 module _ {X : Type 0} (shown : Held X → State) where
   untouched : {P : Trees → Type 0} (old new : BrokerView X) → new ≡ old → Survives (shown old.connection) (shown new.connection) P
@@ -96,10 +96,10 @@ module _ {X : Type 0} (shown : Held X → State) where
   all_survive old stream (response ∷ responses) new rest p =
       let one = survives old p.1 p.4.0 response p.4.2 in
       let later = all_survive p.1 p.2 responses new rest p.5 in
-      let fewer = later.2 in (
+      (
         one.0 ∷ later.0,
         survives_then (shown old.connection) (shown p.1.connection) (shown new.connection) _ _ _ (λ _ trees is. first_commit one.0 later.0 trees is) (λ _ trees is. later_commit one.0 later.0 trees is) one.1 later.1,
-        omega arith,
+        omega (arith, later.2),
       )
 
   -- a disk that is clean behind a stream was clean before
