@@ -1,9 +1,12 @@
 -- The statements on what is deployed.
-use Rattle.std.proofs.Common.{◌≡◌, inl, inr, ℕ, pos, codes, List, [], ◌∷◌, ◌++◌, true, false, Bool, ◌||◌, refl, sym, ap, subst, ◌∙◌, cond, slice_get, Some, None, Ok}
-use Rattle.std.specs.Prelude.{option_map}
-use Rattle.std.specs.Ordering.{eq_by_cmp}
+use Rattle.std.proofs.Common.{◌≡◌, inl, inr, ℕ, ℤ, pos, codes, List, [], ◌∷◌, ◌++◌, true, false, Bool, ◌||◌, ◌&&◌, not, filter, nat_lt, Ordering, Less, Equal, Greater, Option, refl, sym, ap, subst, ◌∙◌, cond, slice_get, Some, None, Ok}
+use Rattle.std.specs.Prelude.{option_map, is_some}
+use Rattle.std.specs.List.{list_any}
+use Rattle.std.specs.Option.{option_map_or}
+use Rattle.std.specs.Ordering.{eq_by_cmp, is_eq, int_cmp, ordering_then}
 use Rattle.std.specs.Cmp.{eq_by_cmp_equiv, Equal-is}
 use Rattle.std.specs.Cmp.Lexicographic.{nat_list_cmp_total}
+use Rattle.std.proofs.lemmas.Cmp.{int_cmp_total}
 use Rattle.sqlite.specs.Tree.{IsAscending, rowid}
 use Rattle.sqlite.specs.Edit.{next_rowid, with_rowid, id_in}
 use Rattle.sqlite.specs.Rowids.TheVariants.{Chosen}
@@ -27,10 +30,11 @@ use Rattle.sqlite_value.specs.Keys.{plain}
 use Rattle.sqlite_tied.specs.Compute.{everything}
 use Rattle.table_access.specs.Columns.{text, text_cmp, whole_at, by_both}
 use Rattle.table_access.specs.Statements.{from_table, keeps, shows, ChangesOnly}
-use Rattle.table_access.proofs.Steps.{Means, selects, deletes}
-use Rattle.table_access.proofs.Maps.{looks_up_at}
+use Rattle.table_access.proofs.Steps.{Means, selects, deletes, deletes_counted}
+use Rattle.table_access.proofs.CountLemmas.{some_counted, same_any, any_never}
+use Rattle.table_access.proofs.Maps.{looks_up_at, has_find}
 use Rattle.table_access.proofs.Keys.{apart_by}
-use Rattle.table_access.proofs.Parts.{Part, text_part, where_last, where_and, all_where, is_param, agree_last, agree_and, once}
+use Rattle.table_access.proofs.Parts.{Part, text_part, whole_part, where_last, where_and, all_where, is_param, agree_last, agree_and, once}
 use Rattle.table_access.proofs.SoundLemmas.{text_at, whole_in, has_place, at_has}
 use Rattle.broker_tables.specs.Schema.{broker_schema}
 use Rattle.broker_tables.specs.Rows.{value_at}
@@ -45,7 +49,8 @@ use Rattle.sqlite.specs.Rows.{shown}
 use Rattle.sqlite.specs.Kind.TheVariants as column_kind
 use Rattle.sqlite_rules.specs.Keys.{conflicts}
 use Rattle.broker_tables.proofs.Orders.{triples_total, exact_triple}
-use Rattle.broker_tables.proofs.Standing.{takes_at}
+use Rattle.broker_tables.proofs.Standing.{stands_found, takes_at}
+use Rattle.broker_tables.proofs.Ties.{both_eq}
 use Rattle.broker_tables.proofs.Placed.{deployed, deployed_there, calm}
 
 -- an environment, a pacticipant and an instance
@@ -193,26 +198,111 @@ recorded e p i n old new count broker h =
 
 -- ---- the end of a deployment
 
-abbrev pub empty_sql : List ℕ
-empty_sql = codes "DELETE FROM deployed WHERE environment = ?1 AND pacticipant = ?2 AND instance = ?3"
+abbrev pub place_cmp : Place → Place → Ordering
+place_cmp = by_both text_cmp (by_both text_cmp text_cmp)
 
-abbrev empty_command : Command
-empty_command = Delete 11 (record { lets = []; body = from_table 21 by_place (col 1 0 ∷ []) [] })
+-- whether it is this number
+abbrev pub is_number : ℕ → Option ℤ → Bool
+is_number n found = option_map_or (eq_by_cmp int_cmp (pos n)) found false
 
-empty_text : Means broker_schema empty_sql empty_command
+abbrev pub end_sql : List ℕ
+end_sql = codes "DELETE FROM deployed WHERE environment = ?1 AND pacticipant = ?2 AND instance = ?3 AND version_number = ?4"
+
+abbrev by_version : List Term
+by_version = is_param 1 0 ∷ is_param 2 1 ∷ is_param 3 2 ∷ is_param 4 3 ∷ []
+
+abbrev end_command : Command
+end_command = Delete 11 (record { lets = []; body = from_table 21 by_version (col 1 0 ∷ []) [] })
+
+end_text : Means broker_schema end_sql end_command
 unfolding understood everything
-empty_text = record { is = refl; plain = (refl, refl); unlisted = refl }
+end_text = record { is = refl; plain = (refl, refl); unlisted = refl }
 
-pub emptied : (e p i : List ℕ) (old new : State) (count : ℕ) → IsBroker old.now → Executes empty_sql (Text e ∷ Text p ∷ Text i ∷ []) old new (Ok count)
-    → ChangesOnly 21 old new × ((q : Place) → value_at (by_both text_cmp (by_both text_cmp text_cmp)) place_of (whole_at 4) (new.now.trees 21) q ≡ cond (eq_by_cmp (by_both text_cmp (by_both text_cmp text_cmp)) q (e, (p, i))) None (value_at (by_both text_cmp (by_both text_cmp text_cmp)) place_of (whole_at 4) (old.now.trees 21) q))
-emptied e p i old new count broker h =
+regrouped : (a b c d : Ordering) → ordering_then a (ordering_then b (ordering_then c d)) ≡ ordering_then (ordering_then a (ordering_then b c)) d
+regrouped Less b c d = refl
+regrouped Greater b c d = refl
+regrouped Equal Less c d = refl
+regrouped Equal Greater c d = refl
+regrouped Equal Equal c d = refl
+
+with_true : (b : Bool) → (b && true) ≡ b
+with_true true = refl
+with_true false = refl
+
+with_false : (b : Bool) → (b && false) ≡ false
+with_false true = refl
+with_false false = refl
+
+none_out : (p : Row → Bool) (rows : List Row) → ((r : Row) → Has rows r → p r ≡ false) → filter (λ r. not (p r)) rows ≡ rows
+none_out p [] no = refl
+none_out p (r ∷ rows) no = rw (no r (inl refl)) (ap (λ rs. r ∷ rs) (none_out p rows (λ x has. no x (inr has))))
+
+module _ (db : Database) (broker : IsBroker db) (e p i : List ℕ) (n : ℕ) where
+  abbrev place : Place
+  place = (e, (p, i))
+
+  abbrev params : Row
+  params = Text e ∷ Text p ∷ Text i ∷ Int (pos n) ∷ []
+
+  -- the number at the place
+  abbrev pub at_place : Option ℤ
+  at_place = value_at place_cmp place_of (whole_at 4) (db.trees 21) place
+
+  -- WHERE keeps the row of the place, if it has the number
+  where_version : (r : Row) → Has (db.trees 21) r → keeps by_version params r ≡ (eq_by_cmp place_cmp place (place_of r) && eq_by_cmp int_cmp (pos n) (whole_at 4 r))
+  where_version r has =
+      let rows = db.trees 21 in
+      where_and nat_list_cmp_total rows 1 (text 1) (one db broker) (by_both text_cmp (by_both text_cmp int_cmp)) (λ x. (text 2 x, (text 3 x, whole_at 4 x))) (p, (i, pos n)) (is_param 2 1 ∷ is_param 3 2 ∷ is_param 4 3 ∷ []) params 0 e refl r has
+      (where_and nat_list_cmp_total rows 2 (text 2) (two db broker) (by_both text_cmp int_cmp) (λ x. (text 3 x, whole_at 4 x)) (i, pos n) (is_param 3 2 ∷ is_param 4 3 ∷ []) params 1 p refl r has
+      (where_and nat_list_cmp_total rows 3 (text 3) (three db broker) int_cmp (whole_at 4) (pos n) (is_param 4 3 ∷ []) params 2 i refl r has
+      (where_last int_cmp_total rows 4 (whole_at 4) (whole_part rows 4 (numbers db broker)) params 3 (pos n) refl r has)))
+      ∙ ap is_eq (regrouped (text_cmp e (text 1 r)) (text_cmp p (text 2 r)) (text_cmp i (text 3 r)) (int_cmp (pos n) (whole_at 4 r))) ∙ sym (both_eq (place_cmp place (place_of r)) (int_cmp (pos n) (whole_at 4 r)))
+
+  -- the number at the place decides for each row of it
+  kept_at : (r : Row) → Has (db.trees 21) r → keeps by_version params r ≡ (eq_by_cmp place_cmp place (place_of r) && is_number n at_place)
+  kept_at r has = where_version r has ∙ go (eq_by_cmp place_cmp place (place_of r)) refl
+    where
+      go : (b : Bool) → eq_by_cmp place_cmp place (place_of r) ≡ b → (b && eq_by_cmp int_cmp (pos n) (whole_at 4 r)) ≡ (b && is_number n at_place)
+      go false miss = refl
+      go true hit =
+          let same : place ≡ place_of r = exact_triple place (place_of r) ((Equal-is (place_cmp place (place_of r))).0 hit) in
+          let there : at_place ≡ Some (whole_at 4 r) = ap (value_at place_cmp place_of (whole_at 4) (db.trees 21)) same ∙ has_find triples_total exact_triple place_of (whole_at 4) (db.trees 21) r (keys db broker) has in
+          sym (ap (is_number n) there)
+
+  found_some : (o : Option ℤ) → is_number n o ≡ true → is_some o ≡ true
+  found_some None h = absurd cc
+  found_some (Some z) h = refl
+
+  -- whether a row is kept
+  any_kept : (b : Bool) → is_number n at_place ≡ b → list_any (keeps by_version params) (db.trees 21) ≡ b
+  any_kept true hit =
+      same_any (keeps by_version params) (λ r. eq_by_cmp place_cmp place (place_of r)) (db.trees 21) (λ r has. kept_at r has ∙ ap (λ b. eq_by_cmp place_cmp place (place_of r) && b) hit ∙ with_true _)
+      ∙ sym (stands_found place_cmp place_of (whole_at 4) (db.trees 21) place) ∙ found_some at_place hit
+  any_kept false miss =
+      same_any (keeps by_version params) (λ r. false) (db.trees 21) (λ r has. kept_at r has ∙ ap (λ b. eq_by_cmp place_cmp place (place_of r) && b) miss ∙ with_false _) ∙ any_never (db.trees 21)
+
+  -- what is left at each place
+  left_at : (b : Bool) → is_number n at_place ≡ b → (rows : List Row) → rows ≡ filter (λ r. not (keeps by_version params r)) (db.trees 21) → (q : Place)
+      → value_at place_cmp place_of (whole_at 4) rows q ≡ cond (b && eq_by_cmp place_cmp q place) None (value_at place_cmp place_of (whole_at 4) (db.trees 21) q)
+  left_at true hit rows is q =
+      takes_at triples_total exact_triple place_of (whole_at 4) place (keeps by_version params) (db.trees 21) rows
+      (all_where place_cmp (db.trees 21) place_of place by_version params (λ r has. kept_at r has ∙ ap (λ b. eq_by_cmp place_cmp place (place_of r) && b) hit ∙ with_true _)) is q
+  left_at false miss rows is q =
+      ap (λ xs. value_at place_cmp place_of (whole_at 4) xs q)
+      (is ∙ none_out (keeps by_version params) (db.trees 21) (λ r has. kept_at r has ∙ ap (λ b. eq_by_cmp place_cmp place (place_of r) && b) miss ∙ with_false _))
+
+-- the row of the place goes if it has the number, and the count says whether it did
+pub ended : (e p i : List ℕ) (n : ℕ) (old new : State) (count : ℕ) → (broker : IsBroker old.now) → Executes end_sql (Text e ∷ Text p ∷ Text i ∷ Int (pos n) ∷ []) old new (Ok count)
+    → ChangesOnly 21 old new × ((b : Bool) → is_number n (at_place old.now broker e p i n) ≡ b → (q : Place) → value_at place_cmp place_of (whole_at 4) (new.now.trees 21) q ≡ cond (b && eq_by_cmp place_cmp q (e, (p, i))) None (value_at place_cmp place_of (whole_at 4) (old.now.trees 21) q))
+    × (nat_lt 0 count ≡ is_number n (at_place old.now broker e p i n))
+ended e p i n old new count broker h =
     let db = old.now in
-    let rows = db.trees 21 in
-    let params = Text e ∷ Text p ∷ Text i ∷ [] in
+    let params = Text e ∷ Text p ∷ Text i ∷ Int (pos n) ∷ [] in
+    let means = meant db broker end_sql end_text in
     let numbered = at_has _ db.schema.tables deployed broker.kept.numbered (has_place _ 11 deployed (deployed_there db broker)) in
-    let it = deletes (codes "deployed") 21 deployed.columns None (1 ∷ 2 ∷ 3 ∷ []) deployed.uniques deployed.orders [] deployed.references empty_sql params old new 11 (deployed_there db broker)
-    by_place (meant db broker empty_sql empty_text) (calm db broker) numbered count h in (
+    let it = deletes (codes "deployed") 21 deployed.columns None (1 ∷ 2 ∷ 3 ∷ []) deployed.uniques deployed.orders [] deployed.references end_sql params old new 11 (deployed_there db broker) by_version means (calm db broker) numbered count h in
+    let counted = deletes_counted (codes "deployed") 21 deployed.columns None (1 ∷ 2 ∷ 3 ∷ []) deployed.uniques deployed.orders [] deployed.references end_sql params old new 11 (deployed_there db broker) by_version means count h in (
       it.0,
-      takes_at triples_total exact_triple place_of (whole_at 4) (e, (p, i)) (keeps by_place params) rows (new.now.trees 21)
-          (all_where (by_both text_cmp (by_both text_cmp text_cmp)) rows place_of (e, (p, i)) by_place params (where_place rows (one db broker) (two db broker) (three db broker) e p i)) it.1,
+      λ b is q. left_at db broker e p i n b is (new.now.trees 21) it.1 q,
+      ap (nat_lt 0) counted ∙ some_counted (keeps by_version params) (db.trees 21) ∙ any_kept db broker e p i n (is_number n (at_place db broker e p i n)) refl,
     )

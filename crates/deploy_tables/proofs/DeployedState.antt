@@ -1,13 +1,16 @@
 -- What the rows of the deployed versions say of the state.
-use Rattle.std.proofs.Common.{◌≡◌, ◌==◌, ℕ, ℤ, pos, codes, List, [], ◌∷◌, Bool, true, false, ◌&&◌, refl, sym, ap, ◌∙◌, cond, Some, None, Option, Ok, Ordering}
-use Rattle.std.specs.Prelude.{option_map}
+use Rattle.std.proofs.Common.{◌≡◌, ◌==◌, inl, inr, ℕ, ℤ, pos, codes, List, [], ◌∷◌, Bool, true, false, ◌&&◌, refl, sym, ap, ◌∙◌, cond, nat_lt, Some, None, Option, Ok, Ordering}
+use Rattle.std.specs.Prelude.{option_map, if◌then◌else◌}
 use Rattle.std.specs.Option.{option_map_or}
-use Rattle.std.specs.Ordering.{eq_by_cmp}
+use Rattle.std.specs.Ordering.{eq_by_cmp, int_cmp}
 use Rattle.std.specs.Cmp.{eq_by_cmp_equiv, Equal-is}
 use Rattle.std.specs.Cmp.Lexicographic.{texts_ties, nat_list_cmp_total}
+use Rattle.std.proofs.lemmas.Bool.{cases_Bool, eqb-true}
+use Rattle.std.proofs.lemmas.Cmp.{int_cmp_total}
 use Rattle.sqlite.specs.declared.types.Value.TheVariants.{Int, Text}
 use Rattle.sqlite.specs.State.{State, Executes}
 use Rattle.table_access.specs.Columns.{text_cmp, whole_at, by_both}
+use Rattle.table_access.specs.Statements.{ChangesOnly}
 use Rattle.broker_core.specs.declared.command.Version.{Version}
 use Rattle.broker_core.specs.Text.{Text as Words, same_text, same_place, put_at, version}
 use Rattle.broker_core.specs.Change.{is_text}
@@ -19,7 +22,8 @@ use Rattle.broker_tables.proofs.Frames.{frame_of, deployed_change}
 use Rattle.broker_tables.proofs.NumberLemmas.{number_ties}
 use Rattle.broker_tables.proofs.Orders.{exact_triple}
 use Rattle.broker_tables.proofs.Ties.{two_tests, both_eq, nat_ties}
-use Rattle.deploy_tables.proofs.DeployedRows.{Place, place_of, record_sql, recorded, empty_sql, emptied}
+use Rattle.deploy_tables.specs.Deployments.{IsVersionOf, TakesOutAndTells, without_instance}
+use Rattle.deploy_tables.proofs.DeployedRows.{Place, place_of, place_cmp, record_sql, recorded, end_sql, is_number, at_place, ended}
 
 same_itself : (t : Words) → same_text t t ≡ true
 same_itself t = texts_ties t t ∙ (eq_by_cmp_equiv nat_list_cmp_total).refl t
@@ -39,6 +43,23 @@ is_there versions p value (Some name) (Some k) held is v n numbered owner =
     unmapped : (o : Option ℕ) → Some (pos k) ≡ option_map pos o → o ≡ Some k
     unmapped None e = absurd cc
     unmapped (Some m) e = let same : pos k ≡ pos m = cc in let nats : k ≡ m = cc in ap Some (sym nats)
+
+-- the number at a place is that of a version of the pacticipant
+pub none_there : (versions : List Version) (p : Words) (value : Option ℤ) (there : Option Words) (found : Option ℕ) → option_map Some value ≡ option_map (λ name. option_map pos (number_of versions (version p name))) there → option_map pos found ≡ value
+    → (n : ℕ) → ((v : Version) → number_of versions v ≡ Some n → v.pacticipant ≡ p → ⊥) → option_map_or (λ k. k == n) found false ≡ false
+none_there versions p value there None held is n none = refl
+none_there versions p value None (Some k) held is n none = absurd (let a : Some (Some (pos k)) ≡ None = ap (option_map Some) is ∙ held in cc)
+none_there versions p value (Some name) (Some k) held is n none = elim (cases_Bool (k == n)) [
+  | inl hit ↦
+      let a : Some (Some (pos k)) ≡ Some (option_map pos (number_of versions (version p name))) = ap (option_map Some) is ∙ held in
+      let b : Some (pos k) ≡ option_map pos (number_of versions (version p name)) = cc in
+      absurd (none (version p name) (known (number_of versions (version p name)) b ∙ ap Some (eqb-true k n hit)) refl)
+  | inr miss ↦ miss
+]
+  where
+    known : (o : Option ℕ) → Some (pos k) ≡ option_map pos o → o ≡ Some k
+    known None e = absurd cc
+    known (Some m) e = let same : pos k ≡ pos m = cc in let nats : k ≡ m = cc in ap Some (sym nats)
 
 pub place_ties : (e p i f q j : Words) → same_place (e, p, i) (f, q, j) ≡ eq_by_cmp (by_both text_cmp (by_both text_cmp text_cmp)) (e, (p, i)) (f, (q, j))
 place_ties e p i f q j =
@@ -62,18 +83,48 @@ now_deployed e p i n v old new count s held numbered owner h =
         ap (λ o. Some (option_map pos o)) (sym numbered) ∙ ap (λ x. Some (option_map pos (number_of s.versions (version x v.name)))) (owner ∙ sym (ap (λ k. k.1.0) same))
     go f q j false miss = held.deployed f q j
 
--- nothing is deployed there now
-pub now_empty : (e p i : Words) (old new : State) (count : ℕ) (s : Broker) → Holds old.now s → Executes empty_sql (Text e ∷ Text p ∷ Text i ∷ []) old new (Ok count)
-    → Holds new.now (record s { deployed = put_at same_place s.deployed (e, p, i) None })
-now_empty e p i old new count s held h =
-    let it = emptied e p i old new count held.broker h in
-    deployed_change old.now new.now s _ held (frame_of (codes "deployed" ∷ []) 21 refl old new held.broker it.0) (λ f q j.
-    ap (option_map Some) (it.1 (f, (q, j))) ∙ go f q j (eq_by_cmp triple (f, (q, j)) (e, (p, i))) ∙ ap (λ b. option_map (λ name. option_map pos (number_of s.versions (version q name))) (cond b None (s.deployed (f, q, j)))) (sym (place_ties f q j e p i)))
+-- whether the number at a place is this one is whether the version of this number is deployed there
+is_number_there : (versions : List Version) (p : Words) (value : Option ℤ) (there : Option Words) → option_map Some value ≡ option_map (λ name. option_map pos (number_of versions (version p name))) there
+    → (v : Version) (n : ℕ) → number_of versions v ≡ Some n → v.pacticipant ≡ p → is_number n value ≡ is_text v.name there
+is_number_there versions p None None held v n numbered owner = refl
+is_number_there versions p None (Some name) held v n numbered owner = absurd (let a : None ≡ Some (option_map pos (number_of versions (version p name))) = held in cc)
+is_number_there versions p (Some z) None held v n numbered owner = absurd (let a : Some (Some z) ≡ None = held in cc)
+is_number_there versions p (Some z) (Some name) held v n numbered owner =
+    let a : Some (Some z) ≡ Some (option_map pos (number_of versions (version p name))) = held in
+    let b : Some z ≡ option_map pos (number_of versions (version p name)) = cc in
+    let it = known (number_of versions (version p name)) b in
+    ap (eq_by_cmp int_cmp (pos n)) it.2 ∙ (eq_by_cmp_equiv int_cmp_total).symm (pos n) (pos it.0) ∙ sym (number_ties versions (version p name) v it.0 n it.1 numbered) ∙ ap (λ t. t && same_text name v.name) (ap (same_text p) owner ∙ same_itself p)
   where
-    triple : Place → Place → Ordering
-    triple = by_both text_cmp (by_both text_cmp text_cmp)
+    known : (o : Option ℕ) → Some z ≡ option_map pos o → (k : ℕ) × (o ≡ Some k) × (z ≡ pos k)
+    known None e = absurd cc
+    known (Some k) e = (k, refl, cc)
 
-    go : (f q j : Words) (b : Bool)
-        → option_map Some (cond b None (value_at triple place_of (whole_at 4) (old.now.trees 21) (f, (q, j)))) ≡ option_map (λ name. option_map pos (number_of s.versions (version q name))) (cond b None (s.deployed (f, q, j)))
-    go f q j true = refl
-    go f q j false = held.deployed f q j
+-- the version isn't deployed there any more, and the count says whether it was; another version stays
+pub taken_out : (e p i : Words) (n : ℕ) (old new : State) (count : ℕ) (s : Broker) → Holds old.now s → Executes end_sql (Text e ∷ Text p ∷ Text i ∷ Int (pos n) ∷ []) old new (Ok count) → IsVersionOf p n s
+    → (t : Broker) × TakesOutAndTells e p i n (nat_lt 0 count) s t × Holds new.now t
+taken_out e p i n old new count s held h v =
+    let told : (w : Version) → number_of s.versions w ≡ Some n → w.pacticipant ≡ p → is_number n there ≡ is_text w.name (s.deployed (e, p, i)) =
+    λ w is owner. is_number_there s.versions p there (s.deployed (e, p, i)) (held.deployed e p i) w n is owner in (
+      if is_text v.0.name (s.deployed (e, p, i)) then without_instance s e p i else s,
+      ((v.0, v.1, v.2, refl), λ w is owner. it.2 ∙ told w is owner),
+      go (is_text v.0.name (s.deployed (e, p, i))) (told v.0 v.1 v.2),
+    )
+  where
+    there : Option ℤ
+    there = at_place old.now held.broker e p i n
+
+    it : ChangesOnly 21 old new × ((b : Bool) → is_number n there ≡ b → (q : Place) → value_at place_cmp place_of (whole_at 4) (new.now.trees 21) q ≡ cond (b && eq_by_cmp place_cmp q (e, (p, i))) None (value_at place_cmp place_of (whole_at 4) (old.now.trees 21) q))
+        × (nat_lt 0 count ≡ is_number n there)
+    it = ended e p i n old new count held.broker h
+
+    each : (f q j : Words) (b : Bool)
+        → option_map Some (cond b None (value_at place_cmp place_of (whole_at 4) (old.now.trees 21) (f, (q, j)))) ≡ option_map (λ name. option_map pos (number_of s.versions (version q name))) (cond b None (s.deployed (f, q, j)))
+    each f q j true = refl
+    each f q j false = held.deployed f q j
+
+    go : (b : Bool) → is_number n there ≡ b → Holds new.now (if b then without_instance s e p i else s)
+    go true hit =
+        deployed_change old.now new.now s _ held (frame_of (codes "deployed" ∷ []) 21 refl old new held.broker it.0) (λ f q j.
+        ap (option_map Some) (it.1 true hit (f, (q, j))) ∙ each f q j (eq_by_cmp place_cmp (f, (q, j)) (e, (p, i)))
+        ∙ ap (λ b. option_map (λ name. option_map pos (number_of s.versions (version q name))) (cond b None (s.deployed (f, q, j)))) (sym (place_ties f q j e p i)))
+    go false miss = deployed_change old.now new.now s s.deployed held (frame_of (codes "deployed" ∷ []) 21 refl old new held.broker it.0) (λ f q j. ap (option_map Some) (it.1 false miss (f, (q, j))) ∙ held.deployed f q j)

@@ -144,6 +144,12 @@ has_number : (o : Option ℕ) (test : ℕ → Bool) → option_map_or test o fal
 has_number None test h = absurd cc
 has_number (Some k) test h = (k, refl, h)
 
+-- a row of versions has the number of the version that it names
+pub numbered_row : (db : Database) (broker : IsBroker db) (s : Broker) → Holds db s → (v : Row) → Has (db.trees 6) v → (k : ℕ) × (number_of s.versions (version (text 2 v) (text 3 v)) ≡ Some k) × (whole_at 0 v ≡ pos k)
+numbered_row db broker s held v has =
+    numbered_as (whole_at 0 v) (number_of s.versions (version (text 2 v) (text 3 v)))
+    (sym (has_find pairs_total exact_pair (λ r. (text 2 r, text 3 r)) (whole_at 0) (db.trees 6) v (version_keys db broker) has) ∙ version_row (db.trees 6) s.versions (text 2 v) (text 3 v) held.versions)
+
 module _ (db : Database) (broker : IsBroker db) (e : Words) where
   abbrev kept : List Pair
   kept = pairs_kept (joined_by 2) (Text e ∷ []) (db.trees 23) (db.trees 6)
@@ -205,8 +211,7 @@ module _ (db : Database) (broker : IsBroker db) (e : Words) where
         let d = q.0 in
         let v = q.1 in
         let it = has_kept q has in
-        let known = numbered_as (whole_at 0 v) (number_of s.versions (version (text 2 v) (text 3 v)))
-        (sym (has_find pairs_total exact_pair (λ r. (text 2 r, text 3 r)) (whole_at 0) (db.trees 6) v (version_keys db broker) it.1) ∙ version_row (db.trees 6) s.versions (text 2 v) (text 3 v) held.versions) in
+        let known = numbered_row db broker s held v it.1 in
         let place : (e, pos known.0) ≡ place_of d = λ i. (sym it.2.1 i, (sym known.2 ∙ it.2.0) i) in
         let stands : stands_at placed place_of (db.trees 23) (e, pos known.0) ≡ true =
         any_of (λ r. eq_by_cmp placed (e, pos known.0) (place_of r)) (db.trees 23) d it.0 (ap (eq_by_cmp placed (e, pos known.0)) (sym place) ∙ (eq_by_cmp_equiv placed_total).refl (e, pos known.0)) in
@@ -236,8 +241,7 @@ module _ (db : Database) (broker : IsBroker db) (e : Words) where
     row_number q has =
         let v = q.1 in
         let it = has_kept q has in
-        let known = numbered_as (whole_at 0 v) (number_of s.versions (version (text 2 v) (text 3 v)))
-        (sym (has_find pairs_total exact_pair (λ r. (text 2 r, text 3 r)) (whole_at 0) (db.trees 6) v (version_keys db broker) it.1) ∙ version_row (db.trees 6) s.versions (text 2 v) (text 3 v) held.versions) in
+        let known = numbered_row db broker s held v it.1 in
         (known.0, known.1, sym it.2.0 ∙ known.2)
 
     -- each version that is released there has a number

@@ -1,9 +1,11 @@
 -- The statements on what is released.
-use Rattle.std.proofs.Common.{◌≡◌, ℕ, ℤ, pos, codes, List, [], ◌∷◌, true, false, Bool, ◌&&◌, ◌||◌, refl, sym, ap, ◌∙◌, cond, slice_get, Some, None, Option, Ok}
+use Rattle.std.proofs.Common.{◌≡◌, inl, inr, ℕ, ℤ, pos, codes, List, [], ◌∷◌, true, false, Bool, ◌&&◌, ◌||◌, refl, sym, ap, ◌∙◌, cond, nat_lt, slice_get, Some, None, Option, Ok}
 use Rattle.std.specs.Prelude.{option_map, is_some}
 use Rattle.std.specs.Option.{option_map_or}
 use Rattle.std.specs.Ordering.{eq_by_cmp, int_cmp}
 use Rattle.std.specs.Cmp.Lexicographic.{nat_list_cmp_total, texts_ties}
+use Rattle.std.specs.Cmp.{Equal-is}
+use Rattle.std.proofs.lemmas.Bool.{cases_Bool}
 use Rattle.std.proofs.lemmas.Cmp.{int_cmp_total}
 use Rattle.sqlite.specs.Edit.{next_rowid, with_rowid}
 use Rattle.sqlite.specs.Rowids.TheVariants.{Chosen}
@@ -21,12 +23,14 @@ use Rattle.sqlite_tied.specs.Compute.{everything}
 use Rattle.table_access.specs.Columns.{text, text_cmp, whole_at}
 use Rattle.table_access.specs.Statements.{from_table, keeps, shows}
 use Rattle.table_access.proofs.Values.{cast_null, cast_int}
-use Rattle.table_access.proofs.Steps.{Means, selects, inserts, deletes}
+use Rattle.table_access.proofs.Steps.{Means, selects, inserts, deletes, deletes_counted}
+use Rattle.table_access.proofs.CountLemmas.{some_counted, same_any}
 use Rattle.table_access.proofs.Maps.{looks_up_at}
 use Rattle.table_access.proofs.SoundLemmas.{has_place, at_has}
+use Rattle.table_access.proofs.Members.{any_has}
 use Rattle.table_access.proofs.Parts.{text_part, whole_part, where_last, where_and, all_where, is_param}
 use Rattle.broker_core.specs.declared.command.Version.{Version}
-use Rattle.broker_core.specs.Text.{Text as Words, put_at, same_text, same_pair, same_version}
+use Rattle.broker_core.specs.Text.{Text as Words, version, put_at, same_text, same_pair, same_version}
 use Rattle.broker_core.specs.State.{State as Broker}
 use Rattle.broker_tables.specs.Schema.{broker_schema}
 use Rattle.broker_tables.specs.Rows.{stands_at}
@@ -35,10 +39,13 @@ use Rattle.broker_tables.specs.Holds.{Holds, IsBroker}
 use Rattle.broker_tables.proofs.Frames.{meant, frame_of, released_change}
 use Rattle.broker_tables.proofs.NumberLemmas.{number_ties, version_unknown}
 use Rattle.broker_tables.proofs.Orders.{placed_total, exact_placed}
+use Rattle.broker_tables.proofs.References.{refers_version}
 use Rattle.broker_tables.proofs.Standing.{stands_found, stands_put, stands_out}
 use Rattle.broker_tables.proofs.Ties.{two_tests, both_eq}
 use Rattle.broker_tables.proofs.Placed.{released, released_there, calm}
-use Rattle.deploy_tables.proofs.ReleasedList.{placed, place_of, environments, numbers, keys}
+use Rattle.deploy_tables.specs.Releases.{IsVersion}
+use Rattle.deploy_tables.proofs.VersionRows.{same_pos}
+use Rattle.deploy_tables.proofs.ReleasedList.{placed, place_of, environments, numbers, keys, numbered_row}
 
 abbrev pub by_place : List Term
 by_place = is_param 1 0 ∷ is_param 2 1 ∷ []
@@ -65,14 +72,37 @@ is_text = record { is = refl; plain = (refl, refl); unlisted = refl }
 pub is_means : (db : Database) → IsBroker db → Means db.schema is_sql is_command
 is_means db broker = meant db broker is_sql is_text
 
+-- a row is shown just where one has this environment and number
+row_found : (e : Words) (n : ℕ) (old new : State) (rows : List Row) → IsBroker old.now → Shown is_sql (Text e ∷ Int (pos n) ∷ []) old new rows
+    → is_some (option_map (text 0) (slice_get rows 0)) ≡ stands_at placed place_of (old.now.trees 23) (e, pos n)
+row_found e n old new rows broker h =
+    let params = Text e ∷ Int (pos n) ∷ [] in
+    ap is_some (looks_up_at placed_total exact_placed place_of (text 1) (shows (col 1 1 ∷ []) params) (text 0) (λ r. refl) (e, pos n) (keeps by_place params) (old.now.trees 23) rows
+    (all_where placed (old.now.trees 23) place_of (e, pos n) by_place params (where_place old.now broker e n)) (keys old.now broker)
+    (selects is_sql params old new 23 by_place (col 1 1 ∷ []) [] (codes "environment" ∷ []) (is_means old.now broker) rows h))
+    ∙ stands_found placed place_of (text 1) (old.now.trees 23) (e, pos n)
+
+-- no row names a number that no version has
+none_placed : (db : Database) (s : Broker) → Holds db s → (e : Words) (n : ℕ) → (¬ IsVersion n s) → stands_at placed place_of (db.trees 23) (e, pos n) ≡ false
+none_placed db s held e n none = elim (cases_Bool (stands_at placed place_of (db.trees 23) (e, pos n))) [
+  | inl hit ↦
+      let d = any_has (λ r. eq_by_cmp placed (e, pos n) (place_of r)) (db.trees 23) hit in
+      let place : (e, pos n) ≡ place_of d.0 = exact_placed (e, pos n) (place_of d.0) ((Equal-is (placed (e, pos n) (place_of d.0))).0 d.2) in
+      let v = refers_version db held.broker released (has_place _ 12 released (released_there db held.broker)) 2 (inr (inl refl)) d.0 d.1 (numbers db held.broker d.0 d.1) in
+      let it = numbered_row db held.broker s held v.0 v.1 in
+      let same : pos it.0 ≡ pos n = sym it.2 ∙ v.2 ∙ ap (λ x. x.1) (sym place) in
+      absurd (none (version (text 2 v.0) (text 3 v.0), it.1 ∙ ap Some (same_pos it.0 n same)))
+  | inr miss ↦ miss
+]
+
+pub none_released : (e : Words) (n : ℕ) (old new : State) (rows : List Row) (s : Broker) → Holds old.now s → (¬ IsVersion n s) → Shown is_sql (Text e ∷ Int (pos n) ∷ []) old new rows
+    → is_some (option_map (text 0) (slice_get rows 0)) ≡ false
+none_released e n old new rows s held none h = row_found e n old new rows held.broker h ∙ none_placed old.now s held e n none
+
 pub release_found : (e : Words) (n : ℕ) (old new : State) (rows : List Row) (s : Broker) (v : Version) → Holds old.now s → number_of s.versions v ≡ Some n → Shown is_sql (Text e ∷ Int (pos n) ∷ []) old new rows
     → is_some (option_map (text 0) (slice_get rows 0)) ≡ s.released (e, v)
 release_found e n old new rows s v held is h =
-    let params = Text e ∷ Int (pos n) ∷ [] in
-    ap is_some (looks_up_at placed_total exact_placed place_of (text 1) (shows (col 1 1 ∷ []) params) (text 0) (λ r. refl) (e, pos n) (keeps by_place params) (old.now.trees 23) rows
-    (all_where placed (old.now.trees 23) place_of (e, pos n) by_place params (where_place old.now held.broker e n)) (keys old.now held.broker)
-    (selects is_sql params old new 23 by_place (col 1 1 ∷ []) [] (codes "environment" ∷ []) (is_means old.now held.broker) rows h))
-    ∙ stands_found placed place_of (text 1) (old.now.trees 23) (e, pos n)
+    row_found e n old new rows held.broker h
     ∙ sym (ap (λ o. option_map_or (λ k. stands_at placed place_of (old.now.trees 23) (e, pos k)) o false) is) ∙ held.released e v
 
 -- ---- a change of one place
@@ -143,3 +173,13 @@ now_ended e n old new count s v held is h =
     by_place (meant old.now held.broker end_sql end_text) (calm old.now held.broker) numbered count h in
     released_change old.now new.now s _ held (frame_of (codes "released" ∷ []) 23 refl old new held.broker it.0) (λ f w. each old.now new.now s held e n v is false
     (stands_out placed_total exact_placed place_of (e, pos n) (keeps by_place params) rows (new.now.trees 23) (all_where placed rows place_of (e, pos n) by_place params (where_place old.now held.broker e n)) it.1) f w (number_of s.versions w) refl)
+
+-- and the count says whether it was released
+pub ended_count : (e : Words) (n : ℕ) (old new : State) (count : ℕ) (s : Broker) (v : Version) → Holds old.now s → number_of s.versions v ≡ Some n → Executes end_sql (Text e ∷ Int (pos n) ∷ []) old new (Ok count)
+    → nat_lt 0 count ≡ s.released (e, v)
+ended_count e n old new count s v held is h =
+    let rows = old.now.trees 23 in
+    let params = Text e ∷ Int (pos n) ∷ [] in
+    ap (nat_lt 0) (deletes_counted (codes "released") 23 released.columns None (1 ∷ 2 ∷ []) released.uniques released.orders [] released.references end_sql params old new 12 (released_there old.now held.broker) by_place (meant old.now held.broker end_sql end_text) count h)
+    ∙ some_counted (keeps by_place params) rows ∙ same_any (keeps by_place params) (λ r. eq_by_cmp placed (e, pos n) (place_of r)) rows (where_place old.now held.broker e n)
+    ∙ sym (ap (λ o. option_map_or (λ k. stands_at placed place_of rows (e, pos k)) o false) is) ∙ held.released e v

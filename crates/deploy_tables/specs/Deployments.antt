@@ -1,5 +1,5 @@
 -- What a deployment and its end change of the state.
-use Rattle.std.specs.Prelude.{◌≡◌, ℕ, Bool, Some, None, if◌then◌else◌}
+use Rattle.std.specs.Prelude.{◌≡◌, ℕ, Bool, false, Some, None, if◌then◌else◌}
 use Rattle.broker_core.specs.declared.command.Version.{Version}
 use Rattle.broker_core.specs.Text.{Text, put_at, same_place}
 use Rattle.broker_core.specs.State.{State}
@@ -31,6 +31,11 @@ TakesOut e p instance number s t =
 abbrev pub TellsDeployed : Text → Text → Text → ℕ → Bool → State → Type 0
 TellsDeployed e p instance number stood s =
     (v : Version) → number_of s.versions v ≡ Some number → v.pacticipant ≡ p → stood ≡ is_text v.name (s.deployed (e, p, instance))
+
+-- the same, and nothing is deployed by a number that no version of the pacticipant has
+abbrev pub FindsDeployed : Text → Text → Text → ℕ → Bool → State → Type 0
+FindsDeployed e p instance number stood s =
+    TellsDeployed e p instance number stood s × ((¬ IsVersionOf p number s) → stood ≡ false)
 
 -- it is taken out, and whether it was there is told
 abbrev pub TakesOutAndTells : Text → Text → Text → ℕ → Bool → State → State → Type 0

@@ -1,5 +1,5 @@
 -- What a release and its end change of the state.
-use Rattle.std.specs.Prelude.{◌≡◌, ℕ, Some, true, false}
+use Rattle.std.specs.Prelude.{◌≡◌, ℕ, Bool, Some, true, false}
 use Rattle.broker_core.specs.declared.command.Version.{Version}
 use Rattle.broker_core.specs.Text.{Text, put_at, same_pair, same_text, same_version}
 use Rattle.broker_core.specs.State.{State}
@@ -8,6 +8,11 @@ use Rattle.broker_tables.specs.Numbers.{number_of}
 -- there is a version of this number
 abbrev pub IsVersion : ℕ → State → Type 0
 IsVersion number s = (v : Version) × (number_of s.versions v ≡ Some number)
+
+-- whether the version of this number is released there; nothing is released by a number that no version has
+abbrev pub FindsReleased : Text → ℕ → Bool → State → Type 0
+FindsReleased e number stood s = ((v : Version) → number_of s.versions v ≡ Some number → stood ≡ s.released (e, v))
+    × ((¬ IsVersion number s) → stood ≡ false)
 
 -- the version of this number is released there, where it wasn't, and all else is as it was
 abbrev pub RecordsReleased : Text → ℕ → State → State → Type 0

@@ -2,12 +2,12 @@
 ghost use Rattle.std.specs.Prelude.{◌≡◌, ◌==◌, false};
 ghost use Rattle.std.specs.Option.{option_map_or};
 ghost use Rattle.broker_tables.specs.Holds.{QueriesInPlace, Changes, ChangesAndAnswers};
-ghost use Rattle.deploy_tables.specs.Deployments.{RecordsDeployed, IsVersionOf, TellsDeployed, TakesOutAndTells, without_instance};
+ghost use Rattle.deploy_tables.specs.Deployments.{RecordsDeployed, IsVersionOf, FindsDeployed, TakesOutAndTells};
 
 use sqlite::{Alter, Connection, params};
-use table_access::{StoreFault, change, number_of};
+use table_access::{StoreFault, change, change_counted, number_of};
 
-/// Whether the version of that number, one of the pacticipant, is deployed in the environment as that instance.
+/// Whether the version of that number, one of the pacticipant, is deployed in the environment as that instance. `false` if the pacticipant has no version of that number.
 ///
 /// # Errors
 /// `StoreFault::Memory` where the database is out of memory; `StoreFault::Store` where it refused the query, or where the row holds no number of a version.
@@ -19,7 +19,7 @@ pub fn is_deployed<S: Alter>(
     number: u32,
 ) -> Result<bool, StoreFault>
     ensures { QueriesInPlace S.Store conn.old conn.new result
-        (TellsDeployed environment.now pacticipant.now instance.now number) }
+        (FindsDeployed environment.now pacticipant.now instance.now number) }
 {
     let found = done!(number_of(
         conn,
@@ -61,27 +61,10 @@ pub fn record_deployed<S: Alter>(
     )
 }
 
-/// Takes out what is deployed in the environment as that instance.
-fn empty_instance<S: Alter>(
-    conn: &mut Connection<S>,
-    environment: &str,
-    pacticipant: &str,
-    instance: &str,
-) -> Result<(), StoreFault>
-    ensures { Changes S.Store conn.old conn.new result
-        (λ s t. t ≡ without_instance s environment.now pacticipant.now instance.now) }
-{
-    change(
-        conn,
-        "DELETE FROM deployed WHERE environment = ?1 AND pacticipant = ?2 AND instance = ?3",
-        params![environment, pacticipant, instance],
-    )
-}
-
 /// Takes the version of that number, one of the pacticipant, out of the environment as that instance, and answers whether it was deployed there. Its other instances stay, and so does another version that is deployed there.
 ///
 /// # Errors
-/// `StoreFault::Memory` where the database is out of memory; `StoreFault::Store` where it refused the query or the change, or where the row holds no number of a version.
+/// `StoreFault::Memory` if the database is out of memory; `StoreFault::Store` if it refused the change.
 pub fn take_out<S: Alter>(
     conn: &mut Connection<S>,
     environment: &str,
@@ -92,10 +75,10 @@ pub fn take_out<S: Alter>(
     ensures { ChangesAndAnswers S.Store conn.old conn.new result (IsVersionOf pacticipant.now number)
         (TakesOutAndTells environment.now pacticipant.now instance.now number) }
 {
-    if done!(is_deployed(conn, environment, pacticipant, instance, number)) {
-        done!(empty_instance(conn, environment, pacticipant, instance));
-        Ok(true)
-    } else {
-        Ok(false)
-    }
+    let taken = done!(change_counted(
+        conn,
+        "DELETE FROM deployed WHERE environment = ?1 AND pacticipant = ?2 AND instance = ?3 AND version_number = ?4",
+        params![environment, pacticipant, instance, number],
+    ));
+    Ok(taken > 0)
 }

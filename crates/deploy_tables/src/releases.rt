@@ -3,12 +3,12 @@ ghost use Rattle.std.specs.Prelude.{◌≡◌, Some};
 ghost use Rattle.broker_core.specs.declared.command.Version.{Version as VersionModel};
 ghost use Rattle.broker_tables.specs.Holds.{QueriesInPlace, Changes, ChangesAndAnswers};
 ghost use Rattle.broker_tables.specs.Numbers.{number_of as number_in};
-ghost use Rattle.deploy_tables.specs.Releases.{IsVersion, RecordsReleased, EndsSupport};
+ghost use Rattle.deploy_tables.specs.Releases.{IsVersion, FindsReleased, RecordsReleased, EndsSupport};
 
 use sqlite::{Alter, Connection, params};
-use table_access::{StoreFault, change, has_row};
+use table_access::{StoreFault, change, change_counted, has_row};
 
-/// Whether the version of that number is released in the environment.
+/// Whether the version of that number is released in the environment. `false` if no version has that number.
 ///
 /// # Errors
 /// `StoreFault::Memory` where the database is out of memory; `StoreFault::Store` where it refused the query.
@@ -17,9 +17,7 @@ pub fn is_released<S: Alter>(
     environment: &str,
     number: u32,
 ) -> Result<bool, StoreFault>
-    ensures { QueriesInPlace S.Store conn.old conn.new result
-        (λ has s. (v : VersionModel) → number_in s.versions v ≡ Some number →
-        has ≡ s.released (environment.now, v)) }
+    ensures { QueriesInPlace S.Store conn.old conn.new result (FindsReleased environment.now number) }
 {
     has_row(
         conn,
@@ -46,25 +44,10 @@ pub fn record_released<S: Alter>(
     )
 }
 
-/// Takes the version of that number out of what is released in the environment.
-fn remove_released<S: Alter>(
-    conn: &mut Connection<S>,
-    environment: &str,
-    number: u32,
-) -> Result<(), StoreFault>
-    ensures { Changes S.Store conn.old conn.new result (EndsSupport environment.now number) }
-{
-    change(
-        conn,
-        "DELETE FROM released WHERE environment = ?1 AND version_number = ?2",
-        params![environment, number],
-    )
-}
-
 /// Ends the support of the version of that number in the environment, and answers whether it was released there. All other releases stay.
 ///
 /// # Errors
-/// `StoreFault::Memory` where the database is out of memory; `StoreFault::Store` where it refused the query or the change.
+/// `StoreFault::Memory` if the database is out of memory; `StoreFault::Store` if it refused the change.
 pub fn end_support<S: Alter>(
     conn: &mut Connection<S>,
     environment: &str,
@@ -75,7 +58,10 @@ pub fn end_support<S: Alter>(
         × ((v : VersionModel) → number_in s.versions v ≡ Some number →
         stood ≡ s.released (environment.now, v))) }
 {
-    let stood = done!(is_released(conn, environment, number));
-    done!(remove_released(conn, environment, number));
-    Ok(stood)
+    let ended = done!(change_counted(
+        conn,
+        "DELETE FROM released WHERE environment = ?1 AND version_number = ?2",
+        params![environment, number],
+    ));
+    Ok(ended > 0)
 }

@@ -2,7 +2,8 @@
 use Rattle.std.proofs.Common.{◌≡◌, ◌⊎◌, inl, inr, ℕ, List, [], ◌∷◌, ◌++◌, map, filter, length, slice_get, Bool, true, false, cond, Some, None, Option, Ok, Err, Result, refl, sym, ap, subst, subst₂, ◌∙◌, append-nil, nat_le, ◌^◌, unwrap_or, ◌==◌, ◌&&◌, ◌||◌, not, Ordering, Less, Equal, Greater, ◌/◌, ◌≢◌}
 use Rattle.std.specs.List.{flat_map}
 use Rattle.std.specs.List.Sorted.{IsPermutation}
-use Rattle.std.proofs.lemmas.List.Sorted.{IsPermutation-map}
+use Rattle.std.proofs.lemmas.List.{length-map}
+use Rattle.std.proofs.lemmas.List.Sorted.{IsPermutation-map, length_permutation}
 use Rattle.sqlite_keyed.proofs.ListLemmas.{map-map}
 use Rattle.sqlite.specs.declared.types.Value.TheVariants.{Null}
 use Rattle.sqlite.specs.Order.{Row}
@@ -163,6 +164,13 @@ concludes task mode command db tally after h =
     let done = through (WritesRows task db command) (Concludes task mode None) (tally, after) h in
     (done.0, done.1, ap (λ (p : Tally × Database). p.1) (same_value (went (went done.2).2).2))
 
+-- and what it notes: how many rows it wrote or took out
+pub concludes_with : (task : Task) (mode : Mode) (command : Command) (db : Trees) (tally : Tally) (after : Database) → OnRows task mode None command db (Ok (tally, after))
+    → (w : Written) × WritesRows task db command (Ok w) × (tally.rows ≡ Some (length w.rows))
+concludes_with task mode command db tally after h =
+    let done = through (WritesRows task db command) (Concludes task mode None) (tally, after) h in
+    (done.0, done.1, ap (λ (p : Tally × Database). p.0.rows) (same_value (went (went done.2).2).2))
+
 -- the rows of each table are numbered, where those of one are that changed
 still_numbered : (schema : Schema) (tree : ℕ) (db next : Trees) → (IsNumbered (db tree) → IsNumbered (next tree)) → AllByRecursion (λ t. t.tree ≢ tree → next t.tree ≡ db t.tree) schema.tables
     → AllByRecursion (λ t. IsNumbered (db t.tree)) schema.tables → AllByRecursion (λ t. IsNumbered (next t.tree)) schema.tables
@@ -258,6 +266,19 @@ module _ (name : List ℕ) (tree : ℕ) (columns : List Column) (key : Option �
               (subst (λ next. AllByRecursion (λ t. t.tree ≢ tree → next t.tree ≡ old.now.trees t.tree) old.now.schema.tables) now one.tables),
           ap (λ (next : Trees). next tree) (sym now) ∙ rest,
         )
+
+    -- and counts them
+    pub deletes_counted : (terms : List Term) → Means old.now.schema sql (Delete at (record { lets = []; body = from_table tree terms (col 1 0 ∷ []) [] })) → (count : ℕ) → Executes sql params old new (Ok count)
+        → count ≡ length (filter (keeps terms params) (old.now.trees tree))
+    deletes_counted terms means count h =
+        let q : Program = record { lets = []; body = from_table tree terms (col 1 0 ∷ []) [] } in
+        let command = Delete at q in
+        let w = runs_as sql params old new old.now.schema refl command means.is means.plain count h in
+        let done = concludes_with task (mode_of old) command old.now.trees w.tally new.now (on_table command w.tally w.changed) in
+        let ids = went done.1 in
+        let gone = went ids.2 in
+        w.counted ∙ ap (λ o. unwrap_or o 0) done.2 ∙ ap (λ (it : Written). length it.rows) (same_value gone.2) ∙ length-map (ids_of ids.0) _ ∙ length-map ids.0 _
+        ∙ length_permutation _ ids.0 (answered old.now params tree terms (col 1 0 ∷ []) [] ids.0 ids.1) ∙ length-map (filter (keeps terms params) (old.now.trees tree)) _
 
     -- an UPDATE of one row takes it out and puts in what SET makes of it
     pub updates : (terms project : List Term) → Means old.now.schema sql (Update at (record { lets = []; body = from_table tree terms (col 1 0 ∷ project) [] })) → IsCalm old.now.schema.tables → IsNumbered (old.now.trees tree)

@@ -30,8 +30,10 @@ macro_rules! done {
     };
 }
 
+mod counted;
 mod rows;
 
+pub use counted::change_counted;
 pub use rows::{ReadRow, has_row, list_of, number_at, number_in, number_of, text_at, text_of};
 
 /// Why a call on the tables failed.
@@ -168,10 +170,8 @@ pub fn change<S: Alter>(
     ensures cause { HasCleanDisk (state S.Store conn.new) →
         IfErr result (FailsToRun sql.now (bound params.now) (state S.Store conn.old) (state S.Store conn.new)) }
 {
-    match conn.execute(sql, params) {
-        Ok(_) => Ok(()),
-        Err(error) => Err(fault_of(error)),
-    }
+    done!(change_counted(conn, sql, params));
+    Ok(())
 }
 
 /// The rows that a query shows, in its order.

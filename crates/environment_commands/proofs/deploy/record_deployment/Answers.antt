@@ -15,7 +15,7 @@ returns g c =
     (λ s. number_of s.versions c.args.version.now ≡ Some c.args.number) _ _ (λ s out. out ≡ deployment s c.args.environment.now c.args.version.now c.args.instance.now)
     (λ s number told.
     let next = record s { deployed = put_at same_place s.deployed (c.args.environment.now, c.args.version.now.pacticipant, c.args.instance.now) (Some c.args.version.now.name) } in
-    let asked : c.in-Ok.value ≡ is_text c.args.version.now.name (s.deployed (c.args.environment.now, c.args.version.now.pacticipant, c.args.instance.now)) = told c.args.version.now number (sym c.as_str-2.ensures) ∙ (λ i. is_text c.args.version.now.name (s.deployed (c.as_str.ensures i, c.as_str-2.ensures i, c.args.instance.now))) in (
+    let asked : c.in-Ok.value ≡ is_text c.args.version.now.name (s.deployed (c.args.environment.now, c.args.version.now.pacticipant, c.args.instance.now)) = told.0 c.args.version.now number (sym c.as_str-2.ensures) ∙ (λ i. is_text c.args.version.now.name (s.deployed (c.as_str.ensures i, c.as_str-2.ensures i, c.args.instance.now))) in (
       next,
       (c.args.version.now, number, sym c.as_str-4.ensures, λ i. record s { deployed = put_at same_place s.deployed (sym c.as_str-3.ensures i, sym c.as_str-4.ensures i, c.args.instance.now) (Some c.args.version.now.name) }),
       sym (ap (λ (b : Bool). if b then already s else done next) (sym asked ∙ c.if-value.false)),

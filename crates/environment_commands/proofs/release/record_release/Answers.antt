@@ -15,7 +15,7 @@ returns g c =
     (λ s. number_of s.versions c.args.version.now ≡ Some c.args.number) _ _ (λ s out. out ≡ released s c.args.environment.now c.args.version.now)
     (λ s number told.
     let next = record s { released = put_at (same_pair same_text same_version) s.released (c.args.environment.now, c.args.version.now) true } in
-    let free : s.released (c.args.environment.now, c.args.version.now) ≡ false = sym (told c.args.version.now number ∙ (λ i. s.released (c.as_str.ensures i, c.args.version.now))) ∙ c.if-value.false in (
+    let free : s.released (c.args.environment.now, c.args.version.now) ≡ false = sym (told.0 c.args.version.now number ∙ (λ i. s.released (c.as_str.ensures i, c.args.version.now))) ∙ c.if-value.false in (
       next,
       (c.args.version.now, number, (λ i. s.released (c.as_str-2.ensures i, c.args.version.now)) ∙ free, λ i. record s { released = put_at (same_pair same_text same_version) s.released (sym c.as_str-2.ensures i, c.args.version.now) true }),
       sym (ap (λ (b : Bool). if b then already s else done next) free),

@@ -1,0 +1,25 @@
+-- What a count of rows says.
+use Rattle.std.proofs.Common.{◌≡◌, inl, inr, suc, List, [], ◌∷◌, length, filter, Bool, true, false, cond, ◌||◌, nat_lt, refl, arith}
+use Rattle.std.specs.List.{list_any}
+use Rattle.std.proofs.lemmas.Bool.Decides.{nat_tests}
+use Rattle.sqlite_rules.specs.Lists.{Has}
+
+more_than_none : {X : Type 0} (xs : List X) → nat_lt 0 (suc (length xs)) ≡ true
+more_than_none xs = grind (arith, nat_tests)
+
+-- more than none pass a test just where one does
+pub some_counted : {X : Type 0} (p : X → Bool) (xs : List X) → nat_lt 0 (length (filter p xs)) ≡ list_any p xs
+some_counted p [] = refl
+some_counted p (x ∷ xs) = elim (p x) as (λ b. nat_lt 0 (length (cond b (x ∷ filter p xs) (filter p xs))) ≡ (b || list_any p xs)) [
+  | true ↦ more_than_none (filter p xs)
+  | false ↦ some_counted p xs
+]
+
+-- tests that agree on a list are passed by one of it together
+pub same_any : {X : Type 0} (p q : X → Bool) (xs : List X) → ((x : X) → Has xs x → p x ≡ q x) → list_any p xs ≡ list_any q xs
+same_any p q [] same = refl
+same_any p q (x ∷ xs) same = λ i. same x (inl refl) i || same_any p q xs (λ y has. same y (inr has)) i
+
+pub any_never : {X : Type 0} (xs : List X) → list_any (λ x. false) xs ≡ false
+any_never [] = refl
+any_never (x ∷ xs) = any_never xs
