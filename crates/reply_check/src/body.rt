@@ -11,8 +11,8 @@ use pact_rules::{MatchFault, RuleTable, Tree};
 use std::alloc::Global;
 
 /// Whether a reply's body meets the expected one: none asks for nothing, null and the empty text for no body or the
-/// same, and any other must be there and fit at the root. `Memory` comes only if no memory is left, `Pattern` only if
-/// the table has a Regex matcher whose pattern is refused.
+/// same, and any other must be there and fit at the root. Memory may run out, and `Pattern` comes only if the table has
+/// a Regex matcher whose pattern is refused.
 #[tactic(auto, using(crate::proofs::BodyLemmas::meets_any, crate::proofs::BodyLemmas::meets_none, crate::proofs::BodyLemmas::meets_empty, crate::proofs::BodyLemmas::meets_full))]
 pub fn body_meets(
     alloc: Global,

@@ -20,8 +20,8 @@ use pact_rules::{Alive, Entry, MatchFault, Matcher, RuleTable, Step, Tree, has_k
 use std::alloc::Global;
 use std::collections::BTreeMap;
 
-/// Whether the actual tree fits the expected one at the root, with the table's rules for bodies. `Memory` comes only if
-/// no memory is left, `Pattern` only if the table has a Regex matcher whose pattern is refused.
+/// Whether the actual tree fits the expected one at the root, with the table's rules for bodies. Memory may run out,
+/// and `Pattern` comes only if the table has a Regex matcher whose pattern is refused.
 pub fn fits(
     alloc: Global,
     rules: &RuleTable,

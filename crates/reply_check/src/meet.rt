@@ -11,9 +11,8 @@ use pact_file::Interaction;
 use pact_rules::MatchFault;
 use std::alloc::Global;
 
-/// Whether a reply meets an interaction: the status is equal, each expected header was sent with a value that fits, and
-/// the body meets the expected one. `Memory` comes only if no memory is left, `Pattern` only if the interaction has a
-/// pattern.
+/// Whether a reply meets an interaction: the status is equal, each expected header was sent with a value that fits,
+/// and the body meets the expected one. Memory may run out, and `Pattern` comes only if the interaction has a pattern.
 pub fn meets(alloc: Global, interaction: &Interaction, reply: &Reply) -> Result<bool, MatchFault>
     ensures value { IfOk result (λ b. IsTrue b ↔ Meets interaction.now reply.now) }
     ensures pattern { IfErr result (λ e. e ≡ Pattern → HasPattern interaction.now) }
