@@ -64,7 +64,7 @@ keys_themselves (places ∷ keys) = (refl, keys_themselves keys)
 
 -- a table has its own form, whichever tree has its rows
 form : (t : Table) (tree : ℕ) → HasForm t (record t { tree = tree })
-form t tree = (like_itself t.columns, refl, refl, keys_themselves t.uniques)
+form t tree = (like_itself t.columns, (refl, refl, keys_themselves t.uniques))
 
 former_schema : HasFormerTables (schema_of former_tables)
 unfolding same_name
@@ -77,7 +77,7 @@ former_tables_there db s held = subst HasFormerTables (sym held.schema) former_s
 
 pub former_found : (db : Database) (s : Broker) (found : Option ℕ) → HoldsFormer db s → FindsFormer db found → found ≡ Some former_format
 former_found db s None held (inl foreign) = marked_some former_format s.office db None (former_marked db s held) foreign
-former_found db s None held (inr (of, lacks)) = absurd (lacks (former_tables_there db s held))
+former_found db s None held (inr (tells, lacks)) = absurd (lacks (former_tables_there db s held))
 former_found db s (Some n) held it = marked_some former_format s.office db (Some n) (former_marked db s held) it.0
 
 -- the judgement by what is found is right
@@ -97,8 +97,8 @@ blank_former db (Some n) blank it = blank_none db (Some n) blank it.0
 
 marked_former : (n : ℕ) (office : Text) (db : Database) (found : Option ℕ) → n ≢ former_format → IsMarked n office db → FindsFormer db found → found ≡ Some n
 marked_former n office db None other marked (inl foreign) = marked_some n office db None marked foreign
-marked_former n office db None other marked (inr (of, lacks)) =
-    let is : Some former_format ≡ Some n = marked_some n office db (Some former_format) marked of in
+marked_former n office db None other marked (inr (tells, lacks)) =
+    let is : Some former_format ≡ Some n = marked_some n office db (Some former_format) marked tells in
     absurd (other (let same : n ≡ former_format = cc in same))
 marked_former n office db (Some k) other marked it = marked_some n office db (Some k) marked it.0
 

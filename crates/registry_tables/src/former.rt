@@ -4,7 +4,7 @@ ghost use Rattle.std.specs.List.{AllByRecursion};
 ghost use Rattle.sqlite.specs.Held.{state};
 ghost use Rattle.broker_tables.specs.Schema as tables;
 ghost use Rattle.broker_tables.specs.Schema.{texts, numbers, registry_part, contract_part, deploy_part};
-ghost use Rattle.registry_tables.specs.Format.{IsLike, AreKeys, HasKeys, HasTable, HasFormerTables, table_of};
+ghost use Rattle.registry_tables.specs.Format.{IsLike, AreLike, AreKeys, HasKeys, HasTable, HasFormerTables, table_of};
 
 use crate::format::is_column;
 use sqlite::{Alter, Connection};
@@ -296,20 +296,27 @@ fn has_latest(schema: &Schema) -> bool
     }
 }
 
+fn are_deployed_columns(columns: &[Column]) -> bool
+    ensures { IsTrue result ↔ AreLike tables.deployed.columns columns.now }
+{
+    match columns {
+        [environment, pacticipant, instance, version_number] => {
+            is_text(environment, b"environment")
+                && is_text(pacticipant, b"pacticipant")
+                && is_text(instance, b"instance")
+                && is_number(version_number, b"version_number")
+        }
+        _ => false,
+    }
+}
+
 fn has_deployed(schema: &Schema) -> bool
     ensures { IsTrue result ↔ HasTable schema.now tables.deployed }
 {
     match table_named(schema, b"deployed") {
-        Some(table) => match table.columns.as_slice() {
-            [environment, pacticipant, instance, version_number] => {
-                is_text(environment, b"environment")
-                    && is_text(pacticipant, b"pacticipant")
-                    && is_text(instance, b"instance")
-                    && is_number(version_number, b"version_number")
-                    && has_first_three_as_key(table)
-            }
-            _ => false,
-        },
+        Some(table) => {
+            are_deployed_columns(table.columns.as_slice()) && has_first_three_as_key(table)
+        }
         None => false,
     }
 }

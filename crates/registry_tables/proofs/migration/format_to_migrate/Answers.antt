@@ -10,11 +10,11 @@ returns-else-has_former_tables g c =
     let old = state g.S.Store c.args.conn.now in
     let new = state g.S.Store c.format_of.new.conn in
     let is : c.in-Ok.value ≡ Some 1 = cc in
-    let no : c.has_former_tables.result ≡ false = c.if-has_former_tables.false in
+    let lacks : c.has_former_tables.result ≡ false = c.if-has_former_tables.false in
     statement_ok old new c.in-Ok.value None _ _ (λ it. (
       inr (
         subst (Finds old.now) is it.0,
-        λ has. (let yes : c.has_former_tables.result ≡ true = c.has_former_tables.ensures.1 (subst (λ (db : Database). HasFormerTables db.schema) (sym it.1) has) in cc),
+        λ has. (let there : c.has_former_tables.result ≡ true = c.has_former_tables.ensures.1 (subst (λ (db : Database). HasFormerTables db.schema) (sym it.1) has) in cc),
       ),
       it.1,
     )) c.in-Ok.ensures
