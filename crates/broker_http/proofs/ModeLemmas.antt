@@ -95,8 +95,7 @@ module _ {X : Type 0} (shown : Held X → State) where
   all_survive old stream [] new rest p = ([], untouched old new p.0, omega arith)
   all_survive old stream (response ∷ responses) new rest p =
       let one = survives old p.1 p.4.0 response p.4.2 in
-      let later = all_survive p.1 p.2 responses new rest p.5 in
-      (
+      let later = all_survive p.1 p.2 responses new rest p.5 in (
         one.0 ∷ later.0,
         survives_then (shown old.connection) (shown p.1.connection) (shown new.connection) _ _ _ (λ _ trees is. first_commit one.0 later.0 trees is) (λ _ trees is. later_commit one.0 later.0 trees is) one.1 later.1,
         omega (arith, later.2),

@@ -37,9 +37,9 @@ fn apply<S: Alter>(
     }
 }
 
-/// Answers what a message asks, and tells whether the response closes the stream.
+/// Answers what a message asks, and says whether the response closes the stream.
 ///
-/// The response goes through the empty buffer, its head whole, so that nothing grows behind the command.
+/// The response goes through the empty buffer, its head whole, so that nothing is allocated after the command.
 fn respond<S: Alter, W: Write>(
     alloc: Global,
     broker: &mut Broker<S>,
@@ -75,8 +75,7 @@ fn respond<S: Alter, W: Write>(
     }
 }
 
-/// Answers a message by its head, what was read of it, and its body, and tells whether the response closes
-/// the stream.
+/// Answers a message by its head, what was read of it, and its body, and says whether the response closes the stream.
 ///
 /// `Memory` comes before anything is done; `Write` leaves a part of the response out.
 pub(crate) fn answer<S: Alter, W: Write>(

@@ -1,8 +1,8 @@
 //! How long a peer is waited for.
 //!
-//! A broker serves one peer at a time, so each may keep it only so long. A message that has begun has to be whole, and an
-//! answer to be taken, within a limit. A peer that has sent nothing of its next message has to go if another waits;
-//! alone it may stay. Only the time that is spent waiting counts, not that of the broker's own work.
+//! A broker serves one peer at a time, so each may keep it only so long. A message that has begun has to be whole, and
+//! an answer to be taken, within a limit. A peer that has sent nothing of its next message has to go if another waits;
+//! by itself it may stay. Only the time that is spent waiting counts, not that of the broker's own work.
 ghost use Rattle.std.specs.Prelude.{ℕ, None};
 ghost use Rattle.std.specs.Io.{ReadsAtMost, WritesAtMost};
 ghost use Rattle.sqlite.specs.Held.{state};
@@ -27,9 +27,9 @@ pub struct Limits {
     pub message: u64,
     /// For an answer to be taken, with those that go out before it without a read between them.
     pub answer: u64,
-    /// For the first bytes that a connection brings, where another peer waits.
+    /// For the first bytes that a connection brings, if another peer waits.
     pub first: u64,
-    /// For those of a later message, where another peer waits.
+    /// For those of a later message, if another peer waits.
     pub next: u64,
     /// For either, before it is looked again whether another peer waits.
     pub look: u64,
@@ -86,7 +86,7 @@ enum Wait {
     Answer(Duration),
 }
 
-/// What is left of a limit. `TimedOut` where nothing is.
+/// What is left of a limit. `TimedOut` if nothing is.
 fn left_of(limit: u64, spent: Duration) -> io::Result<Duration> {
     let left = Duration::from_millis(limit).saturating_sub(spent);
     if left.is_zero() {
@@ -186,8 +186,8 @@ impl<P: Peer, C: Clock> Write for Outgoing<'_, '_, P, C> {
     }
 }
 
-/// Answers what the peer asks, as `serve` does, and waits for it as the limits say. Where one is over, the reader or
-/// the writer has failed to `serve`.
+/// Answers what the peer asks, as `serve` does, and waits for it as the limits say. If one is over, the reader or the
+/// writer has failed to `serve`.
 pub fn serve_peer<'a, S: Alter, P: Peer, D: Door, C: Clock>(
     alloc: Global,
     routes: &RouteTable,

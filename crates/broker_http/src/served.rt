@@ -9,7 +9,7 @@ use thiserror::Error;
 /// How serving ended.
 #[derive(Clone, Copy, Debug, PartialEq, Eq)]
 pub enum Ended {
-    /// The stream ended behind a whole message.
+    /// The stream ended after a whole message.
     AtEnd,
     /// The stream ended in an unfinished message, which gets no answer.
     Rest,

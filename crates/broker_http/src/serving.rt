@@ -23,9 +23,9 @@ fn message_parts(bytes: &[u8], head_len: usize, body_len: usize) -> (&[u8], &[u8
     (head, &behind[..body_len])
 }
 
-/// Answers the messages of a stream in turn, by what the broker promises of each command on any disk.
+/// Answers the messages of a stream one after another, by what the broker promises of each command on any disk.
 ///
-/// It stands apart from `serve`, whose clause on the machine follows from this one at once.
+/// It is apart from `serve`, whose clause on the machine follows from this one at once.
 fn serve_all<R: Read, W: Write, S: Alter>(
     alloc: Global,
     routes: &RouteTable,
@@ -66,8 +66,8 @@ fn serve_all<R: Read, W: Write, S: Alter>(
     Err(ServeFault::Read)
 }
 
-/// Answers the requests of a stream by HTTP/1.1 (RFC 9112) in turn, each command in one transaction of
-/// the broker, until an answer closes the stream or the reader is at its end.
+/// Answers the requests of a stream by HTTP/1.1 (RFC 9112) one after another, each command in one transaction of the
+/// broker, until an answer closes the stream or the reader is at its end.
 ///
 /// The stream is read piece by piece: no more than one head, of 16,384 bytes at most, and one body, of
 /// 1,048,576 bytes at most, are kept. However it is cut, the answers are those to its messages. A rest

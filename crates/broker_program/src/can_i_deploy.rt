@@ -56,7 +56,7 @@ fn answer_at(
     Ok(answer)
 }
 
-/// Whether the answer permits the deployment, where it says so.
+/// Whether the answer permits the deployment, if it says so.
 fn permits(answer: &Answer) -> Option<bool>
     ensures { IfSome result (λ permitted. IsGate permitted answer.now) }
 {
@@ -66,8 +66,8 @@ fn permits(answer: &Answer) -> Option<bool>
     }
 }
 
-/// Writes what the broker in the file answers, and a newline, and tells whether the version is permitted. An answer
-/// that doesn't say so is a fault.
+/// Writes what the broker in the file answers, and a newline, and says whether the version is permitted. An answer that
+/// doesn't say so is a fault.
 pub(crate) fn ask<W: Write>(
     rt: &HostRuntime,
     file: &str,

@@ -56,7 +56,7 @@ fn verdict_at(rt: &HostRuntime, pact: &str, replies: &str) -> Result<Verdict, Ru
     }
 }
 
-/// Writes the place behind a space.
+/// Writes the place after a space.
 fn push_place(text: &mut String, place: usize) -> Result<(), AllocError>
     ensures { OnOk result (string_bytes text.new ≡ string_bytes text.old ++ place_text place) }
 {
@@ -99,8 +99,8 @@ fn write_verdict<W: Write>(alloc: Global, verdict: &Verdict, output: &mut W) -> 
     }
 }
 
-/// Compares the replies in a file with the pact in another, writes the verdict and a newline, and tells whether it is
-/// a pass.
+/// Compares the replies in a file with the pact in another, writes the verdict and a newline, and says whether it is a
+/// pass.
 #[tactic(auto, using(crate::proofs::VerdictLemmas::passes_is))]
 pub(crate) fn check<W: Write>(
     rt: &HostRuntime,

@@ -213,7 +213,7 @@ fn with_pacts<'a>(alloc: Global, program: Command<'a>) -> Result<Command<'a>, Al
         .subcommand(check_command(alloc)?)
 }
 
-/// The whole program, which tells its commands and what is wrong with words that name none.
+/// The whole program, which explains its commands and says what is wrong with words that name none.
 pub(crate) fn program<'a>(alloc: Global) -> Result<Command<'a>, AllocError> {
     let program = bare(alloc, "broker", "broker", help::ABOUT, help::AFTER)?
         .version(help::VERSION)

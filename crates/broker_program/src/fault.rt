@@ -1,4 +1,4 @@
-//! Why a command fails, and what is told of it.
+//! Why a command fails, and what is reported of it.
 ghost use Rattle.std.specs.Prelude.{◌≡◌};
 ghost use Rattle.broker_program.specs.Faults.{serving_text as spec_text};
 

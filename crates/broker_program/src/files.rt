@@ -9,15 +9,15 @@ use std::fs;
 /// A connection over a file.
 pub(crate) type FileConnection = Connection<FileStore<File>>;
 
-/// A broker over a file. It ends by `close` or `release`, and is nowhere dropped: its drop is proved anew in each
+/// A broker over a file. It ends by `close` or `release`, and is nowhere dropped: its drop is proved again in each
 /// function that has one.
 pub(crate) type FileBroker = Broker<FileStore<File>>;
 
-/// A file that was closed, so that all of it stands in the file alone. There is none but by closing one.
+/// A file that was closed, so that all of it is in the file itself. There is none but by closing one.
 #[derive(Drop)]
 pub(crate) struct Closed(());
 
-/// A connection over the file of this path, which is made where it isn't there. `File`: it can't be read or written,
+/// A connection over the file of this path, which is made if it isn't there. `File`: it can't be read or written,
 /// another program has it open, or it is no database.
 pub(crate) fn connect(rt: &HostRuntime, path: &str) -> Result<FileConnection, RunFault> {
     match Connection::open(rt, path) {
@@ -27,7 +27,7 @@ pub(crate) fn connect(rt: &HostRuntime, path: &str) -> Result<FileConnection, Ru
     }
 }
 
-/// The same over a file that has to be there. `File` where it isn't.
+/// The same over a file that has to be there. `File` if it isn't.
 pub(crate) fn connect_existing(rt: &HostRuntime, path: &str) -> Result<FileConnection, RunFault> {
     match fs::exists(rt, path) {
         Ok(true) => connect(rt, path),
@@ -43,12 +43,12 @@ pub(crate) fn disconnect(connection: FileConnection) -> Result<Closed, RunFault>
     }
 }
 
-/// Gives the file up as it is: what stands in its log stays there.
+/// Gives the file up as it is: what is in its log stays there.
 fn leave(connection: FileConnection) {
     let _ = connection.into_store().close();
 }
 
-/// Gives the file up in which no broker is made or opened, and tells why.
+/// Gives the file up in which no broker is made or opened, and says why.
 pub(crate) fn refusal(refused: Refused<FileStore<File>>) -> RunFault {
     leave(refused.connection);
     RunFault::Open(refused.fault)

@@ -81,7 +81,7 @@ pub fn read_line<'a>(alloc: Global, words: &'a [&'a str]) -> Result<Line<'a>, Er
     }
 }
 
-/// The command of this name, with the values that the words behind it give its options.
+/// The command of this name, with the values that the words after it give its options.
 fn read_command<'a>(
     alloc: Global,
     name: CommandName,

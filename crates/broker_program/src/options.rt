@@ -110,7 +110,7 @@ fn can_i_deploy_in<'a>(matches: &ArgMatches<'a>) -> Result<Line<'a>, Error>
     }
 }
 
-/// The line of the command of this name, with the values of its options. An error is want of memory.
+/// The line of the command of this name, with the values of its options. An error means out of memory.
 pub(crate) fn line_in<'a>(name: CommandName, matches: &ArgMatches<'a>) -> Result<Line<'a>, Error>
     ensures ok { IfOk result (λ line. (command_of line ≡ command_named name)
         × HasValues (rows_of (found_of matches.now)) line) }

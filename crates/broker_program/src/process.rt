@@ -31,7 +31,7 @@ fn run_words(rt: &HostRuntime) -> io::Result<u8>
     Ok(run(rt, words.as_slice(), &mut input, &mut output, &mut errors))
 }
 
-/// The status of a run: 3 where there was no memory for its words.
+/// The status of a run: 3 if there was no memory for its words.
 fn status_of(run: io::Result<u8>) -> u8
     ensures { MatchResult run (λ status. result ≡ status) (λ _. result ≡ 3) }
 {
@@ -42,8 +42,8 @@ fn status_of(run: io::Result<u8>) -> u8
 }
 
 /// Runs the process's words over its standard streams as `run` does, and answers the status to end with: 3, with
-/// `memory` on standard error, where there is no memory for the words. The streams keep nothing back, so that there
-/// is nothing to flush.
+/// `memory` on standard error, if there is no memory for the words. The streams keep nothing back, so that there is
+/// nothing to flush.
 pub fn run_process(rt: &HostRuntime) -> ExitCode
     ensures { exit_status result ≤ 3 }
 {

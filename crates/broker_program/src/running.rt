@@ -23,7 +23,7 @@ use sqlite::{File, FileStore};
 use sqlite_trees::store::Store;
 use std::io::{Read, Write};
 
-/// Tells the fault as one line on standard error, and whether that took it.
+/// Reports the fault as one line on standard error, and whether that took it.
 fn tell_fault<E: Write>(fault: &RunFault, errors: &mut E) -> bool
     ensures { IsTrue result → Appends (E.contents errors.old) (E.contents errors.new) (fault_text fault.now ++ newline) }
 {
@@ -38,7 +38,7 @@ fn fail<E: Write>(fault: &RunFault, errors: &mut E) -> u8
     3
 }
 
-/// Tells what `clap` says of the words: help on standard output, a mistake on standard error.
+/// Reports what `clap` says of the words: help on standard output, a mistake on standard error.
 fn tell<W: Write, E: Write>(error: &Error, output: &mut W, errors: &mut E) -> u8
     ensures memory { kind_of error.now ≡ ErrorKind.OutOfMemory → (result ≡ 3) × (output.new ≡ output.old) }
     ensures mistake { kind_of error.now ≢ ErrorKind.OutOfMemory
@@ -62,7 +62,7 @@ fn tell<W: Write, E: Write>(error: &Error, output: &mut W, errors: &mut E) -> u8
     }
 }
 
-/// Runs the command, and tells whether it is done, its check passed or its version is permitted.
+/// Runs the command, and says whether it is done, its check passed or its version is permitted.
 fn carry_out<R: Read, W: Write>(
     rt: &HostRuntime,
     line: Line<'_>,
@@ -125,18 +125,18 @@ fn carry_out<R: Read, W: Write>(
 /// was asked for, which is written to `output`.
 /// 1: the check failed, or the version isn't permitted.
 /// 2: the words are no command line, and `clap`'s text on them is written to `errors`.
-/// 3: the command failed, and one line on `errors` tells why.
+/// 3: the command failed, and one line on `errors` says why.
 /// `token`, `name`: the text of an option isn't a token or a name. `file`: a file, `input` or `output`
 /// can't be read or written, or the file isn't there, is in use or is no database. `open n`: the broker
 /// couldn't be made, opened or migrated, by the number of the fault of `Broker::create`, `Broker::open`
 /// and `migrate`.
 /// `listen`: the address isn't one of loopback, or can't be listened on.
-/// `serve 1`, `serve 2` and `serve 3`, of `replay` alone: the input failed, the output failed, or there
-/// was no memory for a message; the answers before are out.
+/// `serve 1`, `serve 2` and `serve 3`, only of `replay`: the input failed, the output failed, or there was no memory
+/// for a message; the answers before are out.
 /// `pact n`, `replies n`, `check n`: the fault of the pact file, of the replies, or of their comparison.
 /// An answer's body: what the broker answered `can-i-deploy` otherwise. `memory`: there was no memory
 /// for anything else.
-/// Where `errors` fails too, its text is lost. Neither `output` nor `errors` is flushed.
+/// If `errors` fails too, its text is lost. Neither `output` nor `errors` is flushed.
 pub fn run<R: Read, W: Write, E: Write>(
     rt: &HostRuntime,
     words: &[&str],

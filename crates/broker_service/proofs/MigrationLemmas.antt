@@ -68,9 +68,28 @@ form t tree = (like_itself t.columns, (refl, refl, keys_themselves t.uniques))
 
 former_schema : HasFormerTables (schema_of former_tables)
 unfolding same_name
-former_schema =
-    (form tables.meta 0, (form tables.teams 1, (form tables.pacticipants 4, (form tables.versions 6, (form tables.branches 8, (form tables.environments 10, (form tables.grants 12,
-    (form tables.contents 14, (form tables.contracts 15, (form tables.results 17, (form tables.latest 19, (form tables.deployed 21, (form tables.released 23, tt)))))))))))))
+former_schema = (
+  form tables.meta 0,
+  (
+    form tables.teams 1,
+    (
+      form tables.pacticipants 4,
+      (
+        form tables.versions 6,
+        (
+          form tables.branches 8,
+          (
+            form tables.environments 10,
+            (
+              form tables.grants 12,
+              (form tables.contents 14, (form tables.contracts 15, (form tables.results 17, (form tables.latest 19, (form tables.deployed 21, (form tables.released 23, tt)))))),
+            ),
+          ),
+        ),
+      ),
+    ),
+  ),
+)
 
 pub former_tables_there : (db : Database) (s : Broker) → HoldsFormer db s → HasFormerTables db.schema
 former_tables_there db s held = subst HasFormerTables (sym held.schema) former_schema

@@ -68,8 +68,8 @@ impl<S: Alter> Broker<S> {
 
     /// Opens the database that a broker left. Nothing is changed.
     ///
-    /// `NotABroker`: the first table isn't `meta` with its columns and its key, or `meta` has not just one row.
-    /// `Format`: the format in that row is this other one. `Memory` and `Store` as of `create`; `Store` also where the
+    /// `NotABroker`: the first table isn't `meta` with its columns and its key, or `meta` has not exactly one row.
+    /// `Format`: the format in that row is this other one. `Memory` and `Store` as of `create`; `Store` also if the
     /// format isn't a number from 0 to 2^32 - 1.
     pub fn open(conn: Connection<S>) -> Result<Broker<S>, Refused<S>>
         ensures { Opened (state S.Store) conn result }
@@ -105,14 +105,14 @@ impl<S: Alter> Broker<S> {
     /// Runs one command of the caller with this token, in one transaction.
     ///
     /// The answer is the machine's, and the database then holds the machine's next state; or it is `Pattern`, `Memory`,
-    /// `Store` or `Stopped`, and there was no step. A deployment and a release are recorded exactly where every
-    /// contract with the partners that stand there has a successful latest verification, no required provider is
-    /// absent, and the caller's team is granted; otherwise the answer names every pair at fault, or what else refuses,
-    /// and nothing changes. `Pattern`: replies were to be compared with a stored pact whose pattern was refused;
-    /// nothing has changed. `Memory`: a growth was refused, or the database has no memory; nothing has changed.
-    /// `Store`: the database refused the commit or a rollback, or another call for another cause than memory, or a row
-    /// broke the rules of the tables. From then on each answer is `Stopped`, and nothing changes. After a refused
-    /// commit a crash may leave the next state.
+    /// `Store` or `Stopped`, and there was no step. A deployment and a release are recorded if and only if every
+    /// contract with the partners that are there has a successful latest verification, no required provider is absent,
+    /// and the caller's team is granted; otherwise the answer names every pair at fault, or what else refuses, and
+    /// nothing changes. `Pattern`: replies were to be compared with a stored pact whose pattern was refused; nothing
+    /// has changed. `Memory`: an allocation failed, or the database has no memory; nothing has changed. `Store`: the
+    /// database refused the commit or a rollback, or another call for another cause than memory, or a row broke the
+    /// rules of the tables. From then on each answer is `Stopped`, and nothing changes. After a refused commit a crash
+    /// may leave the next state.
     pub fn apply(&mut self, alloc: Global, token: Option<&str>, command: &Command) -> Answer
         ensures { Applied (state S.Store) self.old (token_of token.entry) command.now result self.new }
     {
@@ -122,8 +122,7 @@ impl<S: Alter> Broker<S> {
         self.run(alloc, token, command)
     }
 
-    /// Runs one command of the caller with this token, in one transaction. Where the database fails the broker is
-    /// stopped.
+    /// Runs one command of the caller with this token, in one transaction. If the database fails the broker is stopped.
     fn run(&mut self, alloc: Global, token: Option<&str>, command: &Command) -> Answer
         ensures { self.old.is_stopped ≡ false →
             Applied (state S.Store) self.old (token_of token.entry) command.now result self.new }

@@ -56,10 +56,9 @@ pub fn gate_locality()
     laws::gate_locality::<BrokerMachine>()
 }
 
-/// A command that comes twice leaves what it leaves once, in every state; a result without a run,
-/// which is counted each time, aside. And where sessions of calls lead to a state and each command
-/// that was cut comes first in the next session and is answered by a step there, the state is that of
-/// a run over all commands, each once.
+/// A command that comes twice leaves what it leaves once, in every state, except a result without a run, which is
+/// counted each time. And if sessions of calls lead to a state and each command that was cut comes first in the next
+/// session and is answered by a step there, the state is that of a run over all commands, each once.
 pub fn retry<S: Alter>()
     ensures twice { Retry broker_primitives (λ s. Unit {0}) }
     ensures sessions { SessionsRetried (state S.Store) }
@@ -67,16 +66,15 @@ pub fn retry<S: Alter>()
     laws::retry::<BrokerMachine>()
 }
 
-/// Stopped at any call on the disk, in a command or between two, any number of times, and opened
-/// again, the tables are those of the commands done. A session is from a connection that is open to
-/// its end; what a stop leaves while a connection is opened, `open_files` of `sqlite` says. Wherever sessions of calls of [`Broker`] lead,
-/// the state that is found in the files is one that the machine reaches by taking, session after
-/// session, a step for each command that was answered by a step, with that answer, and then the step
-/// of the command that was cut or answered `Store`, or nothing. So of each session just a prefix is
-/// done, which holds every acknowledged command ([`laws::sessions_run`]). And the latest results that
-/// are found are right: for each content and each version of its provider the one with the greatest
-/// number of that state (`latest`). Sessions begin from files in which a state is found, as `open`
-/// finds it, or with the making of a broker. The disk is one that returns what was written and that
+/// Stopped at any call on the disk, in a command or between two, any number of times, and opened again, the tables are
+/// those of the commands done. A session is from a connection that is open to its end; what a stop leaves while a
+/// connection is opened, `open_files` of `sqlite` says. Wherever sessions of calls of [`Broker`] lead, the state that
+/// is found in the files is one that the machine reaches by taking, session after session, a step for each command that
+/// was answered by a step, with that answer, and then the step of the command that was cut or answered `Store`, or
+/// nothing. So of each session exactly a prefix is done, which holds every acknowledged command
+/// ([`laws::sessions_run`]). And the latest results that are found are right: for each content and each version of its
+/// provider the one with the greatest number of that state (`latest`). Sessions begin from files in which a state is
+/// found, as `open` finds it, or with the making of a broker. The disk is one that returns what was written and that
 /// nobody else writes.
 ///
 /// [`Broker`]: crate::Broker

@@ -31,14 +31,14 @@ pub enum OpenFault {
     /// A table is there already, the broker's or another.
     #[error("the database has tables")]
     NotEmpty,
-    /// The first table isn't `meta` with its columns and its key, or has not just one row; or, of a database that is
+    /// The first table isn't `meta` with its columns and its key, or has not exactly one row; or, of a database that is
     /// to be migrated, a table of format 1 isn't there with its columns and its keys.
     #[error("not a broker's database")]
     NotABroker,
     /// The tables are of this other format.
     #[error("a broker's database of format {0}")]
     Format(u32),
-    /// A growth was refused, or the database has no memory.
+    /// An allocation failed, or the database has no memory.
     #[error("out of memory")]
     Memory,
     /// The database refused a call, a commit or a rollback for another cause.
@@ -66,7 +66,7 @@ fn make_first<S: Alter>(conn: &mut Connection<S>, digest: &str) -> Result<(), St
     contract_tables::make_tables(conn)
 }
 
-/// Makes the tables of what stands where, of evidence and of strict environments.
+/// Makes the tables of what is deployed and released, of evidence and of strict environments.
 fn make_rest<S: Alter>(conn: &mut Connection<S>) -> Result<(), StoreFault>
     ensures { CallsStore S.Store conn.old conn.new result
         (λ _ old new. MakesRest old.now new.now) }

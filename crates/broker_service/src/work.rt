@@ -156,7 +156,7 @@ fn step_of<S: Alter>(
     }
 }
 
-/// The answer with its body. A failure, and that the broker is stopped, is answered by `Broker::apply` alone: no command
+/// The answer with its body. A failure, and that the broker is stopped, is answered only by `Broker::apply`: no command
 /// comes to it.
 fn answer_of(alloc: Global, outcome: Outcome) -> Result<Answer, StoreFault>
     ensures ok { IfOk result (λ answer. (answer ≡ outcome) × IsNoFailure answer) }
@@ -171,7 +171,7 @@ fn answer_of(alloc: Global, outcome: Outcome) -> Result<Answer, StoreFault>
     }
 }
 
-/// What a command does inside its transaction. Every growth comes here, before the commit.
+/// What a command does inside its transaction. Every allocation comes here, before the commit.
 fn work<S: Alter>(
     alloc: Global,
     conn: &mut Connection<S>,
@@ -210,8 +210,7 @@ fn conclude<S: Alter>(
     }
 }
 
-/// One command in one transaction. It is committed where something was done, else it is rolled
-/// back.
+/// One command in one transaction. It is committed if something was done, else it is rolled back.
 pub(crate) fn transact<S: Alter>(
     alloc: Global,
     conn: &mut Connection<S>,

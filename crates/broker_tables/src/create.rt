@@ -24,7 +24,7 @@ pub const BRANCHES: &str =
 pub const ENVIRONMENTS: &str =
     "CREATE TABLE environments (name TEXT NOT NULL PRIMARY KEY, gated INTEGER NOT NULL CHECK (gated IN (0, 1))) STRICT";
 
-/// The teams that may change what stands in an environment.
+/// The teams that may change what is in an environment.
 pub const GRANTS: &str =
     "CREATE TABLE grants (team TEXT NOT NULL REFERENCES teams (name), environment TEXT NOT NULL REFERENCES environments (name), PRIMARY KEY (team, environment)) STRICT";
 
@@ -56,7 +56,7 @@ pub const RELEASED: &str =
 pub const CHECKED_RESULTS: &str =
     "CREATE TABLE checked_results (result INTEGER NOT NULL PRIMARY KEY REFERENCES results (number)) STRICT";
 
-/// The environments whose gate trusts checked results alone.
+/// The environments whose gate trusts only checked results.
 pub const STRICT_ENVIRONMENTS: &str =
     "CREATE TABLE strict_environments (environment TEXT NOT NULL PRIMARY KEY REFERENCES environments (name)) STRICT";
 

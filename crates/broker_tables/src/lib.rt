@@ -1,6 +1,8 @@
-//! The tables of the broker's database: the texts that make them, the schema that these texts define, and what it means that a database holds a state of the broker.
+//! The tables of the broker's database: the texts that make them, the schema that these texts define, and what it means
+//! that a database holds a state of the broker.
 //!
-//! A crate that keeps some of the tables makes them by the texts here, and says of each of its calls what it answers or changes of the state that the database holds.
+//! A crate that keeps some of the tables makes them by the texts here, and says of each of its calls what it answers or
+//! changes of the state that the database holds.
 #![tactic(auto)]
 
 pub mod create;

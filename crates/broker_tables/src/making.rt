@@ -9,10 +9,11 @@ ghost use Rattle.broker_tables.specs.Making.{MakesTexts};
 use sqlite::{Alter, Connection};
 use table_access::{StoreFault, change};
 
-/// Runs texts of [`crate::create`] that follow on one another there, once those before them are made. The tables that are there keep their rows.
+/// Runs texts of [`crate::create`] that follow on one another there, once those before them are made. The tables that
+/// are there keep their rows.
 ///
 /// # Errors
-/// `StoreFault::Memory` where the database is out of memory; `StoreFault::Store` where it refused a text.
+/// `StoreFault::Memory` if the database is out of memory; `StoreFault::Store` if it refused a text.
 pub fn make_each<S: Alter>(conn: &mut Connection<S>, texts: &[&str]) -> Result<(), StoreFault>
     requires { AllByRecursion (λ text. IsWriteText (first text.now)) texts.now }
     ensures { CallsStore S.Store conn.old conn.new result

@@ -13,7 +13,8 @@ use table_access::{StoreFault, text_at};
 /// The text in a column of an answer, counted from 0.
 ///
 /// # Errors
-/// `StoreFault::Store` exactly where the row has no such column, or it holds no text; `StoreFault::Memory` where there is no memory for the text.
+/// `StoreFault::Store` if and only if the row has no such column, or it holds no text; `StoreFault::Memory` if there is
+/// no memory for the text.
 pub fn text_in(alloc: Global, row: &Row, at: usize) -> Result<String, StoreFault>
     ensures ok { IfOk result (λ text. column row.now at ≡ SqlText (string_bytes text)) }
     ensures cause { IfErr result (λ f. (f ≡ StoreFault.Store) ↔ (¬ IsTextAt at row.now)) }
@@ -30,7 +31,8 @@ pub fn text_in(alloc: Global, row: &Row, at: usize) -> Result<String, StoreFault
 /// The name in a column of an answer, counted from 0.
 ///
 /// # Errors
-/// `StoreFault::Store` exactly where the row has no such column, or it holds no name; `StoreFault::Memory` where there is no memory for the name.
+/// `StoreFault::Store` if and only if the row has no such column, or it holds no name; `StoreFault::Memory` if there is
+/// no memory for the name.
 pub fn name_in(alloc: Global, row: &Row, at: usize) -> Result<Name, StoreFault>
     ensures ok { IfOk result (λ name. (column row.now at ≡ SqlText name) × IsNameAt at row.now) }
     ensures cause { IfErr result (λ f. (f ≡ StoreFault.Store) ↔ (¬ IsNameAt at row.now)) }

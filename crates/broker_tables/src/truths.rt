@@ -5,7 +5,7 @@ ghost use Rattle.broker_tables.specs.Rows.{truth, IsTruthAt};
 use sqlite::Row;
 use table_access::{StoreFault, number_at};
 
-/// The truth value that a number stands for: 0 is false, and 1 true. `StoreFault::Store` for any other number.
+/// The truth value of a number: 0 is false, and 1 true. `StoreFault::Store` for any other number.
 pub fn truth_of(found: Option<u32>) -> Result<Option<bool>, StoreFault>
     ensures ok { IfOk result (λ truth. truth ≡ option_map (λ n. n == 1) found) }
     ensures cause { IfErr result
@@ -19,7 +19,7 @@ pub fn truth_of(found: Option<u32>) -> Result<Option<bool>, StoreFault>
     }
 }
 
-/// The truth value in a column. `StoreFault::Store` where there is no such column, or neither 0 nor 1 in it.
+/// The truth value in a column. `StoreFault::Store` if there is no such column, or neither 0 nor 1 in it.
 pub fn truth_at(row: &Row, at: usize) -> Result<bool, StoreFault>
     ensures ok { IfOk result (λ found. truth at row.now ≡ found) }
     ensures cause { IfErr result (λ fault. (fault ≡ StoreFault.Store) × (¬ IsTruthAt at row.now)) }

@@ -34,7 +34,7 @@ fn is_same(a: &str, b: &str) -> bool
     a == b
 }
 
-/// A name that stands in a table.
+/// A name that is in a table.
 pub fn stored_name(alloc: Global, text: &str) -> Result<Name, StoreFault>
     ensures ok { IfOk result (λ name. name ≡ text.now) }
     ensures cause { IfErr result (λ fault. (fault ≡ StoreFault.Store) ↔ (¬ (IsName text.now))) }

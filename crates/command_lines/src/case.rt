@@ -24,7 +24,7 @@ impl Wanted {
         self.text.push_str("\n")
     }
 
-    /// Something is wanted, whatever it is.
+    /// Some text is wanted, no matter which.
     pub(crate) fn take_any(&mut self) {
         self.is_any = true;
     }
@@ -44,9 +44,9 @@ impl Wanted {
 pub(crate) struct Case {
     /// The words, the program's name among them.
     pub words: Vec<String>,
-    /// What stands on standard input.
+    /// What is on standard input.
     pub input: Vec<u8>,
-    /// Whether standard input fails behind that.
+    /// Whether standard input fails after that.
     pub is_input_failing: bool,
     /// How many bytes standard output takes.
     pub room: usize,

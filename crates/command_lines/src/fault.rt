@@ -7,7 +7,7 @@ use thiserror::Error;
 /// What is otherwise than written, or why command lines couldn't be run.
 #[derive(Debug, Drop, Error)]
 pub(crate) enum Fault {
-    /// A line has none of the forms, or stands at a wrong place.
+    /// A line has none of the forms, or is at a wrong place.
     #[error("no such line: {0}")]
     Line(String),
     /// A command line ends with another status.

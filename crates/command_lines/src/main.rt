@@ -1,19 +1,19 @@
-//! Runs the command lines of each file in the folder that it is run in, and tells whether they end as written.
+//! Runs the command lines of each file in the folder that it is run in, and says whether they end as written.
 //!
 //! A file is `NAME.lines`. The command lines of a file run one after the other, so that one finds the files that an
 //! earlier one made. The lines of such a file are:
 //!
 //! - `# TEXT`, or nothing: no part of it.
-//! - `$ WORD WORD`: the words behind the program's name. The word `""` is the empty one.
-//! - `< FILE`: what stands on standard input is what the file holds. Else there is nothing.
-//! - `<!`: standard input fails behind that, where else it ends.
+//! - `$ WORD WORD`: the words after the program's name. The word `""` is the empty one.
+//! - `< FILE`: what is on standard input is what the file holds. Else there is nothing.
+//! - `<!`: standard input fails after that, and else it ends.
 //! - `| TEXT`: a line that is wanted on standard output.
 //! - `! TEXT`: a line that is wanted on standard error.
-//! - `|..` and `!..`: on standard output, or on standard error, something is wanted, whatever it is.
+//! - `|..` and `!..`: on standard output, or on standard error, some text is wanted, no matter which.
 //! - `|# COUNT`: standard output takes so many bytes, and no more.
 //! - `= STATUS`: the status that is wanted, which ends a command line.
 //! - `& DATABASE FILE`: the requests that the file holds are served over the broker in the database.
-//! - `% DATABASE STATEMENTS`: they are run over the database, which is made where it isn't there.
+//! - `% DATABASE STATEMENTS`: they are run over the database, which is made if it isn't there.
 //! - `%< DATABASE FILE`: the same, with the statements that the file holds.
 //!
 //! Then it does as `broker` does with the words that it was given itself, and ends with that status.
@@ -45,7 +45,7 @@ fn names(rt: &HostRuntime) -> io::Result<Vec<String>> {
     Ok(names)
 }
 
-/// Runs the command lines of the file of this name, and tells how many there are.
+/// Runs the command lines of the file of this name, and says how many there are.
 fn run_file(rt: &HostRuntime, name: &str) -> Result<u64, Fault> {
     let path = format!(in rt.alloc(); "{name}.lines")?;
     let text = fs::read_to_string(rt, path.as_str())?;

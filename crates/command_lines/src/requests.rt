@@ -6,7 +6,7 @@ use sqlite::{Connection, File, FileStore};
 use std::alloc::Global;
 use std::fs;
 
-/// The broker in the database. The connection of a refusal is closed, and not dropped: its drop is proved anew in each
+/// The broker in the database. The connection of a refusal is closed, and not dropped: its drop is proved again in each
 /// function that has one.
 fn open(rt: &HostRuntime, database: &str) -> Option<Broker<FileStore<File>>> {
     match Connection::open(rt, database) {
@@ -21,7 +21,7 @@ fn open(rt: &HostRuntime, database: &str) -> Option<Broker<FileStore<File>>> {
     }
 }
 
-/// Serves the requests, whose lines may end with a line feed alone.
+/// Serves the requests, whose lines may end with only a line feed.
 fn serve_text(
     alloc: Global,
     broker: &mut Broker<FileStore<File>>,

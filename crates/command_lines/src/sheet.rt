@@ -14,7 +14,7 @@ pub(crate) struct Sheet {
     count: u64,
 }
 
-/// The text before the first space, and the text behind it.
+/// The text before the first space, and the text after it.
 fn parted(text: &str) -> (&str, &str) {
     text.split_once(' ').unwrap_or((text, ""))
 }
@@ -27,7 +27,7 @@ fn odd(alloc: Global, line: &str) -> Fault {
     }
 }
 
-/// The number that a text writes in digits, where it is one of a status.
+/// The number that a text writes in digits, if it is one of a status.
 fn status_of(text: &str) -> Option<u8> {
     match text.parse::<u8>() {
         Ok(status) => Some(status),
@@ -44,7 +44,7 @@ impl Sheet {
         }
     }
 
-    /// Takes a line that stands between command lines.
+    /// Takes a line that is between command lines.
     fn take_outer(&mut self, rt: &HostRuntime, mark: &str, rest: &str) -> Result<(), Fault> {
         match mark {
             "" | "#" => Ok(()),
@@ -115,7 +115,7 @@ impl Sheet {
         }
     }
 
-    /// How many command lines were run, where the last is ended.
+    /// How many command lines were run, if the last is ended.
     pub(crate) fn finish(self, alloc: Global) -> Result<u64, Fault> {
         let Sheet { open, count } = self;
         match open {

@@ -2,7 +2,7 @@
 use crate::fault::Fault;
 use sqlite::Connection;
 
-/// Runs the statements over the database, which is made where it isn't there.
+/// Runs the statements over the database, which is made if it isn't there.
 pub(crate) fn run_statements(
     rt: &HostRuntime,
     database: &str,

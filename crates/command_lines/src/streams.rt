@@ -1,7 +1,7 @@
 //! Streams that may fail.
 use std::io::{self, ErrorKind, Read, Write};
 
-/// Standard input: bytes, and behind them its end or a failure.
+/// Standard input: bytes, and after them its end or a failure.
 #[derive(Drop)]
 pub(crate) struct Input<'a> {
     pub bytes: &'a [u8],

@@ -21,7 +21,8 @@ use table_access::{StoreFault, change, number_in, number_of, select, text_at, te
 /// The text with this number, or `None` if there is none. No row has a number above 2^63 - 1.
 ///
 /// # Errors
-/// `StoreFault::Memory` if the database is out of memory, or there is none for the answer; `StoreFault::Store` if it refused the query.
+/// `StoreFault::Memory` if the database is out of memory, or there is none for the answer; `StoreFault::Store` if it
+/// refused the query.
 pub fn get<S: Alter>(conn: &mut Connection<S>, number: u64) -> Result<Option<String>, StoreFault>
     ensures call { CallsTables S.Store conn.old conn.new result
         (λ found old new. IsReadByAny old new (λ found texts. IsTextOf texts number (option_map string_bytes found)) found) }
@@ -40,7 +41,8 @@ pub fn get<S: Alter>(conn: &mut Connection<S>, number: u64) -> Result<Option<Str
 /// How many texts there are: the number of the newest, or 0.
 ///
 /// # Errors
-/// `StoreFault::Memory` where the database is out of memory; `StoreFault::Store` where it refused the query or holds no number there.
+/// `StoreFault::Memory` if the database is out of memory; `StoreFault::Store` if it refused the query or holds no
+/// number there.
 pub fn content_count<S: Alter>(conn: &mut Connection<S>) -> Result<u64, StoreFault>
     ensures call { CallsStore S.Store conn.old conn.new result
         (λ count old new. IsReadByAny old new (λ count texts. count ≡ length texts) count) }
@@ -54,7 +56,7 @@ pub fn content_count<S: Alter>(conn: &mut Connection<S>) -> Result<u64, StoreFau
     Ok(newest.unwrap_or(0) as u64)
 }
 
-/// Whether this is the row's text. `StoreFault::Store` where the row has none.
+/// Whether this is the row's text. `StoreFault::Store` if the row has none.
 fn has_text(row: &Row, body: &str) -> Result<bool, StoreFault>
     ensures ok { IfOk result (λ has. has ≡ same_text body.now (text 1 row.now)) }
     ensures cause { IfErr result (λ f. (f ≡ StoreFault.Store) × (¬ IsTextAt 1 row.now)) }
@@ -65,7 +67,8 @@ fn has_text(row: &Row, body: &str) -> Result<bool, StoreFault>
     }
 }
 
-/// The number in the first row that has this text, if one has it. `StoreFault::Store` where a row has no text, or no number.
+/// The number in the first row that has this text, if one has it. `StoreFault::Store` if a row has no text, or no
+/// number.
 fn number_among(rows: &[Row], body: &str) -> Result<Option<u32>, StoreFault>
     ensures ok { IfOk result
         (λ found. option_map (λ n. Int (pos n)) found ≡ option_map (λ row. column row 0)
@@ -80,7 +83,8 @@ fn number_among(rows: &[Row], body: &str) -> Result<Option<u32>, StoreFault>
     Ok(None)
 }
 
-/// The number of a text, whose digest this is. The digest finds the candidates, and their texts are compared with this one.
+/// The number of a text, whose digest this is. The digest finds the candidates, and their texts are compared with this
+/// one.
 fn find_beside<S: Alter>(
     conn: &mut Connection<S>,
     digest: &[u8],
@@ -100,10 +104,11 @@ fn find_beside<S: Alter>(
     number_among(&rows, body)
 }
 
-/// The number of the text, or `None` where it isn't stored.
+/// The number of the text, or `None` if it isn't stored.
 ///
 /// # Errors
-/// `StoreFault::Memory` where the database is out of memory; `StoreFault::Store` where it refused the query, or where a row has no number below 2^32.
+/// `StoreFault::Memory` if the database is out of memory; `StoreFault::Store` if it refused the query, or if a row has
+/// no number below 2^32.
 pub fn find<S: Alter, D: Digester>(
     conn: &mut Connection<S>,
     digester: &D,
@@ -184,10 +189,12 @@ fn add_if_room<S: Alter>(
     }
 }
 
-/// The number of the text, which is stored under the next one where it isn't stored yet. Each text that is there was stored by this digester.
+/// The number of the text, which is stored under the next one if it isn't stored yet. Each text that is there was
+/// stored by this digester.
 ///
 /// # Errors
-/// `StoreFault::Memory` where the database is out of memory; `StoreFault::Store` where it refused a statement, or where the numbers are used up.
+/// `StoreFault::Memory` if the database is out of memory; `StoreFault::Store` if it refused a statement, or if the
+/// numbers are used up.
 pub fn put<S: Alter, D: Digester>(
     conn: &mut Connection<S>,
     digester: &D,
@@ -208,8 +215,8 @@ pub fn put<S: Alter, D: Digester>(
 /// is hashed once and looked for once, and the newest number is asked for only if it isn't stored.
 ///
 /// # Errors
-/// `StoreFault::Memory` if the database is out of memory; `StoreFault::Store` if it refused a statement, or a row has no
-/// number below 2^32.
+/// `StoreFault::Memory` if the database is out of memory; `StoreFault::Store` if it refused a statement, or a row has
+/// no number below 2^32.
 pub fn put_if_room<S: Alter, D: Digester>(
     conn: &mut Connection<S>,
     digester: &D,

@@ -31,7 +31,7 @@ impl Digester for Sha256Digester {
 /// The digest of the bytes, as 64 lower-case hexadecimal digits.
 ///
 /// # Errors
-/// `AllocError` where the text has no memory.
+/// `AllocError` if the text has no memory.
 pub fn digest_text<D: Digester>(
     alloc: Global,
     digester: &D,

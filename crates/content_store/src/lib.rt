@@ -1,10 +1,11 @@
 //! Digests of texts, and the table of the normal texts of pacts.
 //!
-//! A digest is a function of bytes behind the trait `Digester`, so that what is said of the calls doesn't rest on SHA-256 alone.
+//! A digest is a function of bytes, given by the trait `Digester`, so that what is said of the calls holds for any such
+//! function.
 #![tactic(auto)]
 
-/// Gives what a call on the tables answers. Its failure is the failure of the function in which this stands, and
-/// nothing more is done there. A proof knows behind it what it knows in the arms of the match that stands here.
+/// Gives what a call on the tables answers. Its failure is the failure of the function in which this is, and nothing
+/// more is done there. After it a proof knows what it knows in the arms of the match.
 macro_rules! done {
     ($call:expr) => {
         match $call {

@@ -12,7 +12,7 @@ use table_access::StoreFault;
 /// Makes the table of contents, without rows, after those of the registry. These keep their rows.
 ///
 /// # Errors
-/// `StoreFault::Memory` where the database is out of memory; `StoreFault::Store` where it refused the table.
+/// `StoreFault::Memory` if the database is out of memory; `StoreFault::Store` if it refused the table.
 pub fn make_tables<S: Alter>(conn: &mut Connection<S>) -> Result<(), StoreFault>
     ensures { CallsStore S.Store conn.old conn.new result
         (λ _ old new. old.now.schema ≡ schema_of registry_part →
@@ -24,7 +24,7 @@ pub fn make_tables<S: Alter>(conn: &mut Connection<S>) -> Result<(), StoreFault>
 /// Makes the index of contents by their digest, once all tables are made. These keep their rows.
 ///
 /// # Errors
-/// `StoreFault::Memory` where the database is out of memory; `StoreFault::Store` where it refused the index.
+/// `StoreFault::Memory` if the database is out of memory; `StoreFault::Store` if it refused the index.
 pub fn make_index<S: Alter>(conn: &mut Connection<S>) -> Result<(), StoreFault>
     ensures { CallsStore S.Store conn.old conn.new result
         (λ _ old new. old.now.schema ≡ schema_of all_tables →

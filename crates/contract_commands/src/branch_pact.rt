@@ -61,8 +61,8 @@ fn next_below<S: Alter>(
     }
 }
 
-/// The number of the content of the contract that the branch shows, if there is one, where no version from this number
-/// on has one.
+/// The number of the content of the contract that the branch shows, if there is one, if no version from this number on
+/// has one.
 fn content_below<S: Alter>(
     conn: &mut Connection<S>,
     provider: &Name,
@@ -132,7 +132,7 @@ fn read_branch_to_show<S: Alter>(
     Ok(admit_branch_pact(sides, content))
 }
 
-/// Shows the contract of the newest version on a branch that has one with the provider, or tells why not.
+/// Shows the contract of the newest version on a branch that has one with the provider, or says why not.
 pub fn get_branch_pact<S: Alter>(
     alloc: Global,
     conn: &mut Connection<S>,

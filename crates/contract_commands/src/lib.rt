@@ -1,8 +1,8 @@
 //! The commands on contracts: pacts, results, replies.
 #![tactic(auto)]
 
-/// Gives what a call on the tables answers. Its failure is the failure of the function in which this stands, and
-/// nothing more is done there. A proof knows behind it what it knows in the arms of the match that stands here.
+/// Gives what a call on the tables answers. Its failure is the failure of the function in which this is, and nothing
+/// more is done there. After it a proof knows what it knows in the arms of the match.
 macro_rules! done {
     ($call:expr) => {
         match $call {

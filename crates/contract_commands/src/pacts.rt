@@ -26,7 +26,7 @@ fn show_pact_text<S: Alter>(conn: &mut Connection<S>, content: u32) -> Result<An
     Ok(Answer::Shown(Shown::Pact(text)))
 }
 
-/// Shows the text of a contract's content, or tells the refusal.
+/// Shows the text of a contract's content, or gives the refusal.
 pub(crate) fn show_pact<S: Alter>(
     conn: &mut Connection<S>,
     place: Result<u32, Answer>,
@@ -39,7 +39,7 @@ pub(crate) fn show_pact<S: Alter>(
     }
 }
 
-/// Shows a contract, or tells why not.
+/// Shows a contract, or says why not.
 pub fn get_pact<S: Alter>(
     alloc: Global,
     conn: &mut Connection<S>,

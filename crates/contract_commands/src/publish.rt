@@ -51,7 +51,7 @@ fn read_form(alloc: Global, path: &PactPath, file: &Body) -> Result<ReadPact, Re
     }
 }
 
-/// What is told where the contract has this text already.
+/// What is reported if the contract has this text already.
 fn told_again(old: &Text, text: &Text, content: u32) -> Answer
     ensures { (s : BrokerState) → text_of s content ≡ Some old.now → result ≡ republished s text.now content }
 {
@@ -62,7 +62,7 @@ fn told_again(old: &Text, text: &Text, content: u32) -> Answer
     }
 }
 
-/// What is told of a contract that stands with this content.
+/// What is reported of a contract that is there with this content.
 fn publish_again<S: Alter>(
     conn: &mut Connection<S>,
     content: u32,
@@ -148,7 +148,7 @@ fn publish_between<S: Alter>(
     }
 }
 
-/// Publishes the text of a file that is well formed, or tells why not.
+/// Publishes the text of a file that is well formed, or says why not.
 fn publish<S: Alter>(
     alloc: Global,
     conn: &mut Connection<S>,
@@ -165,7 +165,7 @@ fn publish<S: Alter>(
     }
 }
 
-/// What is told of a file or of replies that weren't read.
+/// What is reported of a file or of replies that weren't read.
 pub(crate) fn tell_unread(fault: ReadFault) -> Result<Answer, StoreFault>
     ensures { result ≡ answer_to fault }
 {
@@ -175,7 +175,7 @@ pub(crate) fn tell_unread(fault: ReadFault) -> Result<Answer, StoreFault>
     }
 }
 
-/// Publishes a pact file as the contract of a consumer's version with a provider, or tells why not.
+/// Publishes a pact file as the contract of a consumer's version with a provider, or says why not.
 pub fn put_pact<S: Alter>(
     alloc: Global,
     conn: &mut Connection<S>,

@@ -40,7 +40,7 @@ fn tell_replies(failing: Places, success: bool, it: Reported) -> Answer
     }
 }
 
-/// The result of replies by which these interactions fail comes in: it is a pass where none fails.
+/// The result of replies by which these interactions fail comes in: it is a pass if none fails.
 fn report_failing<S: Alter>(
     conn: &mut Connection<S>,
     provider: &Name,
@@ -99,7 +99,7 @@ fn check_content<S: Alter>(
     }
 }
 
-/// Checks replies that are well formed against the contract, or tells why not.
+/// Checks replies that are well formed against the contract, or says why not.
 fn check_replies<S: Alter>(
     alloc: Global,
     conn: &mut Connection<S>,
@@ -117,7 +117,7 @@ fn check_replies<S: Alter>(
     }
 }
 
-/// Checks recorded replies against the contract and records what they come to, or tells why not.
+/// Checks recorded replies against the contract and records what they come to, or says why not.
 pub fn post_replies<S: Alter>(
     alloc: Global,
     conn: &mut Connection<S>,

@@ -30,7 +30,7 @@ pub(crate) struct Finding {
     pub(crate) checked: bool,
 }
 
-/// What is told of a result that comes in.
+/// What is reported of a result that comes in.
 #[derive(Clone, Copy)]
 pub(crate) enum Reported {
     /// It is recorded under this number.
@@ -68,7 +68,7 @@ fn read_run<S: Alter>(
     }
 }
 
-/// Whether a result that stands is of the version of this number, and of the content, and says what was found.
+/// Whether a result that is there is of the version of this number, and of the content, and says what was found.
 fn has_outcome(row: ResultRow, number: u32, found: Finding) -> bool
     ensures { result ≡ (row.content == found.content && (row.provider_version == number
         && (same_bool row.pass found.pass && same_bool row.checked found.checked))) }
@@ -79,7 +79,7 @@ fn has_outcome(row: ResultRow, number: u32, found: Finding) -> bool
         && row.checked == found.checked
 }
 
-/// Whether a result that stands says the same as one of the version of this number, if it has one.
+/// Whether a result that is there says the same as one of the version of this number, if it has one.
 fn says_same(row: ResultRow, number: Option<u32>, found: Finding) -> bool
     ensures { (s : BrokerState) → TellsSame s row number found result }
 {
@@ -89,7 +89,7 @@ fn says_same(row: ResultRow, number: Option<u32>, found: Finding) -> bool
     }
 }
 
-/// What is told of a result of a run that was used.
+/// What is reported of a result of a run that was used.
 fn tell_again(row: ResultRow, number: Option<u32>, found: Finding) -> Reported
     ensures { (s : BrokerState) → TellsAgain s row number found result }
 {
@@ -211,7 +211,7 @@ fn claim<S: Alter>(
     Ok(tell_result(it))
 }
 
-/// Records the result that is claimed of a contract, or tells why not.
+/// Records the result that is claimed of a contract, or says why not.
 pub fn post_result<S: Alter>(
     alloc: Global,
     conn: &mut Connection<S>,

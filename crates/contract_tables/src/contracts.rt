@@ -9,10 +9,12 @@ ghost use Rattle.contract_tables.specs.Verified.{AddsContract};
 use sqlite::{Alter, Connection, params};
 use table_access::{StoreFault, change, number_of};
 
-/// The number of the content that the version of this number has for the provider, or `None` where it has no contract with it.
+/// The number of the content that the version of this number has for the provider, or `None` if it has no contract with
+/// it.
 ///
 /// # Errors
-/// `StoreFault::Memory` where the database is out of memory; `StoreFault::Store` where it refused the query or holds no number there.
+/// `StoreFault::Memory` if the database is out of memory; `StoreFault::Store` if it refused the query or holds no
+/// number there.
 pub fn contract_of<S: Alter>(
     conn: &mut Connection<S>,
     version_number: u32,
@@ -33,7 +35,7 @@ pub fn contract_of<S: Alter>(
 /// Gives the version of this number a contract with a provider, with which it has none.
 ///
 /// # Errors
-/// `StoreFault::Memory` where the database is out of memory; `StoreFault::Store` where it refused the row.
+/// `StoreFault::Memory` if the database is out of memory; `StoreFault::Store` if it refused the row.
 pub fn add_contract<S: Alter>(
     conn: &mut Connection<S>,
     version_number: u32,

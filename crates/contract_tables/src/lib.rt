@@ -1,11 +1,13 @@
-//! The tables of contracts and of their verification: which content a consumer version has for a provider, the results, the latest of them, and those that the broker checked itself.
+//! The tables of contracts and of their verification: which content a consumer version has for a provider, the results,
+//! the latest of them, and those that the broker checked itself.
 //!
-//! Each call is made inside a transaction. Where it fails, nothing of it is committed, and the transaction is to be given up.
-//! `StoreFault::Memory` comes where the database has no memory or an allocation failed, and `StoreFault::Store` where it refused a statement for another cause.
+//! Each call is made inside a transaction. If it fails, nothing of it is committed, and the transaction is to be given
+//! up. `StoreFault::Memory` comes if the database has no memory or an allocation failed, and `StoreFault::Store` if it
+//! refused a statement for another cause.
 #![tactic(auto)]
 
-/// Gives what a call on the tables answers. Its failure is the failure of the function in which this stands, and
-/// nothing more is done there. A proof knows behind it what it knows in the arms of the match that stands here.
+/// Gives what a call on the tables answers. Its failure is the failure of the function in which this is, and nothing
+/// more is done there. After it a proof knows what it knows in the arms of the match.
 macro_rules! done {
     ($call:expr) => {
         match $call {

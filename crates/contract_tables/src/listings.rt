@@ -108,7 +108,8 @@ impl ReadRow for ContentRow {
 /// The contracts of the version of this number, each once, in the order of their providers.
 ///
 /// # Errors
-/// `StoreFault::Memory` where the database is out of memory, or there is none for the answer; `StoreFault::Store` where it refused the query, or where a row doesn't read.
+/// `StoreFault::Memory` if the database is out of memory, or there is none for the answer; `StoreFault::Store` if it
+/// refused the query, or if a row doesn't read.
 pub fn contracts_of<S: Alter>(
     alloc: Global,
     conn: &mut Connection<S>,
@@ -127,10 +128,12 @@ pub fn contracts_of<S: Alter>(
     )
 }
 
-/// The versions of consumers that have a contract of this content with the provider, each once, in the order of pacticipants and versions.
+/// The versions of consumers that have a contract of this content with the provider, each once, in the order of
+/// pacticipants and versions.
 ///
 /// # Errors
-/// `StoreFault::Memory` where the database is out of memory, or there is none for the answer; `StoreFault::Store` where it refused the query, or where a row doesn't read.
+/// `StoreFault::Memory` if the database is out of memory, or there is none for the answer; `StoreFault::Store` if it
+/// refused the query, or if a row doesn't read.
 pub fn consumers_of<S: Alter>(
     alloc: Global,
     conn: &mut Connection<S>,
@@ -148,10 +151,12 @@ pub fn consumers_of<S: Alter>(
     )
 }
 
-/// The versions of the provider that have a result for this content, each once, in the order of their names, with the number of the latest result.
+/// The versions of the provider that have a result for this content, each once, in the order of their names, with the
+/// number of the latest result.
 ///
 /// # Errors
-/// `StoreFault::Memory` where the database is out of memory, or there is none for the answer; `StoreFault::Store` where it refused the query, or where a row doesn't read.
+/// `StoreFault::Memory` if the database is out of memory, or there is none for the answer; `StoreFault::Store` if it
+/// refused the query, or if a row doesn't read.
 pub fn verified_versions<S: Alter>(
     alloc: Global,
     conn: &mut Connection<S>,
@@ -171,10 +176,12 @@ pub fn verified_versions<S: Alter>(
     )
 }
 
-/// The contents for which the version of this number has a result, each once, in the order of their numbers, with the number of the latest result.
+/// The contents for which the version of this number has a result, each once, in the order of their numbers, with the
+/// number of the latest result.
 ///
 /// # Errors
-/// `StoreFault::Memory` where the database is out of memory, or there is none for the answer; `StoreFault::Store` where it refused the query, or where a row doesn't read.
+/// `StoreFault::Memory` if the database is out of memory, or there is none for the answer; `StoreFault::Store` if it
+/// refused the query, or if a row doesn't read.
 pub fn verified_contents<S: Alter>(
     alloc: Global,
     conn: &mut Connection<S>,

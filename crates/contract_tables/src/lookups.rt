@@ -17,7 +17,8 @@ use table_access::{StoreFault, has_row, number_at, number_of, select};
 /// How many results there are: the number of the newest, or 0.
 ///
 /// # Errors
-/// `StoreFault::Memory` where the database is out of memory; `StoreFault::Store` where it refused the query or holds no number there.
+/// `StoreFault::Memory` if the database is out of memory; `StoreFault::Store` if it refused the query or holds no
+/// number there.
 pub fn result_count<S: Alter>(conn: &mut Connection<S>) -> Result<u64, StoreFault>
     ensures { CalmQueriesInPlace S.Store conn.old conn.new result (λ count s. count ≡ length s.results) }
 {
@@ -29,10 +30,11 @@ pub fn result_count<S: Alter>(conn: &mut Connection<S>) -> Result<u64, StoreFaul
     Ok(newest.unwrap_or(0) as u64)
 }
 
-/// The number of the latest result for a content and the version of this number, or `None` where there is none.
+/// The number of the latest result for a content and the version of this number, or `None` if there is none.
 ///
 /// # Errors
-/// `StoreFault::Memory` where the database is out of memory; `StoreFault::Store` where it refused the query or holds no number there.
+/// `StoreFault::Memory` if the database is out of memory; `StoreFault::Store` if it refused the query or holds no
+/// number there.
 pub fn latest_number<S: Alter>(
     conn: &mut Connection<S>,
     content: u32,
@@ -50,7 +52,7 @@ pub fn latest_number<S: Alter>(
     )
 }
 
-/// Whether the result with this number is a pass, or `None` where there is no such result.
+/// Whether the result with this number is a pass, or `None` if there is no such result.
 fn passed<S: Alter>(conn: &mut Connection<S>, number: u32) -> Result<Option<bool>, StoreFault>
     ensures { CalmQueriesInPlace S.Store conn.old conn.new result
         (λ found s. found ≡ option_map (λ r. r.pass) (result_with s number)) }
@@ -75,10 +77,11 @@ fn is_checked<S: Alter>(conn: &mut Connection<S>, number: u32) -> Result<bool, S
     )
 }
 
-/// What the result with this number says, or `None` where there is no such result.
+/// What the result with this number says, or `None` if there is no such result.
 ///
 /// # Errors
-/// `StoreFault::Memory` where the database is out of memory; `StoreFault::Store` where it refused a query or holds no truth value there.
+/// `StoreFault::Memory` if the database is out of memory; `StoreFault::Store` if it refused a query or holds no truth
+/// value there.
 pub fn result_said<S: Alter>(
     conn: &mut Connection<S>,
     number: u32,
@@ -102,7 +105,7 @@ struct NumberedPass {
     pass: bool,
 }
 
-/// The number and the truth value in a row. `StoreFault::Store` where one of them isn't there.
+/// The number and the truth value in a row. `StoreFault::Store` if one of them isn't there.
 fn read_pass(row: &Row) -> Result<NumberedPass, StoreFault>
     ensures ok { IfOk result (λ r. pass_of r.number r.pass ≡ pass_cells row.now) }
     ensures cause { IfErr result (λ f. (f ≡ StoreFault.Store) × (¬ ReadsAsPass row.now)) }
@@ -112,7 +115,7 @@ fn read_pass(row: &Row) -> Result<NumberedPass, StoreFault>
     Ok(NumberedPass { number, pass })
 }
 
-/// The number and the truth value in the first row, if there is a row. `StoreFault::Store` where that doesn't read.
+/// The number and the truth value in the first row, if there is a row. `StoreFault::Store` if that doesn't read.
 fn first_pass(rows: &[Row]) -> Result<Option<NumberedPass>, StoreFault>
     ensures ok { IfOk result
         (λ found. option_map (λ r. pass_of r.number r.pass) found ≡ option_map pass_cells (slice_get rows.now 0)) }
@@ -144,10 +147,11 @@ fn latest_pass<S: Alter>(
     first_pass(&rows)
 }
 
-/// What the latest result for a content and the version of this number says, or `None` where there is none.
+/// What the latest result for a content and the version of this number says, or `None` if there is none.
 ///
 /// # Errors
-/// `StoreFault::Memory` where the database is out of memory; `StoreFault::Store` where it refused a query, or holds no number or truth value there.
+/// `StoreFault::Memory` if the database is out of memory; `StoreFault::Store` if it refused a query, or holds no number
+/// or truth value there.
 pub fn latest_of<S: Alter>(
     conn: &mut Connection<S>,
     content: u32,
@@ -182,7 +186,7 @@ pub struct ResultRow {
     pub checked: bool,
 }
 
-/// A result as its row tells it.
+/// A result as its row has it.
 #[derive(Clone, Copy)]
 struct StoredResult {
     number: u32,
@@ -191,7 +195,8 @@ struct StoredResult {
     pass: bool,
 }
 
-/// The result in a row of its number, its content, the number of its version and whether it is a pass. `StoreFault::Store` where one of them isn't there.
+/// The result in a row of its number, its content, the number of its version and whether it is a pass.
+/// `StoreFault::Store` if one of them isn't there.
 fn read_result(row: &Row) -> Result<StoredResult, StoreFault>
     ensures ok { IfOk result (λ r. cells_of r.number r.content r.provider_version r.pass ≡ cells row.now) }
     ensures cause { IfErr result (λ f. (f ≡ StoreFault.Store) × (¬ ReadsAsResult row.now)) }
@@ -208,7 +213,7 @@ fn read_result(row: &Row) -> Result<StoredResult, StoreFault>
     })
 }
 
-/// The result in the first row, if there is a row. `StoreFault::Store` where that doesn't read.
+/// The result in the first row, if there is a row. `StoreFault::Store` if that doesn't read.
 fn first_result(rows: &[Row]) -> Result<Option<StoredResult>, StoreFault>
     ensures ok { IfOk result
         (λ found. option_map (λ r. cells_of r.number r.content r.provider_version r.pass) found
@@ -240,10 +245,11 @@ fn stored_of_run<S: Alter>(
     first_result(&rows)
 }
 
-/// The result of a run of the provider, or `None` where it has none.
+/// The result of a run of the provider, or `None` if it has none.
 ///
 /// # Errors
-/// `StoreFault::Memory` where the database is out of memory; `StoreFault::Store` where it refused a query, or holds no number or truth value there.
+/// `StoreFault::Memory` if the database is out of memory; `StoreFault::Store` if it refused a query, or holds no number
+/// or truth value there.
 pub fn result_of_run<S: Alter>(
     conn: &mut Connection<S>,
     provider: &str,

@@ -11,10 +11,11 @@ use broker_tables::make_each;
 use sqlite::{Alter, Connection};
 use table_access::StoreFault;
 
-/// Makes the tables of contracts, results and latest results, without rows, after those of the registry and of contents. These keep their rows.
+/// Makes the tables of contracts, results and latest results, without rows, after those of the registry and of
+/// contents. These keep their rows.
 ///
 /// # Errors
-/// `StoreFault::Memory` where the database is out of memory; `StoreFault::Store` where it refused a table.
+/// `StoreFault::Memory` if the database is out of memory; `StoreFault::Store` if it refused a table.
 pub fn make_tables<S: Alter>(conn: &mut Connection<S>) -> Result<(), StoreFault>
     ensures { CallsStore S.Store conn.old conn.new result
         (λ _ old new. old.now.schema ≡ schema_of (registry_part ++ contents ∷ []) →
@@ -23,10 +24,11 @@ pub fn make_tables<S: Alter>(conn: &mut Connection<S>) -> Result<(), StoreFault>
     make_each(conn, &[CONTRACTS, RESULTS, LATEST])
 }
 
-/// Makes the table of the results that the broker checked itself, without rows, after those of what stands where. All others keep their rows.
+/// Makes the table of the results that the broker checked itself, without rows, after those of what is deployed and
+/// released. All others keep their rows.
 ///
 /// # Errors
-/// `StoreFault::Memory` where the database is out of memory; `StoreFault::Store` where it refused the table.
+/// `StoreFault::Memory` if the database is out of memory; `StoreFault::Store` if it refused the table.
 pub fn make_checked_results<S: Alter>(conn: &mut Connection<S>) -> Result<(), StoreFault>
     ensures { CallsStore S.Store conn.old conn.new result
         (λ _ old new. old.now.schema
@@ -36,10 +38,11 @@ pub fn make_checked_results<S: Alter>(conn: &mut Connection<S>) -> Result<(), St
     make_each(conn, &[CHECKED_RESULTS])
 }
 
-/// Makes the indexes of contracts by their content and of the latest results by the version that was verified, once all tables and the index of contents are made. All tables keep their rows.
+/// Makes the indexes of contracts by their content and of the latest results by the version that was verified, once all
+/// tables and the index of contents are made. All tables keep their rows.
 ///
 /// # Errors
-/// `StoreFault::Memory` where the database is out of memory; `StoreFault::Store` where it refused an index.
+/// `StoreFault::Memory` if the database is out of memory; `StoreFault::Store` if it refused an index.
 pub fn make_indexes<S: Alter>(conn: &mut Connection<S>) -> Result<(), StoreFault>
     ensures { CallsStore S.Store conn.old conn.new result
         (λ _ old new. old.now.schema ≡ indexed_by (schema_of all_tables) (contents_by_digest ∷ []) →

@@ -9,10 +9,11 @@ use crate::making::make_checked_results;
 use sqlite::{Alter, Connection};
 use table_access::StoreFault;
 
-/// Makes the table of checked results in a database of format 1, without rows: each result that is there is a claim of its sender. All other tables keep their rows.
+/// Makes the table of checked results in a database of format 1, without rows: each result that is there is a claim of
+/// its sender. All other tables keep their rows.
 ///
 /// # Errors
-/// `StoreFault::Memory` where the database is out of memory; `StoreFault::Store` where it refused the table.
+/// `StoreFault::Memory` if the database is out of memory; `StoreFault::Store` if it refused the table.
 pub fn to_format_2<S: Alter>(conn: &mut Connection<S>) -> Result<(), StoreFault>
     ensures { CallsStore S.Store conn.old conn.new result
         (λ _ old new. (s : Broker) → HoldsFormer old.now s →

@@ -1,4 +1,5 @@
-//! A result comes in: its row, the mark that the broker checked it, and that it is the latest one for its content and its version.
+//! A result comes in: its row, the mark that the broker checked it, and that it is the latest one for its content and
+//! its version.
 ghost use Rattle.std.specs.Prelude.{option_map, Some, None};
 ghost use Rattle.table_access.specs.Calls.{CallsStore};
 ghost use Rattle.broker_tables.specs.Holds.{IsBroker, Changes};
@@ -87,7 +88,7 @@ fn mark_checked<S: Alter>(conn: &mut Connection<S>, number: u32) -> Result<(), S
     )
 }
 
-/// Marks a result as checked where it was.
+/// Marks a result as checked if it was.
 fn mark<S: Alter>(conn: &mut Connection<S>, number: u32, checked: bool) -> Result<(), StoreFault>
     ensures { CallsStore S.Store conn.old conn.new result
         (λ _ old new. IsBroker old.now →
@@ -118,10 +119,11 @@ fn point_latest<S: Alter>(
     )
 }
 
-/// Records the result of verifying a content with a version of its provider, under the next number: it is the latest one for them.
+/// Records the result of verifying a content with a version of its provider, under the next number: it is the latest
+/// one for them.
 ///
 /// # Errors
-/// `StoreFault::Memory` where the database is out of memory; `StoreFault::Store` where it refused a row.
+/// `StoreFault::Memory` if the database is out of memory; `StoreFault::Store` if it refused a row.
 pub fn record_result<S: Alter>(
     conn: &mut Connection<S>,
     number: u32,

@@ -64,7 +64,8 @@ impl ReadRow for NumberRow {
     }
 }
 
-/// The contents for which the version of this number has a result, each once, in the order of their numbers, with whether the latest one is a pass.
+/// The contents for which the version of this number has a result, each once, in the order of their numbers, with
+/// whether the latest one is a pass.
 fn passes_of<S: Alter>(
     alloc: Global,
     conn: &mut Connection<S>,
@@ -84,7 +85,8 @@ fn passes_of<S: Alter>(
     )
 }
 
-/// The contents for which the version of this number has a result, and the broker checked the latest one: each once, in the order of their numbers.
+/// The contents for which the version of this number has a result, and the broker checked the latest one: each once, in
+/// the order of their numbers.
 fn checked_of<S: Alter>(
     alloc: Global,
     conn: &mut Connection<S>,
@@ -134,10 +136,12 @@ fn with_marks(
     Ok(found)
 }
 
-/// The contents for which the version of this number has a result, each once, in the order of their numbers, with what the latest result says.
+/// The contents for which the version of this number has a result, each once, in the order of their numbers, with what
+/// the latest result says.
 ///
 /// # Errors
-/// `StoreFault::Memory` where the database is out of memory, or there is none for the answer; `StoreFault::Store` where it refused a query, or where a row doesn't read.
+/// `StoreFault::Memory` if the database is out of memory, or there is none for the answer; `StoreFault::Store` if it
+/// refused a query, or if a row doesn't read.
 pub fn latest_results<S: Alter>(
     alloc: Global,
     conn: &mut Connection<S>,

@@ -34,7 +34,8 @@ fn consumer_contract(
     }))
 }
 
-/// The contract that this version, which stands in the environment, has with the pacticipant, where it is a version of another: found among all contracts with it that stand there.
+/// The contract that this version, which is in the environment, has with the pacticipant, if it is a version of
+/// another: found among all contracts with it that are there.
 fn contract_with(
     pacticipant: &Name,
     other: &StandingVersion,
@@ -51,7 +52,8 @@ fn contract_with(
     consumer_contract(other, content)
 }
 
-/// The contracts that these versions, which stand in the environment, have with the pacticipant, its own aside: found among all contracts with it that stand there.
+/// The contracts that these versions, which are in the environment, have with the pacticipant, except its own: found
+/// among all contracts with it that are there.
 pub(crate) fn consumer_contracts(
     alloc: Global,
     pacticipant: &Name,

@@ -1,4 +1,4 @@
-//! The contracts with one provider of all versions that stand in an environment, by the numbers of the versions.
+//! The contracts with one provider of all versions that are in an environment, by the numbers of the versions.
 ghost use Rattle.std.specs.Prelude.{◌≡◌, ◌++◌, ◌↔◌, IfOk, IfErr, Some, Contains};
 ghost use Rattle.broker_core.specs.State.{State};
 ghost use Rattle.broker_core.specs.Text.{Text};
@@ -38,7 +38,8 @@ impl ReadRow for NumberedRow {
     }
 }
 
-/// The contracts with the provider of the versions that are deployed in the environment, in no order. That of a version in two instances stands twice.
+/// The contracts with the provider of the versions that are deployed in the environment, in no order. That of a version
+/// in two instances is there twice.
 fn deployed_contracts<S: Alter>(
     alloc: Global,
     conn: &mut Connection<S>,
@@ -101,10 +102,11 @@ fn in_one(
     }
 }
 
-/// The contracts with the provider of the versions that stand in the environment, in the order of the versions' numbers.
+/// The contracts with the provider of the versions that are in the environment, in the order of the versions' numbers.
 ///
 /// # Errors
-/// `StoreFault::Memory` where the database is out of memory, or there is none for the answer; `StoreFault::Store` where it refused a query, or where a row doesn't read.
+/// `StoreFault::Memory` if the database is out of memory, or there is none for the answer; `StoreFault::Store` if it
+/// refused a query, or if a row doesn't read.
 pub(crate) fn contracts_there<S: Alter>(
     alloc: Global,
     conn: &mut Connection<S>,
@@ -119,7 +121,8 @@ pub(crate) fn contracts_there<S: Alter>(
     in_one(deployed, released)
 }
 
-/// The content of the contract of the version of this number, which stands in the environment: found among all contracts of the versions that stand there. `None` where it has none.
+/// The content of the contract of the version of this number, which is in the environment: found among all contracts of
+/// the versions that are there. `None` if it has none.
 pub(crate) fn content_among(contracts: &[NumberedContract], number: u32) -> Option<u32>
     ensures { (s : State) (e p : Text) (w : Version) → AreContractsThere s e p contracts.now →
         Stands s e w → number_known s.versions w ≡ Some number → result ≡ s.contracts (w, p) }

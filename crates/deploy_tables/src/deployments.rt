@@ -7,10 +7,12 @@ ghost use Rattle.deploy_tables.specs.Deployments.{RecordsDeployed, IsVersionOf, 
 use sqlite::{Alter, Connection, params};
 use table_access::{StoreFault, change, change_counted, number_of};
 
-/// Whether the version of that number, one of the pacticipant, is deployed in the environment as that instance. `false` if the pacticipant has no version of that number.
+/// Whether the version of that number, one of the pacticipant, is deployed in the environment as that instance. `false`
+/// if the pacticipant has no version of that number.
 ///
 /// # Errors
-/// `StoreFault::Memory` where the database is out of memory; `StoreFault::Store` where it refused the query, or where the row holds no number of a version.
+/// `StoreFault::Memory` if the database is out of memory; `StoreFault::Store` if it refused the query, or if the row
+/// holds no number of a version.
 pub fn is_deployed<S: Alter>(
     conn: &mut Connection<S>,
     environment: &str,
@@ -39,11 +41,11 @@ fn is_number(found: Option<u32>, number: u32) -> bool
     }
 }
 
-/// Deploys the version of that number in the environment as that instance, in place of the version of its pacticipant that is deployed there.
-/// The version is one of the pacticipant, and the environment is there.
+/// Deploys the version of that number in the environment as that instance, in place of the version of its pacticipant
+/// that is deployed there. The version is one of the pacticipant, and the environment is there.
 ///
 /// # Errors
-/// `StoreFault::Memory` where the database is out of memory; `StoreFault::Store` where it refused the row.
+/// `StoreFault::Memory` if the database is out of memory; `StoreFault::Store` if it refused the row.
 pub fn record_deployed<S: Alter>(
     conn: &mut Connection<S>,
     environment: &str,
@@ -61,7 +63,8 @@ pub fn record_deployed<S: Alter>(
     )
 }
 
-/// Takes the version of that number, one of the pacticipant, out of the environment as that instance, and answers whether it was deployed there. Its other instances stay, and so does another version that is deployed there.
+/// Takes the version of that number, one of the pacticipant, out of the environment as that instance, and answers
+/// whether it was deployed there. Its other instances stay, and so does another version that is deployed there.
 ///
 /// # Errors
 /// `StoreFault::Memory` if the database is out of memory; `StoreFault::Store` if it refused the change.

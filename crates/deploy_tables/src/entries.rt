@@ -14,7 +14,7 @@ pub struct Entry {
     pub consumer: Name,
     pub consumer_version: Name,
     pub provider: Name,
-    /// None where no version of the provider has a result.
+    /// None if no version of the provider has a result.
     pub verified: Option<VerifiedVersion>,
 }
 
@@ -119,7 +119,7 @@ pub fn entries_used(
     Ok(entries)
 }
 
-/// What both sides tell of, each once, in the order of the matrix.
+/// What both sides have, each once, in the order of the matrix.
 pub fn both_sides(consumed: Vec<Entry>, provided: Vec<Entry>) -> Result<Vec<Entry>, AllocError>
     ensures { IfOk result
         (λ entries. Lists entry_cmp (Contains (consumed.items ++ provided.items)) entries.items) }

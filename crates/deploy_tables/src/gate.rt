@@ -20,7 +20,8 @@ use sqlite::{Alter, Connection};
 use std::alloc::Global;
 use table_access::StoreFault;
 
-/// What the latest result for a content and a version of its provider says: found among these where it is the version of this number, whose latest results they are.
+/// What the latest result for a content and a version of its provider says: found among these if it is the version of
+/// this number, whose latest results they are.
 fn latest_with<S: Alter>(
     conn: &mut Connection<S>,
     number: u32,
@@ -39,7 +40,8 @@ fn latest_with<S: Alter>(
     }
 }
 
-/// What the latest result for a pair says; `None` where there is none, or no version of the provider. These are the latest results of the version of this number.
+/// What the latest result for a pair says; `None` if there is none, or no version of the provider. These are the latest
+/// results of the version of this number.
 fn latest_for<S: Alter>(
     conn: &mut Connection<S>,
     number: u32,
@@ -129,7 +131,7 @@ fn with_latest<S: Alter>(
     Ok(needs)
 }
 
-/// The contracts that these versions, which stand in the environment, have with the pacticipant, its own aside.
+/// The contracts that these versions, which are in the environment, have with the pacticipant, except its own.
 fn contracts_with<S: Alter>(
     alloc: Global,
     conn: &mut Connection<S>,
@@ -166,10 +168,14 @@ fn find_pairs<S: Alter>(
     pairs_of(alloc, version, number, &own, &there, &consumers)
 }
 
-/// What the version of this number needs in the environment, with what the latest result says of each: its contracts with each version of their providers that stands there, or with none, and the contracts that versions of other pacticipants which stand there have with its pacticipant. Each need stands once, in the order of consumers, their versions, providers and their versions, an absent provider first.
+/// What the version of this number needs in the environment, with what the latest result says of each: its contracts
+/// with each version of their providers that is there, or with none, and the contracts that versions of other
+/// pacticipants which are there have with its pacticipant. Each need is there once, in the order of consumers, their
+/// versions, providers and their versions, an absent provider first.
 ///
 /// # Errors
-/// `StoreFault::Memory` where the database is out of memory, or there is none for the answer; `StoreFault::Store` where it refused a query, or where a row doesn't read.
+/// `StoreFault::Memory` if the database is out of memory, or there is none for the answer; `StoreFault::Store` if it
+/// refused a query, or if a row doesn't read.
 pub fn needs<S: Alter>(
     alloc: Global,
     conn: &mut Connection<S>,

@@ -1,11 +1,14 @@
-//! The tables of what stands where: the versions that are deployed in an environment, and those that are released there.
+//! The tables of what is deployed and released: the versions that are deployed in an environment, and those that are
+//! released there.
 //!
-//! Each call is made inside a transaction. It answers a fact of the broker's state that the database holds, or changes that state in one place; where it fails, nothing of it is committed, and the transaction is to be given up.
-//! `StoreFault::Memory` comes where the database has no memory or an allocation failed, and `StoreFault::Store` where it refused a statement for another cause, or where a row breaks the tables' rules.
+//! Each call is made inside a transaction. It answers a fact of the broker's state that the database holds, or changes
+//! that state in one place; if it fails, nothing of it is committed, and the transaction is to be given up.
+//! `StoreFault::Memory` comes if the database has no memory or an allocation failed, and `StoreFault::Store` if it
+//! refused a statement for another cause, or if a row breaks the tables' rules.
 #![tactic(auto)]
 
-/// Gives what a call on the tables answers. Its failure is the failure of the function in which this stands, and
-/// nothing more is done there. A proof knows behind it what it knows in the arms of the match that stands here.
+/// Gives what a call on the tables answers. Its failure is the failure of the function in which this is, and nothing
+/// more is done there. After it a proof knows what it knows in the arms of the match.
 macro_rules! done {
     ($call:expr) => {
         match $call {

@@ -1,4 +1,4 @@
-//! What stands in an environment, listed.
+//! What is in an environment, listed.
 ghost use Rattle.std.specs.Prelude.{◌≡◌, IsTrue, Some};
 ghost use Rattle.broker_core.specs.Listing.{Lists};
 ghost use Rattle.broker_core.specs.Machine.{deployed_cmp, version_cmp};
@@ -55,7 +55,8 @@ impl ReadRow for ReleasedRow {
 /// What is deployed in the environment, each once, in the order of pacticipants and instances.
 ///
 /// # Errors
-/// `StoreFault::Memory` where the database is out of memory, or there is none for the answer; `StoreFault::Store` where it refused the query, or where a row holds a text that is no name.
+/// `StoreFault::Memory` if the database is out of memory, or there is none for the answer; `StoreFault::Store` if it
+/// refused the query, or if a row holds a text that is no name.
 pub fn deployed<S: Alter>(
     alloc: Global,
     conn: &mut Connection<S>,
@@ -76,7 +77,8 @@ pub fn deployed<S: Alter>(
 /// The versions that are released in the environment, each once, in the order of pacticipants and versions.
 ///
 /// # Errors
-/// `StoreFault::Memory` where the database is out of memory, or there is none for the answer; `StoreFault::Store` where it refused the query, or where a row holds a text that is no name.
+/// `StoreFault::Memory` if the database is out of memory, or there is none for the answer; `StoreFault::Store` if it
+/// refused the query, or if a row holds a text that is no name.
 pub fn released<S: Alter>(
     alloc: Global,
     conn: &mut Connection<S>,

@@ -9,10 +9,11 @@ use broker_tables::make_each;
 use sqlite::{Alter, Connection};
 use table_access::StoreFault;
 
-/// Makes the tables of what stands where, without rows, after those of the registry, contents and contracts. These keep their rows.
+/// Makes the tables of what is deployed and released, without rows, after those of the registry, contents and
+/// contracts. These keep their rows.
 ///
 /// # Errors
-/// `StoreFault::Memory` where the database is out of memory; `StoreFault::Store` where it refused a table.
+/// `StoreFault::Memory` if the database is out of memory; `StoreFault::Store` if it refused a table.
 pub fn make_tables<S: Alter>(conn: &mut Connection<S>) -> Result<(), StoreFault>
     ensures { CallsStore S.Store conn.old conn.new result
         (λ _ old new. old.now.schema ≡ schema_of (registry_part ++ contents ∷ contract_part) →

@@ -1,4 +1,5 @@
-//! The matrix of a version: its contracts, and those that it has results for, with the latest result of each version of the provider.
+//! The matrix of a version: its contracts, and those that it has results for, with the latest result of each version of
+//! the provider.
 ghost use Rattle.std.specs.Prelude.{◌≡◌, ◌++◌, ◌↔◌, IfOk, IfErr, Some, Err, Contains};
 ghost use Rattle.std.specs.List.Sorted.{IsStrictlySortedBy};
 ghost use Rattle.std.specs.Ordering.{nat_cmp};
@@ -158,7 +159,8 @@ fn entries_of<S: Alter>(
 }
 
 /// The version of the provider with what its result says.
-/// `StoreFault::Store` comes if no pass tells of the result, since a row names one that isn't there; `StoreFault::Memory` for no other cause than that there is none for the name.
+/// `StoreFault::Store` comes if no pass says anything of the result, since a row names one that isn't there;
+/// `StoreFault::Memory` for no other cause than that there is none for the name.
 fn told(
     verified: &VerifiedVersion,
     passes: &[ResultPass],
@@ -267,11 +269,13 @@ fn with_results<S: Alter>(
     rows_of(alloc, entries, &passes, &checked)
 }
 
-/// The matrix of the version with this number, in the order of faults: each of its contracts with each version of the provider that has a result for the content, or with none;
-/// and each contract with its pacticipant for whose content it has a result. Each row tells the latest result.
+/// The matrix of the version with this number, in the order of faults: each of its contracts with each version of the
+/// provider that has a result for the content, or with none; and each contract with its pacticipant for whose content
+/// it has a result. Each row has the latest result.
 ///
 /// # Errors
-/// `StoreFault::Memory` where the database is out of memory, or there is none for the answer; `StoreFault::Store` where it refused a query, or where a row doesn't read.
+/// `StoreFault::Memory` if the database is out of memory, or there is none for the answer; `StoreFault::Store` if it
+/// refused a query, or if a row doesn't read.
 pub fn matrix<S: Alter>(
     alloc: Global,
     conn: &mut Connection<S>,

@@ -1,4 +1,4 @@
-//! The contracts of a version and those that are with it, each paired with what stands in an environment.
+//! The contracts of a version and those that are with it, each paired with what is in an environment.
 ghost use Rattle.std.specs.Prelude.{◌≡◌, IfOk, IfErr, Contains, filter_map, flat_map, map};
 ghost use Rattle.broker_core.specs.Listing.{Lists};
 ghost use Rattle.deploy_tables.specs.Needs.{with_partner, without_partner, consumed, provided, pairs_among, pair_cmp};
@@ -31,12 +31,12 @@ pub struct Pair {
     pub consumer: Name,
     pub consumer_version: Name,
     pub provider: Name,
-    /// None where the provider is absent from the environment.
+    /// None if the provider is absent from the environment.
     pub partner: Option<Partner>,
     pub content: u32,
 }
 
-/// The contract with this version, where that is one of its provider.
+/// The contract with this version, if that is one of its provider.
 fn with_partner(
     version: &Version,
     contract: &Contract,
@@ -72,7 +72,7 @@ fn without_partner(version: &Version, contract: &Contract) -> Result<Pair, Alloc
     })
 }
 
-/// The contract with each version of its provider that stands there.
+/// The contract with each version of its provider that is there.
 fn with_partners(
     alloc: Global,
     version: &Version,
@@ -91,7 +91,7 @@ fn with_partners(
     Ok(pairs)
 }
 
-/// The contract with each version of its provider that stands there, or with none.
+/// The contract with each version of its provider that is there, or with none.
 fn consumed_pairs(
     alloc: Global,
     version: &Version,
@@ -163,7 +163,7 @@ fn each_pair_once(pairs: Vec<Pair>) -> Vec<Pair>
 /// The pairs of both sides, each once, in the order of their names.
 ///
 /// # Errors
-/// `StoreFault::Memory` where there is no memory for them.
+/// `StoreFault::Memory` if there is no memory for them.
 pub(crate) fn pairs_of(
     alloc: Global,
     version: &Version,

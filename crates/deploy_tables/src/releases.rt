@@ -11,7 +11,7 @@ use table_access::{StoreFault, change, change_counted, has_row};
 /// Whether the version of that number is released in the environment. `false` if no version has that number.
 ///
 /// # Errors
-/// `StoreFault::Memory` where the database is out of memory; `StoreFault::Store` where it refused the query.
+/// `StoreFault::Memory` if the database is out of memory; `StoreFault::Store` if it refused the query.
 pub fn is_released<S: Alter>(
     conn: &mut Connection<S>,
     environment: &str,
@@ -29,7 +29,7 @@ pub fn is_released<S: Alter>(
 /// Releases the version of that number in the environment, which is there; it isn't released there yet.
 ///
 /// # Errors
-/// `StoreFault::Memory` where the database is out of memory; `StoreFault::Store` where it refused the row.
+/// `StoreFault::Memory` if the database is out of memory; `StoreFault::Store` if it refused the row.
 pub fn record_released<S: Alter>(
     conn: &mut Connection<S>,
     environment: &str,
@@ -44,7 +44,8 @@ pub fn record_released<S: Alter>(
     )
 }
 
-/// Ends the support of the version of that number in the environment, and answers whether it was released there. All other releases stay.
+/// Ends the support of the version of that number in the environment, and answers whether it was released there. All
+/// other releases stay.
 ///
 /// # Errors
 /// `StoreFault::Memory` if the database is out of memory; `StoreFault::Store` if it refused the change.

@@ -1,4 +1,4 @@
-//! The versions that stand in an environment, with their numbers.
+//! The versions that are in an environment, with their numbers.
 ghost use Rattle.std.specs.Prelude.{◌≡◌, Contains, ◌↔◌, ◌++◌, IfOk, IfErr};
 ghost use Rattle.broker_core.specs.Listing.{Lists};
 ghost use Rattle.broker_tables.specs.Holds.{Queries};
@@ -12,7 +12,7 @@ use sqlite::{Alter, Connection, Row, params};
 use std::alloc::Global;
 use table_access::{ReadRow, StoreFault, list_of, number_in};
 
-/// A version that stands in an environment, and its number.
+/// A version that is in an environment, and its number.
 #[derive(Debug, Drop, PartialEq, Eq, PartialOrd, Ord)]
 pub struct StandingVersion {
     pub pacticipant: Name,
@@ -42,7 +42,8 @@ impl ReadRow for StandingRow {
     }
 }
 
-/// The versions that are deployed in the environment, in any instance, with their numbers; one that is in two instances stands twice.
+/// The versions that are deployed in the environment, in any instance, with their numbers; one that is in two instances
+/// is there twice.
 fn deployed_versions<S: Alter>(
     alloc: Global,
     conn: &mut Connection<S>,
@@ -104,10 +105,12 @@ fn of_both(
     }
 }
 
-/// The versions that stand in the environment, with their numbers: those that are deployed there in any instance, and those that are released there. Each stands once, in the order of pacticipants and names.
+/// The versions that are in the environment, with their numbers: those that are deployed there in any instance, and
+/// those that are released there. Each is there once, in the order of pacticipants and names.
 ///
 /// # Errors
-/// `StoreFault::Memory` where the database is out of memory, or there is none for the answer; `StoreFault::Store` where it refused a query, or where a row doesn't read.
+/// `StoreFault::Memory` if the database is out of memory, or there is none for the answer; `StoreFault::Store` if it
+/// refused a query, or if a row doesn't read.
 pub fn standing<S: Alter>(
     alloc: Global,
     conn: &mut Connection<S>,

@@ -138,10 +138,12 @@ fn all_passes(own: Vec<ResultPass>, others: Vec<ResultPass>) -> Result<Vec<Resul
     Ok(in_order(all))
 }
 
-/// Whether each latest result for the contents of these contracts, and each of the version of this number, is a pass: in the order of the results' numbers.
+/// Whether each latest result for the contents of these contracts, and each of the version of this number, is a pass:
+/// in the order of the results' numbers.
 ///
 /// # Errors
-/// `StoreFault::Memory` where the database is out of memory, or there is none for the answer; `StoreFault::Store` where it refused a query, or where a row doesn't read.
+/// `StoreFault::Memory` if the database is out of memory, or there is none for the answer; `StoreFault::Store` if it
+/// refused a query, or if a row doesn't read.
 pub(crate) fn passes_told<S: Alter>(
     alloc: Global,
     conn: &mut Connection<S>,
@@ -156,7 +158,8 @@ pub(crate) fn passes_told<S: Alter>(
     all_passes(own, others)
 }
 
-/// Whether the result with this number is a pass, or `None` if it isn't one of these, which are in the order of their numbers.
+/// Whether the result with this number is a pass, or `None` if it isn't one of these, which are in the order of their
+/// numbers.
 pub(crate) fn pass_among(passes: &[ResultPass], number: u32) -> Option<bool>
     ensures some { IfSome result (λ pass. Contains passes.now (record { number = number; pass = pass })) }
     ensures none { ArePassesByNumber passes.now → IfNone result (IsUntold passes.now number) }
@@ -251,10 +254,12 @@ fn all_numbers(one: Vec<u32>, other: Vec<u32>) -> Result<Vec<u32>, StoreFault>
     Ok(each_number_once(all))
 }
 
-/// The latest results for the contents of these contracts, and those of the version of this number, that the broker checked: by their numbers, each once, rising.
+/// The latest results for the contents of these contracts, and those of the version of this number, that the broker
+/// checked: by their numbers, each once, rising.
 ///
 /// # Errors
-/// `StoreFault::Memory` where the database is out of memory, or there is none for the answer; `StoreFault::Store` where it refused a query, or where a row doesn't read.
+/// `StoreFault::Memory` if the database is out of memory, or there is none for the answer; `StoreFault::Store` if it
+/// refused a query, or if a row doesn't read.
 pub(crate) fn checked_told<S: Alter>(
     alloc: Global,
     conn: &mut Connection<S>,

@@ -91,7 +91,7 @@ fn show_gate<S: Alter>(
     Ok(done!(gate_answer(environment, place.marks, permitted, faults)))
 }
 
-/// Shows what the gate says of a version, or tells why not.
+/// Shows what the gate says of a version, or says why not.
 pub fn can_i_deploy<S: Alter>(
     alloc: Global,
     conn: &mut Connection<S>,

@@ -17,7 +17,7 @@ use sqlite::{Alter, Connection};
 use std::alloc::Global;
 use table_access::StoreFault;
 
-/// Deploys the version of this number as this instance, where it isn't deployed there yet.
+/// Deploys the version of this number as this instance, if it isn't deployed there yet.
 fn record_deployment<S: Alter>(
     conn: &mut Connection<S>,
     environment: &Name,
@@ -47,7 +47,7 @@ fn record_deployment<S: Alter>(
     Ok(Answer::Done(Detail::Plain))
 }
 
-/// Asks the gate, and deploys the version where it is permitted.
+/// Asks the gate, and deploys the version if it is permitted.
 fn deploy_judged<S: Alter>(
     alloc: Global,
     conn: &mut Connection<S>,
@@ -74,7 +74,7 @@ fn deploy_judged<S: Alter>(
     }
 }
 
-/// Deploys a version, or tells why not.
+/// Deploys a version, or says why not.
 pub fn deploy<S: Alter>(
     alloc: Global,
     conn: &mut Connection<S>,

@@ -31,7 +31,7 @@ fn remove_release<S: Alter>(
     }
 }
 
-/// Ends the support of a version, or tells why not.
+/// Ends the support of a version, or says why not.
 pub fn end_support<S: Alter>(
     alloc: Global,
     conn: &mut Connection<S>,

@@ -13,8 +13,8 @@ use sqlite::{Alter, Connection};
 use std::alloc::Global;
 use table_access::StoreFault;
 
-/// Whether an environment with these marks permits a version with these faults: none, or they don't
-/// count where the environment isn't gated.
+/// Whether an environment with these marks permits a version with these faults: none, or they don't count if the
+/// environment isn't gated.
 fn permits(marks: Marks, faults: &[PairFault]) -> bool
     ensures { result ≡ not marks.gated || length faults.now == 0 }
 {

@@ -45,7 +45,7 @@ fn show_matrix<S: Alter>(
     Ok(Answer::Shown(Shown::Matrix(MatrixRows::new(rows))))
 }
 
-/// Shows the matrix of a version, or tells why not.
+/// Shows the matrix of a version, or says why not.
 pub fn get_matrix<S: Alter>(
     alloc: Global,
     conn: &mut Connection<S>,

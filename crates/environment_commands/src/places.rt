@@ -17,8 +17,8 @@ use sqlite::{Alter, Connection};
 use std::alloc::Global;
 use table_access::StoreFault;
 
-/// What the tables say of a version: whether its pacticipant is there, whether the rule lets the
-/// caller, and its number, if it has one.
+/// What the tables say of a version: whether its pacticipant is there, whether the rule allows the caller, and its
+/// number, if it has one.
 #[derive(Clone, Copy)]
 pub(crate) struct VersionFacts {
     pub(crate) owner: OwnerFacts,
@@ -33,8 +33,7 @@ pub(crate) struct PlaceFacts {
     pub(crate) marks: Option<Marks>,
 }
 
-/// A version and an environment that are there, where the caller may: the version's number, and the
-/// environment's marks.
+/// A version and an environment that are there, if the caller may: the version's number, and the environment's marks.
 #[derive(Clone, Copy)]
 pub(crate) struct Admitted {
     pub(crate) number: u32,
@@ -66,8 +65,7 @@ pub(crate) fn number_among(facts: VersionFacts) -> Result<u32, Missing>
     }
 }
 
-/// The version and the environment where the version may be put or taken away, or the answer that
-/// refuses it.
+/// The version and the environment if the version may be put or taken away, or the answer that refuses it.
 fn admitted_to_change(place: PlaceFacts) -> Result<Admitted, Answer>
     ensures { Admits place result }
 {
@@ -84,7 +82,7 @@ fn admitted_to_change(place: PlaceFacts) -> Result<Admitted, Answer>
     }
 }
 
-/// The version's number, whether its pacticipant is there, and whether the rule lets the caller.
+/// The version's number, whether its pacticipant is there, and whether the rule allows the caller.
 pub(crate) fn read_version<S: Alter>(
     alloc: Global,
     conn: &mut Connection<S>,
@@ -133,8 +131,8 @@ fn read_place<S: Alter>(
     Ok(PlaceFacts { version, marks })
 }
 
-/// The version and the environment where the caller may change what stands, or the answer that
-/// refuses each command that would: what is missing first, or the policy's rule.
+/// The version and the environment if the caller may change what is there, or the answer that refuses each command that
+/// would: what is missing first, or the policy's rule.
 pub(crate) fn read_admitted<S: Alter>(
     alloc: Global,
     conn: &mut Connection<S>,

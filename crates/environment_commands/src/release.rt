@@ -17,7 +17,7 @@ use sqlite::{Alter, Connection};
 use std::alloc::Global;
 use table_access::StoreFault;
 
-/// Releases the version of this number, where it isn't released there yet.
+/// Releases the version of this number, if it isn't released there yet.
 fn record_release<S: Alter>(
     conn: &mut Connection<S>,
     environment: &Name,
@@ -34,7 +34,7 @@ fn record_release<S: Alter>(
     Ok(Answer::Done(Detail::Plain))
 }
 
-/// Asks the gate, and releases the version where it is permitted.
+/// Asks the gate, and releases the version if it is permitted.
 fn release_judged<S: Alter>(
     alloc: Global,
     conn: &mut Connection<S>,
@@ -54,7 +54,7 @@ fn release_judged<S: Alter>(
     }
 }
 
-/// Releases a version, or tells why not.
+/// Releases a version, or says why not.
 pub fn release<S: Alter>(
     alloc: Global,
     conn: &mut Connection<S>,

@@ -39,7 +39,7 @@ fn remove_deployment<S: Alter>(
     }
 }
 
-/// Takes a version out of an instance, or tells why not.
+/// Takes a version out of an instance, or says why not.
 pub fn undeploy<S: Alter>(
     alloc: Global,
     conn: &mut Connection<S>,

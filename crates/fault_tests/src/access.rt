@@ -119,7 +119,7 @@ fn reads_and_writes(rt: HostRuntime) -> Result<(), Fail> {
     Ok(())
 }
 
-/// What the database refuses is told as Store, and the transaction goes on; so is a row that doesn't read.
+/// What the database refuses is reported as Store, and the transaction goes on; so is a row that doesn't read.
 #[test]
 fn tells_store(rt: HostRuntime) -> Result<(), Fail> {
     let alloc = rt.alloc();

@@ -1,4 +1,4 @@
-//! The normal texts of pacts, where two have one digest.
+//! The normal texts of pacts, if two have one digest.
 ghost use Rattle.std.proofs.Math.ListN.{replicate};
 
 use crate::tables::{is_text, made};
@@ -26,7 +26,8 @@ fn longest_text(alloc: Global) -> Result<String, AllocError> {
     Ok(text)
 }
 
-/// Texts of one digest are told apart, each is stored once, and a text is found by its number: also the longest one, and one with quotes and a character of two bytes.
+/// Texts of one digest are kept apart, each is stored once, and a text is found by its number: also the longest one,
+/// and one with quotes and a character of two bytes.
 #[test]
 fn tells_texts_of_one_digest_apart(rt: HostRuntime) -> Result<(), Fail> {
     let mut conn = made(rt.alloc())?;

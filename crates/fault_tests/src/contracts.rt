@@ -6,7 +6,8 @@ use registry_tables::add_version;
 use std::test::Fail;
 use table_access::StoreFault;
 
-/// A contract is found by its version and its provider, and each result is the latest of its content and version until the next one. Two providers may each have a run of one name, and a content that isn't there gets no result.
+/// A contract is found by its version and its provider, and each result is the latest of its content and version until
+/// the next one. Two providers may each have a run of one name, and a content that isn't there gets no result.
 #[test]
 fn keeps_contracts_and_results(rt: HostRuntime) -> Result<(), Fail> {
     let mut conn = filled(rt.alloc())?;

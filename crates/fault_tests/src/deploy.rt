@@ -1,4 +1,4 @@
-//! What many versions that stand need.
+//! What many versions need that are there.
 use crate::tables::{fail_of, filled};
 use broker_core::command::Version;
 use broker_core::name::Name;
@@ -23,7 +23,7 @@ fn deploy_consumer(
     record_deployed(conn, "live", name.as_str(), "", number).map_err(fail_of)
 }
 
-/// Two hundred pacticipants stand, each of them a consumer.
+/// Two hundred pacticipants are there, each of them a consumer.
 #[test]
 fn two_hundred_stand(rt: HostRuntime) -> Result<(), Fail> {
     let alloc = rt.alloc();

@@ -54,7 +54,7 @@ impl Write for Full {
     }
 }
 
-/// What the first run is answered where its reader fails after so many bytes, by this error.
+/// What the first run is answered if its reader fails after so many bytes, by this error.
 fn cut_reading(
     alloc: Global,
     broker: &mut Broker<MemStore>,
@@ -72,7 +72,7 @@ fn cut_reading(
     Ok((served, out))
 }
 
-/// What the first run is answered where its writer takes so many bytes.
+/// What the first run is answered if its writer takes so many bytes.
 fn cut_writing(
     alloc: Global,
     broker: &mut Broker<MemStore>,
@@ -99,7 +99,7 @@ fn length_of(texts: &[&[u8]], first: usize) -> usize {
     length
 }
 
-/// How many of the texts, one behind the other, are whole within so many bytes.
+/// How many of the texts, one after the other, are whole within so many bytes.
 fn whole_within(texts: &[&[u8]], count: usize) -> usize {
     let mut left = count;
     for (place, text) in texts.iter().enumerate() {
@@ -117,13 +117,13 @@ fn is_front(alloc: Global, out: &[u8], length: usize) -> Result<bool, Fail> {
     Ok(wanted.starts_with(out) && out.len() == length)
 }
 
-/// Whether the first so many requests are done and no further one: those behind them, the listing in any case, get the
+/// Whether the first so many requests are done and no other one: those after them, the listing in any case, get the
 /// answers of the first run.
 fn are_done(alloc: Global, broker: &mut Broker<MemStore>, count: usize) -> Result<bool, Fail> {
     goes_on(alloc, broker, count.min(6))
 }
 
-/// Whether the requests that are whole are done and answered, and nothing else, where the reader fails.
+/// Whether the requests that are whole are done and answered, and nothing else, if the reader fails.
 fn is_cut_reading(alloc: Global, count: usize, error: ErrorKind) -> Result<bool, Fail> {
     let mut broker = new_broker(alloc)?;
     let (served, out) = cut_reading(alloc, &mut broker, count, error)?;
@@ -146,7 +146,7 @@ fn a_reader_fails_at_each_read(rt: HostRuntime) -> Result<(), Fail> {
     Ok(())
 }
 
-/// How serving the first run ends where its writer takes so many bytes.
+/// How serving the first run ends if its writer takes so many bytes.
 fn ended_at(count: usize) -> Result<Served, ServeFault> {
     if count < length_of(ANSWERS.as_slice(), 7) {
         Err(ServeFault::Write)
@@ -158,7 +158,7 @@ fn ended_at(count: usize) -> Result<Served, ServeFault> {
     }
 }
 
-/// Whether the answers are out as far as the writer takes them, and the requests with whole answers are done, and where
+/// Whether the answers are out as far as the writer takes them, and the requests with whole answers are done, and if
 /// the writer fails the next one.
 fn is_cut_writing(alloc: Global, count: usize, fails: bool) -> Result<bool, Fail> {
     let mut broker = new_broker(alloc)?;
@@ -195,7 +195,7 @@ impl Read for Noting<'_> {
     }
 }
 
-/// How many bytes are asked for behind these, which are no whole message.
+/// How many bytes are asked for after these, which are no whole message.
 fn asked_behind(alloc: Global, bytes: &[u8]) -> Result<usize, Fail> {
     let mut broker = new_broker(alloc)?;
     let mut reader = Noting { bytes, asked: 0 };

@@ -35,7 +35,7 @@ pub(crate) const ANSWERS: [&[u8]; 7] = [
     LISTING,
 ];
 
-/// The texts behind the first so many, in one.
+/// The texts after the first so many, in one.
 pub(crate) fn joined(alloc: Global, texts: &[&[u8]], first: usize) -> Result<Vec<u8>, AllocError> {
     let mut bytes = Vec::new(alloc);
     for text in texts.iter().skip(first) {
@@ -44,7 +44,7 @@ pub(crate) fn joined(alloc: Global, texts: &[&[u8]], first: usize) -> Result<Vec
     Ok(bytes)
 }
 
-/// The requests behind the first so many get the answers of the first run.
+/// The requests after the first so many get the answers of the first run.
 pub(crate) fn goes_on<S: Alter>(
     alloc: Global,
     broker: &mut Broker<S>,

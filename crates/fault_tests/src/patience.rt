@@ -105,7 +105,7 @@ struct Case<'a> {
     at: u64,
 }
 
-/// What came of it, as a case tells it: the bytes that are out, the fault, and the time.
+/// What came of it, as a case writes it: the bytes that are out, the fault, and the time.
 fn played(alloc: Global, case: &Case<'_>) -> Result<(usize, Option<ServeFault>, u64), Fail> {
     let now = Cell::new(0);
     let peer = Timed {

@@ -16,7 +16,8 @@ fn has_index<S: Alter>(conn: &mut Connection<S>, name: &str) -> Result<bool, Sto
     )
 }
 
-/// A new database has no format; one with the tables has the indexes too, and tells its format and the office. Where the office's row is missing, that is told as Store.
+/// A new database has no format; one with the tables has the indexes too, its format and the office. If the office's
+/// row is missing, that is reported as Store.
 #[test]
 fn makes_tables(rt: HostRuntime) -> Result<(), Fail> {
     let mut blank = Connection::open_in_memory(rt.alloc())?;
@@ -40,7 +41,8 @@ fn makes_tables(rt: HostRuntime) -> Result<(), Fail> {
     Ok(())
 }
 
-/// Versions are numbered from 1, a branch has the numbers of its versions, the greatest first, and an environment is strict or not.
+/// Versions are numbered from 1, a branch has the numbers of its versions, the greatest first, and an environment is
+/// strict or not.
 #[test]
 fn numbers_versions(rt: HostRuntime) -> Result<(), Fail> {
     let mut conn = filled(rt.alloc())?;

@@ -1,4 +1,4 @@
-//! A broker behind a socket.
+//! A broker over a socket.
 use crate::brokers::{new_broker, serve_stream};
 use crate::first_run::{ANSWERS, REQUESTS, joined};
 use broker_http::{Ended, Served};

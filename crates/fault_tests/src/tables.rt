@@ -12,7 +12,7 @@ pub fn fail_of(fault: StoreFault) -> Fail {
     }
 }
 
-/// Whether just this was found.
+/// Whether exactly this was found.
 pub fn is_text(found: Result<Option<String>, StoreFault>, wanted: Option<&str>) -> bool {
     match found {
         Ok(found) => found.as_deref() == wanted,

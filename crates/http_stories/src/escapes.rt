@@ -20,7 +20,7 @@ fn digit(byte: u8) -> Option<u8> {
     u8::try_from(value).ok()
 }
 
-/// The byte that an escape of one letter stands for.
+/// The byte that an escape of one letter means.
 fn of_letter(letter: u8) -> Option<u8> {
     match letter {
         b'r' => Some(b'\r'),
@@ -32,7 +32,7 @@ fn of_letter(letter: u8) -> Option<u8> {
     }
 }
 
-/// How far the escape is read behind this byte, and the byte that ends with it, if one does; `None` where the escape is
+/// How far the escape is read after this byte, and the byte that ends with it, if one does; `None` if the escape is
 /// another.
 fn step(escape: Escape, byte: u8) -> Option<(Escape, Option<u8>)> {
     match (escape, byte) {
@@ -45,7 +45,7 @@ fn step(escape: Escape, byte: u8) -> Option<(Escape, Option<u8>)> {
     }
 }
 
-/// The bytes of a text with the escapes `\r`, `\n`, `\t`, `\0`, `\\` and `\xHH`; `None` where an escape is another.
+/// The bytes of a text with the escapes `\r`, `\n`, `\t`, `\0`, `\\` and `\xHH`; `None` if an escape is another.
 pub(crate) fn unescaped(alloc: Global, text: &str) -> Result<Option<Vec<u8>>, AllocError> {
     let mut bytes = Vec::new(alloc);
     let mut escape = Escape::Absent;

@@ -40,7 +40,7 @@ fn files_of<D: Disk + Drop>(connection: Connection<FileStore<D>>) -> Files<D> {
     }
 }
 
-/// A connection over the files, or the files again where there is none.
+/// A connection over the files, or the files again if there is none.
 fn connect<D: Disk + Drop>(
     alloc: Global,
     files: Files<D>,
@@ -80,7 +80,7 @@ pub(crate) fn migrated<D: Disk + Drop>(alloc: Global, files: Files<D>) -> (bool,
     }
 }
 
-/// A broker over the files, or the files again where there is none.
+/// A broker over the files, or the files again if there is none.
 fn open<D: Disk + Drop>(alloc: Global, files: Files<D>) -> Result<Broker<FileStore<D>>, Files<D>> {
     match Broker::open(connect(alloc, files)?) {
         Ok(broker) => Ok(broker),
@@ -101,8 +101,8 @@ fn answers<S: Alter>(
     out
 }
 
-/// What the broker over the files answers a stream, and the files that this leaves. Nothing is answered where none
-/// could be opened.
+/// What the broker over the files answers a stream, and the files that this leaves. Nothing is answered if none could
+/// be opened.
 pub(crate) fn session<D: Disk + Drop>(
     alloc: Global,
     routes: &RouteTable,
@@ -118,7 +118,7 @@ pub(crate) fn session<D: Disk + Drop>(
     }
 }
 
-/// Executes the statements in turn.
+/// Executes the statements one after another.
 fn execute_all<S: Alter>(
     connection: &mut Connection<S>,
     statements: &[String],
@@ -177,7 +177,7 @@ pub(crate) fn stopping(alloc: Global, files: &Files<Memory>, stop: Stop) -> File
     }
 }
 
-/// Whether the file passes a further call on, so that it refused none.
+/// Whether the file passes one more call on, so that it refused none.
 fn passes(file: &mut Fuse<Memory>) -> bool {
     if !file.may_be_used() {
         return false;

@@ -15,7 +15,7 @@ pub(crate) enum Lapse {
     /// Done again, the step leaves something else than done once.
     #[error("done again it leaves something else")]
     Again,
-    /// Where no call was refused the step isn't acknowledged, or it was at each stop too.
+    /// If no call was refused the step isn't acknowledged, or it was at each stop too.
     #[error("nothing was stopped")]
     Nothing,
     /// The calls don't end.
@@ -47,7 +47,7 @@ pub(crate) enum Flaw {
     /// The sessions didn't survive a stop.
     #[error("sessions, stopped {0}: {1}")]
     Sessions(Stop, Lapse),
-    /// Behind all steps the questions are answered otherwise.
+    /// After all steps the questions are answered otherwise.
     #[error("the questions are answered otherwise at the end: got {0}")]
     Last(String),
 }

@@ -1,5 +1,5 @@
-//! Plays each story of the folder that it is run in over new brokers, and tells whether the answers are as written.
-//! Then stops what each file of stops tells at every call on the store, and tells whether nothing is taken.
+//! Plays each story of the folder that it is run in over new brokers, and says whether the answers are as written. Then
+//! stops what each file of stops says at every call on the store, and says whether nothing is taken.
 //!
 //! A story is a file `NAME.story`. A line that begins with two spaces goes on where the line before it ended; the
 //! others are:
@@ -15,22 +15,22 @@
 //! - `>+ COUNT TEXT`: such bytes so many times.
 //! - `>/ CALLER METHOD PATH BODY`: the request once with each beginning of its body, from nothing to all but the last
 //!   byte. `</ STATUS FIELD | FIELD BODY`: the answer to each of them.
-//! - `= end`, `= rest` or `= closed`: how the stream ends: behind a whole message, in an unfinished one, or closed by
-//!   an answer. What follows is another stream to the same broker. Where the last stream has no such line, it is `end`.
+//! - `= end`, `= rest` or `= closed`: how the stream ends: after a whole message, in an unfinished one, or closed by an
+//!   answer. What follows is another stream to the same broker. If the last stream has no such line, it is `end`.
 //! - `! STATEMENT`: the stream ends, if it hasn't yet; the broker is closed, the statement, with the escapes of `>>`,
-//!   is executed on its tables, and the broker is opened again on them. The statement may be left out. Where more than
-//!   one stand together, the broker is opened behind the last.
+//!   is executed on its tables, and the broker is opened again on them. The statement may be left out. If there are
+//!   several one after another, the broker is opened after the last.
 //!
-//! Each story is played with its own streams read whole, byte by byte, and cut in two: at every place where the story
-//! is short, and else every few bytes, as the line that is printed for it says.
+//! Each story is played with its own streams read whole, byte by byte, and cut in two: at every place if the story is
+//! short, and else every few bytes, as the line that is printed for it says.
 //!
-//! A file of stops is a file `NAME.stops`. Its steps are done in turn over files in memory. Each is done again and
-//! again on copies of what was before it: the log, and then the database, passes no call on, or one, two and so on, up
-//! to where no call is refused. The files are opened again with what was synced, and the questions are asked: their
-//! answers are those of before the step or those of after it, and after it where the step was acknowledged. The lines
-//! are as in a story, but for:
+//! A file of stops is a file `NAME.stops`. Its steps are done one after another over files in memory. Each is done
+//! again and again on copies of what was before it: the log, and then the database, passes no call on, or one, two and
+//! so on, until no call is refused. The files are opened again with what was synced, and the questions are asked: their
+//! answers are those of before the step or those of after it, and after it if the step was acknowledged. The lines are
+//! as in a story, but for:
 //!
-//! - `& NAME`: what the story NAME tells comes first, unstopped, on a new broker.
+//! - `& NAME`: what the story NAME says comes first, unstopped, on a new broker.
 //! - `> CALLER METHOD PATH BODY`, and under it `< STATUS FIELD | FIELD BODY`: a step, a request and its answer.
 //! - `>* CALLER METHOD PATH BODY`: such a step, which is also done again on what each stop left. Then the questions are
 //!   answered as after it.
@@ -39,11 +39,11 @@
 //! - `* create`: a step, also done again, that makes the broker. It is the first.
 //! - `* migrate`: a step, also done again, that migrates the tables.
 //! - `! STATEMENT`: the statements make the tables, in place of a broker.
-//! - `? CALLER METHOD PATH BODY`: a question, asked over copies, so that what it changes is forgotten. Where answers
-//!   are written under the questions they are those behind all steps.
+//! - `? CALLER METHOD PATH BODY`: a question, asked over copies, so that what it changes is forgotten. If answers are
+//!   written under the questions they are those after all steps.
 //! - `= sessions`: two steps each are a session with a broker, stopped after so many calls since it was opened. The
-//!   sessions are stopped in a row, and the questions are asked behind them. Their answers are those where of each
-//!   session some first requests were done, among them what it acknowledged.
+//!   sessions are stopped in a row, and the questions are asked after them. Their answers are those after some first
+//!   requests of each session were done, among them what it acknowledged.
 #![tactic(auto)]
 
 mod escapes;
@@ -134,7 +134,7 @@ fn read_stops(rt: &HostRuntime, name: &str) -> Result<Stops, Fault> {
     Ok(stops)
 }
 
-/// Reads the file of stops of this name, and stops what it tells.
+/// Reads the file of stops of this name, and stops what it says.
 fn kept(rt: &HostRuntime, name: &str) -> Result<Kept, Fault> {
     let stops = read_stops(rt, name)?;
     stop_all(rt.alloc(), &stops)
@@ -151,7 +151,7 @@ fn play_stories(rt: &HostRuntime) -> io::Result<()> {
     Ok(())
 }
 
-/// Stops what all files of stops tell, and prints what came of each.
+/// Stops what all files of stops say, and prints what came of each.
 fn stop_steps(rt: &HostRuntime) -> io::Result<()> {
     for name in names(rt, STOPS)? {
         match kept(rt, name.as_str()) {

@@ -24,7 +24,7 @@ fn with_body(
     Ok(bytes)
 }
 
-/// The bytes of a request by this token, if there is one: a method, a path, and behind a space all the rest, which is
+/// The bytes of a request by this token, if there is one: a method, a path, and after a space all the rest, which is
 /// its body.
 pub(crate) fn request(
     alloc: Global,
@@ -73,7 +73,7 @@ fn phrase(status: &str) -> Option<&'static str> {
     }
 }
 
-/// A text before its body, and the body, which begins with the first brace behind a space.
+/// A text before its body, and the body, which begins with the first brace after a space.
 fn split_body(text: &str) -> (&str, &str) {
     match text.find(" {") {
         Some(place) => match text.split_at_checked(place) {
@@ -84,7 +84,7 @@ fn split_body(text: &str) -> (&str, &str) {
     }
 }
 
-/// The bytes of an answer: a status, fields between bars, and a body. `None` where the status is none of an answer.
+/// The bytes of an answer: a status, fields between bars, and a body. `None` if the status is none of an answer.
 pub(crate) fn answer(alloc: Global, text: &str) -> Result<Option<Vec<u8>>, AllocError> {
     let (head, body) = split_body(text);
     let (status, fields) = split_word(head);

@@ -9,7 +9,7 @@ use std::alloc::{AllocError, Global};
 use std::fmt;
 use std::io::Read;
 
-/// About how many answers are asked for at most, where a story is played again and again with its streams cut in two.
+/// About how many answers are asked for at most, if a story is played again and again with its streams cut in two.
 const MOST_ANSWERS: usize = 4000;
 
 /// About how many bytes are sent at most then.
@@ -20,7 +20,7 @@ const MOST_BYTES: usize = 5_000_000;
 pub(crate) enum Reading {
     Whole,
     ByteByByte,
-    /// In two parts, the first of so many bytes where there are as many.
+    /// In two parts, the first of so many bytes if there are as many.
     Cut(usize),
 }
 
@@ -55,13 +55,13 @@ impl fmt::Display for Difference {
 /// What came of a story.
 #[derive(Drop)]
 pub(crate) enum Outcome {
-    /// So many answers are as written, however the streams are read, and where they are cut in two at places so many
+    /// So many answers are as written, however the streams are read, also if they are cut in two at places so many
     /// bytes apart.
     AsWritten {
         answers: usize,
         step: usize,
     },
-    /// The stream of this number, from 1, differs where the streams are read so.
+    /// The stream of this number, from 1, differs if the streams are read so.
     Differs {
         reading: Reading,
         stream: u64,
@@ -252,7 +252,7 @@ fn answer_count(streams: &[Stream]) -> usize {
     count
 }
 
-/// The outcome of a story that is read so, where something differs.
+/// The outcome of a story that is read so, if something differs.
 fn differs(
     alloc: Global,
     routes: &RouteTable,

@@ -17,7 +17,7 @@ const STOPPED: &[u8] =
 /// How many requests a session has.
 const SESSION: usize = 2;
 
-/// What came of the sessions: what each answered, what the questions are answered behind them, and the files then.
+/// What came of the sessions: what each answered, what the questions are answered after them, and the files then.
 #[derive(Drop)]
 struct Run {
     answered: Vec<Vec<u8>>,
@@ -129,7 +129,7 @@ impl Setting<'_> {
         Ok(runs)
     }
 
-    /// What comes of the sessions where each is stopped there, and whether no call was refused.
+    /// What comes of the sessions if each is stopped there, and whether no call was refused.
     fn stopped_run(
         &self,
         base: &Files<Memory>,
@@ -157,7 +157,7 @@ impl Setting<'_> {
         Ok((run, is_whole))
     }
 
-    /// Stops the sessions at every call of a file, up to where no call is refused. The result is the stop at which they
+    /// Stops the sessions at every call of a file, until no call is refused. The result is the stop at which they
     /// lapse.
     fn stop_sessions(
         &self,

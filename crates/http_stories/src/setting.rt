@@ -22,7 +22,7 @@ pub(crate) struct Setting<'a> {
     pub(crate) questions: &'a [u8],
 }
 
-/// What is answered where something is done or not.
+/// What is answered if something is done or not.
 fn told(alloc: Global, is_done: bool) -> Result<Vec<u8>, AllocError> {
     let mut out = Vec::new(alloc);
     if is_done {
@@ -51,14 +51,14 @@ impl Setting<'_> {
         }
     }
 
-    /// What the questions are answered over copies of the files; nothing where there is no broker.
+    /// What the questions are answered over copies of the files; nothing if there is no broker.
     pub(crate) fn asked(&self, files: &Files<Memory>) -> Vec<u8> {
         let files = copies(self.alloc, files);
         let (out, _) = session(self.alloc, self.routes, files, self.questions);
         out
     }
 
-    /// Serves a stream, which must be answered as written, and gives the files behind it.
+    /// Serves a stream, which must be answered as written, and gives the files after it.
     fn serve_first(&self, files: Files<Memory>, stream: &Stream) -> Result<Files<Memory>, Fault> {
         let (out, left) = session(self.alloc, self.routes, files, stream.sent.as_slice());
         match first_other(stream.answers.as_slice(), out.as_slice()) {
@@ -67,7 +67,7 @@ impl Setting<'_> {
         }
     }
 
-    /// The files of a new broker behind these streams.
+    /// The files of a new broker after these streams.
     fn served(&self, streams: &[Stream]) -> Result<Files<Memory>, Fault> {
         let (is_made, files) = make(self.alloc, empty_files(self.alloc), self.office);
         if !is_made {
@@ -91,7 +91,7 @@ impl Setting<'_> {
         self.served(stops.first.streams.as_slice())
     }
 
-    /// The files behind all that is stopped.
+    /// The files after all that is stopped.
     fn try_all(&self, stops: &Stops) -> Result<Files<Memory>, Fault> {
         let base = self.base(stops)?;
         if stops.in_sessions {
@@ -120,7 +120,7 @@ impl fmt::Display for Kept {
     }
 }
 
-/// Stops all that the file tells at every call.
+/// Stops all that the file says at every call.
 pub(crate) fn stop_all(alloc: Global, stops: &Stops) -> Result<Kept, Fault> {
     let office = stops.first.office(alloc)?;
     let routes = RouteTable::new(alloc)?;

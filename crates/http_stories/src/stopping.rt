@@ -12,7 +12,7 @@ use std::alloc::AllocError;
 /// More calls than any step makes.
 pub(crate) const MOST_CALLS: u64 = 10_000;
 
-/// The answer where the store failed.
+/// The answer if the store failed.
 pub(crate) const STORE: &[u8] =
     b"HTTP/1.1 500 Internal Server Error\r\ncontent-type: application/json\r\ncontent-length: 18\r\n\r\n{\"answer\":\"store\"}";
 
@@ -31,7 +31,7 @@ struct Left {
     files: Files<Memory>,
     /// What the questions are answered.
     kept: Vec<u8>,
-    /// Whether the step, where it may be repeated, leaves what it must when it is done again.
+    /// Whether the step, if it may be repeated, leaves what it must when it is done again.
     is_repeated: bool,
 }
 
@@ -57,7 +57,7 @@ fn lapse_of(trial: &Trial<'_>, out: &[u8], left: &Left) -> Option<Lapse> {
     }
 }
 
-/// What the first stop tells at which no call was refused: nothing was tried, unless an earlier one cut something and
+/// What the first stop says at which no call was refused: nothing was tried, unless an earlier one cut something and
 /// this one doesn't.
 pub(crate) fn end_of(stop: Stop, was_cut: bool, is_cut: bool) -> Option<(Stop, Lapse)> {
     if was_cut && !is_cut {
@@ -67,7 +67,7 @@ pub(crate) fn end_of(stop: Stop, was_cut: bool, is_cut: bool) -> Option<(Stop, L
     }
 }
 
-/// What is told where each stop refused a call.
+/// What is reported if each stop refused a call.
 pub(crate) fn endless(side: Side) -> Option<(Stop, Lapse)> {
     let calls = MOST_CALLS;
     Some((Stop { side, calls }, Lapse::Endless))
@@ -83,7 +83,7 @@ impl Setting<'_> {
         Ok(self.asked(&again).as_slice() == trial.after)
     }
 
-    /// What is found over the files that a stop left; the same as over the last ones, where their bytes are the same.
+    /// What is found over the files that a stop left; the same as over the last ones, if their bytes are the same.
     fn find(
         &self,
         trial: &Trial<'_>,
@@ -116,7 +116,7 @@ impl Setting<'_> {
         Ok((out, is_whole, files))
     }
 
-    /// Stops a step at every call of a file, up to where no call is refused. The result is the stop at which it lapses.
+    /// Stops a step at every call of a file, until no call is refused. The result is the stop at which it lapses.
     fn stop_side(
         &self,
         trial: &Trial<'_>,
@@ -187,7 +187,7 @@ impl Setting<'_> {
         Ok(left)
     }
 
-    /// Does the steps in turn, each unstopped and stopped, and gives the files behind them.
+    /// Does the steps one after another, each unstopped and stopped, and gives the files after them.
     pub(crate) fn try_steps(
         &self,
         steps: &[Step],

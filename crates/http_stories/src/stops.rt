@@ -45,12 +45,12 @@ pub(crate) const DONE: &[u8] = b"done";
 pub(crate) struct Stops {
     /// What comes first, unstopped, and the callers.
     pub(crate) first: Story,
-    /// The statements that make the tables, where no broker does.
+    /// The statements that make the tables, if no broker does.
     pub(crate) statements: Vec<String>,
     pub(crate) steps: Vec<Step>,
     /// The bytes of the requests that are asked.
     pub(crate) questions: Vec<u8>,
-    /// The answers to them behind all steps, if these are written.
+    /// The answers to them after all steps, if these are written.
     pub(crate) last: Vec<u8>,
     /// Whether the steps are sessions of two requests.
     pub(crate) in_sessions: bool,
@@ -138,7 +138,7 @@ impl Stops {
         Ok(true)
     }
 
-    /// Takes a line by its mark, and tells whether it has the form of that mark.
+    /// Takes a line by its mark, and says whether it has the form of that mark.
     fn take_marked(&mut self, alloc: Global, mark: &str, text: &str) -> Result<bool, AllocError> {
         match mark {
             "*" => self.add_making(alloc, text),

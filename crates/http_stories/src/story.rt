@@ -25,7 +25,7 @@ pub(crate) struct Stream {
     pub(crate) answers: Vec<Vec<u8>>,
     /// How serving it must end.
     pub(crate) ended: Ended,
-    /// Whether it is the story's own; otherwise it is told by the story that this one begins with.
+    /// Whether it is the story's own; otherwise it is in the story that this one begins with.
     pub(crate) is_own: bool,
 }
 
@@ -50,9 +50,9 @@ impl Stream {
 #[derive(Drop)]
 pub(crate) struct Story {
     callers: Vec<Caller>,
-    /// The streams that are told to their ends.
+    /// The streams that are written to their ends.
     pub(crate) streams: Vec<Stream>,
-    /// The stream that is told now.
+    /// The stream that is read now.
     current: Stream,
     /// How many requests the last line `>/` sent.
     cut: usize,
@@ -76,7 +76,7 @@ fn ended_by(word: &str) -> Option<Ended> {
     }
 }
 
-/// A text so many times: a number, a space, and the text with its escapes. `None` where it has another form.
+/// A text so many times: a number, a space, and the text with its escapes. `None` if it has another form.
 fn repeated(alloc: Global, text: &str) -> Result<Option<Vec<u8>>, AllocError> {
     let (count, text) = split_word(text);
     let Ok(count) = count.parse::<u32>() else {
@@ -124,8 +124,8 @@ impl Story {
         None
     }
 
-    /// The token of the caller whom a text names first, if it isn't `-`, and the rest of the text. `None` where there
-    /// is no such caller.
+    /// The token of the caller whom a text names first, if it isn't `-`, and the rest of the text. `None` if there is
+    /// no such caller.
     fn split_caller<'a>(&'a self, text: &'a str) -> Option<(Option<&'a str>, &'a str)> {
         let (name, rest) = split_word(text);
         if name == "-" {
@@ -137,7 +137,7 @@ impl Story {
         }
     }
 
-    /// The bytes of a request: a caller, or `-` for none, and the request. `None` where there is no such caller.
+    /// The bytes of a request: a caller, or `-` for none, and the request. `None` if there is no such caller.
     pub(crate) fn request(&self, alloc: Global, text: &str) -> Result<Option<Vec<u8>>, AllocError> {
         match self.split_caller(text) {
             Some((token, rest)) => Ok(Some(request(alloc, token, rest)?)),
@@ -228,7 +228,7 @@ impl Story {
         Ok(true)
     }
 
-    /// Takes a line by its mark, and tells whether it has the form of that mark.
+    /// Takes a line by its mark, and says whether it has the form of that mark.
     fn take_marked(&mut self, alloc: Global, mark: &str, text: &str) -> Result<bool, Fault> {
         match mark {
             "@" => {
@@ -255,7 +255,7 @@ impl Story {
     }
 
     /// Says whose the lines from here on are: the story's own, or those of a story that it begins with. A stream that
-    /// isn't told to its end goes on as the story's own.
+    /// isn't written to its end goes on as the story's own.
     pub(crate) fn set_own(&mut self, is_own: bool) {
         self.current.is_own = is_own;
     }
@@ -270,7 +270,7 @@ impl Story {
         }
     }
 
-    /// Ends the last stream, where no line did.
+    /// Ends the last stream, if no line did.
     pub(crate) fn finish(&mut self, alloc: Global) -> Result<(), Fault> {
         let is_blank = self.current.is_idle() && self.current.statements.is_empty();
         if !is_blank || self.streams.is_empty() {

@@ -10,14 +10,14 @@ use pact_rules::RuleFault;
 use reply_check::{CheckFault, Replies, check};
 use std::alloc::{AllocError, Global};
 
-/// What the comparison of a stored pact with recorded replies tells.
+/// What the comparison of a stored pact with recorded replies says.
 #[derive(Debug, Drop)]
 pub enum Comparison {
     /// The places of the interactions that fail, from 0 and ascending, in the order of the normal pact.
     Failing(Places),
     /// A reply belongs to no interaction of the pact.
     UnknownReply,
-    /// A pattern was refused, where the pact was read again or where a reply was compared with it.
+    /// A pattern was refused, as the pact was read again or as a reply was compared with it.
     Pattern,
     /// The text is no pact.
     NoPact,
@@ -34,7 +34,7 @@ fn places_of(alloc: Global, failing: &[usize]) -> Result<Places, AllocError>
     Ok(Places::new(places))
 }
 
-/// What a check of replies against a pact tells of the text that was read as this pact.
+/// What a check of replies against a pact says of the text that was read as this pact.
 fn compare_pact(alloc: Global, pact: &Pact, replies: &Replies) -> Result<Comparison, AllocError>
     ensures { IfOk result (λ told. (text : List ℕ) → Normal text (Ok pact.now) → Tells text replies.now told) }
 {
@@ -46,7 +46,7 @@ fn compare_pact(alloc: Global, pact: &Pact, replies: &Replies) -> Result<Compari
     }
 }
 
-/// Whether the fault tells that a pattern was refused.
+/// Whether the fault says that a pattern was refused.
 fn is_refusal(fault: &PactFault) -> bool
     ensures refusal { IsTrue result → TellsRefusal fault.now }
     ensures other { result ≡ false → ¬ (TellsRefusal fault.now) }
@@ -54,7 +54,7 @@ fn is_refusal(fault: &PactFault) -> bool
     matches!(fault, PactFault::Rules(_, RuleFault::Pattern))
 }
 
-/// What is told of a text that wasn't read.
+/// What is reported of a text that wasn't read.
 #[tactic(auto, using(crate::proofs::Refusals::no_pact, crate::proofs::Refusals::told_pattern))]
 fn unread(fault: &PactFault) -> Result<Comparison, AllocError>
     ensures other { IfOk result (λ _. ¬ (fault.now ≡ PactFault.Memory)) }
@@ -71,7 +71,7 @@ fn unread(fault: &PactFault) -> Result<Comparison, AllocError>
     Ok(Comparison::NoPact)
 }
 
-/// Compares recorded replies with the pact of a normal text: which interactions fail, or why that can't be told. An
+/// Compares recorded replies with the pact of a normal text: which interactions fail, or why that can't be said. An
 /// unknown reply is looked for before the replies are compared. An error means out of memory. (This project's own
 /// choice.)
 pub fn compare(alloc: Global, text: &str, replies: &Replies) -> Result<Comparison, AllocError>

@@ -4,7 +4,7 @@ ghost use Rattle.pact_reading.specs.Laws.{AreReadOnce};
 ghost use Rattle.pact_reading.specs.Primitives.{broker_primitives};
 
 /// What is read of a stored text and of a command: the normal text of a pact reads as that pact, and the file of a
-/// command is read in one way, a pattern's refusal aside, as its replies are.
+/// command is read in one way, unless a pattern is refused, as its replies are.
 pub fn reading_again()
     ensures again { ReadsAgain broker_primitives }
     ensures once { AreReadOnce }

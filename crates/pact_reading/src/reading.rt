@@ -67,7 +67,7 @@ fn pact_fault(alloc: Global, fault: PactFault) -> ReadFault
 /// Reads a pact file (Pact Specification, version 3) to its two names and its normal text. The bytes are any.
 ///
 /// # Errors
-/// `Form` tells the first fault of the file, by its number and, where it helps, its place; a pattern under `regex` in
+/// `Form` gives the first fault of the file, by its number and, if it helps, its place; a pattern under `regex` in
 /// matching rules may be refused too. Memory may run out in its place, and for the text of the fault.
 pub fn read_pact_file(alloc: Global, file: &[u8]) -> Result<ReadPact, ReadFault>
     ensures pact { IfOk result (λ p. Reads file.now (IsPact p.consumer p.provider p.text)) }
@@ -99,7 +99,7 @@ fn replies_fault_of(alloc: Global, fault: RepliesFault) -> ReadFault
 /// Reads recorded replies, the whole body of a command. The bytes are any.
 ///
 /// # Errors
-/// `Form` tells the first fault of the replies, by its number and, where it helps, its place. Memory may run out in its
+/// `Form` gives the first fault of the replies, by its number and, if it helps, its place. Memory may run out in its
 /// place, and for the text of the fault.
 pub fn read_replies_body(alloc: Global, body: &[u8]) -> Result<Replies, ReadFault>
     ensures replies { IfOk result (λ replies. RepliesRead body.now (Ok replies)) }

@@ -86,8 +86,8 @@ fn decide_delete_grant(alloc: Global, caller: &Caller, facts: GrantFacts) -> Opt
 /// Adds a grant, for the office; or answers why not, and nothing changes.
 ///
 /// # Errors
-/// `StoreFault::Memory` if the database is out of memory; `StoreFault::Store` if it refused a statement, or a row breaks
-/// the rules of its table.
+/// `StoreFault::Memory` if the database is out of memory; `StoreFault::Store` if it refused a statement, or a row
+/// breaks the rules of its table.
 pub fn put_grant<S: Alter>(
     alloc: Global,
     conn: &mut Connection<S>,
@@ -111,8 +111,8 @@ pub fn put_grant<S: Alter>(
 /// Takes a grant away, for the office; or answers why not, and nothing changes.
 ///
 /// # Errors
-/// `StoreFault::Memory` if the database is out of memory; `StoreFault::Store` if it refused a statement, or a row breaks
-/// the rules of its table.
+/// `StoreFault::Memory` if the database is out of memory; `StoreFault::Store` if it refused a statement, or a row
+/// breaks the rules of its table.
 pub fn delete_grant<S: Alter>(
     alloc: Global,
     conn: &mut Connection<S>,

@@ -160,7 +160,7 @@ fn add_after<S: Alter>(
     Ok(number)
 }
 
-/// The version's number, which it gets where it has none.
+/// The version's number, which it gets if it has none.
 fn ensure_version<S: Alter>(
     conn: &mut Connection<S>,
     version: &Version,
@@ -193,7 +193,7 @@ fn put_on_branch<S: Alter>(
     }
 }
 
-/// Names the version where it isn't named, and puts it on the branch.
+/// Names the version if it isn't named, and puts it on the branch.
 fn record_version<S: Alter>(
     conn: &mut Connection<S>,
     version: &Version,

@@ -18,7 +18,7 @@ use table_access::{ReadRow, StoreFault, change, has_row, list_of, number_in, num
 /// Whether the version with this number is on the branch; none is that no version has.
 ///
 /// # Errors
-/// `StoreFault::Memory` where the database is out of memory; `StoreFault::Store` where it refused the query.
+/// `StoreFault::Memory` if the database is out of memory; `StoreFault::Store` if it refused the query.
 pub fn on_branch<S: Alter>(
     conn: &mut Connection<S>,
     number: u32,
@@ -39,7 +39,7 @@ pub fn on_branch<S: Alter>(
 /// Puts the version with this number on a branch that it isn't on.
 ///
 /// # Errors
-/// `StoreFault::Memory` where the database is out of memory; `StoreFault::Store` where it refused the row.
+/// `StoreFault::Memory` if the database is out of memory; `StoreFault::Store` if it refused the row.
 pub fn add_branch<S: Alter>(
     conn: &mut Connection<S>,
     number: u32,
@@ -72,7 +72,8 @@ impl ReadRow for NumberRow {
 /// The numbers of the pacticipant's versions that are on the branch, each once, the greatest first.
 ///
 /// # Errors
-/// `StoreFault::Memory` where the database is out of memory, or there is none for the answer; `StoreFault::Store` where it refused the query or holds no number there.
+/// `StoreFault::Memory` if the database is out of memory, or there is none for the answer; `StoreFault::Store` if it
+/// refused the query or holds no number there.
 pub fn branch_numbers<S: Alter>(
     alloc: Global,
     conn: &mut Connection<S>,
@@ -91,10 +92,12 @@ pub fn branch_numbers<S: Alter>(
     )
 }
 
-/// The greatest number, below this one, of a version of the pacticipant that is on the branch, or `None` where there is none.
+/// The greatest number, below this one, of a version of the pacticipant that is on the branch, or `None` if there is
+/// none.
 ///
 /// # Errors
-/// `StoreFault::Memory` where the database is out of memory; `StoreFault::Store` where it refused the query or holds no number there.
+/// `StoreFault::Memory` if the database is out of memory; `StoreFault::Store` if it refused the query or holds no
+/// number there.
 pub fn branch_number_below<S: Alter>(
     conn: &mut Connection<S>,
     pacticipant: &str,

@@ -1,4 +1,4 @@
-//! Environments and their two marks: whether the gate judges what comes in, and whether it trusts checked results alone.
+//! Environments and their two marks: whether the gate judges what comes in, and whether it trusts only checked results.
 ghost use Rattle.std.specs.Prelude.{◌≡◌, ◌==◌, false, Some, option_map};
 ghost use Rattle.broker_core.specs.declared.command.Marks.{Marks as MarksModel};
 ghost use Rattle.broker_tables.specs.Holds.{Changes};
@@ -10,10 +10,11 @@ use broker_tables::truth_of;
 use sqlite::{Alter, Connection, params};
 use table_access::{StoreFault, change, has_row, number_of};
 
-/// Whether the environment is gated, or `None` where there is no such environment.
+/// Whether the environment is gated, or `None` if there is no such environment.
 ///
 /// # Errors
-/// `StoreFault::Memory` where the database is out of memory; `StoreFault::Store` where it refused the query or holds no truth value there.
+/// `StoreFault::Memory` if the database is out of memory; `StoreFault::Store` if it refused the query or holds no truth
+/// value there.
 pub fn gated<S: Alter>(
     conn: &mut Connection<S>,
     environment: &str,
@@ -41,10 +42,11 @@ fn is_strict<S: Alter>(conn: &mut Connection<S>, environment: &str) -> Result<bo
     )
 }
 
-/// The marks of the environment, or `None` where there is no such environment.
+/// The marks of the environment, or `None` if there is no such environment.
 ///
 /// # Errors
-/// `StoreFault::Memory` where the database is out of memory; `StoreFault::Store` where it refused a query or holds no truth value there.
+/// `StoreFault::Memory` if the database is out of memory; `StoreFault::Store` if it refused a query or holds no truth
+/// value there.
 pub fn marks_of<S: Alter>(
     conn: &mut Connection<S>,
     environment: &str,
@@ -61,10 +63,11 @@ pub fn marks_of<S: Alter>(
     }
 }
 
-/// Whether the environment is strict, or `None` where there is no such environment.
+/// Whether the environment is strict, or `None` if there is no such environment.
 ///
 /// # Errors
-/// `StoreFault::Memory` where the database is out of memory; `StoreFault::Store` where it refused a query or holds no truth value there.
+/// `StoreFault::Memory` if the database is out of memory; `StoreFault::Store` if it refused a query or holds no truth
+/// value there.
 pub fn strict_of<S: Alter>(
     conn: &mut Connection<S>,
     environment: &str,
@@ -78,7 +81,7 @@ pub fn strict_of<S: Alter>(
     }
 }
 
-/// The number that stands for a truth value.
+/// The number of a truth value.
 fn number_for(truth: bool) -> u32
     ensures { (result == 1) ≡ truth }
 {
@@ -114,7 +117,7 @@ fn put_strict<S: Alter>(conn: &mut Connection<S>, environment: &str) -> Result<(
 /// Adds an environment of a new name with its two marks.
 ///
 /// # Errors
-/// `StoreFault::Memory` where the database is out of memory; `StoreFault::Store` where it refused a row.
+/// `StoreFault::Memory` if the database is out of memory; `StoreFault::Store` if it refused a row.
 pub fn add_environment<S: Alter>(
     conn: &mut Connection<S>,
     environment: &str,

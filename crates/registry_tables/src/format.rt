@@ -54,7 +54,7 @@ fn is_marked<S: Alter>(conn: &Connection<S>) -> bool
     }
 }
 
-/// The number in the first column of the one row. `None` where there isn't just one.
+/// The number in the first column of the one row. `None` if there isn't exactly one.
 fn one_number(rows: &[Row]) -> Result<Option<u32>, StoreFault>
     ensures ok { IfOk result
         (λ found. MatchOption found (length rows.now ≢ 1)
@@ -67,10 +67,12 @@ fn one_number(rows: &[Row]) -> Result<Option<u32>, StoreFault>
     }
 }
 
-/// The format of the broker's tables, or `None` if the first table isn't `meta` with one row, however it is declared. Nothing changes.
+/// The format of the broker's tables, or `None` if the first table isn't `meta` with one row, however it is declared.
+/// Nothing changes.
 ///
 /// # Errors
-/// `StoreFault::Memory` where the database has no memory; `StoreFault::Store` where it refused the query or holds no number there.
+/// `StoreFault::Memory` if the database has no memory; `StoreFault::Store` if it refused the query or holds no number
+/// there.
 pub fn format_of<S: Alter>(conn: &mut Connection<S>) -> Result<Option<u32>, StoreFault>
     ensures { CallsStore S.Store conn.old conn.new result
         (λ found old new. Finds old.now found

@@ -1,4 +1,5 @@
-//! Whether a database has the tables of format 1: each by its name, with its columns and its keys, wherever it is and however it is declared.
+//! Whether a database has the tables of format 1: each by its name, with its columns and its keys, wherever it is and
+//! however it is declared.
 ghost use Rattle.std.specs.Prelude.{◌≡◌, ◌↔◌, ◌∷◌, [], IsTrue, MatchOption, Some, None};
 ghost use Rattle.std.specs.List.{AllByRecursion};
 ghost use Rattle.sqlite.specs.Held.{state};
@@ -40,7 +41,7 @@ fn has_no_unique(table: &Table) -> bool
     matches!(table.uniques.as_slice(), [])
 }
 
-/// Whether just these places are unique.
+/// Whether exactly these places are unique.
 fn has_unique(table: &Table, places: &[usize]) -> bool
     ensures { IsTrue result ↔ AreKeys (places.now ∷ []) table.now.uniques }
 {
@@ -83,7 +84,7 @@ fn has_number(table: &Table) -> bool
     is_numbered(table) && has_no_unique(table)
 }
 
-/// Whether the first column is the row's number, and just these places are unique.
+/// Whether the first column is the row's number, and exactly these places are unique.
 fn has_number_and(table: &Table, places: &[usize]) -> bool
     ensures { IsTrue result ↔ HasKeys (Some 0) (0 ∷ []) (places.now ∷ []) table.now }
 {
@@ -150,9 +151,7 @@ fn has_pacticipants(schema: &Schema) -> bool
     match table_named(schema, b"pacticipants") {
         Some(table) => match table.columns.as_slice() {
             [name, team] => {
-                is_text(name, b"name")
-                    && is_text(team, b"team")
-                    && has_key(table, &[1])
+                is_text(name, b"name") && is_text(team, b"team") && has_key(table, &[1])
             }
             _ => false,
         },
@@ -199,9 +198,7 @@ fn has_environments(schema: &Schema) -> bool
     match table_named(schema, b"environments") {
         Some(table) => match table.columns.as_slice() {
             [name, gated] => {
-                is_text(name, b"name")
-                    && is_number(gated, b"gated")
-                    && has_key(table, &[1])
+                is_text(name, b"name") && is_number(gated, b"gated") && has_key(table, &[1])
             }
             _ => false,
         },

@@ -1,4 +1,4 @@
-//! Grants: the teams that may change what stands in an environment.
+//! Grants: the teams that may change what is in an environment.
 ghost use Rattle.std.specs.Prelude.{◌≡◌};
 ghost use Rattle.broker_tables.specs.Holds.{Changes};
 ghost use Rattle.broker_tables.specs.Calm.{CalmQueriesInPlace};
@@ -10,7 +10,7 @@ use table_access::{StoreFault, change, has_row};
 /// Whether the team has a grant for the environment.
 ///
 /// # Errors
-/// `StoreFault::Memory` where the database is out of memory; `StoreFault::Store` where it refused the query.
+/// `StoreFault::Memory` if the database is out of memory; `StoreFault::Store` if it refused the query.
 pub fn granted<S: Alter>(
     conn: &mut Connection<S>,
     team: &str,
@@ -29,7 +29,7 @@ pub fn granted<S: Alter>(
 /// Grants a team the change of an environment, both of which are there; it has no such grant yet.
 ///
 /// # Errors
-/// `StoreFault::Memory` where the database is out of memory; `StoreFault::Store` where it refused the row.
+/// `StoreFault::Memory` if the database is out of memory; `StoreFault::Store` if it refused the row.
 pub fn add_grant<S: Alter>(
     conn: &mut Connection<S>,
     team: &str,
@@ -44,10 +44,10 @@ pub fn add_grant<S: Alter>(
     )
 }
 
-/// Takes back a grant that stands. All other grants stay.
+/// Takes back a grant that is there. All other grants stay.
 ///
 /// # Errors
-/// `StoreFault::Memory` where the database is out of memory; `StoreFault::Store` where it refused the statement.
+/// `StoreFault::Memory` if the database is out of memory; `StoreFault::Store` if it refused the statement.
 pub fn remove_grant<S: Alter>(
     conn: &mut Connection<S>,
     team: &str,

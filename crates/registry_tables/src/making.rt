@@ -14,10 +14,12 @@ use broker_tables::make_each;
 use sqlite::{Alter, Connection, params};
 use table_access::{StoreFault, change};
 
-/// Makes the tables of the registry in a database without tables: meta with its one row, which tells the format and the digest of the office's token, and those of teams, pacticipants, versions, branches, environments and grants, without rows.
+/// Makes the tables of the registry in a database without tables: meta with its one row, which has the format and the
+/// digest of the office's token, and those of teams, pacticipants, versions, branches, environments and grants, without
+/// rows.
 ///
 /// # Errors
-/// `StoreFault::Memory` where the database is out of memory; `StoreFault::Store` where it refused a table or the row.
+/// `StoreFault::Memory` if the database is out of memory; `StoreFault::Store` if it refused a table or the row.
 pub fn make_tables<S: Alter>(
     conn: &mut Connection<S>,
     format: u32,
@@ -54,7 +56,7 @@ fn make_registry<S: Alter>(conn: &mut Connection<S>) -> Result<(), StoreFault>
 /// Makes the table of strict environments, without rows, after all others, which keep their rows.
 ///
 /// # Errors
-/// `StoreFault::Memory` where the database is out of memory; `StoreFault::Store` where it refused the table.
+/// `StoreFault::Memory` if the database is out of memory; `StoreFault::Store` if it refused the table.
 pub fn make_strict_environments<S: Alter>(conn: &mut Connection<S>) -> Result<(), StoreFault>
     ensures { CallsStore S.Store conn.old conn.new result
         (λ _ old new. old.now.schema
@@ -64,10 +66,11 @@ pub fn make_strict_environments<S: Alter>(conn: &mut Connection<S>) -> Result<()
     make_each(conn, &[STRICT_ENVIRONMENTS])
 }
 
-/// Makes the index of versions by their pacticipant and number, once all tables and the other indexes are made. All tables keep their rows.
+/// Makes the index of versions by their pacticipant and number, once all tables and the other indexes are made. All
+/// tables keep their rows.
 ///
 /// # Errors
-/// `StoreFault::Memory` where the database is out of memory; `StoreFault::Store` where it refused the index.
+/// `StoreFault::Memory` if the database is out of memory; `StoreFault::Store` if it refused the index.
 pub fn make_index<S: Alter>(conn: &mut Connection<S>) -> Result<(), StoreFault>
     ensures { CallsStore S.Store conn.old conn.new result
         (λ _ old new. old.now.schema

@@ -13,7 +13,8 @@ use crate::making::make_strict_environments;
 use sqlite::{Alter, Connection};
 use table_access::{StoreFault, change};
 
-/// The format of a database that is to be migrated, as [`format_of`] finds it; but `None` too if that is 1 and a table of format 1 isn't there, or has other columns or other keys. Nothing changes.
+/// The format of a database that is to be migrated, as [`format_of`] finds it; but `None` too if that is 1 and a table
+/// of format 1 isn't there, or has other columns or other keys. Nothing changes.
 ///
 /// # Errors
 /// As `format_of`.
@@ -23,15 +24,20 @@ pub fn format_to_migrate<S: Alter>(conn: &mut Connection<S>) -> Result<Option<u3
         × (new.now ≡ old.now)) }
 {
     match done!(format_of(conn)) {
-        Some(1) => Ok(if has_former_tables(conn) { Some(1) } else { None }),
+        Some(1) => Ok(if has_former_tables(conn) {
+            Some(1)
+        } else {
+            None
+        }),
         found => Ok(found),
     }
 }
 
-/// Makes the table of strict environments in a database of format 1 that has that of checked results, without rows: no environment that is there is strict. Then sets the format to 2. All other tables keep their rows.
+/// Makes the table of strict environments in a database of format 1 that has that of checked results, without rows: no
+/// environment that is there is strict. Then sets the format to 2. All other tables keep their rows.
 ///
 /// # Errors
-/// `StoreFault::Memory` where the database is out of memory; `StoreFault::Store` where it refused the table or the format.
+/// `StoreFault::Memory` if the database is out of memory; `StoreFault::Store` if it refused the table or the format.
 pub fn to_format_2<S: Alter>(conn: &mut Connection<S>) -> Result<(), StoreFault>
     ensures { CallsStore S.Store conn.old conn.new result
         (λ _ old new. (s : Broker) →

@@ -13,8 +13,8 @@ use table_access::{StoreFault, text_of};
 /// The digest of the office's token.
 ///
 /// # Errors
-/// `StoreFault::Memory` where the database is out of memory, or there is no room for the digest;
-/// `StoreFault::Store` where it refused the query or has no such row.
+/// `StoreFault::Memory` if the database is out of memory, or there is no room for the digest; `StoreFault::Store` if it
+/// refused the query or has no such row.
 pub fn office_digest<S: Alter>(conn: &mut Connection<S>) -> Result<String, StoreFault>
     ensures reads { CalmQueries S.Store conn.old conn.new result (λ digest s. string_bytes digest ≡ s.office) }
     ensures memory { IsBroker (state S.Store conn.old).now →

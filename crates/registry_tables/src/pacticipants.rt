@@ -7,10 +7,11 @@ ghost use Rattle.registry_tables.specs.Registry.{AddsPacticipant};
 use sqlite::{Alter, Connection, params};
 use table_access::{StoreFault, change, text_of};
 
-/// The team that owns a pacticipant, or `None` where there is no such pacticipant.
+/// The team that owns a pacticipant, or `None` if there is no such pacticipant.
 ///
 /// # Errors
-/// `StoreFault::Memory` where the database is out of memory, or there is none for the answer; `StoreFault::Store` where it refused the query.
+/// `StoreFault::Memory` if the database is out of memory, or there is none for the answer; `StoreFault::Store` if it
+/// refused the query.
 pub fn owner_of<S: Alter>(
     conn: &mut Connection<S>,
     pacticipant: &str,
@@ -28,7 +29,7 @@ pub fn owner_of<S: Alter>(
 /// Adds a pacticipant of a new name, owned by a team that is there.
 ///
 /// # Errors
-/// `StoreFault::Memory` where the database is out of memory; `StoreFault::Store` where it refused the row.
+/// `StoreFault::Memory` if the database is out of memory; `StoreFault::Store` if it refused the row.
 pub fn add_pacticipant<S: Alter>(
     conn: &mut Connection<S>,
     pacticipant: &str,

@@ -9,10 +9,11 @@ use table_access::{StoreFault, change, has_row, text_of};
 
 const DIGEST_OF_TEAM: &str = "SELECT token_digest FROM teams WHERE name = ?1";
 
-/// The digest of a team's token, or `None` where there is no such team.
+/// The digest of a team's token, or `None` if there is no such team.
 ///
 /// # Errors
-/// `StoreFault::Memory` where the database is out of memory, or there is none for the answer; `StoreFault::Store` where it refused the query.
+/// `StoreFault::Memory` if the database is out of memory, or there is none for the answer; `StoreFault::Store` if it
+/// refused the query.
 pub fn digest_of<S: Alter>(
     conn: &mut Connection<S>,
     team: &str,
@@ -26,17 +27,18 @@ pub fn digest_of<S: Alter>(
 /// Whether there is such a team.
 ///
 /// # Errors
-/// `StoreFault::Memory` where the database is out of memory; `StoreFault::Store` where it refused the query.
+/// `StoreFault::Memory` if the database is out of memory; `StoreFault::Store` if it refused the query.
 pub fn has_team<S: Alter>(conn: &mut Connection<S>, team: &str) -> Result<bool, StoreFault>
     ensures { CalmQueriesInPlace S.Store conn.old conn.new result (λ has s. has ≡ is_some (s.teams team.now)) }
 {
     has_row(conn, DIGEST_OF_TEAM, params![team])
 }
 
-/// The team whose token has this digest, or `None` where no team's has.
+/// The team whose token has this digest, or `None` if no team's has.
 ///
 /// # Errors
-/// `StoreFault::Memory` where the database is out of memory, or there is none for the answer; `StoreFault::Store` where it refused the query.
+/// `StoreFault::Memory` if the database is out of memory, or there is none for the answer; `StoreFault::Store` if it
+/// refused the query.
 pub fn team_of_digest<S: Alter>(
     conn: &mut Connection<S>,
     digest: &str,
@@ -56,7 +58,7 @@ pub fn team_of_digest<S: Alter>(
 /// Adds a team of a new name, whose token's digest no other team has.
 ///
 /// # Errors
-/// `StoreFault::Memory` where the database is out of memory; `StoreFault::Store` where it refused the row.
+/// `StoreFault::Memory` if the database is out of memory; `StoreFault::Store` if it refused the row.
 pub fn add_team<S: Alter>(
     conn: &mut Connection<S>,
     team: &str,

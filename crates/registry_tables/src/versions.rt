@@ -11,10 +11,11 @@ use broker_tables::next_number;
 use sqlite::{Alter, Connection, params};
 use table_access::{StoreFault, change, number_of};
 
-/// The number of a version, by its pacticipant and its name, or `None` where there is no such version.
+/// The number of a version, by its pacticipant and its name, or `None` if there is no such version.
 ///
 /// # Errors
-/// `StoreFault::Memory` where the database is out of memory; `StoreFault::Store` where it refused the query or holds no number there.
+/// `StoreFault::Memory` if the database is out of memory; `StoreFault::Store` if it refused the query or holds no
+/// number there.
 pub fn version_of<S: Alter>(
     conn: &mut Connection<S>,
     pacticipant: &str,
@@ -34,7 +35,8 @@ pub fn version_of<S: Alter>(
 /// How many versions there are: the number of the newest, or 0.
 ///
 /// # Errors
-/// `StoreFault::Memory` where the database is out of memory; `StoreFault::Store` where it refused the query or holds no number there.
+/// `StoreFault::Memory` if the database is out of memory; `StoreFault::Store` if it refused the query or holds no
+/// number there.
 pub fn version_count<S: Alter>(conn: &mut Connection<S>) -> Result<u64, StoreFault>
     ensures { CalmQueriesInPlace S.Store conn.old conn.new result (λ count s. count ≡ length s.versions) }
 {
@@ -63,10 +65,11 @@ fn put_version<S: Alter>(
     )
 }
 
-/// Adds a version of a pacticipant that is there, under a new name, with the next number, which is one more than there are versions.
+/// Adds a version of a pacticipant that is there, under a new name, with the next number, which is one more than there
+/// are versions.
 ///
 /// # Errors
-/// `StoreFault::Memory` where the database is out of memory; `StoreFault::Store` where it refused the row.
+/// `StoreFault::Memory` if the database is out of memory; `StoreFault::Store` if it refused the row.
 pub fn add_version_as<S: Alter>(
     conn: &mut Connection<S>,
     number: u32,
@@ -83,7 +86,7 @@ pub fn add_version_as<S: Alter>(
 /// Adds a version of a pacticipant that is there, under a new name, and answers its number, which is the next one.
 ///
 /// # Errors
-/// `StoreFault::Memory` where the database is out of memory; `StoreFault::Store` where it refused the query or the row.
+/// `StoreFault::Memory` if the database is out of memory; `StoreFault::Store` if it refused the query or the row.
 pub fn add_version<S: Alter>(
     conn: &mut Connection<S>,
     pacticipant: &str,

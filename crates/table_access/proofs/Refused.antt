@@ -78,25 +78,25 @@ module _ (name : List ℕ) (tree : ℕ) (columns : List Column) (key : Option �
     rows_refused : (e : Error) → Inserts task (Values terms width) old.now.trees (Err (Some e)) → IsUnfit e
     rows_refused e h = elim (stopped (Some e) h) [
       | inl source ↦ elim source [
-          | inl kind ↦ absurd (let clash = subst (λ ps. accepts_terms terms ps ≡ false) (append-nil params) kind.1 in let e2 : true ≡ false = sym typed ∙ clash in cc)
-          | inr limited ↦ absurd (let some = rw unlimited at limited.1 in cc)
-        ]
+        | inl kind ↦ absurd (let clash = subst (λ ps. accepts_terms terms ps ≡ false) (append-nil params) kind.1 in let e2 : true ≡ false = sym typed ∙ clash in cc)
+        | inr limited ↦ absurd (let some = rw unlimited at limited.1 in cc)
+      ]
       | inr given ↦ elim (stopped (Some e) given.2) [
-          | inl counter ↦ absurd (let h = counter in cc)
-          | inr counted ↦ elim (stopped (Some e) counted.2) [
-              | inl edited ↦ inl (edit_refused old.now.schema (mode_of old).keys old.now.trees _ e (subst (λ rows. Edited old.now.schema (mode_of old).keys old.now.trees (edit_of old.now.trees here [] Chosen 0 rows) (Err (Some e))) (given.1.1 ∙ ap (λ ps. value_rows ps width (length terms / width) terms) (append-nil params)) edited))
-              | inr done ↦ elim (stopped (Some e) done.2) [ inl counts ↦ absurd (let h = counts in cc) | inr last ↦ absurd (let h = last.2 in cc) ]
-            ]
+        | inl counter ↦ absurd (let h = counter in cc)
+        | inr counted ↦ elim (stopped (Some e) counted.2) [
+          | inl edited ↦ inl (edit_refused old.now.schema (mode_of old).keys old.now.trees _ e (subst (λ rows. Edited old.now.schema (mode_of old).keys old.now.trees (edit_of old.now.trees here [] Chosen 0 rows) (Err (Some e))) (given.1.1 ∙ ap (λ ps. value_rows ps width (length terms / width) terms) (append-nil params)) edited))
+          | inr done ↦ elim (stopped (Some e) done.2) [ inl counts ↦ absurd (let h = counts in cc) | inr last ↦ absurd (let h = last.2 in cc) ]
         ]
+      ]
     ]
 
     row_refused : (e : Error) → OnRows task (mode_of old) None (Insert at (Values terms width)) old.now.trees (Err (Some e)) → IsUnfit e
     row_refused e h = elim (stopped (Some e) h) [
       | inl written ↦ rows_refused e written
       | inr written ↦ elim (stopped (Some e) written.2) [
-          | inl tested ↦ inr (written.0, written.1, tested.0)
-          | inr passed ↦ elim (stopped (Some e) passed.2) [ inl shown ↦ absurd (let h = shown in cc) | inr last ↦ absurd (let h = last.2 in cc) ]
-        ]
+        | inl tested ↦ inr (written.0, written.1, tested.0)
+        | inr passed ↦ elim (stopped (Some e) passed.2) [ inl shown ↦ absurd (let h = shown in cc) | inr last ↦ absurd (let h = last.2 in cc) ]
+      ]
     ]
 
     -- an INSERT of one row fails as the store fails, or since the row is unfit
@@ -110,13 +110,13 @@ module _ (name : List ℕ) (tree : ℕ) (columns : List Column) (key : Option �
         elim (cases_Bool (shows_rows false h.0)) [
           | inl shows ↦ absurd (let e2 : false ≡ true = subst₂ (λ k r. (is_query k || (not false && (is_pragma k || is_some r))) ≡ true) known bare.0 shows in cc)
           | inr runs ↦ elim (rw runs at h.2) [
-              | inl same ↦ elim same.0 [
-                  | inl misplaced ↦ absurd (subst (λ k. IsMisplaced old k e → ⊥) (sym known) (placed e) misplaced)
-                  | inr does ↦ inr (row_refused e (subst (λ o. AtPlace (λ table. OnRows (record task { table = table }) (mode_of old) None (Insert at (Values terms width)) old.now.trees) o (Err (Some e))) found
-                      (subst₂ (λ k r. Does old.step_limit (mode_of old) params old.now (text_of sql h.0) r k (Err (Some e))) known bare.0 (subst (λ ps. Does old.step_limit (mode_of old) ps old.now (text_of sql h.0) h.0.returning h.0.command (Err (Some e))) (ap (λ formats. timed params formats h.1.now) bare.1 ∙ append-nil params) does.1))))
-                ]
-              | inr fails ↦ inl (fails.0, fails.1, caused old new _ fails.0 fails.2, fails.3, fails.4)
+            | inl same ↦ elim same.0 [
+              | inl misplaced ↦ absurd (subst (λ k. IsMisplaced old k e → ⊥) (sym known) (placed e) misplaced)
+              | inr does ↦ inr (row_refused e (subst (λ o. AtPlace (λ table. OnRows (record task { table = table }) (mode_of old) None (Insert at (Values terms width)) old.now.trees) o (Err (Some e))) found
+                  (subst₂ (λ k r. Does old.step_limit (mode_of old) params old.now (text_of sql h.0) r k (Err (Some e))) known bare.0 (subst (λ ps. Does old.step_limit (mode_of old) ps old.now (text_of sql h.0) h.0.returning h.0.command (Err (Some e))) (ap (λ formats. timed params formats h.1.now) bare.1 ∙ append-nil params) does.1))))
             ]
+            | inr fails ↦ inl (fails.0, fails.1, caused old new _ fails.0 fails.2, fails.3, fails.4)
+          ]
         ]
       where
         placed : (e : Error) → IsMisplaced old (Insert at (Values terms width)) e → ⊥

@@ -1,8 +1,9 @@
 //! Statements on the tables of a database, and the transaction round them.
 //!
-//! The crate knows SQL and no table: a caller gives the text, and its contract says what the text does under the schema that is there.
-//! Each call on tables leaves the same promise, `CallsTables`: what it answers, that it commits nothing, how it fails, and that a crash leaves what it left before;
-//! one that takes no memory of its own leaves `CallsStore`, by which only the store is ever out of memory.
+//! The crate knows SQL and no table: a caller gives the text, and its contract says what the text does under the schema
+//! that is there. Each call on tables leaves the same promise, `CallsTables`: what it answers, that it commits nothing,
+//! how it fails, and that a crash leaves what it left before; one that takes no memory of its own leaves `CallsStore`,
+//! by which only the store is ever out of memory.
 #![tactic(auto)]
 
 ghost use Rattle.std.specs.Prelude.{◌≡◌, ◌⊎◌, ℕ, Ok, Err, false, [], IsTrue, IfErr, OnOk, OnErr, codes};
@@ -19,8 +20,8 @@ ghost use Rattle.table_access.specs.Writes.{IsWriteText};
 use sqlite::types::ValueRef;
 use sqlite::{Alter, Connection, Error, ErrorCode, Row};
 
-/// Gives what a call on the tables answers. Its failure is the failure of the function in which this stands, and
-/// nothing more is done there. A proof knows behind it what it knows in the arms of the match that stands here.
+/// Gives what a call on the tables answers. Its failure is the failure of the function in which this is, and nothing
+/// more is done there. After it a proof knows what it knows in the arms of the match.
 macro_rules! done {
     ($call:expr) => {
         match $call {
@@ -45,7 +46,7 @@ pub enum StoreFault {
     Store,
 }
 
-/// The fault that stands for an error of the database: `Memory` where it is out of memory, `Store` for each other.
+/// The fault of an error of the database: `Memory` if it is out of memory, `Store` for each other.
 fn fault_of(error: Error) -> StoreFault
     ensures { result ≡ spec.fault_of error }
 {
@@ -76,7 +77,7 @@ fn run_begin<S: Alter>(conn: &mut Connection<S>) -> Result<usize, Error>
     conn.execute("BEGIN", &[])
 }
 
-/// Runs COMMIT. Where it is refused, the transaction is rolled back, or there was none.
+/// Runs COMMIT. If it is refused, the transaction is rolled back, or there was none.
 fn run_commit<S: Alter>(conn: &mut Connection<S>) -> Result<usize, Error>
     ensures done { HasCleanDisk (state S.Store conn.new) →
         OnOk result (IsTrue (state S.Store conn.old).in_transaction
@@ -91,7 +92,7 @@ fn run_commit<S: Alter>(conn: &mut Connection<S>) -> Result<usize, Error>
     conn.execute("COMMIT", &[])
 }
 
-/// Runs ROLLBACK. It is refused only where there is no transaction, or where the store failed, which ended it.
+/// Runs ROLLBACK. It is refused only if there is no transaction, or if the store failed, which ended it.
 fn run_rollback<S: Alter>(conn: &mut Connection<S>) -> Result<usize, Error>
     ensures undone { HasCleanDisk (state S.Store conn.new) →
         OnOk result (IsRolledBack (state S.Store conn.old) (state S.Store conn.new)) }
@@ -104,7 +105,7 @@ fn run_rollback<S: Alter>(conn: &mut Connection<S>) -> Result<usize, Error>
     conn.execute("ROLLBACK", &[])
 }
 
-/// Begins a transaction, where none is open. After an error none is begun, and what is committed is as it was.
+/// Begins a transaction, if none is open. After an error none is begun, and what is committed is as it was.
 pub fn begin<S: Alter>(conn: &mut Connection<S>) -> Result<(), StoreFault>
     ensures begun { HasCleanDisk (state S.Store conn.new) →
         OnOk result (Begins (state S.Store conn.old) (state S.Store conn.new)) }
@@ -122,8 +123,8 @@ pub fn begin<S: Alter>(conn: &mut Connection<S>) -> Result<(), StoreFault>
 
 /// Ends the transaction without committing. What is committed stays as it was, and no transaction is open any more.
 ///
-/// `false` comes only where the database refused ROLLBACK, since the store failed; that ended the transaction too.
-/// Where an earlier failure has ended it already, nothing is left to do, and the answer is `true`.
+/// `false` comes only if the database refused ROLLBACK, since the store failed; that ended the transaction too. If an
+/// earlier failure has ended it already, nothing is left to do, and the answer is `true`.
 pub fn rollback<S: Alter>(conn: &mut Connection<S>) -> bool
     ensures over { HasCleanDisk (state S.Store conn.new) → IsOver (state S.Store conn.new) }
     ensures commit { HasCleanDisk (state S.Store conn.new) →
@@ -135,8 +136,9 @@ pub fn rollback<S: Alter>(conn: &mut Connection<S>) -> bool
     conn.is_autocommit() || run_rollback(conn).is_ok()
 }
 
-/// Commits the transaction, and says whether it did. Where the commit was refused, the transaction is rolled back, and
-/// what was committed before stays while the connection is open; where a fault of the disk shut it, a crash may leave either.
+/// Commits the transaction, and says whether it did. If the commit was refused, the transaction is rolled back, and
+/// what was committed before stays while the connection is open; if a fault of the disk shut it, a crash may leave
+/// either.
 pub fn commit<S: Alter>(conn: &mut Connection<S>) -> bool
     ensures live { IsLive (state S.Store conn.old) }
     ensures done { HasCleanDisk (state S.Store conn.new) → IsTrue result →

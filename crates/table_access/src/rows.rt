@@ -87,7 +87,7 @@ pub fn has_row<S: Alter>(
     Ok(!rows.is_empty())
 }
 
-/// The text in a column, lent. None where there is no such column, or no text in UTF-8 in it.
+/// The text in a column, lent. None if there is no such column, or no text in UTF-8 in it.
 pub fn text_at(row: &Row, at: usize) -> Option<&str>
     ensures some { IfSome result (λ found. IsTextAt at row.now × (column row.now at ≡ SqlText found.now)) }
     ensures none { IfNone result (¬ IsTextAt at row.now) }
@@ -99,7 +99,7 @@ pub fn text_at(row: &Row, at: usize) -> Option<&str>
 }
 
 /// The text in the first column of the first row, if there is a row.
-/// `StoreFault::Store` where there is no text, and `StoreFault::Memory` where there is one and no room for it.
+/// `StoreFault::Store` if there is no text, and `StoreFault::Memory` if there is one and no room for it.
 fn first_text(alloc: Global, rows: &[Row]) -> Result<Option<String>, StoreFault>
     ensures ok { IfOk result (λ found. (option_map string_bytes found ≡ option_map (text 0) (slice_get rows.now 0))
         × BeginsWithText rows.now) }
@@ -117,7 +117,7 @@ fn first_text(alloc: Global, rows: &[Row]) -> Result<Option<String>, StoreFault>
     }
 }
 
-/// The whole number in the first column. `StoreFault::Store` where there is no number from 0 to 2^32 - 1.
+/// The whole number in the first column. `StoreFault::Store` if there is no number from 0 to 2^32 - 1.
 pub fn number_in(row: &Row) -> Result<u32, StoreFault>
     ensures ok { IfOk result (λ n. column row.now 0 ≡ Int (pos n)) }
     ensures cause { IfErr result (TellsNumber row.now) }
@@ -125,7 +125,7 @@ pub fn number_in(row: &Row) -> Result<u32, StoreFault>
     number_at(row, 0)
 }
 
-/// The whole number in a column. `StoreFault::Store` where there is no such column, or no number from 0 to 2^32 - 1 in it.
+/// The whole number in a column. `StoreFault::Store` if there is no such column, or no number from 0 to 2^32 - 1 in it.
 pub fn number_at(row: &Row, place: usize) -> Result<u32, StoreFault>
     ensures ok { IfOk result (λ n. column row.now place ≡ Int (pos n)) }
     ensures cause { IfErr result (TellsNumberAt place row.now) }
@@ -139,8 +139,8 @@ pub fn number_at(row: &Row, place: usize) -> Result<u32, StoreFault>
     }
 }
 
-/// The whole number in the first column of the first row, if there is a row.
-/// `StoreFault::Store` where there is no number from 0 to 2^32 - 1.
+/// The whole number in the first column of the first row, if there is a row. `StoreFault::Store` if there is no number
+/// from 0 to 2^32 - 1.
 fn first_number(rows: &[Row]) -> Result<Option<u32>, StoreFault>
     ensures ok { IfOk result
         (λ found. option_map (λ n. Int (pos n)) found ≡ option_map (λ row. column row 0) (slice_get rows.now 0)) }
@@ -172,8 +172,8 @@ pub fn text_of<S: Alter>(
     first_text(*rows.allocator(), &rows)
 }
 
-/// The whole number in the first column of the first row that a query shows. None where it shows no row;
-/// `StoreFault::Store` where there is no number from 0 to 2^32 - 1.
+/// The whole number in the first column of the first row that a query shows. None if it shows no row;
+/// `StoreFault::Store` if there is no number from 0 to 2^32 - 1.
 pub fn number_of<S: Alter>(
     conn: &mut Connection<S>,
     sql: &str,
