@@ -2,7 +2,7 @@
 use crate::flaw::Flaw;
 use broker_http::ServeFault;
 use broker_service::OpenFault;
-use std::alloc::AllocError;
+use std::alloc::{AllocError, AllocFailed};
 use std::io;
 use thiserror::Error;
 
@@ -20,7 +20,7 @@ pub(crate) enum Fault {
     Broker,
     /// A statement was refused.
     #[error("a statement: {0}")]
-    Statement(#[from] sqlite::Error),
+    Statement(sqlite::Error),
     /// The broker isn't opened again.
     #[error("no broker: {0}")]
     Opening(OpenFault),
@@ -29,11 +29,41 @@ pub(crate) enum Fault {
     Flaw(Flaw),
     /// Serving failed.
     #[error("serving failed: {0}")]
-    Serve(#[from] ServeFault),
+    Serve(ServeFault),
     /// A file couldn't be read.
     #[error("a file: {0}")]
-    File(#[from] io::Error),
+    File(io::Error),
     /// There was no memory.
     #[error("out of memory")]
-    Memory(#[from(alloc)] AllocError),
+    Memory,
+}
+
+impl From<AllocError> for Fault {
+    fn from(_: AllocError) -> Fault {
+        Fault::Memory
+    }
+}
+
+impl<T: Drop> From<AllocFailed<T>> for Fault {
+    fn from(_: AllocFailed<T>) -> Fault {
+        Fault::Memory
+    }
+}
+
+impl From<io::Error> for Fault {
+    fn from(error: io::Error) -> Fault {
+        Fault::File(error)
+    }
+}
+
+impl From<sqlite::Error> for Fault {
+    fn from(error: sqlite::Error) -> Fault {
+        Fault::Statement(error)
+    }
+}
+
+impl From<ServeFault> for Fault {
+    fn from(fault: ServeFault) -> Fault {
+        Fault::Serve(fault)
+    }
 }

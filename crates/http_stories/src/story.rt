@@ -62,7 +62,7 @@ pub(crate) struct Story {
 pub(crate) fn line_fault(alloc: Global, line: &str) -> Fault {
     match String::from_str(alloc, line) {
         Ok(line) => Fault::Line(line),
-        Err(error) => Fault::Memory(error),
+        Err(_) => Fault::Memory,
     }
 }
 
