@@ -234,8 +234,8 @@ with_false true = refl
 with_false false = refl
 
 none_out : (p : Row → Bool) (rows : List Row) → ((r : Row) → Has rows r → p r ≡ false) → filter (λ r. not (p r)) rows ≡ rows
-none_out p [] no = refl
-none_out p (r ∷ rows) no = rw (no r (inl refl)) (ap (λ rs. r ∷ rs) (none_out p rows (λ x has. no x (inr has))))
+none_out p [] fails = refl
+none_out p (r ∷ rows) fails = rw (fails r (inl refl)) (ap (λ rs. r ∷ rs) (none_out p rows (λ x has. fails x (inr has))))
 
 module _ (db : Database) (broker : IsBroker db) (e p i : List ℕ) (n : ℕ) where
   abbrev place : Place
