@@ -14,7 +14,7 @@ use Rattle.broker_core.specs.declared.command.FormFault.{FormFault}
 use Rattle.broker_core.specs.declared.command.FormFault.TheVariants as fault
 use Rattle.broker_core.specs.declared.command.Version.{Version}
 use Rattle.http_messages.specs.Fields.{values_named}
-use Rattle.http_messages.specs.Heads.{Judgement, fields_of, known_method, is_last_head}
+use Rattle.http_messages.specs.Heads.{Judgement, fields_of, served_method, is_last_head}
 use Rattle.http_messages.specs.Message.{Message}
 use Rattle.http_messages.specs.declared.head.Refusal.{Refusal}
 use Rattle.http_messages.proofs.MessagesLemmas.{IsJudged-unique}
@@ -242,7 +242,7 @@ module _ (h : RequestHead) (body : List ℕ) where
 
   resource_one : (resource : Option Resource) (a b : Request) → ByResource h body resource a → ByResource h body resource b → a ≡ b
   resource_one None a b p q = p ∙ sym q
-  resource_one (Some resource) a b p q = asked_one resource (operation_asked resource (known_method h.method)) a b p q
+  resource_one (Some resource) a b p q = asked_one resource (operation_asked resource (served_method h.method)) a b p q
 
 head_one : (m : Message) (is_bodiless : Bool) (size : Result ℕ Refusal) (a b : Request) → ByHead m is_bodiless size a → ByHead m is_bodiless size b → a ≡ b
 head_one m is_bodiless (Err refusal) a b p q = p ∙ sym q
