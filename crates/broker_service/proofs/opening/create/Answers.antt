@@ -1,4 +1,4 @@
-use Rattle.std.proofs.Common.{◌≡◌, sym, subst}
+use Rattle.std.proofs.Common.{◌≡◌, ◌∙◌, sym, ap, subst}
 use Rattle.sqlite.specs.Held.{state}
 use Rattle.broker_core.specs.State.{opening}
 use Rattle.broker_core.specs.Text.{Text}
@@ -20,7 +20,7 @@ returns-clause-survives g c = let here = state g.S.Store c.args.conn.now in once
 pub returns-in-Ok-clause-refuses : goal.returns-in-Ok-clause-refuses
 returns-in-Ok-clause-refuses g c clean blank none =
     let new = state g.S.Store c.make.new.conn in
-    let digest_is : c.as_str-in-Ok.result.now ≡ broker_primitives.digest_of c.args.office.now = cc in
+    let digest_is : c.as_str-in-Ok.result.now ≡ broker_primitives.digest_of c.args.office.now = c.as_str-in-Ok.ensures.value ∙ c.in-Ok.ensures.ok ∙ ap broker_primitives.digest_of c.as_str.ensures in
     subst (λ (f : OpenFault). Refuses IsBlank (λ db. Stores db (opening (broker_primitives.digest_of c.args.office.now))) new f) (sym c.open_fault.ensures)
     (subst (λ (digest : Text). Refuses IsBlank (λ db. Stores db (opening digest)) new (open_fault c.in-Err-make.fault)) digest_is
     (refuses_as IsBlank (λ db. Stores db (opening c.as_str-in-Ok.result.now)) new c.in-Err-make.fault (c.in-Err-make.ensures.ends clean blank)))
