@@ -1,4 +1,5 @@
 mod JournalLemmas
 mod ModeLemmas
 mod OneReading
+mod StreamHeadline
 mod ResponsesLemmas
