@@ -92,6 +92,8 @@ REPLIES = TWO_TEAMS + [
      '"providerVersion":"1","result":3,"success":false}]}'),
 ]
 STREAMS = {"the first run": FIRST_RUN, "a contract goes live": GOES_LIVE, "replies": REPLIES}
+# How often one COMMIT or ROLLBACK asks for memory at most, that of the making and that of a command.
+MOST_AT_AN_END = {"making": 1, "command": 1}
 PHRASES = {200: "OK", 409: "Conflict", 422: "Unprocessable Entity", 500: "Internal Server Error",
            503: "Service Unavailable"}
 
@@ -110,6 +112,8 @@ def answer(status, body):
 MEMORY = answer(503, '{"answer":"memory"}')
 STORE = answer(500, '{"answer":"store"}')
 STOPPED = answer(503, '{"answer":"stopped"}')
+OPEN_5 = b"open 5\n"
+STORE_FAILED = "the store failed, and the broker is stopped"
 
 
 def answers_of(out):
@@ -155,14 +159,16 @@ class Stream:
             return int(file.read())
 
     def outcome(self, number):
-        """What comes of the run where the request for memory of this number is refused; an error where it may not."""
+        """What comes of the run in which the request for memory of this number is refused, and at which command the store
+        failed, if it did; an error if that may not come of it."""
         done = self.run(self.rows, LD_PRELOAD=os.path.join(self.folder, "refuse.so"), REFUSED=str(number))
         answers = answers_of(done.stdout)
         ending = (done.returncode, done.stderr)
-        if ending in [(3, b"memory\n"), (3, b"open 4\n"), (3, b"open 5\n")] and not answers:
-            return f"ended before the first answer, with {done.stderr.decode().strip()}"
+        if ending in [(3, b"memory\n"), (3, b"open 4\n"), (3, OPEN_5)] and not answers:
+            failed = "making" if done.stderr == OPEN_5 else None
+            return f"ended before the first answer, with {done.stderr.decode().strip()}", failed
         if ending == (3, b"serve 3\n") and self.is_begun(answers):
-            return "ended after whole answers, with serve 3"
+            return "ended after whole answers, with serve 3", None
         if ending == (0, b"") and len(answers) == len(self.rows):
             return self.full_outcome(answers)
         raise ValueError(f"ended otherwise: {done}")
@@ -173,9 +179,9 @@ class Stream:
             failed = answers.index(STORE)
             behind = answers[failed + 1:]
             if self.is_begun(answers[:failed]) and behind == [STOPPED] * len(behind):
-                return "the store failed, and the broker is stopped"
+                return STORE_FAILED, failed
         elif self.is_begun(answers):
-            return "answered 503" if MEMORY in answers else "answered as without the refusal"
+            return "answered 503" if MEMORY in answers else "answered as without the refusal", None
         raise ValueError(f"answered otherwise: {answers}")
 
     def is_begun(self, answers):
@@ -184,21 +190,37 @@ class Stream:
         others = [one for one in answers if one != MEMORY]
         return self.wanted(refused)[:len(others)] == others
 
+    def try_failures(self, failures):
+        """Tries how often the store failed at each place: only if a COMMIT or a ROLLBACK was refused."""
+        for place, times in failures.items():
+            most = MOST_AT_AN_END["making" if place == "making" else "command"]
+            if times > most:
+                raise ValueError(f"the store failed {times} times at {self.at(place)}, more often than {most}")
+
+    def is_rolled_back(self, place):
+        """Whether the command at this place changes nothing, so that its transaction ends by ROLLBACK."""
+        return not self.rows[place][4].startswith(DONE[:-1])
+
+    def at(self, place):
+        return "the making" if place == "making" else f"{self.rows[place][1]} (request {place + 1})"
+
 
 ENDINGS = ["ended before the first answer, with memory", "ended before the first answer, with open 4",
-           "ended after whole answers, with serve 3"]
+           "ended after whole answers, with serve 3", STORE_FAILED]
 
 
 def coarse_to_fine(count):
-    """The numbers from 1 to count: the first ones, then those that are far apart, and so on."""
+    """The numbers from 1 to count: the first ones, the last ones, then those that are far apart, and so on."""
     yield from range(1, min(count, 16) + 1)
+    yield from range(count, max(count - 16, 0), -1)
     steps = [4096, 512, 64, 8, 1]
     for step, above in zip(steps, [0, *steps]):
         yield from (number for number in range(step, count + 1, step) if not above or number % above)
 
 
 def bring_out(program, folder):
-    """Refuses requests for memory until each of the ENDINGS has been seen."""
+    """Refuses requests for memory until each of the ENDINGS has been seen; the store has to fail as a ROLLBACK is
+    refused."""
     stream = Stream(program, folder, FIRST_RUN)
     numbers, found = coarse_to_fine(stream.count()), {}
     with concurrent.futures.ThreadPoolExecutor(len(os.sched_getaffinity(0))) as workers:
@@ -206,8 +228,9 @@ def bring_out(program, folder):
             batch = list(itertools.islice(numbers, 16))
             if not batch:
                 raise ValueError(f"not every ending is brought out: {found}")
-            for number, outcome in zip(batch, workers.map(stream.outcome, batch)):
-                found.setdefault(outcome, number)
+            for number, (outcome, place) in zip(batch, workers.map(stream.outcome, batch)):
+                if outcome != STORE_FAILED or stream.is_rolled_back(place):
+                    found.setdefault(outcome, number)
     for outcome in ENDINGS:
         print(f"{outcome}: request {found[outcome]} refused")
 
@@ -227,10 +250,14 @@ def refuse_each(program, folder, step):
         if stream.count() != count:
             raise ValueError("two runs don't ask for memory equally often")
         with concurrent.futures.ThreadPoolExecutor(len(os.sched_getaffinity(0))) as workers:
-            outcomes = collections.Counter(workers.map(stream.outcome, range(1, count + 1, step)))
-        print(f"{name}: {count} requests for memory, {sum(outcomes.values())} of them refused, one in each run")
-        for outcome, times in sorted(outcomes.items()):
+            found = list(workers.map(stream.outcome, range(1, count + 1, step)))
+        print(f"{name}: {count} requests for memory, {len(found)} of them refused, one in each run")
+        for outcome, times in sorted(collections.Counter(outcome for outcome, _ in found).items()):
             print(f"  {times}: {outcome}")
+        failures = collections.Counter(place for _, place in found if place is not None)
+        stream.try_failures(failures)
+        if step == 1 and not any(place != "making" and stream.is_rolled_back(place) for place in failures):
+            raise ValueError("no refused ROLLBACK is reported")
 
 
 main()
