@@ -20,7 +20,7 @@ pub(crate) fn is_column(column: &Column, name: &[u8], kind: Kind) -> bool
 }
 
 /// Whether these are the columns of `meta`.
-fn are_columns(columns: &[Column]) -> bool
+pub(crate) fn are_columns(columns: &[Column]) -> bool
     ensures { IsTrue result ↔ AreLike meta.columns columns.now }
 {
     match columns {

@@ -7,7 +7,7 @@ ghost use Rattle.broker_tables.specs.Schema as tables;
 ghost use Rattle.broker_tables.specs.Schema.{texts, numbers, registry_part, contract_part, deploy_part};
 ghost use Rattle.registry_tables.specs.Format.{IsLike, AreLike, AreKeys, HasKeys, HasTable, HasFormerTables, table_of};
 
-use crate::format::is_column;
+use crate::format::{are_columns, is_column};
 use sqlite::{Alter, Connection};
 use sqlite_schema::schema::{Column, Kind, Schema, Table};
 
@@ -116,15 +116,7 @@ fn has_meta(schema: &Schema) -> bool
     ensures { IsTrue result ↔ HasTable schema.now tables.meta }
 {
     match table_named(schema, b"meta") {
-        Some(table) => match table.columns.as_slice() {
-            [one, format, office_digest] => {
-                is_number(one, b"one")
-                    && is_number(format, b"format")
-                    && is_text(office_digest, b"office_digest")
-                    && has_number(table)
-            }
-            _ => false,
-        },
+        Some(table) => are_columns(table.columns.as_slice()) && has_number(table),
         None => false,
     }
 }
