@@ -26,3 +26,4 @@ pub mod Listings
 pub mod Matrix
 pub mod Exists
 pub mod StepLemmas
+pub mod SoundNames

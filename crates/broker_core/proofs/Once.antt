@@ -21,7 +21,7 @@ use Rattle.broker_core.specs.Change.{Transition, unchanged_with, put_team, put_p
 use Rattle.broker_core.specs.declared.answer.Detail.TheVariants.{Result}
 use Rattle.broker_core.specs.Machine.{Primitives, StepOfCaller, Reading, pact_text, Step, FindsFault, TakesEffect, deployed_cmp, version_cmp, matrix_cmp, verified_version, report_replies, fault_of_reading}
 use Rattle.broker_core.specs.Machine.Reading.{IsPact, IsRefused}
-use Rattle.broker_core.specs.Laws.{TeamsDiffer, TellsRefusal, IsReadOnce, AnswersRefusal, StepOnce}
+use Rattle.broker_core.specs.Laws.{TeamsDiffer, ReadsRefusal, IsReadOnce, AnswersRefusal, StepOnce}
 use Rattle.broker_core.proofs.Lists.{some_is}
 use Rattle.broker_core.proofs.Listing.{Lists-unique}
 use Rattle.broker_core.proofs.Locality.{AgreeHere, same_verdict, same_faults, same_who, calls_same}
@@ -50,7 +50,7 @@ text_of_pact c p x y e = cc
 
 -- two readings as a pact, neither of which is a refusal
 one_text : (is_refusal : FormFault → Bool) (c p x y : Text)
-    → (IsPact c p x ≡ IsPact c p y) ⊎ (TellsRefusal is_refusal (IsPact c p x) ⊎ TellsRefusal is_refusal (IsPact c p y)) → x ≡ y
+    → (IsPact c p x ≡ IsPact c p y) ⊎ (ReadsRefusal is_refusal (IsPact c p x) ⊎ ReadsRefusal is_refusal (IsPact c p y)) → x ≡ y
 one_text is_refusal c p x y (inl same) = text_of_pact c p x y same
 one_text is_refusal c p x y (inr (inl wrong)) = absurd wrong
 one_text is_refusal c p x y (inr (inr wrong)) = absurd wrong
@@ -105,12 +105,12 @@ module _ (parts : Primitives) (is_refusal : FormFault → Bool) (s : State) (one
   form_once (Malformed fault) are f g x y = inl (x ∙ sym y)
   form_once (PutPact path file) are f g x y = by_reading x.0 y.0 x.2 y.2 (are x.0 y.0 x.1 y.1)
     where
-      refused : (h : Option FormFault) (r : Reading) → h ≡ fault_of_reading path.consumer path.provider r → TellsRefusal is_refusal r → Refuses h
+      refused : (h : Option FormFault) (r : Reading) → h ≡ fault_of_reading path.consumer path.provider r → ReadsRefusal is_refusal r → Refuses h
       refused h (IsPact c p text) is wrong = absurd wrong
       refused h (IsRefused fault) is refusal = (fault, is, refusal)
 
       by_reading : (r q : Reading) → f ≡ fault_of_reading path.consumer path.provider r → g ≡ fault_of_reading path.consumer path.provider q
-          → (r ≡ q) ⊎ (TellsRefusal is_refusal r ⊎ TellsRefusal is_refusal q) → (f ≡ g) ⊎ (Refuses f ⊎ Refuses g)
+          → (r ≡ q) ⊎ (ReadsRefusal is_refusal r ⊎ ReadsRefusal is_refusal q) → (f ≡ g) ⊎ (Refuses f ⊎ Refuses g)
       by_reading r q d e (inl same) = inl (d ∙ ap (fault_of_reading path.consumer path.provider) same ∙ sym e)
       by_reading r q d e (inr (inl refusal)) = inr (inl (refused f r d refusal))
       by_reading r q d e (inr (inr refusal)) = inr (inr (refused g q e refusal))

@@ -20,7 +20,7 @@ use Rattle.broker_core.specs.Text.{Text, same_text, same_version, same_pair, sam
 use Rattle.broker_core.specs.State.{State, Verification, claimed_result, checked_result}
 use Rattle.broker_core.specs.Request.{is_known, refusal, consumer_version}
 use Rattle.broker_core.specs.Limit.{has_room}
-use Rattle.broker_core.specs.Change.{Transition, unchanged_with, done, repeated, put_team, put_pacticipant, put_environment, put_grant, delete_grant, put_version, named, joined, on_branch, can_name, put_pact, report, result_of_run, deploy, undeploy, release, end_support, is_text, is_stored, number_of, stored, instance_of}
+use Rattle.broker_core.specs.Change.{Transition, unchanged_with, done, repeated, put_team, put_pacticipant, put_environment, put_grant, delete_grant, put_version, named, joined, on_branch, can_name, put_pact, report, result_of_run, deploy, undeploy, release, end_support, is_text, is_stored, content_number, stored, instance_of}
 use Rattle.broker_core.specs.Machine.{Primitives, StepOfCaller, Step, TakesEffect, report_replies, is_empty}
 use Rattle.broker_core.specs.Laws.{IsRepeatable, Retry}
 
@@ -176,12 +176,12 @@ put_version-twice s v branch =
 -- whatever text the file is read to the second time
 put_pact-twice : (s : State) (v : Version) (provider text : Text) → Settles (λ t. (again : Text) → (put_pact t v provider again).state ≡ t) s (put_pact s v provider text)
 put_pact-twice s v provider text =
-    let next = record (stored (named s v) text) { contracts = put_at (same_pair same_version same_text) s.contracts (v, provider) (Some (number_of s text)) } in
-    let out : Transition = record { answer = Done (Content (number_of s text)); state = next } in
+    let next = record (stored (named s v) text) { contracts = put_at (same_pair same_version same_text) s.contracts (v, provider) (Some (content_number s text)) } in
+    let out : Transition = record { answer = Done (Content (content_number s text)); state = next } in
     by_lookup _ s _ _ (s.contracts (v, provider)) (λ content. refl)
     (by_test _ s (can_name s v && (is_stored s text || has_room s.contents)) _ _
     (calm_settles _ s out (λ again. state-found next _ _ (next.contracts (v, provider)) (λ content. refl)
-    (ap is_some (put_at-same (same_pair same_version same_text) s.contracts (v, provider) (Some (number_of s text)) (branch-refl (v, provider))))))
+    (ap is_some (put_at-same (same_pair same_version same_text) s.contracts (v, provider) (Some (content_number s text)) (branch-refl (v, provider))))))
     (answer_settles _ s _))
 
 -- a row that passes and comes last is there

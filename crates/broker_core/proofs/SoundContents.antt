@@ -16,7 +16,7 @@ use Rattle.broker_core.specs.Text.{Text, same_text, same_version, same_pair, put
 use Rattle.broker_core.specs.State.{State, Verification}
 use Rattle.broker_core.specs.Limit.{has_room}
 use Rattle.broker_core.specs.Request.{is_known, consumer_version}
-use Rattle.broker_core.specs.Change.{Transition, unchanged_with, done, repeated, put_version, named, joined, put_pact, stored, is_stored, number_of, text_of, report, is_text, instance_of, can_name, on_branch}
+use Rattle.broker_core.specs.Change.{Transition, unchanged_with, done, repeated, put_version, named, joined, put_pact, stored, is_stored, content_number, text_of, report, is_text, instance_of, can_name, on_branch}
 use Rattle.broker_core.specs.Machine.{Primitives, TakesEffect, report_replies}
 use Rattle.broker_core.specs.Machine.Reading.{IsPact}
 use Rattle.broker_core.specs.Contents.{IsContentOf, HasSoundContents, ReadsAgain}
@@ -269,13 +269,13 @@ module _ (parts : Primitives) (again : ReadsAgain parts) (s : State) (sound : Ha
   unfolding Sound
   sound_pact v provider text file reads =
       let named_same = same_named s v in
-      let next = record (stored (named s v) text) { contracts = put_at (same_pair same_version same_text) s.contracts (v, provider) (Some (number_of s text)) } in
+      let next = record (stored (named s v) text) { contracts = put_at (same_pair same_version same_text) s.contracts (v, provider) (Some (content_number s text)) } in
       sound_lookup _ _ (s.contracts (v, provider)) (λ content. sound)
       (sound_test (can_name s v && (is_stored s text || has_room s.contents)) _ _
-      (sound_with parts s sound next v.pacticipant provider text (number_of s text)
-      (subst (λ cs. Added s.contents cs text (number_of s text)) (sym (stored_contents s (named s v) text named_same.contents)) (added s.contents text))
+      (sound_with parts s sound next v.pacticipant provider text (content_number s text)
+      (subst (λ cs. Added s.contents cs text (content_number s text)) (sym (stored_contents s (named s v) text named_same.contents)) (added s.contents text))
       (again file v.pacticipant provider text reads)
-      (contract_cases v provider (number_of s text))
+      (contract_cases v provider (content_number s text))
       (stored_results s (named s v) text ∙ named_same.results))
       sound)
 

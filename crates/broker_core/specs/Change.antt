@@ -101,8 +101,8 @@ abbrev pub is_stored : State → Text → Bool
 is_stored s text = list_any (same_text text) s.contents
 
 -- the number of a text, or the one that it gets
-abbrev pub number_of : State → Text → ℕ
-number_of s text = position_or_len (same_text text) s.contents + 1
+abbrev pub content_number : State → Text → ℕ
+content_number s text = position_or_len (same_text text) s.contents + 1
 
 -- the text is one of the contents, with the next number where it wasn't
 abbrev pub stored : State → Text → State
@@ -124,9 +124,9 @@ put_pact s v provider text =
     option_map_or (λ content. unchanged_with s (republished s text content)) (s.contracts (v, provider))
     (if can_name s v && (is_stored s text || has_room s.contents)
     then record {
-      answer = Done (Content (number_of s text));
+      answer = Done (Content (content_number s text));
       state = record (stored (named s v) text) {
-        contracts = put_at (same_pair same_version same_text) s.contracts (v, provider) (Some (number_of s text));
+        contracts = put_at (same_pair same_version same_text) s.contracts (v, provider) (Some (content_number s text));
       };
     }
     else unchanged_with s Full)

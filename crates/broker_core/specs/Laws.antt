@@ -227,9 +227,9 @@ StepExists parts =
     → CanBeRead parts s command → (out : Transition) × Step parts s token command out
 
 -- the reading is that a pattern was refused: this alone may be told of a file that has another reading too
-abbrev pub TellsRefusal : (FormFault → Bool) → Reading → Type 0
-TellsRefusal is_refusal (IsPact consumer provider text) = ⊥
-TellsRefusal is_refusal (IsRefused fault) = IsTrue (is_refusal fault)
+abbrev pub ReadsRefusal : (FormFault → Bool) → Reading → Type 0
+ReadsRefusal is_refusal (IsPact consumer provider text) = ⊥
+ReadsRefusal is_refusal (IsRefused fault) = IsTrue (is_refusal fault)
 
 -- the command's file is read in one way, a pattern's refusal aside, and its replies in one way; nothing is asked
 -- of a command without a file
@@ -241,7 +241,7 @@ IsReadOnce parts is_refusal (PutGrant team e) = Unit {0}
 IsReadOnce parts is_refusal (DeleteGrant team e) = Unit {0}
 IsReadOnce parts is_refusal (PutVersion v branch) = Unit {0}
 IsReadOnce parts is_refusal (PutPact path file) = (a b : Reading) → parts.Reads file a → parts.Reads file b
-    → (a ≡ b) ⊎ (TellsRefusal is_refusal a ⊎ TellsRefusal is_refusal b)
+    → (a ≡ b) ⊎ (ReadsRefusal is_refusal a ⊎ ReadsRefusal is_refusal b)
 IsReadOnce parts is_refusal (GetPact path) = Unit {0}
 IsReadOnce parts is_refusal (GetBranchPact provider consumer branch) = Unit {0}
 IsReadOnce parts is_refusal (PostResult path report success) = Unit {0}

@@ -17,3 +17,4 @@ pub mod Laws
 pub mod Sessions
 pub mod Headline
 pub mod RunHeadline
+pub mod SoundNames

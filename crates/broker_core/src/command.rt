@@ -1,5 +1,7 @@
 //! Commands: one variant a route, and one for what couldn't be read.
-ghost use Rattle.std.specs.Prelude.{◌≡◌, IfOk};
+ghost use Rattle.std.specs.Prelude.{◌≡◌, IfOk, IfSome};
+ghost use Rattle.broker_core.specs.Name.{IsName};
+ghost use Rattle.broker_core.specs.SoundNames.{AreNames, AreNamesOfPath, AreNamesOfReport, IsNamed};
 
 use crate::name::{Body, Name, Text, Token};
 use std::alloc::AllocError;
@@ -198,4 +200,133 @@ pub enum Command {
     },
     /// A request of a known route whose path, query or body is at fault: it is reported after the token was looked at.
     Malformed(FormFault),
+}
+
+impl PactPath {
+    /// Its names are names.
+    fn has_names(&self)
+        ensures { AreNamesOfPath self.now }
+    {
+        self.provider.is_name();
+        self.consumer.is_name();
+        self.version.is_name();
+    }
+}
+
+impl Version {
+    /// Its names are names.
+    fn has_names(&self)
+        ensures { IsNamed self.now }
+    {
+        self.pacticipant.is_name();
+        self.name.is_name();
+    }
+}
+
+/// It is a name, if there is one.
+fn has_name(name: &Option<Name>)
+    ensures { IfSome name.now IsName }
+{
+    if let Some(name) = name {
+        name.is_name();
+    }
+}
+
+impl Report {
+    /// Its names are names.
+    fn has_names(&self)
+        ensures { AreNamesOfReport self.now }
+    {
+        self.provider_version.is_name();
+        has_name(&self.run);
+    }
+}
+
+impl Command {
+    /// That each name of this command is a name, and its token a token, as their types promise. Nothing is done.
+    pub fn has_names(&self)
+        ensures { AreNames self.now }
+    {
+        match self {
+            Command::PutTeam { team, token } => {
+                team.is_name();
+                token.is_token();
+            },
+            Command::PutPacticipant { pacticipant, team } => {
+                pacticipant.is_name();
+                team.is_name();
+            },
+            Command::PutEnvironment {
+                environment,
+                marks: _,
+            } => environment.is_name(),
+            Command::PutGrant { team, environment } | Command::DeleteGrant { team, environment } =>
+                {
+                    team.is_name();
+                    environment.is_name();
+                },
+            Command::PutVersion { version, branch } => {
+                version.has_names();
+                has_name(branch);
+            },
+            Command::PutPact { path, file: _ } | Command::GetPact { path } => path.has_names(),
+            Command::GetBranchPact {
+                provider,
+                consumer,
+                branch,
+            } => {
+                provider.is_name();
+                consumer.is_name();
+                branch.is_name();
+            },
+            Command::PostResult {
+                path,
+                report,
+                success: _,
+            } => {
+                path.has_names();
+                report.has_names();
+            },
+            Command::PostReplies {
+                path,
+                report,
+                replies: _,
+            } => {
+                path.has_names();
+                report.has_names();
+            },
+            Command::Deploy {
+                environment,
+                version,
+                instance,
+            }
+            | Command::Undeploy {
+                environment,
+                version,
+                instance,
+            } => {
+                environment.is_name();
+                version.has_names();
+                has_name(instance);
+            },
+            Command::Release {
+                environment,
+                version,
+            }
+            | Command::EndSupport {
+                environment,
+                version,
+            }
+            | Command::CanIDeploy {
+                version,
+                environment,
+            } => {
+                environment.is_name();
+                version.has_names();
+            },
+            Command::GetEnvironment { environment } => environment.is_name(),
+            Command::GetMatrix { version } => version.has_names(),
+            Command::Malformed(_) => {},
+        }
+    }
 }

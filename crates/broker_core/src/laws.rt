@@ -5,6 +5,7 @@ ghost use Rattle.broker_core.specs.Headline.{DeploysExactly, ReleasesExactly, Pe
 ghost use Rattle.broker_core.specs.Laws.{OnlyDoneChanges, OpeningIsSound, ContentsStay, GateLocality, GateAnswersOnce, Retry, RunsOnce, StepExists, StepOnce};
 ghost use Rattle.broker_core.specs.RunHeadline.{RunsDeployExactly, RunsReleaseExactly, TeamsStayApart, TeamsBeginApart};
 ghost use Rattle.broker_core.specs.Sessions.{SessionsRun};
+ghost use Rattle.broker_core.specs.SoundNames.{GivesDigests, NamesBegin, NamesStay, NamesStayInRuns};
 
 /// What the written machine takes from other crates.
 pub trait Machine {
@@ -44,6 +45,17 @@ pub fn only_done_changes<M: Machine>()
 pub fn contents_stay<M: Machine>()
     ensures opening { OpeningIsSound M.primitives }
     ensures steps { ReadsAgain M.primitives → ContentsStay M.primitives }
+{}
+
+/// Each name that a state has is a name, and each digest of a token is 64 hexadecimal digits: of a new
+/// broker, after every step from such a state by a command whose names are names, and so after every
+/// run. The names of a command are, since its types are ([`Command::has_names`]).
+///
+/// [`Command::has_names`]: crate::command::Command::has_names
+pub fn names_stay<M: Machine>()
+    ensures begin { NamesBegin }
+    ensures steps { GivesDigests M.primitives → NamesStay M.primitives }
+    ensures runs { GivesDigests M.primitives → NamesStayInRuns M.primitives }
 {}
 
 /// The answer to a deployment depends on its caller, on what the version and its environment have,

@@ -79,6 +79,13 @@ impl Name {
         self.text.as_str()
     }
 
+    /// That this is a name, as its type promises. Nothing is done.
+    pub(crate) fn is_name(&self)
+        ensures { IsName self.now }
+    {
+        let _ = &self.text;
+    }
+
     /// The same name once more. The error is out of memory.
     pub fn clone(&self) -> Result<Name, AllocError>
         ensures { IfOk result (λ name. name ≡ self.now) }
@@ -192,6 +199,13 @@ impl Token {
         ensures { result.now ≡ self.now }
     {
         self.secret.as_str()
+    }
+
+    /// That this is a token, as its type promises. Nothing is done.
+    pub(crate) fn is_token(&self)
+        ensures { IsToken self.now }
+    {
+        let _ = &self.secret;
     }
 }
 

@@ -22,7 +22,7 @@ use Rattle.reply_check.specs.Verdicts.{IsAscending, AreFailing}
 use Rattle.reply_check.specs.declared.fault.RepliesFault.{RepliesFault}
 use Rattle.broker_core.specs.Text.{Text}
 use Rattle.broker_core.specs.Contents.{ReadsAgain}
-use Rattle.broker_core.specs.Laws.{TellsRefusal}
+use Rattle.broker_core.specs.Laws.{ReadsRefusal}
 use Rattle.broker_core.specs.Machine.{Reading}
 use Rattle.broker_core.specs.Machine.Reading.{IsPact, IsRefused}
 use Rattle.broker_core.specs.declared.command.Command.TheVariants.{PutTeam, PutPacticipant, PutEnvironment, PutGrant, DeleteGrant, PutVersion, PutPact, GetPact, GetBranchPact, PostResult, PostReplies, Deploy, Undeploy, Release, EndSupport, GetEnvironment, CanIDeploy, GetMatrix, Malformed}
@@ -48,12 +48,12 @@ reads_again file consumer provider text reads = pact_again file consumer provide
 
 -- ---- a pact file is read in one way, a pattern's refusal aside
 
-refusal_told : (reading : Reading) (answer : Result Pact PactFault) → reading ≡ reading_of answer → IsRefusal answer → TellsRefusal is_refusal reading
+refusal_told : (reading : Reading) (answer : Result Pact PactFault) → reading ≡ reading_of answer → IsRefusal answer → ReadsRefusal is_refusal reading
 refusal_told reading answer is (i, refused) =
     let told : IsRefused (fault.Pact (number_text (Rules i Pattern))) ≡ reading = sym (is ∙ ap reading_of refused) in
-    subst (TellsRefusal is_refusal) told refl
+    subst (ReadsRefusal is_refusal) told refl
 
-file_once : (file : Text) (a b : Reading) → Reads file a → Reads file b → (a ≡ b) ⊎ (TellsRefusal is_refusal a ⊎ TellsRefusal is_refusal b)
+file_once : (file : Text) (a b : Reading) → Reads file a → Reads file b → (a ≡ b) ⊎ (ReadsRefusal is_refusal a ⊎ ReadsRefusal is_refusal b)
 file_once file a b h k =
     ⊎_elim (λ same. inl (h.2 ∙ ap reading_of same ∙ sym k.2))
     (λ refused. inr (⊎_elim (λ r. inl (refusal_told a h.0 h.2 r)) (λ r. inr (refusal_told b k.0 k.2 r)) refused))

@@ -1,3 +1,4 @@
 pub mod Patterns
 pub mod Refusals
 pub mod Again
+pub mod Digests
