@@ -354,7 +354,7 @@ def with_format(number, table=META):
     return f"{table}; INSERT INTO meta (one, format, office_digest) VALUES (1, {number}, 'd')"
 
 
-@case("another's first table is a broker's meta by its name, its columns and its key, however it is declared")
+@case("another's table is a broker's meta by its name, its columns and its key, wherever it is and however it is declared")
 def declared(room):
     others = [
         (with_format(0), "open 3.0"),
@@ -367,7 +367,10 @@ def declared(room):
         (with_format(1 << 32), "open 5"),
         (META, "open 2"),
         (with_format(0) + "; INSERT INTO meta (one) VALUES (2)", "open 2"),
-        ("CREATE TABLE notes (line TEXT); " + with_format(0), "open 2"),
+        ("CREATE TABLE notes (line TEXT); CREATE INDEX lines ON notes (line); " + with_format(0), "open 3.0"),
+        ("CREATE TABLE notes (line TEXT); CREATE VIEW lines AS SELECT line FROM notes; " + with_format(0), "open 3.0"),
+        (with_format(0).replace("meta", "metas") + "; " + with_format(4).replace("meta", "META"), "open 3.4"),
+        ("CREATE TABLE notes (line TEXT); " + META, "open 2"),
         (with_format(0, META.replace("INTEGER PRIMARY KEY", "INTEGER")), "open 2"),
         (with_format(0, META.replace("INTEGER, office", "TEXT, office")), "open 2"),
         (with_format(0, META.replace("digest TEXT", "digest TEXT, since TEXT")), "open 2"),
@@ -380,10 +383,10 @@ def declared(room):
 
 
 def loose(text):
-    """These tables without STRICT and NOT NULL, in another order but for the first, and beside another table."""
+    """These tables without STRICT and NOT NULL, in another order, and after another table."""
     made = [it.replace(" STRICT", "").replace(" NOT NULL", "") for it in text.splitlines() if it.startswith("CREATE")]
     rows = [it for it in text.splitlines() if not it.startswith("CREATE")]
-    return "\n".join([made[0], "CREATE TABLE notes (line TEXT);", *made[:0:-1], *rows])
+    return "\n".join(["CREATE TABLE notes (line TEXT);", *made[::-1], *rows])
 
 
 @case("another's file of format 1 is migrated if its tables have the columns and the keys; else it is `open 2`, and as it was")

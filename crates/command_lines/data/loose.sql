@@ -1,4 +1,3 @@
-CREATE TABLE meta (one INTEGER PRIMARY KEY CHECK (one = 1), format INTEGER, office_digest TEXT);
 CREATE TABLE notes (line TEXT, at REAL);
 CREATE TABLE released (environment TEXT REFERENCES environments (name), version_number INTEGER REFERENCES versions (number), PRIMARY KEY (environment, version_number));
 CREATE TABLE deployed (environment TEXT REFERENCES environments (name), pacticipant TEXT REFERENCES pacticipants (name), instance TEXT, version_number INTEGER REFERENCES versions (number), PRIMARY KEY (environment, pacticipant, instance));
@@ -12,6 +11,7 @@ CREATE TABLE branches (version_number INTEGER REFERENCES versions (number), bran
 CREATE TABLE versions (number INTEGER PRIMARY KEY, pacticipant TEXT REFERENCES pacticipants (name), version TEXT, UNIQUE (pacticipant, version));
 CREATE TABLE pacticipants (name TEXT PRIMARY KEY, team TEXT REFERENCES teams (name));
 CREATE TABLE teams (name TEXT PRIMARY KEY, token_digest TEXT UNIQUE);
+CREATE TABLE meta (one INTEGER PRIMARY KEY CHECK (one = 1), format INTEGER, office_digest TEXT);
 INSERT INTO meta (one, format, office_digest) VALUES (1, 1, '911136037767135847f042ad4530b5746995d41379f7595f8638550348fe019c');
 INSERT INTO teams (name, token_digest) VALUES ('red', 'e0245048fb374c9d23c4bf9a4a5988cf946926a7183bce773b93b1e4c7a461f6'), ('blue', 'd4c51bec08a6d3af59b467538d6bcf889bfe95f2c013d085c26335c9b98899c5');
 INSERT INTO environments (name, gated) VALUES ('live', 1);

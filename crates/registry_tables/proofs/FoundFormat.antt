@@ -1,6 +1,6 @@
 -- The format that a query on meta finds.
-use Rattle.std.proofs.Common.{◌≡◌, ◌≢◌, ℕ, pos, codes, List, [], ◌∷◌, map, filter, length, refl, sym, ap, subst, ◌∙◌, slice_get, Some, None, Option}
-use Rattle.std.specs.Prelude.{MatchOption}
+use Rattle.std.proofs.Common.{◌≡◌, ◌≢◌, ℕ, pos, codes, List, [], ◌∷◌, map, filter, length, refl, sym, ap, subst, ◌∙◌, slice_get, Some, None, Option, Ok}
+use Rattle.std.specs.Prelude.{MatchOption, option_and_then}
 use Rattle.std.specs.List.Sorted.{IsPermutation}
 use Rattle.std.proofs.lemmas.List.{length-map}
 use Rattle.std.proofs.lemmas.List.Sorted.{length_permutation}
@@ -8,43 +8,21 @@ use Rattle.sqlite.proofs.Callers.{one_permutation}
 use Rattle.sqlite.specs.Schema.{Schema}
 use Rattle.sqlite.specs.Table.{Table}
 use Rattle.sqlite.specs.Effect.{Database}
-use Rattle.sqlite_schema.specs.declared.schema.Index.{Index}
-use Rattle.sqlite_schema.specs.declared.schema.View.{View}
 use Rattle.sqlite_schema.specs.declared.schema.Column.{Column}
-use Rattle.sqlite.specs.Kind.TheVariants.{Text, Integer}
+use Rattle.sqlite_schema.specs.Names.{table_named}
+use Rattle.sqlite_resolve.specs.declared.compiled.Compiled.{Compiled}
 use Rattle.sqlite.specs.declared.types.Value.TheVariants.{Int}
 use Rattle.sqlite.specs.Order.{Row, column}
 use Rattle.sqlite.specs.Term.{col}
-use Rattle.sqlite.specs.Command.{Command}
-use Rattle.sqlite.specs.Command.TheVariants.{Select}
 use Rattle.sqlite.specs.State.{State, Shown}
 use Rattle.sqlite.specs.Listing.{understood}
-use Rattle.sqlite_tied.specs.Compute.{everything}
-use Rattle.table_access.specs.Statements.{from_table, keeps, shows}
+use Rattle.table_access.specs.Statements.{keeps, shows}
 use Rattle.table_access.proofs.Steps.{Means, selects, shown_unchanged}
 use Rattle.broker_tables.specs.Schema.{meta, numbers, texts}
-use Rattle.registry_tables.specs.Format.{IsLike, AreLike, IsMetaTable, Finds}
+use Rattle.registry_tables.specs.Format.{IsLike, AreLike, IsMetaTable, Finds, table_of}
+use Rattle.registry_tables.proofs.FormatText.{format_sql, like, like_meta, format_command, format_means}
 
 -- ---- the query
-
-abbrev pub format_sql : List ℕ
-format_sql = codes "SELECT format FROM meta"
-
-abbrev format_command : Command
-format_command = Select (record { lets = []; body = from_table 0 [] (col 1 2 ∷ []) [] }) (codes "format" ∷ [])
-
--- columns of the names and the kinds of meta's, however they are declared
-abbrev like : Column → Column → Column → List Column
-like a b c = record a { name = codes "one"; kind = Integer } ∷ record b { name = codes "format"; kind = Integer } ∷ record c { name = codes "office_digest"; kind = Text } ∷ []
-
--- a table with the name, the rows and the key of meta, and such columns
-abbrev like_meta : Table → Column → Column → Column → Table
-like_meta t a b c = record t { name = meta.name; tree = meta.tree; columns = like a b c; key = meta.key }
-
-format_text : (t : Table) (a b c : Column) (ts : List Table) (is : List Index) (vs : List View)
-    → Means (record { tables = like_meta t a b c ∷ ts; indexes = is; views = vs }) format_sql format_command
-unfolding understood everything
-format_text t a b c ts is vs = record { is = refl; plain = (refl, refl); unlisted = refl }
 
 as_column : (wanted c : Column) → IsLike wanted c → c ≡ record c { name = wanted.name; kind = wanted.kind }
 as_column wanted c is = ap (λ n. record c { name = n }) is.0 ∙ ap (λ k. record c { name = wanted.name; kind = k }) is.1
@@ -56,21 +34,24 @@ as_like (a ∷ b ∷ []) are = absurd are.1.1
 as_like (a ∷ []) are = absurd are.1
 as_like [] are = absurd are
 
-as_meta : (t : Table) (is : IsMetaTable t) → let cs = as_like t.columns is.2 in t ≡ like_meta t cs.0 cs.1 cs.2
+as_meta : (t : Table) (is : IsMetaTable t) → let cs = as_like t.columns is.0 in t ≡ like_meta t cs.0 cs.1 cs.2
 as_meta t is =
-    let cs = as_like t.columns is.2 in
-    ap (λ n. record t { name = n }) is.0 ∙ ap (λ n. record t { name = meta.name; tree = n }) is.1 ∙ ap (λ x. record t { name = meta.name; tree = meta.tree; columns = x }) cs.3
-    ∙ ap (λ k. record t { name = meta.name; tree = meta.tree; columns = like cs.0 cs.1 cs.2; key = k }) is.3
+    let cs = as_like t.columns is.0 in
+    ap (λ x. record t { columns = x }) cs.3 ∙ ap (λ k. record t { columns = like cs.0 cs.1 cs.2; key = k }) is.1
 
-means : (s : Schema) (t : Table) → slice_get s.tables 0 ≡ Some t → IsMetaTable t → Means s format_sql format_command
-means s t first is = go s.tables first
+-- a table that is found by its name has a place
+placed : (s : Schema) (name : List ℕ) (t : Table) → table_of name s ≡ Some t → (at : ℕ) × (table_named s name ≡ Some at) × (slice_get s.tables at ≡ Some t)
+placed s name t e = go (table_named s name) refl e
   where
-    go : (ts : List Table) → slice_get ts 0 ≡ Some t → Means (record s { tables = ts }) format_sql format_command
-    go [] e = absurd cc
-    go (u ∷ ts) e =
-        let cs = as_like t.columns is.2 in
-        let same : u ≡ like_meta t cs.0 cs.1 cs.2 = (let it : u ≡ t = cc in it) ∙ as_meta t is in
-        subst (λ x. Means (record s { tables = x ∷ ts }) format_sql format_command) (sym same) (format_text t cs.0 cs.1 cs.2 ts s.indexes s.views)
+    go : (found : Option ℕ) → table_named s name ≡ found → option_and_then (slice_get s.tables) found ≡ Some t → (at : ℕ) × (table_named s name ≡ Some at) × (slice_get s.tables at ≡ Some t)
+    go None is e = absurd cc
+    go (Some at) is e = (at, is, e)
+
+means : (s : Schema) (t : Table) → table_of meta.name s ≡ Some t → IsMetaTable t → (it : Compiled) → understood s format_sql ≡ Ok it → Means s format_sql (format_command t.tree)
+means s t there is it read =
+    let place = placed s meta.name t there in
+    let cs = as_like t.columns is.0 in
+    format_means s place.0 t cs.0 cs.1 cs.2 place.1 (place.2 ∙ ap Some (as_meta t is)) it read
 
 -- ---- its answer
 
@@ -86,17 +67,23 @@ kept (r ∷ rows) = ap (λ xs. r ∷ xs) (kept rows)
 as_many : (rows out : List Row) → IsPermutation (map (shows (col 1 2 ∷ []) []) (filter (keeps [] []) rows)) out → length out ≡ length rows
 as_many rows out same = length_permutation _ out same ∙ length-map (filter (keeps [] []) rows) (shows (col 1 2 ∷ []) []) ∙ ap length (kept rows)
 
-found_in : (db : Database) (t : Table) → slice_get db.schema.tables 0 ≡ Some t → IsMetaTable t → (rows : List Row) → IsPermutation (map (shows (col 1 2 ∷ []) []) (filter (keeps [] []) (db.trees 0))) rows → (found : Option ℕ)
+found_in : (db : Database) (t : Table) → table_of meta.name db.schema ≡ Some t → IsMetaTable t → (rows : List Row) → IsPermutation (map (shows (col 1 2 ∷ []) []) (filter (keeps [] []) (db.trees t.tree))) rows → (found : Option ℕ)
     → MatchOption found (length rows ≢ 1) (λ n. map (λ row. column row 0) rows ≡ Int (pos n) ∷ []) → Finds db found
-found_in db t first is rows same None none = λ u at meant one. none (as_many (db.trees 0) rows same ∙ one)
-found_in db t first is rows same (Some n) one =
-    let single : length (db.trees 0) ≡ 1 = sym (as_many (db.trees 0) rows same) ∙ sym (length-map rows (λ (x : Row). column x 0)) ∙ ap length one in
-    (t, first, is, sym (one_shown (db.trees 0) rows same single) ∙ one)
+found_in db t there is rows same None none = λ u at meant one.
+    let mine : u ≡ t = (let both : Some u ≡ Some t = sym at ∙ there in cc) in
+    none (as_many (db.trees t.tree) rows same ∙ subst (λ (v : Table). length (db.trees v.tree) ≡ 1) mine one)
+found_in db t there is rows same (Some n) one =
+    let single : length (db.trees t.tree) ≡ 1 = sym (as_many (db.trees t.tree) rows same) ∙ sym (length-map rows (λ (x : Row). column x 0)) ∙ ap length one in
+    (t, there, is, sym (one_shown (db.trees t.tree) rows same single) ∙ one)
 
-pub format_found : (old new : State) (t : Table) → slice_get old.now.schema.tables 0 ≡ Some t → IsMetaTable t → (rows : List Row) → Shown format_sql [] old new rows → (found : Option ℕ)
-    → MatchOption found (length rows ≢ 1) (λ n. map (λ row. column row 0) rows ≡ Int (pos n) ∷ []) → Finds old.now found
-format_found old new t first is rows h found it = found_in old.now t first is rows (selects format_sql [] old new 0 [] (col 1 2 ∷ []) [] (codes "format" ∷ []) (means old.now.schema t first is) rows h) found it
+module _ (old new : State) (t : Table) (there : table_of meta.name old.now.schema ≡ Some t) (is : IsMetaTable t) (rows : List Row) (h : Shown format_sql [] old new rows) where
+  shown_means : Means old.now.schema format_sql (format_command t.tree)
+  unfolding Shown
+  shown_means = means old.now.schema t there is h.0 h.1.is
 
--- and the database is as it was
-pub format_read : (old new : State) (t : Table) → slice_get old.now.schema.tables 0 ≡ Some t → IsMetaTable t → (rows : List Row) → Shown format_sql [] old new rows → new.now ≡ old.now
-format_read old new t first is rows h = (shown_unchanged format_sql [] old new rows (means old.now.schema t first is).plain h).0.now_is
+  pub format_found : (found : Option ℕ) → MatchOption found (length rows ≢ 1) (λ n. map (λ row. column row 0) rows ≡ Int (pos n) ∷ []) → Finds old.now found
+  format_found found it = found_in old.now t there is rows (selects format_sql [] old new t.tree [] (col 1 2 ∷ []) [] (codes "format" ∷ []) shown_means rows h) found it
+
+  -- and the database is as it was
+  pub format_read : new.now ≡ old.now
+  format_read = (shown_unchanged format_sql [] old new rows shown_means.plain h).0.now_is

@@ -6,6 +6,7 @@ pub mod VersionRows
 pub mod BranchRows
 pub mod EnvironmentRows
 pub mod MetaRow
+pub mod FormatText
 pub mod FoundFormat
 pub mod BranchNumbers
 pub mod BranchBelow

@@ -19,33 +19,32 @@ IsLike wanted c = (c.name ≡ wanted.name) × (c.kind ≡ wanted.kind)
 abbrev pub AreLike : List Column → List Column → Type 0
 AreLike = AllZip IsLike
 
+-- the table that SQLite finds by this name, wherever it is among the tables: letters are compared without their case
+abbrev pub table_of : List ℕ → Schema → Option Table
+table_of name schema = option_and_then (slice_get schema.tables) (table_named schema name)
+
 -- ---- the format
 
--- the broker's table meta, by its name, its columns and its key, however it is declared: it is made before each other
--- table, so its rows are in the first tree
+-- a table has the columns and the key of the broker's table meta, however it is declared
 abbrev pub IsMetaTable : Table → Type 0
-IsMetaTable table = (table.name ≡ meta.name) × (table.tree ≡ meta.tree) × AreLike meta.columns table.columns
-    × (table.key ≡ meta.key)
+IsMetaTable table = AreLike meta.columns table.columns × (table.key ≡ meta.key)
 
--- The first table is meta, and this is the format in its one row. So it is in each database that a broker left.
+-- The table that is found by meta's name is like it, and this is the format in its one row. So it is in each database
+-- that a broker left, which has it first.
 abbrev pub IsOfFormat : ℕ → Database → Type 0
-IsOfFormat n db = (table : Table) × (slice_get db.schema.tables 0 ≡ Some table) × IsMetaTable table
-    × (map (λ row. column row 2) (db.trees meta.tree) ≡ Int (pos n) ∷ [])
+IsOfFormat n db = (table : Table) × (table_of meta.name db.schema ≡ Some table) × IsMetaTable table
+    × (map (λ row. column row 2) (db.trees table.tree) ≡ Int (pos n) ∷ [])
 
--- the first table isn't meta, or meta hasn't one row
+-- no table is found by meta's name, or one that isn't like it, or that hasn't one row
 abbrev pub IsForeign : Database → Type 0
-IsForeign db = (table : Table) → slice_get db.schema.tables 0 ≡ Some table → IsMetaTable table
-    → length (db.trees meta.tree) ≢ 1
+IsForeign db = (table : Table) → table_of meta.name db.schema ≡ Some table → IsMetaTable table
+    → length (db.trees table.tree) ≢ 1
 
 -- what is found in a database: a format, or none
 abbrev pub Finds : Database → Option ℕ → Type 0
 Finds db found = MatchOption found (IsForeign db) (λ n. IsOfFormat n db)
 
 -- ---- the tables of format 1
-
--- the table that SQLite finds by this name, wherever it is among the tables: letters are compared without their case
-abbrev pub table_of : List ℕ → Schema → Option Table
-table_of name schema = option_and_then (slice_get schema.tables) (table_named schema name)
 
 -- each key has these places
 abbrev pub AreKeys : List (List ℕ) → List (List ℕ) → Type 0

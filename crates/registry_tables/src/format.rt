@@ -1,16 +1,26 @@
 //! The format of the tables of a broker.
-ghost use Rattle.std.specs.Prelude.{◌≡◌, ◌≢◌, ◌↔◌, ◌∷◌, [], IsTrue, IfOk, IfErr, MatchOption, Some, pos, map, length, slice_get};
+ghost use Rattle.std.specs.Prelude.{◌≡◌, ◌≢◌, ◌↔◌, ◌∷◌, [], IsTrue, IfOk, IfErr, MatchOption, IsSomeAnd, Some, None, pos, map, length};
 ghost use Rattle.sqlite.specs.Held.{state};
-ghost use Rattle.sqlite.specs.Table.{Table as SqlTable};
 ghost use Rattle.sqlite.specs.Order.{column};
 ghost use Rattle.sqlite.specs.declared.types.Value.TheVariants.{Int};
 ghost use Rattle.table_access.specs.Calls.{CallsStore};
 ghost use Rattle.broker_tables.specs.Schema.{meta};
-ghost use Rattle.registry_tables.specs.Format.{AreLike, IsMetaTable, Finds};
+ghost use Rattle.registry_tables.specs.Format.{AreLike, IsMetaTable, Finds, table_of};
 
 use sqlite::{Alter, Connection, Row};
-use sqlite_schema::schema::{Column, Kind, Table};
+use sqlite_schema::schema::{Column, Kind, Schema, Table};
 use table_access::{StoreFault, number_in, select};
+
+/// The table that SQLite finds by this name.
+pub(crate) fn table_named<'a>(schema: &'a Schema, name: &[u8]) -> Option<&'a Table>
+    ensures { MatchOption result (table_of name.now schema.now ≡ None)
+        (λ table. table_of name.now schema.now ≡ Some table.now) }
+{
+    match schema.table_named(name) {
+        Some(at) => schema.tables.get(at),
+        None => None,
+    }
+}
 
 /// Whether a column has this name, and values of this kind, however it is declared.
 pub(crate) fn is_column(column: &Column, name: &[u8], kind: Kind) -> bool
@@ -33,22 +43,18 @@ pub(crate) fn are_columns(columns: &[Column]) -> bool
     }
 }
 
-/// Whether a table is the broker's `meta`, however it is declared, and was made before each other table.
+/// Whether a table has the columns and the key of `meta`, however it is declared.
 fn is_meta(table: &Table) -> bool
     ensures { IsTrue result ↔ IsMetaTable table.now }
 {
-    table.name.as_slice() == b"meta".as_slice()
-        && table.tree == 0
-        && are_columns(table.columns.as_slice())
-        && table.key == Some(0)
+    are_columns(table.columns.as_slice()) && table.key == Some(0)
 }
 
-/// Whether the first table is `meta`.
+/// Whether the table of that name is `meta`, wherever it is.
 fn is_marked<S: Alter>(conn: &Connection<S>) -> bool
-    ensures { IsTrue result ↔ ((table : SqlTable)
-        × (slice_get (state S.Store conn.now).now.schema.tables 0 ≡ Some table) × IsMetaTable table) }
+    ensures { IsTrue result ↔ IsSomeAnd (table_of meta.name (state S.Store conn.now).now.schema) IsMetaTable }
 {
-    match conn.schema().tables.as_slice().first() {
+    match table_named(conn.schema(), b"meta") {
         Some(table) => is_meta(table),
         None => false,
     }
@@ -67,8 +73,8 @@ fn one_number(rows: &[Row]) -> Result<Option<u32>, StoreFault>
     }
 }
 
-/// The format of the broker's tables, or `None` if the first table isn't `meta` with one row, however it is declared.
-/// Nothing changes.
+/// The format of the broker's tables, or `None` if there is no table `meta` with its columns, its key and one row,
+/// wherever it is and however it is declared. Nothing changes.
 ///
 /// # Errors
 /// `StoreFault::Memory` if the database has no memory; `StoreFault::Store` if it refused the query or holds no number

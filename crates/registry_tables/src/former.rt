@@ -1,26 +1,15 @@
 //! Whether a database has the tables of format 1: each by its name, with its columns and its keys, wherever it is and
 //! however it is declared.
-ghost use Rattle.std.specs.Prelude.{◌≡◌, ◌↔◌, ◌∷◌, [], IsTrue, MatchOption, Some, None};
+ghost use Rattle.std.specs.Prelude.{◌≡◌, ◌↔◌, ◌∷◌, [], IsTrue, Some, None};
 ghost use Rattle.std.specs.List.{AllByRecursion};
 ghost use Rattle.sqlite.specs.Held.{state};
 ghost use Rattle.broker_tables.specs.Schema as tables;
 ghost use Rattle.broker_tables.specs.Schema.{texts, numbers, registry_part, contract_part, deploy_part};
-ghost use Rattle.registry_tables.specs.Format.{IsLike, AreLike, AreKeys, HasKeys, HasTable, HasFormerTables, table_of};
+ghost use Rattle.registry_tables.specs.Format.{IsLike, AreLike, AreKeys, HasKeys, HasTable, HasFormerTables};
 
-use crate::format::{are_columns, is_column};
+use crate::format::{are_columns, is_column, table_named};
 use sqlite::{Alter, Connection};
 use sqlite_schema::schema::{Column, Kind, Schema, Table};
-
-/// The table that SQLite finds by this name.
-fn table_named<'a>(schema: &'a Schema, name: &[u8]) -> Option<&'a Table>
-    ensures { MatchOption result (table_of name.now schema.now ≡ None)
-        (λ table. table_of name.now schema.now ≡ Some table.now) }
-{
-    match schema.table_named(name) {
-        Some(at) => schema.tables.get(at),
-        None => None,
-    }
-}
 
 fn is_text(column: &Column, name: &[u8]) -> bool
     ensures { IsTrue result ↔ IsLike (texts name.now) column.now }
