@@ -11,7 +11,7 @@ use Rattle.table_access.specs.Calls.{CallsTablesBetween, CallsStoreBetween}
 use Rattle.table_access.proofs.CallLemmas.{call_with, statement_with}
 use Rattle.broker_core.specs.Text.{Text, same_text}
 use Rattle.broker_core.specs.State.{State as Broker}
-use Rattle.broker_core.specs.Change.{is_stored, number_of, stored}
+use Rattle.broker_core.specs.Change.{is_stored, content_number, stored}
 use Rattle.broker_tables.specs.Schema.{broker_schema}
 use Rattle.broker_tables.specs.Rows.{rows_of}
 use Rattle.broker_tables.specs.Numbers.{numbered}
@@ -65,7 +65,7 @@ put_frame digest body texts number old new held put = record {
 }
 
 -- what is held afterwards, by the machine's own words
-pub put_held : (old new : Database) (s : Broker) (body : Text) (number : ℕ) → Holds old s → IsPut (hex_of sha256) body s.contents number old new → (number ≡ number_of s body) × Holds new (stored s body)
+pub put_held : (old new : Database) (s : Broker) (body : Text) (number : ℕ) → Holds old s → IsPut (hex_of sha256) body s.contents number old new → (number ≡ content_number s body) × Holds new (stored s body)
 put_held old new s body number held put = (put.number_is, go (is_stored s body) refl put.contents)
   where
     go : (b : Bool) → is_stored s body ≡ b → ContentsBy (hex_of sha256) new (cond b s.contents (s.contents ++ body ∷ [])) → Holds new (cond b s (record s { contents = s.contents ++ body ∷ [] }))
@@ -73,7 +73,7 @@ put_held old new s body number held put = (put.number_is, go (is_stored s body) 
     go false e are = contents_change old new s (s.contents ++ body ∷ []) held (put_frame (hex_of sha256) body s.contents number old new (contents_held old s held) put) are.are
 
 -- a text that is put gets its number in the state, and the state with this text stored is held afterwards
-pub puts_held : (old new : State) (r : Result ℕ StoreFault) (body : Text) → CallsStoreBetween old new r (IsPutBy (hex_of sha256) body old new) → ChangesAndAnswersBetween old new r (λ s. ⊤) (λ number s t. (number ≡ number_of s body) × (t ≡ stored s body))
+pub puts_held : (old new : State) (r : Result ℕ StoreFault) (body : Text) → CallsStoreBetween old new r (IsPutBy (hex_of sha256) body old new) → ChangesAndAnswersBetween old new r (λ s. ⊤) (λ number s t. (number ≡ content_number s body) × (t ≡ stored s body))
 puts_held old new r body = statement_with old new r _ _ (λ number puts s held free. let it = put_held old.now new.now s body number held (puts s.contents (contents_held old.now s held)) in (stored s body, (it.0, refl), it.1))
 
 -- the same where there may be no room for it

@@ -13,7 +13,7 @@ use Rattle.table_access.specs.Reading.{IsNumberRow, IsTextAt}
 use Rattle.broker_core.specs.Text.{Text, same_text}
 use Rattle.broker_core.specs.State.{State as Broker}
 use Rattle.broker_core.specs.Limit.{has_room}
-use Rattle.broker_core.specs.Change.{number_of, stored}
+use Rattle.broker_core.specs.Change.{content_number, stored}
 use Rattle.broker_tables.specs.Schema.{broker_schema}
 use Rattle.broker_tables.specs.Rows.{rows_of}
 use Rattle.broker_tables.specs.Numbers.{numbered}
@@ -138,5 +138,5 @@ IsPutIfRoom digest body old new found =
 -- the same of a state: the text is one of its contents and has this number, or there is no place for it
 abbrev pub StoresIfRoom : Text → Option ℕ → Broker → Broker → Type 0
 StoresIfRoom body (Some number) s t =
-    (number ≡ number_of s body) × (t ≡ stored s body) × (has_place s.contents body ≡ true)
+    (number ≡ content_number s body) × (t ≡ stored s body) × (has_place s.contents body ≡ true)
 StoresIfRoom body None s t = (t ≡ s) × (has_place s.contents body ≡ false)

@@ -8,7 +8,7 @@ use Rattle.broker_core.specs.Text.{Text, same_text, same_pair, same_version, put
 use Rattle.broker_core.specs.State.{State}
 use Rattle.broker_core.specs.Policy.{allows}
 use Rattle.broker_core.specs.Limit.{has_room}
-use Rattle.broker_core.specs.Change.{Transition, unchanged_with, put_pact, republished, text_of, can_name, named, stored, is_stored, number_of as content_number}
+use Rattle.broker_core.specs.Change.{Transition, unchanged_with, put_pact, republished, text_of, can_name, named, stored, is_stored, content_number}
 use Rattle.broker_core.specs.Request.{consumer_version, unless, unless_contract, refused, refusal, has_grant, is_known, is_allowed, first_missing, target_of}
 use Rattle.broker_core.specs.Machine.{TakesEffect, FindsFault, StepOfCaller, fault_of_reading}
 use Rattle.broker_core.specs.Machine.Reading.{IsPact}

@@ -11,6 +11,9 @@ pub mod NeedLoop
 pub mod StandingLemmas
 pub mod MatrixLemmas
 pub mod MatrixOrders
+pub mod CalmWhere
+pub mod UnknownVersion
 pub mod MatrixLoop
 pub mod ToldResults
+pub mod ReadableRows
 pub mod ToldLists

@@ -1,30 +1,33 @@
 -- One reading after another, and what is found of each member of a list.
-use Rattle.std.proofs.Common.{◌≡◌, ◌<◌, ◌+◌, inl, inr, ℕ, zero, suc, List, [], ◌∷◌, ◌++◌, length, take, get_or, refl, sym, subst, Ok, arith}
+use Rattle.std.proofs.Common.{◌≡◌, ◌<◌, ◌+◌, inl, inr, ℕ, zero, suc, List, [], ◌∷◌, ◌++◌, length, take, get_or, refl, sym, subst, Ok, Err, arith}
 use Rattle.std.specs.Prelude.{Contains, ◌↔◌}
 use Rattle.std.proofs.lemmas.List.{take_more}
 use Rattle.std.proofs.lemmas.List.Elements.{Contains-append_cases, Contains-append_left, Contains-append_right}
 use Rattle.sqlite.specs.State.{State}
-use Rattle.table_access.specs.Calls.{CallsTablesBetween}
-use Rattle.table_access.proofs.CallLemmas.{seq, then_ok}
+use Rattle.table_access.specs.declared.StoreFault.{StoreFault}
+use Rattle.table_access.specs.declared.StoreFault.TheVariants.{Memory}
 use Rattle.broker_core.specs.State.{State as Broker}
 use Rattle.broker_core.proofs.Lists.{contains_none, contains_cases, contains_here}
-use Rattle.broker_tables.specs.Holds.{IsRead}
+use Rattle.broker_tables.specs.Calm.{CalmQueriesBetween}
+use Rattle.broker_tables.proofs.QueryLemmas.{query_ok, query_stop}
+use Rattle.contract_tables.proofs.QueryLemmas.{calm_then}
 use Rattle.deploy_tables.specs.declared.entries.Entry.{Entry}
 use Rattle.deploy_tables.specs.Matrix.{IsOfSome}
 
 -- a reading, from which the answer is made
-pub read_made : {A B : Type 0} (old new : State) (a : A) (b : B) (P : A → Broker → Type 0) (Q : B → Broker → Type 0) → ((s : Broker) → P a s → Q b s) → CallsTablesBetween old new (Ok a) (IsRead old new P) → CallsTablesBetween old new (Ok b) (IsRead old new Q)
-read_made old new a b P Q given = then_ok old new a b (IsRead old new P) (IsRead old new Q) (λ h s held. let f = h s held in (given s f.0, f.1))
+pub read_made : {A B : Type 0} (old new : State) (a : A) (b : B) (P : A → Broker → Type 0) (Q : B → Broker → Type 0) → ((s : Broker) → P a s → Q b s) → CalmQueriesBetween old new (Ok a) P → CalmQueriesBetween old new (Ok b) Q
+read_made old new a b P Q given = query_ok old new a b P Q (λ h s held. let f = h s held in (given s f.0, f.1))
 
 -- a reading, and another, from which the answer is made
 pub read_both : {A O B : Type 0} (old mid new : State) (a : A) (o : O) (b : B) (P : A → Broker → Type 0) (Q : O → Broker → Type 0) (R : B → Broker → Type 0) → ((s : Broker) → P a s → Q o s → R b s)
-    → CallsTablesBetween old mid (Ok a) (IsRead old mid P) → CallsTablesBetween mid new (Ok o) (IsRead mid new Q) → CallsTablesBetween old new (Ok b) (IsRead old new R)
+    → CalmQueriesBetween old mid (Ok a) P → CalmQueriesBetween mid new (Ok o) Q → CalmQueriesBetween old new (Ok b) R
 read_both old mid new a o b P Q R given one two =
-    then_ok old new o b (λ q. ((s : Broker) → P a s → Q q s → R b s) → IsRead old new R b) (IsRead old new R) (λ m. m given)
-    (seq old mid new a (Ok o) (IsRead old mid P) (IsRead mid new Q) (λ q. ((s : Broker) → P a s → Q q s → R b s) → IsRead old new R b) (λ first q second both s held.
-    let f = first s held in
-    let g = second s f.1 in
-    (both s f.0 g.0, g.1)) one two)
+    read_made old new o b (λ q s. P a s × Q q s) R (λ s both. given s both.0 both.1) (calm_then old mid new a (Ok o) P Q (λ q s. P a s × Q q s) (λ s first q second. (first, second)) one two)
+
+-- a reading, and another, from which there is no room for the answer
+pub read_stop : {A O B : Type 0} (old mid new : State) (a : A) (o : O) (e : StoreFault) (P : A → Broker → Type 0) (Q : O → Broker → Type 0) (R : B → Broker → Type 0) → e ≡ Memory
+    → CalmQueriesBetween old mid (Ok a) P → CalmQueriesBetween mid new (Ok o) Q → CalmQueriesBetween old new (Err e) R
+read_stop old mid new a o e P Q R room one two = query_stop old new o e Q R room (calm_then old mid new a (Ok o) P Q Q (λ s first q second. second) one two)
 
 -- what is found of each member so far
 module _ {C : Type 0} (Is : C → Entry → Type 0) (cs : List C) where

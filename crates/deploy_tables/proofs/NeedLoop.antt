@@ -1,14 +1,11 @@
 -- One look-up after another, over a list that is taken apart.
-use Rattle.std.proofs.Common.{◌≡◌, List, [], ◌∷◌, ◌++◌, map, refl, sym, ◌∙◌, ap, Ok, Err}
-use Rattle.std.specs.Prelude.{Contains, ⊤}
+use Rattle.std.proofs.Common.{◌≡◌, List, [], ◌∷◌, ◌++◌, map, refl, sym, ◌∙◌, ap, Ok}
+use Rattle.std.specs.Prelude.{Contains}
 use Rattle.std.proofs.lemmas.List.Elements.{Contains-append_left, Contains-append_right}
 use Rattle.sqlite.specs.State.{State}
-use Rattle.table_access.specs.declared.StoreFault.{StoreFault}
-use Rattle.table_access.specs.Calls.{CallsTablesBetween}
-use Rattle.table_access.proofs.CallLemmas.{seq, then_stop}
 use Rattle.broker_core.specs.State.{State as Broker}
 use Rattle.broker_core.proofs.Lists.{contains_here}
-use Rattle.broker_tables.specs.Holds.{IsRead}
+use Rattle.broker_tables.specs.Calm.{CalmQueriesBetween}
 use Rattle.deploy_tables.proofs.MatrixLoop.{read_both}
 
 map_more : {X Y : Type 0} (f : X → Y) (xs : List X) (x : X) → map f (xs ++ x ∷ []) ≡ map f xs ++ f x ∷ []
@@ -24,14 +21,9 @@ module _ {A X Y : Type 0} (see : A → List Y) (value : Broker → X → Y) (rig
   Found x y s = right s x → y ≡ value s x
 
   pub one_more : (old mid new : State) (xs : List X) (x : X) (a b : A) (y : Y) → see b ≡ see a ++ y ∷ []
-      → CallsTablesBetween old mid (Ok a) (IsRead old mid (SoFar xs)) → CallsTablesBetween mid new (Ok y) (IsRead mid new (Found x)) → CallsTablesBetween old new (Ok b) (IsRead old new (SoFar (xs ++ x ∷ [])))
+      → CalmQueriesBetween old mid (Ok a) (SoFar xs) → CalmQueriesBetween mid new (Ok y) (Found x) → CalmQueriesBetween old new (Ok b) (SoFar (xs ++ x ∷ []))
   one_more old mid new xs x a b y grown one two =
       read_both old mid new a y b (SoFar xs) (Found x) (SoFar (xs ++ x ∷ [])) (λ s was here all.
       let last = all x (Contains-append_right xs (x ∷ []) x (contains_here x [])) in
       let before = was (λ z c. all z (Contains-append_left xs (x ∷ []) z c)) in
       grown ∙ ap (λ ys. ys ++ y ∷ []) before ∙ ap (λ z. map (value s) xs ++ z ∷ []) (here last) ∙ sym (map_more (value s) xs x)) one two
-
-  -- there is no room for what was found
-  pub no_room : {B : Type 0} (old mid new : State) (xs : List X) (x : X) (a : A) (y : Y) (e : StoreFault) (R : B → Type 0) → CallsTablesBetween old mid (Ok a) (IsRead old mid (SoFar xs)) → CallsTablesBetween mid new (Ok y) (IsRead mid new (Found x)) → CallsTablesBetween old new (Err e) R
-  no_room old mid new xs x a y e R one two =
-      then_stop old new y e (λ _. ⊤) R (seq old mid new a (Ok y) (IsRead old mid (SoFar xs)) (IsRead mid new (Found x)) (λ _. ⊤) (λ first z second. tt) one two)

@@ -29,41 +29,66 @@ use Rattle.deploy_tables.specs.declared.entries.Entry.{Entry}
 use Rattle.deploy_tables.specs.Matrix.{IsNewest, HasNone, IsEntry, TellsResult, IsToldAs, entry_cmp}
 use Rattle.deploy_tables.specs.Needs.{IsOwnContract}
 use Rattle.deploy_tables.specs.declared.told_results.ResultPass.{ResultPass}
-use Rattle.deploy_tables.specs.ToldResults.{TellPasses, TellChecked, IsContentOf, IsMeant, IsVerifiedTold, IsRowTold}
+use Rattle.deploy_tables.specs.ToldResults.{TellPasses, TellChecked, IsContentOf, IsMeant, NamesUntold, IsVerifiedTold, IsRowTold}
 use Rattle.deploy_tables.proofs.MatrixLemmas.{rows_are}
 
 -- ---- lists that are put together
 
 module _ (s : State) where
-  -- what both lists tell
-  pub both_tell : (a b all : List ResultPass) → TellPasses s a → TellPasses s b → ((x : ResultPass) → Contains all x ↔ Contains (a ++ b) x) → TellPasses s all
-  both_tell a b all one two same x r there = elim (Contains-append_cases a b x ((same x).0 there)) [
-    | inl first ↦ one x r first
-    | inr second ↦ two x r second
-  ]
+  -- what is told of each content so far, and of one content more
+  reached_more : {X : Type 0} (cs : List Contract) (at : ℕ) (c : Contract) (a more b : List X) (x : X) (content : ℕ) → at < length cs → c ≡ get_or cs at c → b ≡ a ++ more → IsContentOf (take (at + 1) cs) content
+      → (IsContentOf (take at cs) content → Contains a x) → (content ≡ c.content → Contains more x) → Contains b x
+  reached_more cs at c a more b x content low is grown of was here =
+      let last = get_or cs at c ∷ [] in
+      let taken : take (at + 1) cs ≡ take at cs ++ last = take_more cs at c low in
+      subst (λ xs. Contains xs x) (sym grown) (elim (Contains-append_cases (take at cs) last of.0 (subst (λ xs. Contains xs of.0) taken of.1)) [
+        | inl old ↦ Contains-append_left a more x (was (of.0, old, of.2))
+        | inr new ↦ elim (contains_cases (get_or cs at c) [] of.0 new) [
+          | inl same ↦ Contains-append_right a more x (here (sym of.2 ∙ ap (λ (d : Contract). d.content) (sym same ∙ sym is)))
+          | inr none ↦ absurd (contains_none of.0 none)
+        ]
+      ])
 
-  -- what is told with more at the end
-  pub more_tell : (a more b : List ResultPass) → b ≡ a ++ more → TellPasses s a → TellPasses s more → TellPasses s b
-  more_tell a more b grown one two = both_tell a more b one two (λ x. (λ c. subst (λ xs. Contains xs x) grown c, λ c. subst (λ xs. Contains xs x) (sym grown) c))
+  -- those of the contracts, and those of the version
+  reached_both : {X : Type 0} (n : ℕ) (cs : List Contract) (a b all : List X) (x : X) (content : ℕ) (w : Version) → (Contains (a ++ b) x → Contains all x) → IsMeant s n cs content w → (IsContentOf cs content → Contains a x) → (number_of s.versions w ≡ Some n → Contains b x) → Contains all x
+  reached_both n cs a b all x content w there of one two = there (elim of [
+    | inl mine ↦ Contains-append_left a b x (one mine)
+    | inr theirs ↦ Contains-append_right a b x (two theirs)
+  ])
+
+  -- which are passes, with one content more
+  pub passes_more : (cs : List Contract) (at : ℕ) (c : Contract) (a more b : List ResultPass) → at < length cs → c ≡ get_or cs at c → b ≡ a ++ more → TellPasses s (λ n _. IsContentOf (take at cs) n) a → TellPasses s (λ n _. n ≡ c.content) more
+      → TellPasses s (λ n _. IsContentOf (take (at + 1) cs) n) b
+  passes_more cs at c a more b low is grown was here = (
+    λ x r there. elim (Contains-append_cases a more x (subst (λ xs. Contains xs x) grown there)) [
+      | inl old ↦ was.0 x r old
+      | inr new ↦ here.0 x r new
+    ],
+    λ content w e of found. reached_more cs at c a more b (record { number = e.0; pass = e.1.pass }) content low is grown of (λ old. was.1 content w e old found) (λ new. here.1 content w e new found),
+  )
+
+  -- those of the contracts, and those of the version
+  pub passes_both : (n : ℕ) (cs : List Contract) (a b all : List ResultPass) → TellPasses s (λ c _. IsContentOf cs c) a → TellPasses s (λ _ w. number_of s.versions w ≡ Some n) b → ((x : ResultPass) → Contains all x ↔ Contains (a ++ b) x)
+      → TellPasses s (IsMeant s n cs) all
+  passes_both n cs a b all one two same = (
+    λ x r there. elim (Contains-append_cases a b x ((same x).0 there)) [
+      | inl first ↦ one.0 x r first
+      | inr second ↦ two.0 x r second
+    ],
+    λ content w e of found. let x : ResultPass = record { number = e.0; pass = e.1.pass } in
+        reached_both n cs a b all x content w (same x).1 of (λ mine. one.1 content w e mine found) (λ theirs. two.1 content w e theirs found),
+  )
 
   -- those that were checked, with one content more
   pub checked_more : (cs : List Contract) (at : ℕ) (c : Contract) (a more b : List ℕ) → at < length cs → c ≡ get_or cs at c → b ≡ a ++ more → TellChecked s (λ n _. IsContentOf (take at cs) n) a → TellChecked s (λ n _. n ≡ c.content) more
       → TellChecked s (λ n _. IsContentOf (take (at + 1) cs) n) b
-  checked_more cs at c a more b low is grown was here =
-      let last = get_or cs at c ∷ [] in
-      let taken : take (at + 1) cs ≡ take at cs ++ last = take_more cs at c low in (
-        λ n r there. elim (Contains-append_cases a more n (subst (λ xs. Contains xs n) grown there)) [
-          | inl old ↦ was.0 n r old
-          | inr new ↦ here.0 n r new
-        ],
-        λ content w e of found so. subst (λ xs. Contains xs e.0) (sym grown) (elim (Contains-append_cases (take at cs) last of.0 (subst (λ xs. Contains xs of.0) taken of.1)) [
-          | inl old ↦ Contains-append_left a more e.0 (was.1 content w e (of.0, old, of.2) found so)
-          | inr new ↦ elim (contains_cases (get_or cs at c) [] of.0 new) [
-            | inl same ↦ Contains-append_right a more e.0 (here.1 content w e (sym of.2 ∙ ap (λ (d : Contract). d.content) (sym same ∙ sym is)) found so)
-            | inr none ↦ absurd (contains_none of.0 none)
-          ]
-        ]),
-      )
+  checked_more cs at c a more b low is grown was here = (
+    λ n r there. elim (Contains-append_cases a more n (subst (λ xs. Contains xs n) grown there)) [
+      | inl old ↦ was.0 n r old
+      | inr new ↦ here.0 n r new
+    ],
+    λ content w e of found so. reached_more cs at c a more b e.0 content low is grown of (λ old. was.1 content w e old found so) (λ new. here.1 content w e new found so),
+  )
 
   -- those of the contracts, and those of the version
   pub checked_both : (n : ℕ) (cs : List Contract) (a b all : List ℕ) → TellChecked s (λ c _. IsContentOf cs c) a → TellChecked s (λ _ w. number_of s.versions w ≡ Some n) b → Lists nat_cmp (Contains (a ++ b)) all
@@ -73,10 +98,7 @@ module _ (s : State) where
       | inl first ↦ one.0 k r first
       | inr second ↦ two.0 k r second
     ],
-    λ content w e of found so. (listed.exactly e.0).1 (elim of [
-      | inl mine ↦ Contains-append_left a b e.0 (one.1 content w e mine found so)
-      | inr theirs ↦ Contains-append_right a b e.0 (two.1 content w e theirs found so)
-    ]),
+    λ content w e of found so. reached_both n cs a b all e.0 content w (listed.exactly e.0).1 of (λ mine. one.1 content w e mine found so) (λ theirs. two.1 content w e theirs found so),
   )
 
   -- whether a latest result that is meant was checked is whether its number is there
@@ -108,7 +130,7 @@ newest_is None n h = absurd cc
 newest_is (Some e) n h = (e, refl, cc)
 
 module _ (s : State) (v : Version) (number : ℕ) (known : number_of s.versions v ≡ Some number) (contracts : List Contract) (own : Lists contract_cmp (IsOwnContract s v) contracts) (passes : List ResultPass) (checked : List ℕ)
-    (tell : TellPasses s passes) (are_checked : TellChecked s (IsMeant s number contracts) checked) where
+    (tell : TellPasses s (IsMeant s number contracts) passes) (are_checked : TellChecked s (IsMeant s number contracts) checked) where
   -- an entry of the matrix is one of a contract of v, or of v itself
   meant : (x : Entry) (is : IsEntry s v x) (r : VerifiedVersion) → (version x.consumer x.consumer_version ≡ v) ⊎ (version x.provider r.name ≡ v) → IsMeant s number contracts is.content (version x.provider r.name)
   meant x is r (inl mine) =
@@ -126,7 +148,7 @@ module _ (s : State) (v : Version) (number : ℕ) (known : number_of s.versions 
           let w = version x.provider r.name in
           let e = newest_is (latest_result s is.content w) r.result h.1 in
           let stands : result_with s r.result ≡ Some e.0.1 = ap (result_with s) (sym e.2) ∙ latest_with s is.content w e.0 e.1 in
-          let pass : t.0.latest.pass ≡ e.0.1.pass = tell (record { number = r.result; pass = t.0.latest.pass }) e.0.1 t.5 stands in
+          let pass : t.0.latest.pass ≡ e.0.1.pass = tell.0 (record { number = r.result; pass = t.0.latest.pass }) e.0.1 t.5 stands in
           let mark : t.0.latest.checked ≡ e.0.1.checked = t.4 ∙ ap (is_among checked) (sym e.2) ∙ checked_is s (IsMeant s number contracts) checked is.content w e.0 are_checked (meant x is r h.0) e.1 in (
             t.0.latest,
             ap (option_map said_by) stands ∙ (λ i. Some (record { pass = sym pass i; checked = sym mark i })),
@@ -141,3 +163,12 @@ module _ (s : State) (v : Version) (number : ℕ) (known : number_of s.versions 
 
   pub matrix_told : (entries : List Entry) (rows : List MatrixRow) → Lists entry_cmp (IsEntry s v) entries → AreRead (IsRowTold passes checked) entries rows → Lists matrix_cmp (IsMatrixRow s v) rows
   matrix_told entries rows listed read = rows_are s v entries rows listed (each_told entries rows (λ x has. (listed.exactly x).0 (has_contains entries x has)) read)
+
+  -- each result that an entry names is told of
+  pub none_untold : (entries : List Entry) → Lists entry_cmp (IsEntry s v) entries → ¬ ((x : Entry) × Contains entries x × NamesUntold passes x)
+  none_untold entries listed (x, there, (r, names, untold)) =
+      let is = (listed.exactly x).0 there in
+      let h = subst (λ o. MatchOption o ((version x.consumer x.consumer_version ≡ v) × HasNone s is.content x.provider) (λ r. ((version x.consumer x.consumer_version ≡ v) ⊎ (version x.provider r.name ≡ v)) × IsNewest s is.content (version x.provider r.name) r.result)) names is.verified in
+      let w = version x.provider r.name in
+      let e = newest_is (latest_result s is.content w) r.result h.1 in
+      untold (record { number = e.0.0; pass = e.0.1.pass }, tell.1 is.content w e.0 (meant x is r h.0) e.1, e.2)

@@ -175,20 +175,32 @@ module _ (db : Database) (s : Broker) (held : Holds db s) where
 
   -- ---- whether each is a pass
 
-  pub passes_told : (place k : ℕ) → ((l : Row) → Has (db.trees 19) l → column l place ≡ Int (whole_at place l)) → (rows : List Row) (items : List ResultPass) → Answers db (record { lets = []; body = from_both 19 17 (terms place) pass_project [] }) (Int (pos k) ∷ []) rows
-      → AreRead IsPassRow rows items → TellPasses s items
-  passes_told place k typed rows items h read x r there is =
-      let it = read_has IsPassRow rows items x read there in
-      let q = shown_pair 17 (numbered_rows db held.broker) place k typed pass_project rows it.0 h it.1 in
-      let shown : IsPassRow (eval_all pass_project ((Int (pos k) ∷ []) ∷ q.0 ∷ q.1 ∷ [])) x = subst (λ row. IsPassRow row x) q.4 it.2 in
-      let stored = row_result x.number r q.1 is q.2 (q.3 ∙ ap id_in shown.0) in
-      sym shown.1 ∙ ap (λ (y : ResultRow). y.pass) stored
+  pub passes_told : (place k : ℕ) → ((l : Row) → Has (db.trees 19) l → column l place ≡ Int (whole_at place l)) → (Of : ℕ → Version → Type 0)
+      → ((content m : ℕ) (w : Version) (l : Row) → Of content w → number_of s.versions w ≡ Some m → whole_at 1 l ≡ pos content → whole_at 2 l ≡ pos m → whole_at place l ≡ pos k)
+      → (rows : List Row) (items : List ResultPass) → Answers db (record { lets = []; body = from_both 19 17 (terms place) pass_project [] }) (Int (pos k) ∷ []) rows → AreRead IsPassRow rows items → TellPasses s Of items
+  passes_told place k typed Of reached rows items h read = (
+    λ x r there is.
+        let it = read_has IsPassRow rows items x read there in
+        let q = shown_pair 17 (numbered_rows db held.broker) place k typed pass_project rows it.0 h it.1 in
+        let shown : IsPassRow (eval_all pass_project ((Int (pos k) ∷ []) ∷ q.0 ∷ q.1 ∷ [])) x = subst (λ row. IsPassRow row x) q.4 it.2 in
+        let stored = row_result x.number r q.1 is q.2 (q.3 ∙ ap id_in shown.0) in
+        sym shown.1 ∙ ap (λ (y : ResultRow). y.pass) stored,
+    λ content w e of found.
+        let l = latest_row content w e found in
+        let r = result_row e.0 e.1 (latest_with s content w e found) in
+        let row = pair_is_shown 17 (numbered_rows db held.broker) place k typed pass_project rows l.2 r.0 h l.3 r.1 (r.2 ∙ sym l.6) (reached content l.0 w l.2 of l.1 l.4 l.5) in
+        let y = has_read IsPassRow rows items (eval_all pass_project ((Int (pos k) ∷ []) ∷ l.2 ∷ r.0 ∷ [])) read row in
+        let number : y.0.number ≡ e.0 = same_pos y.0.number e.0 (sym (ap id_in y.2.0) ∙ l.6) in
+        let pass : y.0.pass ≡ e.1.pass = sym y.2.1 ∙ ap (λ (z : ResultRow). z.pass) r.3 in
+        let same : y.0 ≡ record { number = e.0; pass = e.1.pass } = (λ i. record { number = number i; pass = pass i }) in
+        subst (Contains items) same y.1,
+  )
 
-  pub passes_for_told : (k : ℕ) (rows : List Row) (items : List ResultPass) → Answers db (record { lets = []; body = from_both 19 17 (terms 1) pass_project [] }) (Int (pos k) ∷ []) rows → AreRead IsPassRow rows items → TellPasses s items
-  passes_for_told k = passes_told 1 k (contents db held.broker)
+  pub passes_for_told : (k : ℕ) (rows : List Row) (items : List ResultPass) → Answers db (record { lets = []; body = from_both 19 17 (terms 1) pass_project [] }) (Int (pos k) ∷ []) rows → AreRead IsPassRow rows items → TellPasses s (λ content w. content ≡ k) items
+  passes_for_told k = passes_told 1 k (contents db held.broker) (λ content w. content ≡ k) (λ content m w l of known one two. one ∙ ap pos of)
 
-  pub passes_by_told : (k : ℕ) (rows : List Row) (items : List ResultPass) → Answers db (record { lets = []; body = from_both 19 17 (terms 2) pass_project [] }) (Int (pos k) ∷ []) rows → AreRead IsPassRow rows items → TellPasses s items
-  passes_by_told k = passes_told 2 k (versions db held.broker)
+  pub passes_by_told : (k : ℕ) (rows : List Row) (items : List ResultPass) → Answers db (record { lets = []; body = from_both 19 17 (terms 2) pass_project [] }) (Int (pos k) ∷ []) rows → AreRead IsPassRow rows items → TellPasses s (λ content w. number_of s.versions w ≡ Some k) items
+  passes_by_told k = passes_told 2 k (versions db held.broker) (λ content w. number_of s.versions w ≡ Some k) (λ content m w l of known one two. two ∙ ap pos (same_some m k (sym known ∙ of)))
 
   -- ---- which of them the broker checked
 

@@ -11,7 +11,7 @@ use Rattle.broker_core.specs.declared.need.Need.{Need}
 use Rattle.broker_core.specs.declared.need.Latest.{Latest}
 use Rattle.broker_core.specs.Text.{Text, text_cmp, same_text, version}
 use Rattle.broker_core.specs.State.{State, latest}
-use Rattle.broker_core.specs.Gate.{Stands}
+use Rattle.broker_core.specs.Gate.{Stands, IsNeed}
 use Rattle.broker_core.specs.Listing.{Lists}
 use Rattle.broker_tables.specs.Numbers.{number_of}
 use Rattle.table_access.specs.declared.StoreFault.{StoreFault}
@@ -181,3 +181,7 @@ need_cmp x y = ordering_then (text_cmp x.consumer y.consumer)
     (ordering_then (text_cmp x.consumer_version y.consumer_version)
     (ordering_then (text_cmp x.provider y.provider)
     (option_cmp text_cmp x.provider_version y.provider_version)))
+
+-- these are the needs of v in e, in their order; none where v isn't there
+abbrev pub ListsNeeds : State → Version → Text → List Need → Type 0
+ListsNeeds s v e needs = MatchOption (number_of s.versions v) (needs ≡ []) (λ _. Lists need_cmp (IsNeed s v e) needs)

@@ -23,10 +23,13 @@ use Rattle.deploy_tables.specs.declared.told_results.ResultPass.{ResultPass}
 abbrev pub IsPassRow : Row → ResultPass → Type 0
 IsPassRow row x = (column row 0 ≡ Int (pos x.number)) × (truth 1 row ≡ x.pass)
 
--- each tells of the result with its number whether that is a pass
-abbrev pub TellPasses : State → List ResultPass → Type 0
-TellPasses s found =
-    (x : ResultPass) (r : Verification) → Contains found x → result_with s x.number ≡ Some r → x.pass ≡ r.pass
+-- each tells of the result with its number whether that is a pass, and one tells of each latest result, for a content
+-- and a version that are meant
+abbrev pub TellPasses : State → (ℕ → Version → Type 0) → List ResultPass → Type 0
+TellPasses s Of found =
+    ((x : ResultPass) (r : Verification) → Contains found x → result_with s x.number ≡ Some r → x.pass ≡ r.pass)
+    × ((content : ℕ) (w : Version) (e : ℕ × Verification) → Of content w → latest_result s content w ≡ Some e
+    → Contains found (record { number = e.0; pass = e.1.pass }))
 
 -- no number is below the one before it
 abbrev pub ArePassesByNumber : List ResultPass → Type 0

@@ -5,7 +5,7 @@ ghost use Rattle.broker_core.specs.Text.{Text};
 ghost use Rattle.broker_core.specs.Gate.{Stands};
 ghost use Rattle.broker_core.specs.declared.command.Version.{Version};
 ghost use Rattle.broker_tables.specs.Numbers.{number_of as number_known};
-ghost use Rattle.broker_tables.specs.Holds.{Queries};
+ghost use Rattle.broker_tables.specs.Calm.{CalmQueries};
 ghost use Rattle.contract_tables.specs.Listings.{FailsAsNumbers};
 ghost use Rattle.deploy_tables.specs.declared.contracts_there.NumberedContract.{NumberedContract as NumberedModel};
 ghost use Rattle.deploy_tables.specs.ContractsThere.{IsDeployedIn, IsReleasedIn, TellsContracts, IsByNumber, AreContractsThere, IsNumberedRow};
@@ -46,7 +46,7 @@ fn deployed_contracts<S: Alter>(
     environment: &str,
     provider: &str,
 ) -> Result<Vec<NumberedContract>, StoreFault>
-    ensures { Queries S.Store conn.old conn.new result
+    ensures { CalmQueries S.Store conn.old conn.new result
         (λ found s. TellsContracts s provider.now (IsDeployedIn s environment.now) found.items) }
 {
     list_of::<NumberedRow, S>(
@@ -64,7 +64,7 @@ fn released_contracts<S: Alter>(
     environment: &str,
     provider: &str,
 ) -> Result<Vec<NumberedContract>, StoreFault>
-    ensures { Queries S.Store conn.old conn.new result
+    ensures { CalmQueries S.Store conn.old conn.new result
         (λ found s. TellsContracts s provider.now (IsReleasedIn s environment.now) found.items) }
 {
     list_of::<NumberedRow, S>(
@@ -113,7 +113,7 @@ pub(crate) fn contracts_there<S: Alter>(
     environment: &str,
     provider: &str,
 ) -> Result<Vec<NumberedContract>, StoreFault>
-    ensures { Queries S.Store conn.old conn.new result
+    ensures { CalmQueries S.Store conn.old conn.new result
         (λ found s. AreContractsThere s environment.now provider.now found.items) }
 {
     let deployed = done!(deployed_contracts(alloc, conn, environment, provider));

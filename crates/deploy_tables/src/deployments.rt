@@ -1,7 +1,8 @@
 //! The versions that are deployed: one of a pacticipant in an environment, as an instance.
 ghost use Rattle.std.specs.Prelude.{◌≡◌, ◌==◌, false};
 ghost use Rattle.std.specs.Option.{option_map_or};
-ghost use Rattle.broker_tables.specs.Holds.{QueriesInPlace, Changes, ChangesAndAnswers};
+ghost use Rattle.broker_tables.specs.Holds.{Changes, ChangesAndAnswers};
+ghost use Rattle.broker_tables.specs.Calm.{CalmQueriesInPlace};
 ghost use Rattle.deploy_tables.specs.Deployments.{RecordsDeployed, IsVersionOf, FindsDeployed, TakesOutAndTells};
 
 use sqlite::{Alter, Connection, params};
@@ -20,7 +21,7 @@ pub fn is_deployed<S: Alter>(
     instance: &str,
     number: u32,
 ) -> Result<bool, StoreFault>
-    ensures { QueriesInPlace S.Store conn.old conn.new result
+    ensures { CalmQueriesInPlace S.Store conn.old conn.new result
         (FindsDeployed environment.now pacticipant.now instance.now number) }
 {
     let found = done!(number_of(

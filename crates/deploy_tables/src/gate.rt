@@ -5,8 +5,8 @@ ghost use Rattle.broker_core.specs.State.{latest as latest_in};
 ghost use Rattle.broker_core.specs.Listing.{Lists};
 ghost use Rattle.broker_core.specs.Gate.{IsNeed};
 ghost use Rattle.broker_tables.specs.Numbers.{number_of as number_in};
-ghost use Rattle.broker_tables.specs.Holds.{Queries, QueriesInPlace};
-ghost use Rattle.deploy_tables.specs.Needs.{AllStand, consumer_in, AreLatestOf, IsNumberedPair, AreNumberedPairs, latest_between, need_in, need_cmp};
+ghost use Rattle.broker_tables.specs.Calm.{CalmQueries, CalmQueriesInPlace};
+ghost use Rattle.deploy_tables.specs.Needs.{AllStand, consumer_in, AreLatestOf, IsNumberedPair, AreNumberedPairs, latest_between, need_in, need_cmp, ListsNeeds};
 
 use crate::consumers::consumer_contracts;
 use crate::contracts_there::contracts_there;
@@ -16,6 +16,7 @@ use broker_core::command::Version;
 use broker_core::name::Name;
 use broker_core::need::{Latest, Need};
 use contract_tables::{LatestResult, contracts_of, latest_among, latest_of, latest_results};
+use registry_tables::version_of;
 use sqlite::{Alter, Connection};
 use std::alloc::Global;
 use table_access::StoreFault;
@@ -29,7 +30,7 @@ fn latest_with<S: Alter>(
     content: u32,
     partner: &Partner,
 ) -> Result<Option<Latest>, StoreFault>
-    ensures { QueriesInPlace S.Store conn.old conn.new result
+    ensures { CalmQueriesInPlace S.Store conn.old conn.new result
         (λ found s. AreLatestOf s number results.now → (v : VersionModel) →
         number_in s.versions v ≡ Some partner.now.number → found ≡ latest_in s content v) }
 {
@@ -48,7 +49,7 @@ fn latest_for<S: Alter>(
     results: &[LatestResult],
     pair: &Pair,
 ) -> Result<Option<Latest>, StoreFault>
-    ensures { QueriesInPlace S.Store conn.old conn.new result
+    ensures { CalmQueriesInPlace S.Store conn.old conn.new result
         (λ found s. AreLatestOf s number results.now → IsNumberedPair s pair.now →
         found ≡ latest_between s pair.now) }
 {
@@ -101,7 +102,7 @@ fn need_of<S: Alter>(
     results: &[LatestResult],
     pair: Pair,
 ) -> Result<Need, StoreFault>
-    ensures { Queries S.Store conn.old conn.new result
+    ensures { CalmQueries S.Store conn.old conn.new result
         (λ need s. AreLatestOf s number results.now → IsNumberedPair s pair → need ≡ need_in s pair) }
 {
     let latest = done!(latest_for(conn, number, results, &pair));
@@ -116,7 +117,7 @@ fn with_latest<S: Alter>(
     results: &[LatestResult],
     pairs: Vec<Pair>,
 ) -> Result<Vec<Need>, StoreFault>
-    ensures { Queries S.Store conn.old conn.new result
+    ensures { CalmQueries S.Store conn.old conn.new result
         (λ needs s. AreLatestOf s number results.now → AreNumberedPairs s pairs.items →
         needs.items ≡ map (need_in s) pairs.items) }
 {
@@ -139,7 +140,7 @@ fn contracts_with<S: Alter>(
     environment: &str,
     standing: &[StandingVersion],
 ) -> Result<Vec<ConsumerContract>, StoreFault>
-    ensures { Queries S.Store conn.old conn.new result
+    ensures { CalmQueries S.Store conn.old conn.new result
         (λ found s. AllStand s environment.now standing.now →
         found.items ≡ filter_map (consumer_in s pacticipant.now) standing.now) }
 {
@@ -158,7 +159,7 @@ fn find_pairs<S: Alter>(
     version: &Version,
     environment: &str,
 ) -> Result<Vec<Pair>, StoreFault>
-    ensures { Queries S.Store conn.old conn.new result
+    ensures { CalmQueries S.Store conn.old conn.new result
         (λ pairs s. number_in s.versions version.now ≡ Some number → AreNumberedPairs s pairs.items
         × Lists need_cmp (IsNeed s version.now environment.now) (map (need_in s) pairs.items)) }
 {
@@ -168,10 +169,27 @@ fn find_pairs<S: Alter>(
     pairs_of(alloc, version, number, &own, &there, &consumers)
 }
 
-/// What the version of this number needs in the environment, with what the latest result says of each: its contracts
-/// with each version of their providers that is there, or with none, and the contracts that versions of other
-/// pacticipants which are there have with its pacticipant. Each need is there once, in the order of consumers, their
-/// versions, providers and their versions, an absent provider first.
+/// What the version of this number needs in the environment.
+fn needs_numbered<S: Alter>(
+    alloc: Global,
+    conn: &mut Connection<S>,
+    number: u32,
+    version: &Version,
+    environment: &str,
+) -> Result<Vec<Need>, StoreFault>
+    ensures { CalmQueries S.Store conn.old conn.new result
+        (λ found s. number_in s.versions version.now ≡ Some number →
+        Lists need_cmp (IsNeed s version.now environment.now) found.items) }
+{
+    let pairs = done!(find_pairs(alloc, conn, number, version, environment));
+    let results = done!(latest_results(alloc, conn, number));
+    with_latest(alloc, conn, number, &results, pairs)
+}
+
+/// What the version needs in the environment, with what the latest result says of each: its contracts with each version
+/// of their providers that is there, or with none, and the contracts that versions of other pacticipants which are
+/// there have with its pacticipant. Each need is there once, in the order of consumers, their versions, providers and
+/// their versions, an absent provider first. The list is empty if there is no such version.
 ///
 /// # Errors
 /// `StoreFault::Memory` if the database is out of memory, or there is none for the answer; `StoreFault::Store` if it
@@ -179,15 +197,14 @@ fn find_pairs<S: Alter>(
 pub fn needs<S: Alter>(
     alloc: Global,
     conn: &mut Connection<S>,
-    number: u32,
     version: &Version,
     environment: &str,
 ) -> Result<Vec<Need>, StoreFault>
-    ensures { Queries S.Store conn.old conn.new result
-        (λ found s. number_in s.versions version.now ≡ Some number →
-        Lists need_cmp (IsNeed s version.now environment.now) found.items) }
+    ensures { CalmQueries S.Store conn.old conn.new result
+        (λ found s. ListsNeeds s version.now environment.now found.items) }
 {
-    let pairs = done!(find_pairs(alloc, conn, number, version, environment));
-    let results = done!(latest_results(alloc, conn, number));
-    with_latest(alloc, conn, number, &results, pairs)
+    match done!(version_of(conn, version.pacticipant.as_str(), version.name.as_str())) {
+        Some(number) => needs_numbered(alloc, conn, number, version, environment),
+        None => Ok(Vec::new(alloc)),
+    }
 }

@@ -2,7 +2,7 @@
 ghost use Rattle.std.specs.Prelude.{◌≡◌, IsTrue, Some};
 ghost use Rattle.broker_core.specs.Listing.{Lists};
 ghost use Rattle.broker_core.specs.Machine.{deployed_cmp, version_cmp};
-ghost use Rattle.broker_tables.specs.Holds.{Queries};
+ghost use Rattle.broker_tables.specs.Calm.{CalmQueries};
 ghost use Rattle.deploy_tables.specs.Listings.{IsDeployedRow, IsReleasedRow, FailsAsDeployed, FailsAsReleased};
 
 use broker_core::answer::DeployedItem;
@@ -62,7 +62,7 @@ pub fn deployed<S: Alter>(
     conn: &mut Connection<S>,
     environment: &str,
 ) -> Result<Vec<DeployedItem>, StoreFault>
-    ensures { Queries S.Store conn.old conn.new result
+    ensures { CalmQueries S.Store conn.old conn.new result
         (λ items s. Lists deployed_cmp
         (λ x. s.deployed (environment.now, x.pacticipant, x.instance) ≡ Some x.version) items.items) }
 {
@@ -84,7 +84,7 @@ pub fn released<S: Alter>(
     conn: &mut Connection<S>,
     environment: &str,
 ) -> Result<Vec<Version>, StoreFault>
-    ensures { Queries S.Store conn.old conn.new result
+    ensures { CalmQueries S.Store conn.old conn.new result
         (λ items s. Lists version_cmp (λ v. IsTrue (s.released (environment.now, v))) items.items) }
 {
     list_of::<ReleasedRow, S>(

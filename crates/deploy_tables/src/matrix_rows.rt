@@ -9,9 +9,11 @@ ghost use Rattle.broker_core.specs.Listing.{Lists};
 ghost use Rattle.broker_core.specs.Machine.{IsMatrixRow, matrix_cmp};
 ghost use Rattle.broker_tables.specs.Numbers.{number_of as number_known};
 ghost use Rattle.broker_tables.specs.Holds.{Queries};
+ghost use Rattle.broker_tables.specs.Calm.{CalmQueries};
 ghost use Rattle.contract_tables.specs.Listings.{contract_cmp};
 ghost use Rattle.deploy_tables.specs.declared.entries.Entry.{Entry as EntryModel};
 ghost use Rattle.deploy_tables.specs.Matrix.{IsOfContract, IsOfContent, IsOfSome, IsProvided, IsEntry, AreEntriesOf, entry_cmp};
+ghost use Rattle.deploy_tables.specs.CalmWhere.{IsCalmWhere};
 ghost use Rattle.deploy_tables.specs.Needs.{IsOwnContract};
 ghost use Rattle.deploy_tables.specs.ToldResults.{ArePassesByNumber, IsUntold, NamesUntold, FailsAsTold, IsVerifiedTold, IsRowTold};
 
@@ -24,6 +26,7 @@ use contract_tables::{
     Contract, VerifiedContent, VerifiedVersion, consumers_of, contracts_of, verified_contents,
     verified_versions,
 };
+use registry_tables::version_of;
 use sqlite::{Alter, Connection};
 use std::alloc::Global;
 use table_access::StoreFault;
@@ -47,7 +50,7 @@ fn of_contract<S: Alter>(
     version: &Version,
     contract: &Contract,
 ) -> Result<Vec<Entry>, StoreFault>
-    ensures { Queries S.Store conn.old conn.new result
+    ensures { CalmQueries S.Store conn.old conn.new result
         (λ found s. (x : EntryModel) → Contains found.items x ↔ IsOfContract s version.now contract.now x) }
 {
     let verified = done!(verified_versions(
@@ -69,7 +72,7 @@ fn of_contracts<S: Alter>(
     version: &Version,
     contracts: &[Contract],
 ) -> Result<Vec<Entry>, StoreFault>
-    ensures { Queries S.Store conn.old conn.new result
+    ensures { CalmQueries S.Store conn.old conn.new result
         (λ found s. (x : EntryModel) → Contains found.items x
         ↔ IsOfSome (λ c. IsOfContract s version.now c x) contracts.now) }
 {
@@ -88,7 +91,7 @@ fn of_content<S: Alter>(
     version: &Version,
     verified: &VerifiedContent,
 ) -> Result<Vec<Entry>, StoreFault>
-    ensures { Queries S.Store conn.old conn.new result
+    ensures { CalmQueries S.Store conn.old conn.new result
         (λ found s. (x : EntryModel) → Contains found.items x ↔ IsOfContent s version.now verified.now x) }
 {
     let consumers = done!(consumers_of(
@@ -110,7 +113,7 @@ fn of_contents<S: Alter>(
     version: &Version,
     contents: &[VerifiedContent],
 ) -> Result<Vec<Entry>, StoreFault>
-    ensures { Queries S.Store conn.old conn.new result
+    ensures { CalmQueries S.Store conn.old conn.new result
         (λ found s. (x : EntryModel) → Contains found.items x
         ↔ IsOfSome (λ c. IsOfContent s version.now c x) contents.now) }
 {
@@ -129,7 +132,7 @@ fn provided<S: Alter>(
     number: u32,
     version: &Version,
 ) -> Result<Vec<Entry>, StoreFault>
-    ensures { Queries S.Store conn.old conn.new result
+    ensures { CalmQueries S.Store conn.old conn.new result
         (λ found s. number_known s.versions version.now ≡ Some number →
         (x : EntryModel) → Contains found.items x ↔ IsProvided s version.now x) }
 {
@@ -145,7 +148,7 @@ fn entries_of<S: Alter>(
     version: &Version,
     contracts: &[Contract],
 ) -> Result<Vec<Entry>, StoreFault>
-    ensures { Queries S.Store conn.old conn.new result
+    ensures { CalmQueries S.Store conn.old conn.new result
         (λ found s. number_known s.versions version.now ≡ Some number →
         Lists contract_cmp (IsOwnContract s version.now) contracts.now →
         Lists entry_cmp (IsEntry s version.now) found.items) }
@@ -260,18 +263,38 @@ fn with_results<S: Alter>(
     contracts: &[Contract],
     entries: &[Entry],
 ) -> Result<Vec<MatrixRow>, StoreFault>
-    ensures { Queries S.Store conn.old conn.new result
+    ensures answers { Queries S.Store conn.old conn.new result
         (λ rows s. (v : VersionModel) → AreEntriesOf s v number contracts.now entries.now →
         Lists matrix_cmp (IsMatrixRow s v) rows.items) }
+    ensures calm { IsCalmWhere S.Store conn.old conn.new result
+        (λ s. (v : VersionModel) × AreEntriesOf s v number contracts.now entries.now) }
 {
     let passes = done!(passes_told(alloc, conn, number, contracts));
     let checked = done!(checked_told(alloc, conn, number, contracts));
     rows_of(alloc, entries, &passes, &checked)
 }
 
-/// The matrix of the version with this number, in the order of faults: each of its contracts with each version of the
-/// provider that has a result for the content, or with none; and each contract with its pacticipant for whose content
-/// it has a result. Each row has the latest result.
+/// The matrix of the version of this number.
+fn matrix_numbered<S: Alter>(
+    alloc: Global,
+    conn: &mut Connection<S>,
+    number: u32,
+    version: &Version,
+) -> Result<Vec<MatrixRow>, StoreFault>
+    ensures answers { Queries S.Store conn.old conn.new result
+        (λ rows s. number_known s.versions version.now ≡ Some number →
+        Lists matrix_cmp (IsMatrixRow s version.now) rows.items) }
+    ensures calm { IsCalmWhere S.Store conn.old conn.new result
+        (λ s. number_known s.versions version.now ≡ Some number) }
+{
+    let contracts = done!(contracts_of(alloc, conn, number));
+    let entries = done!(entries_of(alloc, conn, number, version, &contracts));
+    with_results(alloc, conn, number, &contracts, &entries)
+}
+
+/// The matrix of the version, in the order of faults: each of its contracts with each version of the provider that has a
+/// result for the content, or with none; and each contract with its pacticipant for whose content it has a result. Each
+/// row has the latest result. The list is empty if there is no such version.
 ///
 /// # Errors
 /// `StoreFault::Memory` if the database is out of memory, or there is none for the answer; `StoreFault::Store` if it
@@ -279,14 +302,13 @@ fn with_results<S: Alter>(
 pub fn matrix<S: Alter>(
     alloc: Global,
     conn: &mut Connection<S>,
-    number: u32,
     version: &Version,
 ) -> Result<Vec<MatrixRow>, StoreFault>
-    ensures { Queries S.Store conn.old conn.new result
-        (λ rows s. number_known s.versions version.now ≡ Some number →
-        Lists matrix_cmp (IsMatrixRow s version.now) rows.items) }
+    ensures { CalmQueries S.Store conn.old conn.new result
+        (λ rows s. Lists matrix_cmp (IsMatrixRow s version.now) rows.items) }
 {
-    let contracts = done!(contracts_of(alloc, conn, number));
-    let entries = done!(entries_of(alloc, conn, number, version, &contracts));
-    with_results(alloc, conn, number, &contracts, &entries)
+    match done!(version_of(conn, version.pacticipant.as_str(), version.name.as_str())) {
+        Some(number) => matrix_numbered(alloc, conn, number, version),
+        None => Ok(Vec::new(alloc)),
+    }
 }

@@ -1,7 +1,8 @@
 //! The versions that are released and supported in an environment.
 ghost use Rattle.std.specs.Prelude.{◌≡◌, Some};
 ghost use Rattle.broker_core.specs.declared.command.Version.{Version as VersionModel};
-ghost use Rattle.broker_tables.specs.Holds.{QueriesInPlace, Changes, ChangesAndAnswers};
+ghost use Rattle.broker_tables.specs.Holds.{Changes, ChangesAndAnswers};
+ghost use Rattle.broker_tables.specs.Calm.{CalmQueriesInPlace};
 ghost use Rattle.broker_tables.specs.Numbers.{number_of as number_in};
 ghost use Rattle.deploy_tables.specs.Releases.{IsVersion, FindsReleased, RecordsReleased, EndsSupport};
 
@@ -17,7 +18,7 @@ pub fn is_released<S: Alter>(
     environment: &str,
     number: u32,
 ) -> Result<bool, StoreFault>
-    ensures { QueriesInPlace S.Store conn.old conn.new result (FindsReleased environment.now number) }
+    ensures { CalmQueriesInPlace S.Store conn.old conn.new result (FindsReleased environment.now number) }
 {
     has_row(
         conn,

@@ -1,7 +1,7 @@
 //! The versions that are in an environment, with their numbers.
 ghost use Rattle.std.specs.Prelude.{◌≡◌, Contains, ◌↔◌, ◌++◌, IfOk, IfErr};
 ghost use Rattle.broker_core.specs.Listing.{Lists};
-ghost use Rattle.broker_tables.specs.Holds.{Queries};
+ghost use Rattle.broker_tables.specs.Calm.{CalmQueries};
 ghost use Rattle.deploy_tables.specs.declared.standing_versions.StandingVersion.{StandingVersion as StandingModel};
 ghost use Rattle.deploy_tables.specs.Needs.{IsDeployedThere, AreDeployedNumbered, IsReleasedThere, AreReleasedNumbered, IsStandingRow, FailsAsStanding};
 ghost use Rattle.deploy_tables.specs.Needs.{IsStanding, AreNumbered, standing_cmp};
@@ -49,7 +49,7 @@ fn deployed_versions<S: Alter>(
     conn: &mut Connection<S>,
     environment: &str,
 ) -> Result<Vec<StandingVersion>, StoreFault>
-    ensures { Queries S.Store conn.old conn.new result
+    ensures { CalmQueries S.Store conn.old conn.new result
         (λ items s. ((x : StandingModel) → Contains items.items x ↔ IsDeployedThere s environment.now x)
         × AreDeployedNumbered s environment.now) }
 {
@@ -67,7 +67,7 @@ fn released_versions<S: Alter>(
     conn: &mut Connection<S>,
     environment: &str,
 ) -> Result<Vec<StandingVersion>, StoreFault>
-    ensures { Queries S.Store conn.old conn.new result
+    ensures { CalmQueries S.Store conn.old conn.new result
         (λ items s. Lists standing_cmp (IsReleasedThere s environment.now) items.items
         × AreReleasedNumbered s environment.now) }
 {
@@ -116,7 +116,7 @@ pub fn standing<S: Alter>(
     conn: &mut Connection<S>,
     environment: &str,
 ) -> Result<Vec<StandingVersion>, StoreFault>
-    ensures { Queries S.Store conn.old conn.new result
+    ensures { CalmQueries S.Store conn.old conn.new result
         (λ items s. Lists standing_cmp (IsStanding s environment.now) items.items
         × AreNumbered s environment.now) }
 {

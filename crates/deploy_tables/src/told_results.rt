@@ -7,7 +7,7 @@ ghost use Rattle.sqlite.specs.declared.types.Value.TheVariants.{Int};
 ghost use Rattle.table_access.specs.Reading.{TellsNumber};
 ghost use Rattle.broker_core.specs.Listing.{Lists};
 ghost use Rattle.broker_tables.specs.Numbers.{number_of as number_known};
-ghost use Rattle.broker_tables.specs.Holds.{Queries};
+ghost use Rattle.broker_tables.specs.Calm.{CalmQueries};
 ghost use Rattle.contract_tables.specs.VersionResults.{FailsAsPass, is_among};
 ghost use Rattle.deploy_tables.specs.declared.told_results.ResultPass.{ResultPass as PassModel};
 ghost use Rattle.deploy_tables.specs.ToldResults.{IsPassRow, TellPasses, ArePassesByNumber, IsUntold, TellChecked, IsContentOf, IsMeant};
@@ -63,7 +63,7 @@ fn passes_for<S: Alter>(
     conn: &mut Connection<S>,
     content: u32,
 ) -> Result<Vec<ResultPass>, StoreFault>
-    ensures { Queries S.Store conn.old conn.new result (λ found s. TellPasses s found.items) }
+    ensures { CalmQueries S.Store conn.old conn.new result (λ found s. TellPasses s (λ c _. c ≡ content) found.items) }
 {
     list_of::<PassRow, S>(
         alloc,
@@ -79,7 +79,8 @@ fn passes_by<S: Alter>(
     conn: &mut Connection<S>,
     version_number: u32,
 ) -> Result<Vec<ResultPass>, StoreFault>
-    ensures { Queries S.Store conn.old conn.new result (λ found s. TellPasses s found.items) }
+    ensures { CalmQueries S.Store conn.old conn.new result (λ found s. TellPasses s
+        (λ _ w. number_known s.versions w ≡ Some version_number) found.items) }
 {
     list_of::<PassRow, S>(
         alloc,
@@ -107,7 +108,7 @@ fn passes_of_contracts<S: Alter>(
     conn: &mut Connection<S>,
     contracts: &[Contract],
 ) -> Result<Vec<ResultPass>, StoreFault>
-    ensures { Queries S.Store conn.old conn.new result (λ found s. TellPasses s found.items) }
+    ensures { CalmQueries S.Store conn.old conn.new result (λ found s. TellPasses s (λ c _. IsContentOf contracts.now c) found.items) }
 {
     let mut found = Vec::new(alloc);
     for contract in contracts {
@@ -150,8 +151,9 @@ pub(crate) fn passes_told<S: Alter>(
     number: u32,
     contracts: &[Contract],
 ) -> Result<Vec<ResultPass>, StoreFault>
-    ensures { Queries S.Store conn.old conn.new result
-        (λ found s. ArePassesByNumber found.items × TellPasses s found.items) }
+    ensures { CalmQueries S.Store conn.old conn.new result
+        (λ found s. ArePassesByNumber found.items
+        × TellPasses s (IsMeant s number contracts.now) found.items) }
 {
     let own = done!(passes_of_contracts(alloc, conn, contracts));
     let others = done!(passes_by(alloc, conn, number));
@@ -176,7 +178,7 @@ fn checked_for<S: Alter>(
     conn: &mut Connection<S>,
     content: u32,
 ) -> Result<Vec<u32>, StoreFault>
-    ensures { Queries S.Store conn.old conn.new result
+    ensures { CalmQueries S.Store conn.old conn.new result
         (λ found s. TellChecked s (λ c _. c ≡ content) found.items) }
 {
     list_of::<MarkRow, S>(
@@ -193,7 +195,7 @@ fn checked_by<S: Alter>(
     conn: &mut Connection<S>,
     version_number: u32,
 ) -> Result<Vec<u32>, StoreFault>
-    ensures { Queries S.Store conn.old conn.new result
+    ensures { CalmQueries S.Store conn.old conn.new result
         (λ found s. TellChecked s
         (λ _ w. number_known s.versions w ≡ Some version_number) found.items) }
 {
@@ -223,7 +225,7 @@ fn checked_of_contracts<S: Alter>(
     conn: &mut Connection<S>,
     contracts: &[Contract],
 ) -> Result<Vec<u32>, StoreFault>
-    ensures { Queries S.Store conn.old conn.new result
+    ensures { CalmQueries S.Store conn.old conn.new result
         (λ found s. TellChecked s (λ c _. IsContentOf contracts.now c) found.items) }
 {
     let mut found = Vec::new(alloc);
@@ -266,7 +268,7 @@ pub(crate) fn checked_told<S: Alter>(
     number: u32,
     contracts: &[Contract],
 ) -> Result<Vec<u32>, StoreFault>
-    ensures { Queries S.Store conn.old conn.new result
+    ensures { CalmQueries S.Store conn.old conn.new result
         (λ found s. IsStrictlySortedBy nat_cmp found.items
         × TellChecked s (IsMeant s number contracts.now) found.items) }
 {

@@ -1,5 +1,5 @@
 -- what the commands on a version and an environment show and change
-use Rattle.std.specs.Prelude.{◌≡◌, ℕ, List, Some, Bool, IsTrue}
+use Rattle.std.specs.Prelude.{◌≡◌, List, Some, Bool, IsTrue}
 use Rattle.broker_core.specs.Change.{Transition, unchanged_with}
 use Rattle.broker_core.specs.Gate.{IsNeed, Judges}
 use Rattle.broker_core.specs.Listing.{Lists}
@@ -19,7 +19,7 @@ use Rattle.broker_core.specs.declared.need.PairFault.{PairFault}
 use Rattle.broker_core.specs.declared.policy.Caller.{Caller}
 use Rattle.command_facts.specs.Primitives.{broker_primitives}
 use Rattle.deploy_tables.specs.Needs.{need_cmp}
-use Rattle.environment_commands.specs.Places.{HasNumber, IsAdmitted}
+use Rattle.environment_commands.specs.Places.{IsAdmitted}
 use Rattle.environment_commands.specs.declared.places.Admitted.{Admitted}
 
 -- what the command does once nothing refuses it
@@ -50,9 +50,9 @@ IsEnvironmentShown e marks answer s = (caller : Caller) → s.environments e ≡
 abbrev pub IsGateShown : Text → Version → Admitted → Answer → Broker → Type 0
 IsGateShown e v place answer s = IsAdmitted e v place s → Enacts (CanIDeploy v e) s (unchanged_with s answer)
 
--- what is shown of the matrix of a version with this number
-abbrev pub IsMatrixShown : Version → ℕ → Answer → Broker → Type 0
-IsMatrixShown v number answer s = HasNumber v number s → Enacts (GetMatrix v) s (unchanged_with s answer)
+-- what is shown of the matrix of a version
+abbrev pub IsMatrixShown : Version → Answer → Broker → Type 0
+IsMatrixShown v answer s = Enacts (GetMatrix v) s (unchanged_with s answer)
 
 -- the answer that shows an environment with its lists
 abbrev pub shows : Text → Marks → List DeployedItem → List Version → Answer

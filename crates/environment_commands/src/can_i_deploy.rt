@@ -3,6 +3,7 @@ ghost use Rattle.std.specs.Prelude.{◌≡◌, Some, None, false, IfOk, IfErr};
 ghost use Rattle.broker_core.specs.declared.command.Command.TheVariants.{CanIDeploy};
 ghost use Rattle.broker_core.specs.declared.policy.Rule.TheVariants.{A6};
 ghost use Rattle.broker_tables.specs.Holds.{Queries};
+ghost use Rattle.broker_tables.specs.Calm.{CalmQueries};
 ghost use Rattle.command_facts.specs.Performs.{Performs, IsStepOf};
 ghost use Rattle.environment_commands.specs.Effects.{IsGateShown, shows_gate};
 ghost use Rattle.environment_commands.specs.Places.{IsVersionRead, GateHasRefusal};
@@ -84,7 +85,7 @@ fn show_gate<S: Alter>(
     environment: &Name,
     place: Admitted,
 ) -> Result<Answer, StoreFault>
-    ensures { Queries S.Store conn.old conn.new result
+    ensures { CalmQueries S.Store conn.old conn.new result
         (IsGateShown environment.now version.now place) }
 {
     let (permitted, faults) = done!(judge(alloc, conn, environment, version, place));

@@ -1,6 +1,6 @@
 //! The gate.
 ghost use Rattle.std.specs.Prelude.{◌≡◌, ◌==◌, ◌||◌, IfOk, IfErr, length, not};
-ghost use Rattle.broker_tables.specs.Holds.{Queries};
+ghost use Rattle.broker_tables.specs.Calm.{CalmQueries};
 ghost use Rattle.environment_commands.specs.Effects.{GateSays, JudgesNeeds};
 
 use crate::places::Admitted;
@@ -46,9 +46,9 @@ pub(crate) fn judge<S: Alter>(
     version: &Version,
     place: Admitted,
 ) -> Result<(bool, Vec<PairFault>), StoreFault>
-    ensures { Queries S.Store conn.old conn.new result
+    ensures { CalmQueries S.Store conn.old conn.new result
         (λ judged s. GateSays environment.now version.now place judged.0 judged.1.items s) }
 {
-    let needs = done!(needs(alloc, conn, place.number, version, environment.as_str()));
+    let needs = done!(needs(alloc, conn, version, environment.as_str()));
     Ok(done!(judgement(alloc, &needs, place.marks)))
 }

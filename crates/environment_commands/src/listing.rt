@@ -1,7 +1,7 @@
 //! The listing of an environment.
 ghost use Rattle.std.specs.Prelude.{◌≡◌, IfOk, IfErr};
 ghost use Rattle.broker_core.specs.declared.command.Command.TheVariants.{GetEnvironment};
-ghost use Rattle.broker_tables.specs.Holds.{Queries};
+ghost use Rattle.broker_tables.specs.Calm.{CalmQueries, IsCalm};
 ghost use Rattle.command_facts.specs.Performs.{Performs, IsStepOf};
 ghost use Rattle.environment_commands.specs.Effects.{ListsAll, IsEnvironmentShown, shows};
 
@@ -21,7 +21,7 @@ fn read_lists<S: Alter>(
     conn: &mut Connection<S>,
     environment: &Name,
 ) -> Result<(Vec<DeployedItem>, Vec<Version>), StoreFault>
-    ensures { Queries S.Store conn.old conn.new result
+    ensures { CalmQueries S.Store conn.old conn.new result
         (λ found s. ListsAll environment.now found.0.items found.1.items s) }
 {
     let items = done!(deployed(alloc, conn, environment.as_str()));
@@ -57,7 +57,7 @@ fn list_environment<S: Alter>(
     environment: &Name,
     marks: Marks,
 ) -> Result<Answer, StoreFault>
-    ensures { Queries S.Store conn.old conn.new result (IsEnvironmentShown environment.now marks) }
+    ensures { CalmQueries S.Store conn.old conn.new result (IsEnvironmentShown environment.now marks) }
 {
     let (deployed, released) = done!(read_lists(alloc, conn, environment));
     Ok(done!(environment_answer(environment, marks, deployed, released)))
@@ -70,8 +70,9 @@ pub fn get_environment<S: Alter>(
     caller: &Caller,
     environment: &Name,
 ) -> Result<Answer, StoreFault>
-    ensures { Performs S.Store conn.old conn.new result
+    ensures answers { Performs S.Store conn.old conn.new result
         (IsStepOf caller.now (GetEnvironment environment.now)) }
+    ensures calm { IsCalm S.Store conn.old conn.new result }
 {
     match done!(marks_of(conn, environment.as_str())) {
         Some(marks) => list_environment(alloc, conn, environment, marks),

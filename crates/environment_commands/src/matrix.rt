@@ -1,7 +1,7 @@
 //! The matrix of a version.
-ghost use Rattle.std.specs.Prelude.{◌≡◌, Some, None, IfOk, IfErr};
+ghost use Rattle.std.specs.Prelude.{Some, None, IfOk, IfErr};
 ghost use Rattle.broker_core.specs.declared.command.Command.TheVariants.{GetMatrix};
-ghost use Rattle.broker_tables.specs.Holds.{Queries};
+ghost use Rattle.broker_tables.specs.Calm.{CalmQueries};
 ghost use Rattle.command_facts.specs.Performs.{Performs, IsStepOf};
 ghost use Rattle.environment_commands.specs.Effects.{IsMatrixShown};
 ghost use Rattle.environment_commands.specs.Places.{MatrixHasRefusal};
@@ -15,15 +15,14 @@ use sqlite::{Alter, Connection};
 use std::alloc::Global;
 use table_access::StoreFault;
 
-/// The number of the version, or the answer that refuses to show its matrix.
-fn admitted_to_matrix(version: VersionFacts) -> Result<u32, Answer>
+/// Nothing, or the answer that refuses to show the matrix of the version.
+fn admitted_to_matrix(version: VersionFacts) -> Result<(), Answer>
     ensures refused { IfErr result (λ answer. MatrixHasRefusal version (Some answer)) }
-    ensures let_through { IfOk result (λ number. MatrixHasRefusal version None) }
-    ensures found { IfOk result (λ number. version.number ≡ Some number) }
+    ensures let_through { IfOk result (λ _. MatrixHasRefusal version None) }
 {
     match number_among(version) {
-        Ok(number) => if version.owner.is_allowed {
-            Ok(number)
+        Ok(_) => if version.owner.is_allowed {
+            Ok(())
         } else {
             Err(Answer::Denied(Rule::A6))
         },
@@ -31,17 +30,15 @@ fn admitted_to_matrix(version: VersionFacts) -> Result<u32, Answer>
     }
 }
 
-/// Shows the matrix of the version of this number.
+/// Shows the matrix of the version.
 fn show_matrix<S: Alter>(
     alloc: Global,
     conn: &mut Connection<S>,
     version: &Version,
-    number: u32,
 ) -> Result<Answer, StoreFault>
-    ensures { Queries S.Store conn.old conn.new result
-        (IsMatrixShown version.now number) }
+    ensures { CalmQueries S.Store conn.old conn.new result (IsMatrixShown version.now) }
 {
-    let rows = done!(matrix(alloc, conn, number, version));
+    let rows = done!(matrix(alloc, conn, version));
     Ok(Answer::Shown(Shown::Matrix(MatrixRows::new(rows))))
 }
 
@@ -57,7 +54,7 @@ pub fn get_matrix<S: Alter>(
 {
     let facts = done!(read_version(alloc, conn, caller, Rule::A6, version, false));
     match admitted_to_matrix(facts) {
-        Ok(number) => show_matrix(alloc, conn, version, number),
+        Ok(()) => show_matrix(alloc, conn, version),
         Err(answer) => Ok(answer),
     }
 }

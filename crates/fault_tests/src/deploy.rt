@@ -28,7 +28,7 @@ fn deploy_consumer(
 fn two_hundred_stand(rt: HostRuntime) -> Result<(), Fail> {
     let alloc = rt.alloc();
     let mut conn = filled(alloc)?;
-    let number = add_version(&mut conn, "stock", "1").map_err(fail_of)?;
+    add_version(&mut conn, "stock", "1").map_err(fail_of)?;
     assert!(rt; put(&mut conn, &Sha256Digester, "pact") == Ok(1));
     for pacticipant in 100..300 {
         deploy_consumer(alloc, &mut conn, pacticipant)?;
@@ -39,7 +39,7 @@ fn two_hundred_stand(rt: HostRuntime) -> Result<(), Fail> {
         pacticipant: Name::new(alloc, "stock")?,
         name: Name::new(alloc, "1")?,
     };
-    let needed = needs(alloc, &mut conn, number, &stock, "live").map_err(fail_of)?;
+    let needed = needs(alloc, &mut conn, &stock, "live").map_err(fail_of)?;
     assert!(rt; needed.len() == 200);
     for (version, need) in there.iter().zip(needed.iter()) {
         assert!(rt; version.pacticipant.as_str() == need.consumer.as_str());

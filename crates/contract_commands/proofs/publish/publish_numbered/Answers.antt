@@ -1,7 +1,7 @@
 use Rattle.std.proofs.Common.{◌≡◌, None, Some, true, false, sym, subst, ap, ◌∙◌, ◌&&◌}
 use Rattle.std.specs.Prelude.{⊤}
 use Rattle.sqlite.specs.Held.{state}
-use Rattle.broker_core.specs.Change.{Transition, put_pact, number_of, named}
+use Rattle.broker_core.specs.Change.{Transition, put_pact, content_number, named}
 use Rattle.broker_core.specs.Request.{consumer_version}
 use Rattle.broker_core.specs.State.{State}
 use Rattle.broker_core.specs.declared.answer.Answer.TheVariants.{Done, Full}
@@ -41,7 +41,7 @@ returns-in-Ok-record_contract g c =
         subst (CanRecord path c.args.version content) (sym next.1) (can_record s text path c.args.version content next.0 can),
         λ w is.
             let to : w ≡ published s v path.provider text = is ∙ ap (λ (u : State). contracted (named u v) v path.provider content) next.1 ∙ now_published s text v path.provider content next.0 in
-            let made : ◌≡◌ {A = Transition} (record { answer = Done (Content content); state = w }) (record { answer = Done (Content (number_of s text)); state = published s v path.provider text }) = (λ i. record { answer = Done (Content (next.0 i)); state = to i }) in
+            let made : ◌≡◌ {A = Transition} (record { answer = Done (Content content); state = w }) (record { answer = Done (Content (content_number s text)); state = published s v path.provider text }) = (λ i. record { answer = Done (Content (next.0 i)); state = to i }) in
             made ∙ put_first s v path.provider text true can.1 (λ i. may_be_named s v c.args.version can.0 i && next.2 i),
       ),
     ))

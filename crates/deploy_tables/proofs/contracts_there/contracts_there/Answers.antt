@@ -1,5 +1,5 @@
 use Rattle.sqlite.specs.Held.{state}
-use Rattle.contract_tables.proofs.QueryLemmas.{query_then, computed}
+use Rattle.contract_tables.proofs.QueryLemmas.{calm_then, calm_computed}
 use Rattle.deploy_tables.specs.ContractsThere.{IsDeployedIn, IsReleasedIn, TellsContracts}
 use Rattle.deploy_tables.proofs.ContractsThere.{standing_told}
 use Rattle.deploy_tables.proofs.contracts_there.contracts_there.Goals as goal
@@ -13,7 +13,7 @@ returns g c =
     let p = c.args.provider.now in
     let deployed = c.in-Ok.value in
     let released = c.in-Ok-released_contracts.value in
-    computed old new released c.in_one.result
+    calm_computed old new released c.in_one.result
     (λ items s. TellsContracts s p (IsDeployedIn s e) deployed.items × TellsContracts s p (IsReleasedIn s e) items.items) _ _
-    (λ s told all is. (is.0, standing_told s e p deployed.items released.items all.items told.0 told.1 is.1)) c.in_one.ensures.all
-    (query_then old mid new deployed _ _ _ _ (λ s one items two. (one, two)) c.in-Ok.ensures c.in-Ok-released_contracts.ensures)
+    (λ s told all is. (is.0, standing_told s e p deployed.items released.items all.items told.0 told.1 is.1)) c.in_one.ensures.all c.in_one.ensures.cause
+    (calm_then old mid new deployed _ _ _ _ (λ s one items two. (one, two)) c.in-Ok.ensures c.in-Ok-released_contracts.ensures)

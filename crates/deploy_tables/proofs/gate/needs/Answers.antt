@@ -1,24 +1,36 @@
-use Rattle.std.proofs.Common.{◌≡◌, Some, map, subst, sym}
+use Rattle.std.proofs.Common.{◌≡◌, ◌∙◌, ℕ, [], Ok, Some, None, Option, sym, subst}
+use Rattle.std.specs.Prelude.{MatchOption}
 use Rattle.sqlite.specs.Held.{state}
 use Rattle.broker_core.specs.Gate.{IsNeed}
 use Rattle.broker_core.specs.Listing.{Lists}
+use Rattle.broker_core.specs.Text.{version}
 use Rattle.broker_tables.specs.Numbers.{number_of}
-use Rattle.contract_tables.proofs.QueryLemmas.{query_then}
-use Rattle.deploy_tables.specs.Needs.{AreLatestOf, AreNumberedPairs, need_in, need_cmp}
+use Rattle.broker_tables.proofs.QueryLemmas.{in_place, query_ok}
+use Rattle.contract_tables.proofs.QueryLemmas.{calm_then}
+use Rattle.deploy_tables.specs.Needs.{need_cmp}
 use Rattle.deploy_tables.proofs.gate.needs.Goals as goal
 
-pub returns : goal.returns
-returns g c =
+pub returns-in-Some : goal.returns-in-Some
+returns-in-Some g c =
     let old = state g.S.Store c.args.conn.now in
-    let one = state g.S.Store c.find_pairs.new.conn in
-    let two = state g.S.Store c.latest_results.new.conn in
-    let new = state g.S.Store c.with_latest.new.conn in
+    let mid = state g.S.Store c.version_of.new.conn in
+    let new = state g.S.Store c.needs_numbered.new.conn in
     let v = c.args.version.now in
-    let n = c.args.number in
     let e = c.args.environment.now in
-    let pairs = c.in-Ok.value.items in
-    query_then old two new c.in-Ok-latest_results.value c.with_latest.result _ _ _
-    (λ s read found told number. subst (Lists need_cmp (IsNeed s v e)) (sym (told read.1 (read.0 number).0)) (read.0 number).1)
-    (query_then old one two c.in-Ok.value _ _ _ (λ results s. (number_of s.versions v ≡ Some n → AreNumberedPairs s pairs × Lists need_cmp (IsNeed s v e) (map (need_in s) pairs)) × AreLatestOf s n results.items)
-    (λ s paired results listed. (paired, listed)) c.in-Ok.ensures c.in-Ok-latest_results.ensures.answers.call)
-    (rw c.deref.ensures.value at c.with_latest.ensures)
+    let n = c.in-Some.number in
+    calm_then old mid new (Some n) c.needs_numbered.result _ _ _
+    (λ s told found listed.
+    let is : number_of s.versions v ≡ Some n = (λ i. number_of s.versions (version (sym c.as_str.ensures i) (sym c.as_str-2.ensures i))) ∙ sym told.0 in
+    subst (λ (o : Option ℕ). MatchOption o (found.items ≡ []) (λ _. Lists need_cmp (IsNeed s v e) found.items)) (sym is) (listed is))
+    (in_place old mid (Ok (Some n)) _ (rw c.in-Some.is at c.in-Ok.ensures)) c.needs_numbered.ensures
+
+pub returns-in-None : goal.returns-in-None
+returns-in-None g c =
+    let old = state g.S.Store c.args.conn.now in
+    let new = state g.S.Store c.version_of.new.conn in
+    let v = c.args.version.now in
+    let e = c.args.environment.now in
+    query_ok old new None c.new.result _ _ (λ h s held.
+    let it = h s held in
+    let none : number_of s.versions v ≡ None = (λ i. number_of s.versions (version (sym c.as_str.ensures i) (sym c.as_str-2.ensures i))) ∙ sym it.0.0 in
+    (subst (λ (o : Option ℕ). MatchOption o (c.new.result.items ≡ []) (λ _. Lists need_cmp (IsNeed s v e) c.new.result.items)) (sym none) c.new.ensures.items, it.1)) (in_place old new (Ok None) _ (rw c.in-None.is at c.in-Ok.ensures))

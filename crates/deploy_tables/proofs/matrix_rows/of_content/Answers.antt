@@ -16,4 +16,4 @@ returns-in-Ok-entries_used g c =
     let is = c.in-Ok-entries_used.ensures ∙ ap (map (entry_used v verified)) c.deref.ensures.value in
     read_made (state g.S.Store c.args.conn.now) (state g.S.Store c.consumers_of.new.conn) c.in-Ok.value c.in-Ok-entries_used.entries _ _ (λ s listed x.
     let named = subst (λ p. Lists version_cmp (λ w. s.contracts (w, p) ≡ Some verified.content) consumers) c.as_str.ensures listed in
-    subst (λ xs. Contains xs x ↔ IsOfContent s v verified x) (sym is) (content_entries s v verified consumers named x)) c.in-Ok.ensures.call
+    subst (λ xs. Contains xs x ↔ IsOfContent s v verified x) (sym is) (content_entries s v verified consumers named x)) c.in-Ok.ensures

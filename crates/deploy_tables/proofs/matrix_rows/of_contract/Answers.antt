@@ -18,4 +18,4 @@ returns-in-Ok-entries_with g c =
     let is = c.in-Ok-entries_with.ensures ∙ ap (entries_with v contract) c.deref.ensures.value in
     read_made (state g.S.Store c.args.conn.now) (state g.S.Store c.verified_versions.new.conn) c.in-Ok.value c.in-Ok-entries_with.entries _ _ (λ s listed x.
     let named = subst (λ p. Lists verified_cmp (λ r. option_map (λ e. e.0) (latest_result s contract.content (version p r.name)) ≡ Some r.result) verified) c.as_str.ensures listed in
-    subst (λ xs. Contains xs x ↔ IsOfContract s v contract x) (sym is) (contract_entries s v contract verified named x)) c.in-Ok.ensures.call
+    subst (λ xs. Contains xs x ↔ IsOfContract s v contract x) (sym is) (contract_entries s v contract verified named x)) c.in-Ok.ensures

@@ -4,7 +4,7 @@ use Rattle.sqlite.specs.Held.{state}
 use Rattle.broker_core.specs.Listing.{Lists}
 use Rattle.deploy_tables.specs.declared.standing_versions.StandingVersion.{StandingVersion}
 use Rattle.deploy_tables.specs.Needs.{IsDeployedThere, AreDeployedNumbered, IsReleasedThere, AreReleasedNumbered, standing_cmp}
-use Rattle.contract_tables.proofs.QueryLemmas.{query_then, computed}
+use Rattle.contract_tables.proofs.QueryLemmas.{calm_then, calm_computed}
 use Rattle.deploy_tables.proofs.StandingLemmas.{standing_are}
 use Rattle.deploy_tables.proofs.standing_versions.standing.Goals as goal
 
@@ -16,8 +16,8 @@ returns g c =
     let e = c.args.environment.now in
     let deployed = c.in-Ok.value in
     let released = c.in-Ok-released_versions.value in
-    computed old new released c.of_both.result
+    calm_computed old new released c.of_both.result
     (λ items s. (((x : StandingVersion) → Contains deployed.items x ↔ IsDeployedThere s e x) × AreDeployedNumbered s e) × (Lists standing_cmp (IsReleasedThere s e) items.items × AreReleasedNumbered s e))
     (λ all. Lists standing_cmp (Contains (deployed.items ++ released.items)) all.items) _
-    (λ s both all listed. standing_are s e deployed.items released.items all.items both.0.0 both.0.1 both.1.0 both.1.1 listed) c.of_both.ensures.all
-    (query_then old mid new deployed _ _ _ _ (λ s one items two. (one, two)) c.in-Ok.ensures c.in-Ok-released_versions.ensures)
+    (λ s both all listed. standing_are s e deployed.items released.items all.items both.0.0 both.0.1 both.1.0 both.1.1 listed) c.of_both.ensures.all c.of_both.ensures.cause
+    (calm_then old mid new deployed _ _ _ _ (λ s one items two. (one, two)) c.in-Ok.ensures c.in-Ok-released_versions.ensures)

@@ -1,6 +1,7 @@
 use Rattle.std.proofs.Common.{◌≡◌, take, subst, arith}
 use Rattle.std.proofs.lemmas.List.{take_all}
 use Rattle.sqlite.specs.Held.{state}
+use Rattle.broker_tables.proofs.QueryLemmas.{query_failed}
 use Rattle.deploy_tables.specs.ToldResults.{TellChecked, IsContentOf}
 use Rattle.deploy_tables.proofs.MatrixLoop.{read_both, read_made}
 use Rattle.deploy_tables.proofs.ToldLists.{checked_more}
@@ -17,3 +18,6 @@ returns g c =
     let whole : take c.loop-contract.contract-index c.args.contracts.now ≡ c.args.contracts.now = take_all c.loop-contract.contract-index c.args.contracts.now (omega arith) in
     read_made (state g.S.Store c.args.conn.now) (state g.S.Store c.loop-contract.conn) c.loop-contract.found c.loop-contract.found _ _
     (λ s was. subst (λ cs. TellChecked s (λ n _. IsContentOf cs n) c.loop-contract.found.items) whole was) c.loop-contract.invariant
+
+pub returns-in-Err : goal.returns-in-Err
+returns-in-Err g c = query_failed (state g.S.Store c.args.conn.now) (state g.S.Store c.loop-contract.conn) (state g.S.Store c.checked_for.new.conn) c.loop-contract.found c.in-Err.fault _ _ _ c.loop-contract.invariant c.in-Err.ensures

@@ -1,7 +1,7 @@
 use Rattle.std.proofs.Common.{◌≡◌, Some}
 use Rattle.sqlite.specs.Held.{state}
 use Rattle.broker_tables.specs.Numbers.{number_of}
-use Rattle.contract_tables.proofs.QueryLemmas.{query_then, computed}
+use Rattle.contract_tables.proofs.QueryLemmas.{calm_then, calm_computed}
 use Rattle.deploy_tables.specs.ToldResults.{TellChecked, IsContentOf}
 use Rattle.deploy_tables.proofs.ToldLists.{checked_both}
 use Rattle.deploy_tables.proofs.told_results.checked_told.Goals as goal
@@ -15,7 +15,7 @@ returns g c =
     let n = c.args.number in
     let own = c.in-Ok.value in
     let others = c.in-Ok-checked_by.value in
-    computed old new others c.all_numbers.result
+    calm_computed old new others c.all_numbers.result
     (λ items s. TellChecked s (λ c _. IsContentOf cs c) own.items × TellChecked s (λ _ w. number_of s.versions w ≡ Some n) items.items) _ _
-    (λ s told all is. (is.sorted, checked_both s n cs own.items others.items all.items told.0 told.1 is)) c.all_numbers.ensures.all
-    (query_then old mid new own _ _ _ _ (λ s one items two. (one, two)) c.in-Ok.ensures c.in-Ok-checked_by.ensures)
+    (λ s told all is. (is.sorted, checked_both s n cs own.items others.items all.items told.0 told.1 is)) c.all_numbers.ensures.all c.all_numbers.ensures.cause
+    (calm_then old mid new own _ _ _ _ (λ s one items two. (one, two)) c.in-Ok.ensures c.in-Ok-checked_by.ensures)

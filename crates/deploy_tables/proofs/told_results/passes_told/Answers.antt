@@ -1,7 +1,9 @@
+use Rattle.std.proofs.Common.{◌≡◌, Some}
 use Rattle.sqlite.specs.Held.{state}
-use Rattle.contract_tables.proofs.QueryLemmas.{query_then, computed}
-use Rattle.deploy_tables.specs.ToldResults.{TellPasses}
-use Rattle.deploy_tables.proofs.ToldLists.{both_tell}
+use Rattle.broker_tables.specs.Numbers.{number_of}
+use Rattle.contract_tables.proofs.QueryLemmas.{calm_then, calm_computed}
+use Rattle.deploy_tables.specs.ToldResults.{TellPasses, IsContentOf}
+use Rattle.deploy_tables.proofs.ToldLists.{passes_both}
 use Rattle.deploy_tables.proofs.told_results.passes_told.Goals as goal
 
 pub returns : goal.returns
@@ -9,9 +11,11 @@ returns g c =
     let old = state g.S.Store c.args.conn.now in
     let mid = state g.S.Store c.passes_of_contracts.new.conn in
     let new = state g.S.Store c.passes_by.new.conn in
+    let cs = c.args.contracts.now in
+    let n = c.args.number in
     let own = c.in-Ok.value in
     let others = c.in-Ok-passes_by.value in
-    computed old new others c.all_passes.result
-    (λ items s. TellPasses s own.items × TellPasses s items.items) _ _
-    (λ s told all is. (is.0, both_tell s own.items others.items all.items told.0 told.1 is.1)) c.all_passes.ensures.all
-    (query_then old mid new own _ _ _ _ (λ s one items two. (one, two)) c.in-Ok.ensures c.in-Ok-passes_by.ensures)
+    calm_computed old new others c.all_passes.result
+    (λ items s. TellPasses s (λ c _. IsContentOf cs c) own.items × TellPasses s (λ _ w. number_of s.versions w ≡ Some n) items.items) _ _
+    (λ s told all is. (is.0, passes_both s n cs own.items others.items all.items told.0 told.1 is.1)) c.all_passes.ensures.all c.all_passes.ensures.cause
+    (calm_then old mid new own _ _ _ _ (λ s one items two. (one, two)) c.in-Ok.ensures c.in-Ok-passes_by.ensures)

@@ -12,7 +12,7 @@ pub returns-in-Ok-admitted_to_ask : goal.returns-in-Ok-admitted_to_ask
 returns-in-Ok-admitted_to_ask g c =
     shown_then (state g.S.Store c.args.conn.now) (state g.S.Store c.read_gate_facts.new.conn) (state g.S.Store c.show_gate.new.conn) c.in-Ok.value c.show_gate.result _ _ (λ s out. StepOfCaller broker_primitives s c.args.caller.now (CanIDeploy c.args.version.now c.args.environment.now) out)
     (λ s h answer shows. acts s c.args.caller.now (CanIDeploy c.args.version.now c.args.environment.now) refl (unchanged_with s answer) (c.in-Ok-admitted_to_ask.ensures.let_through s c.args.caller.now c.args.version.now c.args.environment.now h.0 h.1)
-    (shows (h.1 ∙ c.in-Ok-admitted_to_ask.ensures.found.1, h.0.number_is ∙ c.in-Ok-admitted_to_ask.ensures.found.0))) c.in-Ok.ensures c.show_gate.ensures
+    (shows (h.1 ∙ c.in-Ok-admitted_to_ask.ensures.found.1, h.0.number_is ∙ c.in-Ok-admitted_to_ask.ensures.found.0))) c.in-Ok.ensures c.show_gate.ensures.call
 
 pub returns-in-Err-admitted_to_ask : goal.returns-in-Err-admitted_to_ask
 returns-in-Err-admitted_to_ask g c =

@@ -25,7 +25,7 @@ returns-then-permitted g c =
         judged admitted,
         is ∙ ap (λ (i : Text). deployment s c.args.environment.now c.args.version.now i) c.instance_text.ensures ∙ sym (ap (λ (b : Bool). if b then deployment s c.args.environment.now c.args.version.now (instance_of c.args.instance.now) else unchanged_with s (NotPermitted c.in-Ok.value.1.items)) c.if-permitted.true),
       ),
-    )) c.in-Ok.ensures c.record_deployment.ensures
+    )) c.in-Ok.ensures.call c.record_deployment.ensures
 
 pub returns-else-permitted : goal.returns-else-permitted
 returns-else-permitted g c =
@@ -37,4 +37,4 @@ returns-else-permitted g c =
       judged admitted,
       ap (λ (faults : List PairFault). unchanged_with s (NotPermitted faults)) c.new.ensures
           ∙ sym (ap (λ (b : Bool). if b then deployment s c.args.environment.now c.args.version.now (instance_of c.args.instance.now) else unchanged_with s (NotPermitted c.in-Ok.value.1.items)) c.if-permitted.false),
-    )) c.in-Ok.ensures
+    )) c.in-Ok.ensures.call

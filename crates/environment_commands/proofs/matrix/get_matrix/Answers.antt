@@ -1,4 +1,4 @@
-use Rattle.std.proofs.Common.{refl, ◌∙◌}
+use Rattle.std.proofs.Common.{refl}
 use Rattle.sqlite.specs.Held.{state}
 use Rattle.broker_core.specs.Machine.{StepOfCaller}
 use Rattle.broker_core.specs.Change.{unchanged_with}
@@ -11,5 +11,4 @@ use Rattle.environment_commands.proofs.matrix.get_matrix.Goals as goal
 pub returns-in-Ok-admitted_to_matrix : goal.returns-in-Ok-admitted_to_matrix
 returns-in-Ok-admitted_to_matrix g c =
     shown_then (state g.S.Store c.args.conn.now) (state g.S.Store c.read_version.new.conn) (state g.S.Store c.show_matrix.new.conn) c.in-Ok.value c.show_matrix.result _ _ (λ s out. StepOfCaller broker_primitives s c.args.caller.now (GetMatrix c.args.version.now) out)
-    (λ s h answer shows. acts s c.args.caller.now (GetMatrix c.args.version.now) refl (unchanged_with s answer) (c.in-Ok-admitted_to_matrix.ensures.let_through s c.args.caller.now c.args.version.now h)
-    (shows (h.number_is ∙ c.in-Ok-admitted_to_matrix.ensures.found))) c.in-Ok.ensures c.show_matrix.ensures
+    (λ s h answer shows. acts s c.args.caller.now (GetMatrix c.args.version.now) refl (unchanged_with s answer) (c.in-Ok-admitted_to_matrix.ensures.let_through s c.args.caller.now c.args.version.now h) shows) c.in-Ok.ensures c.show_matrix.ensures.call

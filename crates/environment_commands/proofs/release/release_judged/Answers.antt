@@ -24,7 +24,7 @@ returns-then-permitted g c =
         judged admitted,
         is ∙ sym (ap (λ (b : Bool). if b then released s c.args.environment.now c.args.version.now else unchanged_with s (NotPermitted c.in-Ok.value.1.items)) c.if-permitted.true),
       ),
-    )) c.in-Ok.ensures c.record_release.ensures
+    )) c.in-Ok.ensures.call c.record_release.ensures
 
 pub returns-else-permitted : goal.returns-else-permitted
 returns-else-permitted g c =
@@ -36,4 +36,4 @@ returns-else-permitted g c =
       judged admitted,
       ap (λ (faults : List PairFault). unchanged_with s (NotPermitted faults)) c.new.ensures
           ∙ sym (ap (λ (b : Bool). if b then released s c.args.environment.now c.args.version.now else unchanged_with s (NotPermitted c.in-Ok.value.1.items)) c.if-permitted.false),
-    )) c.in-Ok.ensures
+    )) c.in-Ok.ensures.call
