@@ -1,21 +1,32 @@
 -- What a session leaves of its files, the next one finds in them.
-use Rattle.std.proofs.Common.{◌≡◌, inl, inr, List, [], ◌∷◌, Result, Ok, IsTrue, refl, sym, subst}
+use Rattle.std.proofs.Common.{◌≡◌, inl, inr, List, [], ◌∷◌, Result, Ok, IsTrue, refl, sym, subst, ap}
+use base.Stored.{Coded-set}
+use Rattle.std.specs.Coded.{coded_list}
 use Rattle.std.proofs.Math.Logic.{∥∥₁_elim, ∥∥₁_map}
+use Rattle.std.proofs.Math.Path.{fun_ext}
 use Rattle.sqlite_disk.specs.declared.Disk.{Ghosts}
+use Rattle.sqlite_value.specs.contracts.row.Row.{the_row}
 use Rattle.sqlite.specs.Tree.{Trees}
+use Rattle.sqlite.specs.Closing.{IsCopied}
 use Rattle.sqlite.specs.Recovery.{Image}
 use Rattle.sqlite.specs.declared.FileStore.{FileStore}
 use Rattle.sqlite.specs.Held.{Held}
 use Rattle.sqlite.specs.Files.{HoldsDatabase, file_state}
 use Rattle.sqlite.proofs.Theorems.{opens_again}
+use Rattle.table_access.specs.Durability.{IsOnDisk}
 use Rattle.broker_core.specs.Machine.{Request}
 use Rattle.broker_core.specs.State.{opening}
 use Rattle.broker_core.specs.Laws.{Exit}
 use Rattle.broker_service.specs.BrokerView.{BrokerView}
 use Rattle.broker_service.specs.declared.broker.Refused.{Refused}
+use Rattle.broker_service.specs.Stored.{Stores}
 use Rattle.broker_service.specs.Sessions.{GivenLeaves, IsOpenedOn, SessionLeaves, SessionsLeave, LedTo}
-use Rattle.broker_service.specs.SessionFiles.{EndsWith, LeavesFiles, SessionOnFiles, SessionsOnFiles, FilesFromFound, FilesFromNew}
-use Rattle.broker_service.proofs.SessionLemmas.{from_found, from_new}
+use Rattle.broker_service.specs.SessionFiles.{EndsWith, LeavesFiles, SessionOnFiles, SessionsOnFiles, FilesFromFound, FilesFromNew, OpenedFilesHold, ClosedFilesHold}
+use Rattle.broker_service.proofs.SessionLemmas.{opened_holds, from_found, from_new}
+
+-- trees are the same if they are so by a thing that is there in some way
+trees_from : {A : Type 0} (p q : Trees) → ∥ A ∥₁ → (A → p ≡ q) → p ≡ q
+trees_from p q some so = fun_ext (λ n. ∥∥₁_elim some (Coded-set (coded_list the_row.coded) (p n) (q n)) (λ x. ap (λ (t : Trees). t n) (so x)))
 
 module _ {D : Type 0} (g : Ghosts D) where
   -- the image holds trees that are left so
@@ -58,3 +69,20 @@ module _ {D : Type 0} (g : Ghosts D) where
           ∥∥₁_elim (files_leave (Ok b) calls mid first) squash₁ (λ (one : Found (GivenLeaves (file_state {D = D} {g = g}) (Ok b) calls) mid).
           ∥∥₁_map (all_leave mid left one.0 all one.2 it) (λ (end : Found (SessionsLeave (file_state {D = D} {g = g}) one.0 all) left).
           let r : (t : Trees) × HoldsDatabase left t × LedTo (file_state {D = D} {g = g}) (opening office) (calls ∷ all) t = (end.0, end.2, from_new (file_state {D = D} {g = g}) settled office conn b one.0 end.0 calls all blank none makes one.1 end.1) in r))
+
+      pub opened_files_hold : OpenedFilesHold g
+      opened_files_hold s files trees conn holds found opened finds =
+          let on : IsOpenedOn trees (file_state {D = D} {g = g} conn) = record { opens = opened.0; live = opened.1; found = finds.holds trees holds } in
+          opened_holds s trees (file_state {D = D} {g = g} conn) on (settled conn) found
+
+      pub closed_files_hold : ClosedFilesHold g
+      closed_files_hold s old new files held closed opened finds =
+          let was = held.held closed.was_open in
+          let trees = (file_state {D = D} {g = g} old).committed.trees in
+          let on : IsOpenedOn trees (file_state {D = D} {g = g} new) = record {
+            opens = opened.0;
+            live = opened.1;
+            found = trees_from (file_state {D = D} {g = g} new).committed.trees trees closed.seen.both (λ holds. finds.holds trees holds);
+          } in
+          let found : IsOnDisk (λ db. Stores db s) trees = record { schema = (file_state {D = D} {g = g} old).committed.schema; sound = was.sound; has = was.has } in
+          opened_holds s trees (file_state {D = D} {g = g} new) on (settled new) found

@@ -1,9 +1,10 @@
 -- What is told of a database by the format that is found in it.
-use Rattle.std.proofs.Common.{◌≡◌, ℕ, ℤ, Bool, pos, List, [], ◌∷◌, map, length, refl, sym, ap, subst, ◌∙◌, slice_get, Some, None, Option, Ok, Err, true, false, ◌==◌}
+use Rattle.std.proofs.Common.{◌≡◌, ℕ, ℤ, Bool, pos, List, [], ◌∷◌, map, length, refl, sym, ap, subst, ◌∙◌, Some, None, Option, Ok, Err, true, false, ◌==◌}
 use Rattle.std.specs.Prelude.{if◌then◌else◌}
 use Rattle.std.proofs.lemmas.Bool.{eqb-true, eqb-false}
 use Rattle.std.proofs.lemmas.List.{length-map}
-use Rattle.sqlite.specs.Schema.{Schema}
+use Rattle.sqlite.specs.Table.{Table}
+use Rattle.sqlite_schema.specs.Names.{same_name}
 use Rattle.sqlite.specs.Effect.{Database}
 use Rattle.sqlite.specs.declared.types.Value.TheVariants.{Int}
 use Rattle.sqlite.specs.Order.{Row, column}
@@ -13,7 +14,7 @@ use Rattle.broker_core.specs.Text.{Text}
 use Rattle.broker_tables.specs.Schema.{meta, no_schema}
 use Rattle.broker_tables.specs.Making.{IsMarked}
 use Rattle.broker_tables.specs.Holds.{IsMeta}
-use Rattle.registry_tables.specs.Format.{IsOfFormat, Finds}
+use Rattle.registry_tables.specs.Format.{IsOfFormat, Finds, table_of}
 use Rattle.broker_service.specs.declared.opening.OpenFault.TheVariants.{Format}
 use Rattle.broker_service.specs.Opening.{IsJudged, judgement}
 
@@ -28,7 +29,7 @@ judged wanted db (Some n) it = go (n == wanted) refl
 
 pub blank_none : (db : Database) (found : Option ℕ) → db.schema ≡ no_schema → Finds db found → found ≡ None
 blank_none db None blank it = refl
-blank_none db (Some n) blank it = let none : slice_get db.schema.tables 0 ≡ None = ap (λ (s : Schema). slice_get s.tables 0) blank in absurd (let first = it.1 in cc)
+blank_none db (Some n) blank it = let none : table_of meta.name db.schema ≡ None = ap (table_of meta.name) blank in absurd (let found = it.1 in cc)
 
 one_format : (n k : ℕ) (office : Text) (rows : List Row) → IsMeta n office rows → map (λ row. column row 2) rows ≡ Int (pos k) ∷ [] → k ≡ n
 one_format n k office [] one is = absurd cc
@@ -42,8 +43,14 @@ one_format n k office (r ∷ []) one is =
     first_of (x ∷ xs) = x.1
 one_format n k office (r ∷ q ∷ rows) one is = absurd cc
 
+-- the table of a broker's database that is found by meta's name
+meta_there : (n : ℕ) (office : Text) (db : Database) → IsMarked n office db → table_of meta.name db.schema ≡ Some meta
+unfolding same_name
+meta_there n office db marked = ap (table_of meta.name) marked.schema
+
 pub marked_some : (n : ℕ) (office : Text) (db : Database) (found : Option ℕ) → IsMarked n office db → Finds db found → found ≡ Some n
 marked_some n office db None marked it =
-    let first : slice_get db.schema.tables 0 ≡ Some meta = ap (λ (s : Schema). slice_get s.tables 0) marked.schema in
-    absurd (it meta first (refl, refl, ((refl, refl), ((refl, refl), ((refl, refl), tt))), refl) (sym (length-map (db.trees 0) _) ∙ ap length marked.row))
-marked_some n office db (Some k) marked it = ap Some (one_format n k office (db.trees 0) marked.row it.3)
+    absurd (it meta (meta_there n office db marked) (((refl, refl), ((refl, refl), ((refl, refl), tt))), refl) (sym (length-map (db.trees 0) _) ∙ ap length marked.row))
+marked_some n office db (Some k) marked it =
+    let same : it.0 ≡ meta = (let both : Some it.0 ≡ Some meta = sym it.1 ∙ meta_there n office db marked in cc) in
+    ap Some (one_format n k office (db.trees 0) marked.row (subst (λ (t : Table). map (λ row. column row 2) (db.trees t.tree) ≡ Int (pos k) ∷ []) same it.3))

@@ -14,3 +14,6 @@ pub mod MakeLemmas
 pub mod ListedLemmas
 pub mod StoredLemmas
 pub mod FormerOpening
+pub mod LifeLemmas
+mod LifeExamples
+mod MigrationExamples

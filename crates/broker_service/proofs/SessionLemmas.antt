@@ -19,7 +19,7 @@ use Rattle.broker_service.specs.BrokerView.{BrokerView}
 use Rattle.broker_service.specs.Handed.{left_by}
 use Rattle.command_facts.specs.Primitives.{broker_primitives}
 use Rattle.broker_service.specs.Stored.{Stores, HoldsState}
-use Rattle.broker_service.specs.Sessions.{FindsOnly, HoldsOne, Only, exit_of, LeavesOne, OpensOne, RunsCalls, GivenLeaves, IsOpenedOn, SessionLeaves, SessionsLeave, LedTo, SessionsFromFound, SessionsFromNew, SessionsKeepLatest, SessionsRetried}
+use Rattle.broker_service.specs.Sessions.{FindsOnly, HoldsOne, Only, exit_of, LeavesOne, OpensOne, RunsCalls, GivenLeaves, IsOpenedOn, SessionLeaves, SessionsLeave, LedTo, OpenedHoldsFound, SessionsFromFound, SessionsFromNew, SessionsKeepLatest, SessionsRetried}
 use Rattle.broker_service.specs.declared.broker.Refused.{Refused}
 use Rattle.broker_service.proofs.SchemaLemmas.{one_schema}
 
@@ -59,7 +59,7 @@ one_more r WasCut calls going is = absurd (going refl)
 -- ---- one session
 
 -- calls that are a session lead to a state, which is what is found
-abbrev Leads : Broker → List (Request × Exit) → Trees → Type 0
+abbrev pub Leads : Broker → List (Request × Exit) → Trees → Type 0
 Leads s calls left = (t : Broker) × IsSession calls × LeavesAll broker_primitives s calls t × IsOnDisk (λ db. Stores db t) left
 
 -- one of some states is found, and then it is
@@ -119,14 +119,14 @@ module _ {X : Type 0} (shown : Held X → State) where
           stops_here (CallLeaves broker_primitives s r WasCut) (λ t call. subst (λ (e : Exit). CallLeaves broker_primitives s r e t) (sym cut.0) call) (runs.2.cut now running s holds) cut.3
           (subst AllNoStep (sym cut.2) tt)
 
-  given_clean : (given : Result (BrokerView X) (Refused X)) (calls : List (Request × Exit)) (left : Trees) → GivenLeaves shown given calls left → HasCleanDisk (shown (left_by given))
+  pub given_clean : (given : Result (BrokerView X) (Refused X)) (calls : List (Request × Exit)) (left : Trees) → GivenLeaves shown given calls left → HasCleanDisk (shown (left_by given))
   given_clean (Ok b) calls left it =
       let later = calls_clean b it.1.0 calls it.1.1 in
       let clean : HasCleanDisk (shown it.1.0.connection) = subst (λ (c : Held X). HasCleanDisk (shown c)) (sym it.1.2) it.2 in
       omega (arith, later, clean)
   given_clean (Err refused) calls left it = subst (λ (c : Held X). HasCleanDisk (shown c)) (sym it.1.1) it.2
 
-  given_lead : (s : Broker) (given : Result (BrokerView X) (Refused X)) (calls : List (Request × Exit)) (left : Trees) → OpensOne shown s given → GivenLeaves shown given calls left → Leads s calls left
+  pub given_lead : (s : Broker) (given : Result (BrokerView X) (Refused X)) (calls : List (Request × Exit)) (left : Trees) → OpensOne shown s given → GivenLeaves shown given calls left → Leads s calls left
   given_lead s (Ok b) calls left opens it =
       let held = opens.1.held opens.0 in
       runs_lead s b it.1.0 calls left opens.0 (subst (λ (t : Broker). HoldsState t (shown b.connection)) held.1 held.2) it.1.1
@@ -138,7 +138,7 @@ module _ {X : Type 0} (shown : Held X → State) where
 -- ---- session after session
 
 -- a connection on files in which a state is found holds it
-opened_holds : (s : Broker) (trees : Trees) (c : State) → IsOpenedOn trees c → ((t : Trees) → IsTrue c.is_open → c.may_leave t → t ≡ c.committed.trees) → IsOnDisk (λ db. Stores db s) trees → HoldsState s c
+pub opened_holds : (s : Broker) (trees : Trees) (c : State) → IsOpenedOn trees c → ((t : Trees) → IsTrue c.is_open → c.may_leave t → t ≡ c.committed.trees) → IsOnDisk (λ db. Stores db s) trees → HoldsState s c
 opened_holds s trees c it settled found =
     let sound : IsDatabase c.committed = (it.live it.opens.is_open).1 in
     let on : IsOnDisk (λ db. Stores db s) c.committed.trees = subst (IsOnDisk (λ db. Stores db s)) (sym it.found) found in
@@ -165,6 +165,9 @@ module _ {X : Type 0} (shown : Held X → State) (settled : (c : Held X) (t : Tr
 
   led : (s t : Broker) (all : List (List (Request × Exit))) (left : Trees) → LeavesSessions broker_primitives s all t → IsOnDisk (λ db. Stores db t) left → LedTo shown s all left
   led s t all left leave found = record { state = t; calls = leave; is_after = sessions broker_primitives s t all leave; on_disk = found }
+
+  pub opened_holds_found : OpenedHoldsFound shown
+  opened_holds_found s trees conn it found = opened_holds s trees (shown conn) it (settled conn) found
 
   pub from_found : SessionsFromFound shown
   from_found s first left all found it = let end = all_lead s first left all found it in led s end.0 all left end.1 end.2

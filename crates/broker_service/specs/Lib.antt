@@ -11,3 +11,4 @@ pub mod Laws
 pub mod Calls
 pub mod Causes
 pub mod Transaction
+pub mod Life

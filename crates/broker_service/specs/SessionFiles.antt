@@ -19,7 +19,7 @@ use Rattle.broker_core.specs.Laws.{Exit}
 use Rattle.broker_tables.specs.Making.{IsBlank}
 use Rattle.broker_tables.specs.Schema.{no_schema}
 use Rattle.broker_service.specs.BrokerView.{BrokerView}
-use Rattle.broker_service.specs.Stored.{Stores}
+use Rattle.broker_service.specs.Stored.{Stores, HoldsState}
 use Rattle.broker_service.specs.Sessions.{OpeningLeaves, MakingLeaves, GivenRuns, LedTo}
 use Rattle.broker_service.specs.declared.broker.Refused.{Refused}
 
@@ -78,3 +78,17 @@ module _ {D : Type 0} (g : Ghosts D) where
       → HoldsDurably IsBlank (file_state conn) → (file_state conn).now.schema ≡ no_schema
       → MakingLeaves file_state conn office (Ok b) → LeavesFiles (Ok b) calls mid
       → SessionsOnFiles mid sessions left → FilesLedTo (opening office) (calls ∷ sessions) left
+
+  -- a connection that was opened on files in which a state is found holds it
+  abbrev pub OpenedFilesHold : Type 0
+  OpenedFilesHold =
+      (s : Broker) (files : Files D) (trees : Trees) (conn : Held (FileStore D g))
+      → HoldsDatabase (image_of g files) trees → IsOnDisk (λ db. Stores db s) trees
+      → IsOpened conn → Finds files conn → HoldsState s (file_state conn)
+
+  -- and so does one that was opened on the files of a connection that held it and was closed
+  abbrev pub ClosedFilesHold : Type 0
+  ClosedFilesHold =
+      (s : Broker) (old new : Held (FileStore D g)) (files : Files D)
+      → HoldsState s (file_state old) → IsCopied old files
+      → IsOpened new → Finds files new → HoldsState s (file_state new)

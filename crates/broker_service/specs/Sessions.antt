@@ -184,6 +184,13 @@ module _ {X : Type 0} (shown : Held X → State) where
       → HoldsDurably IsBlank (shown conn) → (shown conn).now.schema ≡ no_schema → MakingLeaves conn office (Ok b)
       → GivenLeaves (Ok b) calls mid → SessionsLeave mid sessions left → LedTo (opening office) (calls ∷ sessions) left
 
+  -- A connection that was opened on files in which a state is found holds it. So one that was opened on what sessions
+  -- left holds a state to which they lead.
+  abbrev pub OpenedHoldsFound : Type 0
+  OpenedHoldsFound =
+      (s : Broker) (trees : Trees) (conn : Held X) → IsOpenedOn trees (shown conn)
+      → IsOnDisk (λ db. Stores db s) trees → HoldsState s (shown conn)
+
   -- and what is found there of latest results is right: for each content and each version of its provider the result
   -- with the greatest number
   abbrev pub SessionsKeepLatest : Type 0

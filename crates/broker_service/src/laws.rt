@@ -6,8 +6,9 @@ ghost use Rattle.pact_reading.specs.Readings.{is_refusal};
 ghost use Rattle.sqlite.specs.Held.{state};
 ghost use Rattle.command_facts.specs.Primitives.{broker_primitives};
 ghost use Rattle.broker_service.specs.Laws.{StoredRunsDeployExactly, StoredRunsReleaseExactly, StoredTeamsDiffer, StoredStepExists};
-ghost use Rattle.broker_service.specs.SessionFiles.{FilesFromFound, FilesFromNew};
-ghost use Rattle.broker_service.specs.Sessions.{SessionsFromFound, SessionsFromNew, SessionsKeepLatest, SessionsRetried};
+ghost use Rattle.broker_service.specs.Life.{LivesLead, OpeningSpares};
+ghost use Rattle.broker_service.specs.SessionFiles.{ClosedFilesHold, FilesFromFound, FilesFromNew, OpenedFilesHold};
+ghost use Rattle.broker_service.specs.Sessions.{OpenedHoldsFound, SessionsFromFound, SessionsFromNew, SessionsKeepLatest, SessionsRetried};
 
 use broker_core::laws::{self, Machine};
 use sqlite::Alter;
@@ -74,7 +75,8 @@ pub fn retry<S: Alter>()
 /// nothing. So of each session exactly a prefix is done, which holds every acknowledged command
 /// ([`laws::sessions_run`]). And the latest results that are found are right: for each content and each version of its
 /// provider the one with the greatest number of that state (`latest`). Sessions begin from files in which a state is
-/// found, as `open` finds it, or with the making of a broker. The disk is one that returns what was written and that
+/// found, as `open` finds it, or with the making of a broker. A connection that is opened on such files holds a state
+/// to which they lead (`opened`). The disk is one that returns what was written and that
 /// nobody else writes.
 ///
 /// [`Broker`]: crate::Broker
@@ -82,14 +84,32 @@ pub fn sessions<S: Alter>()
     ensures found { SessionsFromFound (state S.Store) }
     ensures new { SessionsFromNew (state S.Store) }
     ensures latest { SessionsKeepLatest (state S.Store) }
+    ensures opened { OpenedHoldsFound (state S.Store) }
 {}
 
 /// The same down to the files of a disk: each session opens files like those that a crash may leave
 /// after the one before, whether its connection was closed, as at a program's end, or given up; and the
-/// files that are left at the end hold a state to which the sessions lead.
+/// files that are left at the end hold a state to which the sessions lead. A connection that is opened on
+/// files which hold a state holds it (`opened`), and so does one that is opened on the files of a
+/// connection that held it and was closed (`closed`).
 pub fn sessions_on_files<D: Disk>()
     ensures found { FilesFromFound D.Disk }
     ensures new { FilesFromNew D.Disk }
+    ensures opened { OpenedFilesHold D.Disk }
+    ensures closed { ClosedFilesHold D.Disk }
+{}
+
+/// The files of a broker from the first byte to the last. They begin empty, or with what a broker left
+/// in this format or in format 1. Any number of times a program opens them, makes a broker, migrates
+/// one, or serves, and then closes them, gives them up, or is stopped; or it can't open them, or is
+/// stopped as it does. Whatever a crash leaves then keeps what these lead to: no tables where no broker
+/// was made; the state of format 1 until it was migrated; and a state to which the machine leads by the
+/// commands of all sessions since, as [`sessions`] says. A call that was stopped or refused left what was
+/// there, or what the call was to make, whole (`files`). What is asked of an opening that failed is what
+/// `open_files` of `sqlite` promises, and three things that it doesn't say (`unopened`).
+pub fn life_on_files<D: Disk>()
+    ensures files { LivesLead D.Disk }
+    ensures unopened { OpeningSpares D.Disk }
 {}
 
 /// Every command has a step in each state that a database holds, if its file is read and its replies

@@ -84,9 +84,9 @@ fn run<S: Alter>(conn: &mut Connection<S>) -> Result<Option<u32>, StoreFault>
 /// can-i-deploy answers, stays as it was.
 ///
 /// # Errors
-/// `NotABroker`: the first table isn't `meta` with its columns and its key, or `meta` has not exactly one row; or its
-/// format is 1, and a table of that format isn't there, or has other columns or other keys. `Format`: the format in
-/// that row is this other one; today's is refused too. After both, and after `Memory`, the database is as it was.
+/// `NotABroker`: there is no table `meta` with its columns, its key and exactly one row; or its format is 1, and a
+/// table of that format isn't there, or has other columns or other keys. `Format`: the format in that row is this other
+/// one; today's is refused too. After both, and after `Memory`, the database is as it was.
 /// `Store`: the database refused a call, the commit or a rollback, or the format isn't a number from 0 to 2^32 - 1; the
 /// last commit is the old one, and after a refused commit a crash may leave today's database, whole.
 pub fn migrate<S: Alter>(conn: &mut Connection<S>) -> Result<(), OpenFault>

@@ -31,8 +31,8 @@ pub enum OpenFault {
     /// A table is there already, the broker's or another.
     #[error("the database has tables")]
     NotEmpty,
-    /// The first table isn't `meta` with its columns and its key, or has not exactly one row; or, of a database that is
-    /// to be migrated, a table of format 1 isn't there with its columns and its keys.
+    /// There is no table `meta` with its columns, its key and exactly one row; or, of a database that is to be
+    /// migrated, a table of format 1 isn't there with its columns and its keys.
     #[error("not a broker's database")]
     NotABroker,
     /// The tables are of this other format.

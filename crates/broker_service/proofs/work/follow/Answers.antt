@@ -65,7 +65,7 @@ returns-in-PostReplies g c =
 pub returns-in-GetEnvironment : goal.returns-in-GetEnvironment
 returns-in-GetEnvironment g c =
     always_steps (state g.S.Store c.args.conn.now) (state g.S.Store c.get_environment.new.conn) c.get_environment.result c.args.caller.now c.args.command.now
-    (GetEnvironment c.in-GetEnvironment.environment) c.in-GetEnvironment.is c.get_environment.ensures
+    (GetEnvironment c.in-GetEnvironment.environment) c.in-GetEnvironment.is c.get_environment.ensures.answers
 
 pub returns-in-Deploy : goal.returns-in-Deploy
 returns-in-Deploy g c =

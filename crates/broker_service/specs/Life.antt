@@ -1,0 +1,208 @@
+-- The files of a broker from the first byte to the last: what is found in them after a program has opened them any
+-- number of times, made a broker or migrated one, served and ended, or was stopped anywhere on the way (this project's
+-- own).
+use Rattle.std.specs.Prelude.{◌≡◌, ◌⊎◌, List, [], ◌∷◌, IsTrue, Result, Ok, Err}
+use Rattle.sqlite_disk.specs.declared.Disk.{Ghosts}
+use Rattle.sqlite_disk.specs.declared.Files.{Files}
+use Rattle.sqlite.specs.Closing.{IsCopied}
+use Rattle.sqlite.specs.Tree.{Trees}
+use Rattle.sqlite.specs.Recovery.{Image}
+use Rattle.sqlite.specs.declared.FileStore.{FileStore}
+use Rattle.sqlite.specs.declared.file.Leftover.{Leftover}
+use Rattle.sqlite.specs.declared.file.Leftover.TheVariants as left
+use Rattle.sqlite_store.specs.FileStore.{state as store_state, view}
+use Rattle.sqlite_store.specs.Unopened.{state_of}
+use Rattle.sqlite.specs.WalFiles.{outcomes}
+use Rattle.sqlite.specs.Held.{Held}
+use Rattle.sqlite.specs.State.{State, HasCleanDisk}
+use Rattle.sqlite.specs.Files.{HoldsDatabase, Finds, IsOpened, IsEmpty, IsNothing, LeavesFiles, file_state, image_of}
+use Rattle.table_access.specs.Durability.{IsOnDisk}
+use Rattle.broker_core.specs.Text.{Text}
+use Rattle.broker_core.specs.State.{State as Broker, opening}
+use Rattle.broker_core.specs.Machine.{Request}
+use Rattle.broker_core.specs.Laws.{Exit, IsSession, LeavesAll}
+use Rattle.broker_tables.specs.Making.{IsBlank}
+use Rattle.command_facts.specs.Primitives.{broker_primitives}
+use Rattle.broker_service.specs.BrokerView.{BrokerView}
+use Rattle.broker_service.specs.Calls.{Created, Opened, Migrated}
+use Rattle.broker_service.specs.Migration.{StoresFormer}
+use Rattle.broker_service.specs.Sessions.{IsOpenedOn, GivenRuns, GivenLeaves}
+use Rattle.broker_service.specs.SessionFiles.{IsGivenBack}
+use Rattle.broker_service.specs.Stored.{Stores}
+use Rattle.broker_service.specs.declared.broker.Refused.{Refused}
+use Rattle.broker_service.specs.declared.opening.OpenFault.{OpenFault}
+use Rattle.broker_service.specs.declared.opening.OpenFault.TheVariants as fault
+
+-- ---- what is kept, and what changes it
+
+-- what files keep: no tables; a broker's state in format 1; a broker's state in today's
+pub data Kept : Type 0 where
+  Blank : Kept
+  OfFormer : Broker → Kept
+  OfToday : Broker → Kept
+
+-- what a program does from the opening of the files to their end
+pub data Period : Type 0 where
+  -- it opens the broker, which runs these commands
+  Serving : List (Request × Exit) → Period
+  -- it makes a broker, whose office has a token with this digest and which runs these commands
+  Making : Text → List (Request × Exit) → Period
+  -- it makes today's database of one of format 1
+  Migrating : Period
+  -- it can't open the files, or is stopped before they are open
+  NotOpened : Period
+
+-- these commands were run from this state, or a beginning of them
+abbrev pub RunsFrom : Broker → List (Request × Exit) → Kept → Type 0
+RunsFrom s calls new = (t : Broker) × IsSession calls × LeavesAll broker_primitives s calls t × (new ≡ OfToday t)
+
+-- nothing is run, and what was kept is
+abbrev pub LeavesAsWas : Kept → List (Request × Exit) → Kept → Type 0
+LeavesAsWas old calls new = (calls ≡ []) × (new ≡ old)
+
+-- what is kept after a period: a broker's commands are run, where there is one; on files without tables a broker is
+-- made, or not; one of format 1 is migrated, or not; and nothing else changes anything
+abbrev pub PeriodLeads : Kept → Period → Kept → Type 0
+PeriodLeads (OfToday s) (Serving calls) new = RunsFrom s calls new
+PeriodLeads (OfFormer s) (Serving calls) new = LeavesAsWas (OfFormer s) calls new
+PeriodLeads Blank (Serving calls) new = LeavesAsWas Blank calls new
+PeriodLeads (OfToday s) (Making office calls) new = LeavesAsWas (OfToday s) calls new
+PeriodLeads (OfFormer s) (Making office calls) new = LeavesAsWas (OfFormer s) calls new
+PeriodLeads Blank (Making office calls) new = LeavesAsWas Blank calls new ⊎ RunsFrom (opening office) calls new
+PeriodLeads (OfToday s) Migrating new = new ≡ OfToday s
+PeriodLeads (OfFormer s) Migrating new = (new ≡ OfFormer s) ⊎ (new ≡ OfToday s)
+PeriodLeads Blank Migrating new = new ≡ Blank
+PeriodLeads old NotOpened new = new ≡ old
+
+-- one period after another
+abbrev pub LifeLeads : Kept → List Period → Kept → Type 0
+LifeLeads old [] new = new ≡ old
+LifeLeads old (period ∷ life) new = (mid : Kept) × PeriodLeads old period mid × LifeLeads mid life new
+
+-- ---- what the calls say
+
+-- these trees keep it
+abbrev pub AreTreesOf : Kept → Trees → Type 0
+AreTreesOf Blank = IsOnDisk IsBlank
+AreTreesOf (OfFormer s) = IsOnDisk (λ db. StoresFormer db s)
+AreTreesOf (OfToday s) = IsOnDisk (λ db. Stores db s)
+
+-- a migration that failed in the store was one of format 1. Of any other database it is only promised that the last
+-- commit is the old one while the connection is open
+abbrev pub IsOfFormerIfStore : Trees → Result (Unit {0}) OpenFault → Type 0
+IsOfFormerIfStore first given = given ≡ Err fault.Store → (s : Broker) × AreTreesOf (OfFormer s) first
+
+-- shown is what a connection shows of its store
+module _ {X : Type 0} (shown : Held X → State) where
+  -- A period from a connection that is open to the trees that a crash may leave of it at its end.
+  abbrev pub PeriodLeaves : Trees → Period → Trees → Type 0
+  PeriodLeaves first (Serving calls) last =
+      (conn : Held X) × (given : Result (BrokerView X) (Refused X)) × IsOpenedOn first (shown conn)
+      × Opened shown conn given × GivenLeaves shown given calls last
+  PeriodLeaves first (Making office calls) last =
+      (conn : Held X) × (given : Result (BrokerView X) (Refused X)) × IsOpenedOn first (shown conn)
+      × Created shown conn office given × GivenLeaves shown given calls last
+  PeriodLeaves first Migrating last =
+      (old : Held X) × (new : Held X) × (given : Result (Unit {0}) OpenFault) × IsOpenedOn first (shown old)
+      × Migrated (shown old) (shown new) given × IsOfFormerIfStore first given
+      × HasCleanDisk (shown new) × (shown new).may_leave last
+  PeriodLeaves first NotOpened last = last ≡ first
+
+  -- After a period the trees keep what it leads to.
+  abbrev pub PeriodsLead : Type 0
+  PeriodsLead =
+      (old : Kept) (period : Period) (first last : Trees) → AreTreesOf old first → PeriodLeaves first period last
+      → (new : Kept) × PeriodLeads old period new × AreTreesOf new last
+
+-- ---- the same of the files
+
+module _ {D : Type 0} (g : Ghosts D) where
+  -- what a crash may leave: of files; of files whose opening failed; of a store
+  abbrev pub MayLeave : Leftover D g → Image → Type 0
+  MayLeave (left.Files files) = outcomes g files.log files.db
+  MayLeave (left.Unopened it) = (state_of it).may_leave
+  MayLeave (left.Store store) = (store_state store).may_leave
+
+  -- The two files hold trees that keep it; where there are no tables, the database file may be empty.
+  abbrev pub AreFilesOf : Kept → Image → Type 0
+  AreFilesOf kept image =
+      ∥ (((trees : Trees) × HoldsDatabase image trees × AreTreesOf kept trees) ⊎ ((kept ≡ Blank) × (image.db ≡ []))) ∥₁
+
+  -- Files that are opened after this was left. They read as a crash may have left them, and a crash may leave of them
+  -- only what it might have left before: so it is after a program's end, whether it was stopped or the machine was.
+  pub record AreAfter (rest : Leftover D g) (files : Files D) : Type 0 where
+    pub seen : MayLeave rest (image_of g files)
+    pub left : (image : Image) → outcomes g files.log files.db image → MayLeave rest image
+
+  -- a connection is opened on such files
+  abbrev pub IsOpenedAfter : Leftover D g → Held (FileStore D g) → Type 0
+  IsOpenedAfter rest conn = (files : Files D) × AreAfter rest files × IsOpened conn × Finds files conn
+
+  -- A connection is over: its files were closed, or it gave its store back, as after a stop or a failure.
+  abbrev pub EndsAs : Held (FileStore D g) → Leftover D g → Type 0
+  EndsAs conn (left.Files files) = IsCopied conn files
+  EndsAs conn (left.Unopened it) = ⊥
+  EndsAs conn (left.Store store) = IsGivenBack g conn store
+
+  -- the database that was there is, or where the database file was empty there is one without tables
+  pub record HoldsAsBefore (old new : Image) : Type 0 where
+    pub same : (trees : Trees) → HoldsDatabase old trees → ∥ HoldsDatabase new trees ∥₁
+    pub none : old.db ≡ [] → ∥ ((trees : Trees) × HoldsDatabase new trees × IsEmpty trees) ∥₁
+
+  -- The files weren't opened: a crash leaves what it might have left before, or what holds the same.
+  abbrev pub LeavesUnopened : Files D → Leftover D g → Type 0
+  LeavesUnopened files rest =
+      (image : Image) → MayLeave rest image
+      → outcomes g files.log files.db image ⊎ HoldsAsBefore (image_of g files) image
+
+  abbrev pub GivenEnds : Result (BrokerView (FileStore D g)) (Refused (FileStore D g)) → List (Request × Exit)
+      → Leftover D g → Type 0
+  GivenEnds given calls rest =
+      (last : Held (FileStore D g)) × GivenRuns file_state given calls last × HasCleanDisk (file_state last)
+      × EndsAs last rest
+
+  -- A period on files, from what was left before to what it leaves.
+  abbrev pub PeriodOnFiles : Leftover D g → Period → Leftover D g → Type 0
+  PeriodOnFiles first (Serving calls) last =
+      (conn : Held (FileStore D g)) × (given : Result (BrokerView (FileStore D g)) (Refused (FileStore D g)))
+      × IsOpenedAfter first conn × Opened file_state conn given × GivenEnds given calls last
+  PeriodOnFiles first (Making office calls) last =
+      (conn : Held (FileStore D g)) × (given : Result (BrokerView (FileStore D g)) (Refused (FileStore D g)))
+      × IsOpenedAfter first conn × Created file_state conn office given × GivenEnds given calls last
+  PeriodOnFiles first Migrating last =
+      (old : Held (FileStore D g)) × (new : Held (FileStore D g)) × (given : Result (Unit {0}) OpenFault)
+      × IsOpenedAfter first old × Migrated (file_state old) (file_state new) given
+      × IsOfFormerIfStore (file_state old).committed.trees given
+      × HasCleanDisk (file_state new) × EndsAs new last
+  PeriodOnFiles first NotOpened last = (files : Files D) × AreAfter first files × LeavesUnopened files last
+
+  abbrev pub LifeOnFiles : Leftover D g → List Period → Leftover D g → Type 0
+  LifeOnFiles first [] last = last ≡ first
+  LifeOnFiles first (period ∷ life) last =
+      (mid : Leftover D g) × PeriodOnFiles first period mid × LifeOnFiles mid life last
+
+  -- ---- the law
+
+  -- Whatever a crash leaves of the files at the end keeps something to which their life leads.
+  abbrev pub LivesLead : Type 0
+  LivesLead =
+      (old : Kept) (first last : Leftover D g) (life : List Period)
+      → ((image : Image) → MayLeave first image → AreFilesOf old image) → LifeOnFiles first life last
+      → (image : Image) → MayLeave last image
+      → ∥ ((new : Kept) × LifeLeads old life new × AreFilesOf new image) ∥₁
+
+  -- What an opening that failed promises of the files (`unharmed` of the kit's `open_files`) doesn't say this: that the
+  -- size of a page that it took is the database's, sums included; that it left no half of a first page; that the trees
+  -- of a store that it hands back are numbered.
+  abbrev pub IsUnharmed : Image → Leftover D g → Type 0
+  IsUnharmed first (left.Files files) = Unit {0}
+  IsUnharmed first (left.Unopened it) =
+      ((trees : Trees) (held : HoldsDatabase first trees) → held.0 ≡ (state_of it).page_size)
+      × ((image : Image) → (state_of it).may_leave image → ¬ (IsNothing image))
+  IsUnharmed first (left.Store store) = IsTrue (view store).is_numbered
+
+  -- With it, an opening that failed leaves what a life asks of it.
+  abbrev pub OpeningSpares : Type 0
+  OpeningSpares =
+      (files : Files D) (rest : Leftover D g) → LeavesFiles files rest → IsUnharmed (image_of g files) rest
+      → LeavesUnopened files rest
