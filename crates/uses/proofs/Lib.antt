@@ -1,0 +1,2 @@
+pub mod Deployed
+pub mod Served

@@ -1,0 +1,4 @@
+pub mod Deploying
+pub mod Pacts
+pub mod Replies
+pub mod Streams

@@ -1,0 +1,13 @@
+//! Callers of this broker's libraries, as somebody would write them. Each is proved from what these crates promise to
+//! everybody: from their contracts, and from no lemma of theirs.
+#![tactic(auto)]
+
+mod deploying;
+mod pacts;
+mod replies;
+mod streams;
+
+pub use deploying::{deploy, deployment};
+pub use pacts::normal_text;
+pub use replies::{Unjudged, failing};
+pub use streams::answers;
