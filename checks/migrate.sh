@@ -2,7 +2,7 @@
 # Shows the migration of a broker's file of format 1: makes one by sqlite3, sees it refused, migrates it, reads it by
 # sqlite3, and asks whether a version may be deployed.
 # Usage: checks/migrate.sh PATH_OF_THE_PROGRAM     takes seconds
-# Needs sqlite3 (the Debian package). Ends with 0 where all is as it should be, and with 77 where sqlite3 isn't there.
+# Needs sqlite3 (the Debian package). Ends with 0 if all is as it should be, and with 77 if sqlite3 isn't there.
 set -u
 program=${1:?the path of the program broker}
 former=$(dirname "$0")/../crates/command_lines/data/former.sql

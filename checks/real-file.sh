@@ -4,7 +4,7 @@
 # times in a row, and looks for every command that was acknowledged. Then lets the disk refuse a write (a limit on the size of files):
 # the command is answered 500, the next connection finds the file opened again, and nothing that was acknowledged is lost.
 # Usage: checks/real-file.sh PATH_OF_THE_PROGRAM     takes a quarter of a minute at least, for its kills
-# Needs curl and sqlite3 (the Debian packages). Ends with 0 where all is as it should be, and with 77 where one of the two isn't there.
+# Needs curl and sqlite3 (the Debian packages). Ends with 0 if all is as it should be, and with 77 if one of the two isn't there.
 set -u
 program=${1:?the path of the program broker}
 for tool in curl sqlite3; do

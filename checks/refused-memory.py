@@ -149,7 +149,7 @@ class Stream:
         return answers_of(done.stdout)
 
     def count(self):
-        """How many requests for memory the program makes, where none is refused."""
+        """How many requests for memory the program makes, if none is refused."""
         counted = os.path.join(self.folder, "counted")
         library = os.path.join(self.folder, "refuse.so")
         done = self.run(self.rows, LD_PRELOAD=library, COUNTED=counted)
@@ -174,7 +174,7 @@ class Stream:
         raise ValueError(f"ended otherwise: {done}")
 
     def full_outcome(self, answers):
-        """The same where each request has an answer."""
+        """The same if each request has an answer."""
         if STORE in answers:
             failed = answers.index(STORE)
             behind = answers[failed + 1:]

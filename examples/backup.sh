@@ -2,7 +2,7 @@
 # Copies the file of a broker that isn't running, and tests the copy.
 # Usage: backup.sh FILE COPY
 # Needs sqlite3 (the Debian package sqlite3). Stop the service first, as by `systemctl stop broker`: while it runs it holds the
-# file, and this script ends with 1. Copying the file alone while it runs isn't enough, since the newest rows stand in the
+# file, and this script ends with 1. Copying only the file while it runs isn't enough, since the newest rows are in the
 # file beside it whose name ends in -wal.
 set -eu
 file=${1:?the file of the broker}

@@ -3,7 +3,7 @@
 # Usage: gate-a-deployment.sh status PROGRAM FILE PACTICIPANT VERSION ENVIRONMENT     (by the program, over the file; no server runs)
 #        gate-a-deployment.sh http URL PACTICIPANT VERSION ENVIRONMENT                (by HTTP; needs curl)
 # BROKER_TOKEN is the token of the team that owns the pacticipant.
-# Ends with 0 where it is permitted, 1 where it isn't, and 3 where that can't be told. The answer is shown.
+# Ends with 0 if it is permitted, 1 if it isn't, and 3 if that can't be said. The answer is shown.
 set -eu
 token=${BROKER_TOKEN:?the token of the team that owns the pacticipant}
 
@@ -22,7 +22,7 @@ http)
   body=${answer%$'\n'*}
   echo "$body"
   [ "$status" = 200 ] || exit 3
-  # No name in the answer holds a quotation mark that isn't escaped, so this stands nowhere else.
+  # No name in the answer holds a quotation mark that isn't escaped, so this is found nowhere else.
   case $body in
   *',"permitted":true'*) exit 0 ;;
   *',"permitted":false'*) exit 1 ;;

@@ -1,5 +1,5 @@
 #!/usr/bin/env bash
-# One deployment by curl: shop 1 has a contract with stock, and goes live once stock 1 stands there with a result that passes.
+# One deployment by curl: shop 1 has a contract with stock, and goes live once stock 1 is there with a result that passes.
 # Usage: examples/one-deployment.sh [URL]     over a new broker whose office has the token office-token-0001, as
 #   file=$(mktemp -d)/broker.db
 #   crates/broker/out/broker init --file "$file" --office-token office-token-0001
@@ -26,11 +26,11 @@ ask $office PUT pacticipants/shop '{"team":"red"}'
 ask $office PUT pacticipants/stock '{"team":"red"}'
 ask $office PUT grants/team/red/environment/live
 ask $team PUT $pact '{"consumer":{"name":"shop"},"provider":{"name":"stock"},"interactions":[]}'
-# Refused: no version of stock stands in live.
+# Refused: no version of stock is in live.
 ask $team POST environments/live/deployments '{"pacticipant":"shop","version":"1"}'
 ask $team PUT pacticipants/stock/versions/1
 ask $team POST environments/live/deployments '{"pacticipant":"stock","version":"1"}'
-# Refused: stock 1 stands there, and has no result for the contract.
+# Refused: stock 1 is there, and has no result for the contract.
 ask $team POST environments/live/deployments '{"pacticipant":"shop","version":"1"}'
 ask $team POST $pact/results '{"providerApplicationVersion":"1","success":true}'
 # Permitted.

@@ -1,7 +1,7 @@
 #!/usr/bin/env bash
 # Publishes a contract from the build of a consumer: names the version and its branch, and sends the pact file.
 # Usage: BROKER_URL=http://127.0.0.1:9292 BROKER_TOKEN=.. publish-from-a-build.sh CONSUMER VERSION BRANCH PROVIDER PACT_FILE
-# Needs curl. Ends with 0 where the contract stands, published now or before, and else with 1 and the broker's answer.
+# Needs curl. Ends with 0 if the contract is published, now or before, and else with 1 and the broker's answer.
 set -eu
 url=${BROKER_URL:?the address of the broker, as http://127.0.0.1:9292}
 token=${BROKER_TOKEN:?the token of the team that owns the consumer}
@@ -32,7 +32,7 @@ put() {
   [ "${answer##*$'\n'}" = 200 ] || exit 1
 }
 
-# A branch is a name, and stands in the body as JSON writes it.
+# A branch is a name, and is written in the body as JSON writes it.
 quoted=${branch//\\/\\\\}
 quoted=${quoted//\"/\\\"}
 put "/pacticipants/$(escaped "$consumer")/versions/$(escaped "$version")" --data-binary "{\"branch\":\"$quoted\"}"
