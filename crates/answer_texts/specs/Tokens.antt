@@ -1,4 +1,4 @@
--- JSON values by the tokens of their texts.
+-- For private clauses: JSON values by the tokens of their texts, which the code writes one after another.
 use Rattle.std.specs.Prelude.{◌≡◌, List, ◌++◌}
 use Rattle.json.specs.Token.{Token}
 use Rattle.json.specs.Tree.{json_tokens}

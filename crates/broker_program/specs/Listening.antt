@@ -1,4 +1,4 @@
--- where a broker listens (this project's own choice: an address of loopback, since it has no TLS)
+-- for private clauses: where a broker listens (this project's own choice: an address of loopback, since it has no TLS)
 use Rattle.std.specs.Prelude.{ℕ, List}
 use Rattle.std.specs.Net.Addr.{MatchIp, IsLoopbackV4, IsLoopbackV6}
 use Rattle.std.specs.Net.Socket.{socket_ip}

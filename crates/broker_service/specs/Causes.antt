@@ -19,8 +19,8 @@ abbrev pub answer_of : StoreFault → Answer
 answer_of faults.Memory = Memory
 answer_of faults.Store = Store
 
--- how a transaction ends in which a command came to worked: what was done is committed, else all is rolled back, and
--- the answer is what the command came to; Store only if that end was refused
+-- For private clauses: how a transaction ends in which a command came to worked: what was done is committed, else all
+-- is rolled back, and the answer is what the command came to; Store only if that end was refused
 pub record Concludes (old new : State) (worked result : Result Answer StoreFault) : Type 0 where
   pub keeps : Bool
   pub did : Bool

@@ -32,7 +32,8 @@ CommitsAtMostOnce old new = (commit : Trees) × Survives old new (λ trees. tree
 abbrev pub LeavesNoTransaction : State → State → Type 0
 LeavesNoTransaction old new = HasCleanDisk new → IsOver old → IsOver new
 
--- an answer that a command may come to inside its transaction; the broker alone answers a failure, or Stopped
+-- For private clauses: an answer that a command may come to inside its transaction; the broker alone answers a failure,
+-- or Stopped
 abbrev pub IsNoFailure : Answer → Type 0
 IsNoFailure answer = (answer ≢ Memory) × (answer ≢ Store) × (answer ≢ Stopped)
 
@@ -79,8 +80,8 @@ module _ (s : Broker) (token : Option Text) (command : Command) where
   Ends new (Err fault.Memory) = HoldsState s new
   Ends new (Err fault.Store) = HoldsEither (λ db. Stores db s) HoldsNext new
 
--- Whatever the database is: only Done and a failure of the database leave it otherwise than it was, and after that
--- failure the last commit is the old one while the connection is open.
+-- For private clauses: whatever the database is, only Done and a failure of the database leave it otherwise than it
+-- was, and after that failure the last commit is the old one while the connection is open.
 abbrev pub IsUnchangedUnlessDone : State → State → Result Answer StoreFault → Type 0
 IsUnchangedUnlessDone old new (Ok answer) = ¬ (IsDone answer) → IsAsBefore old new
 IsUnchangedUnlessDone old new (Err fault.Memory) = IsAsBefore old new

@@ -96,7 +96,7 @@ pub record JudgesAsBefore (s : Broker) : Type 0 where
   pub shows : (v : Version) (e : Text) (out : Transition)
       → TakesEffect broker_primitives s (CanIDeploy v e) out ↔ Showed s v e out
 
--- a database of format 1 becomes one of today's with the same state
+-- for private clauses: a database of format 1 becomes one of today's with the same state
 abbrev pub BringsUp : Database → Database → Type 0
 BringsUp old new = (s : Broker) → HoldsFormer old s → Holds new s
 
@@ -110,7 +110,7 @@ IsJudgedFormer db (Err NotEmpty) = ⊥
 IsJudgedFormer db (Err Memory) = Unit {0}
 IsJudgedFormer db (Err Store) = Unit {0}
 
--- ---- the transaction of a migration, for the clauses of private functions: no public clause cites it
+-- ---- for private clauses: the transaction of a migration
 
 -- from a database of format 1 to one of today's, or it fails
 abbrev pub MigratesOrFails : Broker → State → Result (Option ℕ) StoreFault → Type 0

@@ -1,4 +1,4 @@
--- how a broker is made on a database, or opened
+-- how a broker is made on a database, or opened; and, for private clauses, the steps of its making
 use Rattle.std.specs.Prelude.{◌≡◌, ◌≢◌, ◌⊎◌, ◌==◌, ◌++◌, ◌∷◌, ℕ, List, if◌then◌else◌, Option, Some, None, Result, Ok, Err}
 use Rattle.sqlite.specs.Effect.{Database}
 use Rattle.sqlite.specs.Table.{Table}
@@ -17,6 +17,8 @@ use Rattle.broker_service.specs.Ends.{IsAsBefore}
 use Rattle.broker_service.specs.Stored.{Stores, HoldsState}
 use Rattle.broker_service.specs.declared.opening.OpenFault.{OpenFault}
 use Rattle.broker_service.specs.declared.opening.OpenFault.TheVariants.{NotEmpty, NotABroker, Format, Memory, Store}
+
+-- ---- for private clauses: the steps of making a broker, and its transaction
 
 -- a failure of the database, as it is told
 abbrev pub open_fault : StoreFault → OpenFault
@@ -43,6 +45,8 @@ abbrev pub FailsUnchanged : State → State → Result (Unit {0}) StoreFault →
 FailsUnchanged old new (Ok u) = Unit {0}
 FailsUnchanged old new (Err fault.Memory) = IsAsBefore old new
 FailsUnchanged old new (Err fault.Store) = KeepsLastCommit old new
+
+-- ---- what making a broker leaves
 
 -- the tables of a new broker weren't made: the connection keeps what it kept, or the database failed, and a crash
 -- may leave that or the new broker's

@@ -99,6 +99,8 @@ abbrev pub IsPutBy : (Text → Text) → Text → State → State → ℕ → Ty
 IsPutBy digest body old new number =
     (texts : List Text) → ContentsBy digest old.now texts → IsPut digest body texts number old.now new.now
 
+-- ---- for private clauses: the steps of a put
+
 -- a text that isn't there is put among them, whatever its number is to be
 abbrev pub IsNewBy : (Text → Text) → Text → State → State → ℕ → Type 0
 IsNewBy digest body old new number =
@@ -123,6 +125,8 @@ IsNewIfRoom digest body old new found =
     (texts : List Text) → ContentsBy digest old.now texts → is_among texts body ≡ false
     → MatchOption found ((has_room texts ≡ false) × (new.now ≡ old.now))
     (λ number. (has_room texts ≡ true) × IsPut digest body texts number old.now new.now)
+
+-- ---- a put where there may be no place
 
 -- the text is one of them, or there is room for one more
 abbrev pub has_place : List Text → Text → Bool

@@ -1,5 +1,5 @@
--- What a contract and a result change of the state, and what the three statements that record a result make of
--- the rows.
+-- What a contract and a result change of the state, and what is told of a result; and, for private clauses, what the
+-- columns of a row tell of one, and what the three statements that record a result make of the rows.
 use Rattle.std.specs.Prelude.{◌≡◌, ◌==◌, ◌+◌, ◌-◌, ◌≤◌, ℕ, ℤ, pos, Bool, ◌&&◌, ◌||◌, IsTrue, List, [], ◌∷◌, ◌++◌, length, Option, Some, None, is_some, cond, if◌then◌else◌, slice_get}
 use Rattle.std.specs.Ordering.{eq_by_cmp, int_cmp}
 use Rattle.sqlite.specs.declared.types.Value.{Value}
@@ -38,6 +38,8 @@ RecordsResult number content provider version_number pass checked run s t =
 -- the result with this number: they are numbered from 1
 abbrev pub result_with : Broker → ℕ → Option Verification
 result_with s number = if number == 0 then None else slice_get s.results (number - 1)
+
+-- ---- for private clauses: a result as the look-ups read it from a row, column by column
 
 -- the columns that tell of a result: its number, its content, the number of its version, and whether it is a pass
 abbrev pub Cells : Type 0
@@ -84,6 +86,8 @@ passed_of e = (e.0, e.1.pass)
 abbrev pub passed_as : ℕ → Bool → Passed
 passed_as number pass = (number, pass)
 
+-- ---- what is told of a result: its number, its content, the number of its version, whether it is a pass
+
 -- with the mark whether the broker checked it
 abbrev pub Told : Type 0
 Told = ℕ × ℕ × Option ℕ × Bool × Bool
@@ -94,7 +98,8 @@ told_of versions e = (e.0, e.1.content, number_of versions e.1.version, e.1.pass
 abbrev pub told : ℕ → ℕ → ℕ → Bool → Bool → Told
 told number content version pass checked = (number, content, Some version, pass, checked)
 
--- ---- the statements that record a result. Between them the database holds no state, so each is told by the rows
+-- ---- for private clauses: the statements that record a result. Between them the database holds no state, so each is
+-- told by the rows; what all of them do is `RecordsResult`
 
 -- a run in its column: NULL where there is none
 abbrev pub run_value : Option Text → Value

@@ -1,5 +1,6 @@
--- The matrix of a version, from the parts that are read: its own contracts with the versions that have results
--- for them, and what it has results for itself with the consumers.
+-- For private clauses: the matrix of a version, from the parts that are read: its own contracts with the versions that
+-- have results for them, and what it has results for itself with the consumers. What the matrix is, `IsMatrixRow` of
+-- broker_core says, which the clause of `matrix` cites.
 use Rattle.std.specs.Prelude.{Contains, ◌≡◌, ◌⊎◌, ℕ, List, map, Option, Some, None, option_map, MatchOption}
 use Rattle.std.specs.declared.cmp.Ordering.{Ordering}
 use Rattle.std.specs.Ordering.{ordering_then}
@@ -87,7 +88,7 @@ abbrev pub IsToldAs : State → Entry → MatrixRow → Type 0
 IsToldAs s x row = (row.consumer ≡ x.consumer) × (row.consumer_version ≡ x.consumer_version)
     × (row.provider ≡ x.provider) × TellsResult s x.verified row.verified
 
--- ---- how it is paired
+-- ---- what `entries_with` and its parts compute, step by step as the code does it
 
 -- a contract of v, with this version of its provider
 abbrev pub entry_with : Version → Contract → VerifiedVersion → Entry

@@ -1,5 +1,6 @@
 -- What a version needs in an environment, from the parts that are read: what stands there, its own contracts,
--- and those that are with it.
+-- and those that are with it. The clauses of `standing` and `needs` cite `AreNumbered`, `standing_cmp`, `IsStanding`
+-- and `ListsNeeds`, which say it in the machine's words; all else is for private clauses.
 use Rattle.std.specs.Prelude.{Contains, ◌≡◌, ◌≢◌, ℕ, List, [], ◌∷◌, ◌++◌, map, filter_map, flat_map, Option, Some, None, option_map, option_and_then, if◌then◌else◌, IsTrue, MatchOption, ⊤, pos}
 use Rattle.sqlite.specs.Order.{Row, column}
 use Rattle.sqlite.specs.declared.types.Value.TheVariants.{Int, Text as SqlText}
@@ -93,7 +94,7 @@ AllStand s e standing = (x : StandingVersion) → Contains standing x → IsStan
 abbrev pub consumer_in : State → Text → StandingVersion → Option ConsumerContract
 consumer_in s p x = if same_text x.pacticipant p then None else option_map (λ content. record { consumer = x.pacticipant; consumer_version = x.name; content = content }) (s.contracts (version x.pacticipant x.name, p))
 
--- ---- how it is paired
+-- ---- for private clauses: what `pairs_of` and its parts compute, step by step as the code does it
 
 -- a contract of v with this version, where that is one of the provider
 abbrev pub with_partner : Version → Contract → StandingVersion → Option Pair
@@ -147,7 +148,7 @@ pair_cmp x y = ordering_then (text_cmp x.consumer y.consumer)
     (ordering_then (option_cmp partner_cmp x.partner y.partner)
     (nat_cmp x.content y.content))))
 
--- ---- the needs
+-- ---- for private clauses: the need that each pair is
 
 -- the number beside the version of the provider, if any, is its own
 abbrev pub IsNumberedPair : State → Pair → Type 0
@@ -174,6 +175,8 @@ need_in s p = record {
   provider_version = option_map (λ w. w.name) p.partner;
   latest = latest_between s p;
 }
+
+-- ---- the needs
 
 -- needs in the order of their names, none first
 abbrev pub need_cmp : Need → Need → Ordering

@@ -1,4 +1,5 @@
--- what the commands on a version and an environment show and change
+-- what the commands on a version and an environment show and change, for the clauses of private functions: no public
+-- clause cites it
 use Rattle.std.specs.Prelude.{◌≡◌, List, Some, Bool, IsTrue}
 use Rattle.broker_core.specs.Change.{Transition, unchanged_with}
 use Rattle.broker_core.specs.Gate.{IsNeed, Judges}

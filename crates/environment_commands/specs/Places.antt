@@ -1,4 +1,5 @@
--- what the commands on a version read of a state first, and how that refuses them
+-- what the commands on a version read of a state first, and how that refuses them, for the clauses of private
+-- functions: no public clause cites it
 use Rattle.std.specs.Prelude.{◌≡◌, ◌⊎◌, ℕ, Option, Some, None, Bool, false, is_some, Result, Ok, Err}
 use Rattle.broker_core.specs.Text.{Text}
 use Rattle.broker_core.specs.State.{State as Broker}

@@ -1,4 +1,4 @@
--- The code's values as the definitions' values.
+-- For private clauses: the code's values as the definitions' values.
 use Rattle.std.specs.Prelude.{Option}
 use Rattle.std.specs.Option.{option_map}
 use Rattle.serde_json.specs.Data.{Data}
