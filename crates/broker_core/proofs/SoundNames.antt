@@ -19,7 +19,7 @@ use Rattle.broker_core.specs.State.{State, Verification, opening}
 use Rattle.broker_core.specs.Request.{is_known, consumer_version}
 use Rattle.broker_core.specs.Change.{Transition, unchanged_with, done, repeated, put_team, put_pacticipant, put_environment, put_version, named, joined, put_pact, stored, is_stored, content_number, report, is_text, instance_of, can_name, on_branch}
 use Rattle.broker_core.specs.Machine.{Primitives, Step, TakesEffect, Request, Run, report_replies}
-use Rattle.broker_core.specs.SoundNames.{IsDigest, IsNamed, IsInstance, HasSoundNames, AreNamesOfPath, AreNames, GivesDigests, NamesBegin, NamesStay, NamesStayInRuns}
+use Rattle.broker_core.specs.SoundNames.{IsDigest, VersionHasNames, IsInstance, HasSoundNames, AreNamesOfPath, AreNames, GivesDigests, NamesBegin, NamesStay, NamesStayInRuns}
 use Rattle.broker_core.proofs.Lists.{some_is, contains_none}
 use Rattle.broker_core.proofs.Judgement.{and_both, text_is, contract_is, mark_is, place_is}
 use Rattle.broker_core.proofs.Retry.{acts-or-same}
@@ -62,10 +62,10 @@ module _ (s : State) (n : HasSoundNames s) where
   with_pacticipants : (pacticipants : Text → Option Text) → ((p team : Text) → pacticipants p ≡ Some team → IsName p × IsName team) → HasSoundNames (record s { pacticipants = pacticipants })
   with_pacticipants pacticipants h = record { office = n.office; teams = n.teams; pacticipants = h; versions = n.versions; branches = n.branches; environments = n.environments; grants = n.grants; contracts = n.contracts; results = n.results; deployed = n.deployed; released = n.released }
 
-  with_versions : (versions : List Version) → ((v : Version) → Contains versions v → IsNamed v) → HasSoundNames (record s { versions = versions })
+  with_versions : (versions : List Version) → ((v : Version) → Contains versions v → VersionHasNames v) → HasSoundNames (record s { versions = versions })
   with_versions versions h = record { office = n.office; teams = n.teams; pacticipants = n.pacticipants; versions = h; branches = n.branches; environments = n.environments; grants = n.grants; contracts = n.contracts; results = n.results; deployed = n.deployed; released = n.released }
 
-  with_branches : (branches : Version × Text → Bool) → ((v : Version) (branch : Text) → IsTrue (branches (v, branch)) → IsNamed v × IsName branch) → HasSoundNames (record s { branches = branches })
+  with_branches : (branches : Version × Text → Bool) → ((v : Version) (branch : Text) → IsTrue (branches (v, branch)) → VersionHasNames v × IsName branch) → HasSoundNames (record s { branches = branches })
   with_branches branches h = record { office = n.office; teams = n.teams; pacticipants = n.pacticipants; versions = n.versions; branches = h; environments = n.environments; grants = n.grants; contracts = n.contracts; results = n.results; deployed = n.deployed; released = n.released }
 
   with_environments : (environments : Text → Option Marks) → ((e : Text) (marks : Marks) → environments e ≡ Some marks → IsName e) → HasSoundNames (record s { environments = environments })
@@ -77,16 +77,16 @@ module _ (s : State) (n : HasSoundNames s) where
   with_contents : (contents : List Text) → HasSoundNames (record s { contents = contents })
   with_contents contents = record { office = n.office; teams = n.teams; pacticipants = n.pacticipants; versions = n.versions; branches = n.branches; environments = n.environments; grants = n.grants; contracts = n.contracts; results = n.results; deployed = n.deployed; released = n.released }
 
-  with_contracts : (contracts : Version × Text → Option ℕ) → ((v : Version) (provider : Text) (content : ℕ) → contracts (v, provider) ≡ Some content → IsNamed v × IsName provider) → HasSoundNames (record s { contracts = contracts })
+  with_contracts : (contracts : Version × Text → Option ℕ) → ((v : Version) (provider : Text) (content : ℕ) → contracts (v, provider) ≡ Some content → VersionHasNames v × IsName provider) → HasSoundNames (record s { contracts = contracts })
   with_contracts contracts h = record { office = n.office; teams = n.teams; pacticipants = n.pacticipants; versions = n.versions; branches = n.branches; environments = n.environments; grants = n.grants; contracts = h; results = n.results; deployed = n.deployed; released = n.released }
 
-  with_results : (results : List Verification) → ((r : Verification) → Contains results r → IsNamed r.version × IfSome r.run IsName) → HasSoundNames (record s { results = results })
+  with_results : (results : List Verification) → ((r : Verification) → Contains results r → VersionHasNames r.version × IfSome r.run IsName) → HasSoundNames (record s { results = results })
   with_results results h = record { office = n.office; teams = n.teams; pacticipants = n.pacticipants; versions = n.versions; branches = n.branches; environments = n.environments; grants = n.grants; contracts = n.contracts; results = h; deployed = n.deployed; released = n.released }
 
   with_deployed : (deployed : Text × Text × Text → Option Text) → ((e p instance name : Text) → deployed (e, p, instance) ≡ Some name → IsName e × IsName p × IsInstance instance × IsName name) → HasSoundNames (record s { deployed = deployed })
   with_deployed deployed h = record { office = n.office; teams = n.teams; pacticipants = n.pacticipants; versions = n.versions; branches = n.branches; environments = n.environments; grants = n.grants; contracts = n.contracts; results = n.results; deployed = h; released = n.released }
 
-  with_released : (released : Text × Version → Bool) → ((e : Text) (v : Version) → IsTrue (released (e, v)) → IsName e × IsNamed v) → HasSoundNames (record s { released = released })
+  with_released : (released : Text × Version → Bool) → ((e : Text) (v : Version) → IsTrue (released (e, v)) → IsName e × VersionHasNames v) → HasSoundNames (record s { released = released })
   with_released released h = record { office = n.office; teams = n.teams; pacticipants = n.pacticipants; versions = n.versions; branches = n.branches; environments = n.environments; grants = n.grants; contracts = n.contracts; results = n.results; deployed = n.deployed; released = h }
 
   -- ---- what a command makes of the state
@@ -112,18 +112,18 @@ module _ (s : State) (n : HasSoundNames s) where
   again true = n
   again false = n
 
-  with_named : (v : Version) → IsNamed v → HasSoundNames (named s v)
+  with_named : (v : Version) → VersionHasNames v → HasSoundNames (named s v)
   with_named v is =
       elim (is_known s v) as (λ b. HasSoundNames (if b then s else record s { versions = s.versions ++ v ∷ [] })) [
         | true ↦ n
-        | false ↦ with_versions (s.versions ++ v ∷ []) (λ w there. elim (Contains-push_cases s.versions v w there) [ inl old ↦ n.versions w old | inr new ↦ subst IsNamed new is ])
+        | false ↦ with_versions (s.versions ++ v ∷ []) (λ w there. elim (Contains-push_cases s.versions v w there) [ inl old ↦ n.versions w old | inr new ↦ subst VersionHasNames new is ])
       ]
 
-joined_sound : (s : State) → HasSoundNames s → (v : Version) (branch : Option Text) → IsNamed v → IfSome branch IsName → HasSoundNames (joined s v branch)
+joined_sound : (s : State) → HasSoundNames s → (v : Version) (branch : Option Text) → VersionHasNames v → IfSome branch IsName → HasSoundNames (joined s v branch)
 joined_sound s n v None is name = n
 joined_sound s n v (Some branch) is name =
     with_branches s n _ (λ w b there. elim (at_mark _ contract_is s.branches (v, branch) (w, b) there) [
-      | inl new ↦ (subst IsNamed (sym (ap (λ (k : Version × Text). k.0) new)) is, subst IsName (sym (ap (λ (k : Version × Text). k.1) new)) name)
+      | inl new ↦ (subst VersionHasNames (sym (ap (λ (k : Version × Text). k.0) new)) is, subst IsName (sym (ap (λ (k : Version × Text). k.1) new)) name)
       | inr old ↦ n.branches w b old
     ])
 
@@ -159,32 +159,32 @@ module _ (parts : Primitives) (gives : GivesDigests parts) (s : State) (n : HasS
         | inr old ↦ n.environments q m old
       ]))
 
-  version_sound : (v : Version) (branch : Option Text) → IsNamed v → IfSome branch IsName → Leaves s n (put_version s v branch)
+  version_sound : (v : Version) (branch : Option Text) → VersionHasNames v → IfSome branch IsName → Leaves s n (put_version s v branch)
   unfolding Leaves
   version_sound v branch is name =
       test s n (is_known s v && on_branch s v branch) _ _ n (test s n (can_name s v) (done (joined (named s v) v branch)) (unchanged_with s Full) (joined_sound (named s v) (with_named s n v is) v branch is name) n)
 
-  pact_sound : (v : Version) (provider text : Text) → IsNamed v → IsName provider → Leaves s n (put_pact s v provider text)
+  pact_sound : (v : Version) (provider text : Text) → VersionHasNames v → IsName provider → Leaves s n (put_pact s v provider text)
   unfolding Leaves
   pact_sound v provider text is name =
       let m = stored_sound (named s v) (with_named s n v is) text in
       lookup s n _ _ (s.contracts (v, provider)) (λ content. n) (test s n _ _ _
       (with_contracts (stored (named s v) text) m _ (λ w q content there. elim (at_put _ contract_is s.contracts (v, provider) (content_number s text) (w, q) content there) [
-        | inl new ↦ (subst IsNamed (sym (ap (λ (k : Version × Text). k.0) new.0)) is, subst IsName (sym (ap (λ (k : Version × Text). k.1) new.0)) name)
+        | inl new ↦ (subst VersionHasNames (sym (ap (λ (k : Version × Text). k.0) new.0)) is, subst IsName (sym (ap (λ (k : Version × Text). k.1) new.0)) name)
         | inr old ↦ n.contracts w q content old
       ])) n)
 
-  report_sound : (r : Verification) (detail : ℕ → Detail) → IsNamed r.version → IfSome r.run IsName → Leaves s n (report s r detail)
+  report_sound : (r : Verification) (detail : ℕ → Detail) → VersionHasNames r.version → IfSome r.run IsName → Leaves s n (report s r detail)
   unfolding Leaves
   report_sound r detail is name =
       let m = with_named s n r.version is in
       lookup s n _ _ _ (λ e. n) (test s n _ _ _
       (with_results (named s r.version) m _ (λ q there. elim (Contains-push_cases s.results r q there) [
         | inl old ↦ n.results q old
-        | inr new ↦ subst (λ (x : Verification). IsNamed x.version × IfSome x.run IsName) new (is, name)
+        | inr new ↦ subst (λ (x : Verification). VersionHasNames x.version × IfSome x.run IsName) new (is, name)
       ])) n)
 
-  replies_sound : (content : ℕ) (v : Version) (run : Option Text) (failing : Option (List ℕ)) → IsNamed v → IfSome run IsName → Leaves s n (report_replies s content v run failing)
+  replies_sound : (content : ℕ) (v : Version) (run : Option Text) (failing : Option (List ℕ)) → VersionHasNames v → IfSome run IsName → Leaves s n (report_replies s content v run failing)
   replies_sound content v run None is name = same s n _
   replies_sound content v run (Some places) is name = report_sound _ _ is name
 
@@ -230,7 +230,7 @@ module _ (parts : Primitives) (gives : GivesDigests parts) (s : State) (n : HasS
   acts_sound (Release e v) out are x =
       is_left out _ x.3 (test s n x.0 _ (unchanged_with s (NotPermitted x.1)) (test s n (s.released (e, v)) _ _ n
       (with_released s n _ (λ f w there. elim (at_mark _ mark_is s.released (e, v) (f, w) there) [
-        | inl new ↦ subst (λ (k : Text × Version). IsName k.0 × IsNamed k.1) (sym new) are
+        | inl new ↦ subst (λ (k : Text × Version). IsName k.0 × VersionHasNames k.1) (sym new) are
         | inr old ↦ n.released f w old
       ]))) n)
   acts_sound (EndSupport e v) out are x =

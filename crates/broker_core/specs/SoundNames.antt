@@ -24,8 +24,8 @@ pub record IsDigest (text : Text) : Type 0 where
   pub digits : All IsHexDigit text
 
 -- both names of a version are names
-abbrev pub IsNamed : Version → Type 0
-IsNamed v = IsName v.pacticipant × IsName v.name
+abbrev pub VersionHasNames : Version → Type 0
+VersionHasNames v = IsName v.pacticipant × IsName v.name
 
 -- a name, or the empty text of a deployment without an instance
 abbrev pub IsInstance : Text → Type 0
@@ -36,16 +36,16 @@ pub record HasSoundNames (s : State) : Type 0 where
   pub office : IsDigest s.office
   pub teams : (team digest : Text) → s.teams team ≡ Some digest → IsName team × IsDigest digest
   pub pacticipants : (p team : Text) → s.pacticipants p ≡ Some team → IsName p × IsName team
-  pub versions : (v : Version) → Contains s.versions v → IsNamed v
-  pub branches : (v : Version) (branch : Text) → IsTrue (s.branches (v, branch)) → IsNamed v × IsName branch
+  pub versions : (v : Version) → Contains s.versions v → VersionHasNames v
+  pub branches : (v : Version) (branch : Text) → IsTrue (s.branches (v, branch)) → VersionHasNames v × IsName branch
   pub environments : (e : Text) (marks : Marks) → s.environments e ≡ Some marks → IsName e
   pub grants : (team e : Text) → IsTrue (s.grants (team, e)) → IsName team × IsName e
   pub contracts : (v : Version) (provider : Text) (content : ℕ) → s.contracts (v, provider) ≡ Some content
-      → IsNamed v × IsName provider
-  pub results : (r : Verification) → Contains s.results r → IsNamed r.version × IfSome r.run IsName
+      → VersionHasNames v × IsName provider
+  pub results : (r : Verification) → Contains s.results r → VersionHasNames r.version × IfSome r.run IsName
   pub deployed : (e p instance name : Text) → s.deployed (e, p, instance) ≡ Some name
       → IsName e × IsName p × IsInstance instance × IsName name
-  pub released : (e : Text) (v : Version) → IsTrue (s.released (e, v)) → IsName e × IsNamed v
+  pub released : (e : Text) (v : Version) → IsTrue (s.released (e, v)) → IsName e × VersionHasNames v
 
 -- ---- the names of a command
 
@@ -62,19 +62,19 @@ AreNames (PutPacticipant p team) = IsName p × IsName team
 AreNames (PutEnvironment e marks) = IsName e
 AreNames (PutGrant team e) = IsName team × IsName e
 AreNames (DeleteGrant team e) = IsName team × IsName e
-AreNames (PutVersion v branch) = IsNamed v × IfSome branch IsName
+AreNames (PutVersion v branch) = VersionHasNames v × IfSome branch IsName
 AreNames (PutPact path file) = AreNamesOfPath path
 AreNames (GetPact path) = AreNamesOfPath path
 AreNames (GetBranchPact provider consumer branch) = IsName provider × IsName consumer × IsName branch
 AreNames (PostResult path report success) = AreNamesOfPath path × AreNamesOfReport report
 AreNames (PostReplies path report replies) = AreNamesOfPath path × AreNamesOfReport report
-AreNames (Deploy e v instance) = IsName e × IsNamed v × IfSome instance IsName
-AreNames (Undeploy e v instance) = IsName e × IsNamed v × IfSome instance IsName
-AreNames (Release e v) = IsName e × IsNamed v
-AreNames (EndSupport e v) = IsName e × IsNamed v
+AreNames (Deploy e v instance) = IsName e × VersionHasNames v × IfSome instance IsName
+AreNames (Undeploy e v instance) = IsName e × VersionHasNames v × IfSome instance IsName
+AreNames (Release e v) = IsName e × VersionHasNames v
+AreNames (EndSupport e v) = IsName e × VersionHasNames v
 AreNames (GetEnvironment e) = IsName e
-AreNames (CanIDeploy v e) = IsNamed v × IsName e
-AreNames (GetMatrix v) = IsNamed v
+AreNames (CanIDeploy v e) = VersionHasNames v × IsName e
+AreNames (GetMatrix v) = VersionHasNames v
 AreNames (Malformed fault) = Unit {0}
 
 -- ---- the laws

@@ -1,7 +1,7 @@
 //! Commands: one variant a route, and one for what couldn't be read.
 ghost use Rattle.std.specs.Prelude.{◌≡◌, IfOk, IfSome};
 ghost use Rattle.broker_core.specs.Name.{IsName};
-ghost use Rattle.broker_core.specs.SoundNames.{AreNames, AreNamesOfPath, AreNamesOfReport, IsNamed};
+ghost use Rattle.broker_core.specs.SoundNames.{AreNames, AreNamesOfPath, AreNamesOfReport, VersionHasNames};
 
 use crate::name::{Body, Name, Text, Token};
 use std::alloc::AllocError;
@@ -216,7 +216,7 @@ impl PactPath {
 impl Version {
     /// Its names are names.
     fn has_names(&self)
-        ensures { IsNamed self.now }
+        ensures { VersionHasNames self.now }
     {
         self.pacticipant.is_name();
         self.name.is_name();

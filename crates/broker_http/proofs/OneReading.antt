@@ -5,8 +5,8 @@ use Rattle.http_responses.specs.Responses.{Response}
 use Rattle.broker_http.specs.Stream.{Responses, StreamEnds, AllOpen}
 use Rattle.broker_http.specs.declared.served.Ended.{Ended}
 use Rattle.broker_http.specs.declared.served.Ended.TheVariants.{AtEnd, Rest, Closed}
-use Rattle.http_messages.specs.Messages.{Begins}
-use Rattle.http_messages.proofs.MessagesLemmas.{Begins-unique, none_in_nothing}
+use Rattle.http_messages.specs.Messages.{BeginsWithMessage}
+use Rattle.http_messages.proofs.MessagesLemmas.{BeginsWithMessage-unique, none_in_nothing}
 
 same_message : (m n : Message) → m.head ≡ n.head → m.body ≡ n.body → m ≡ n
 same_message m n p q =
@@ -21,8 +21,8 @@ not_closed : (front : List Response) (last : Response) → [] ≡ front ++ last 
 not_closed front last e = omega (arith, ap length e, length-append front (last ∷ []))
 
 -- where the responses are over, none is left to give
-none_left : (ended : Ended) (stream : List ℕ) (m : Message) (after : List ℕ) → StreamEnds ended [] stream → Begins stream m after → ⊥
-none_left AtEnd stream m after ends begins = none_in_nothing m after (subst (λ l. Begins l m after) ends.1 begins)
+none_left : (ended : Ended) (stream : List ℕ) (m : Message) (after : List ℕ) → StreamEnds ended [] stream → BeginsWithMessage stream m after → ⊥
+none_left AtEnd stream m after ends begins = none_in_nothing m after (subst (λ l. BeginsWithMessage l m after) ends.1 begins)
 none_left Rest stream m after ends begins = ends.2 m after begins
 none_left Closed stream m after ends begins = not_closed ends.0 ends.1 ends.2
 
@@ -70,7 +70,7 @@ module _ {S : Type 0} (Exchange : S → Message → Response → S → Type 0)
   one_reading s stream (response ∷ responses) [] t u rest left ended second p ends q over =
       absurd (none_left second stream p.0 p.2 (subst (StreamEnds second []) q.1 over) p.3)
   one_reading s stream (response ∷ responses) (other ∷ others) t u rest left ended second p ends q over =
-      let unique = Begins-unique stream p.2 q.2 p.0 q.0 p.3 q.3 in
+      let unique = BeginsWithMessage-unique stream p.2 q.2 p.0 q.0 p.3 q.3 in
       let message = same_message p.0 q.0 unique.0 unique.1 in
       let exchange = same s q.0 response other p.1 q.1 (subst (λ m. Exchange s m response p.1) message p.4) q.4 in
       let tail = subst (λ v. Responses Exchange v q.2 responses t rest) exchange.1 (subst (λ l. Responses Exchange p.1 l responses t rest) unique.2 p.5) in

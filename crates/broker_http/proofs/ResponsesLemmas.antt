@@ -16,10 +16,10 @@ use Rattle.broker_http.specs.declared.served.ServeFault.{ServeFault}
 use Rattle.broker_http.specs.declared.served.ServeFault.TheVariants as faults
 use Rattle.broker_http.specs.declared.served.Ended.{Ended}
 use Rattle.broker_http.specs.declared.served.Ended.TheVariants.{AtEnd, Rest, Closed}
-use Rattle.http_messages.specs.Messages.{Begins, HasNoMessage, message_of}
+use Rattle.http_messages.specs.Messages.{BeginsWithMessage, HasNoMessage, message_of}
 use Rattle.std.specs.Io.KnownBytes.{Appends, Consumes}
 use Rattle.std.proofs.KnownBytes.{Appends-trans, Consumes-trans}
-use Rattle.http_messages.proofs.MessagesLemmas.{Begins-more}
+use Rattle.http_messages.proofs.MessagesLemmas.{BeginsWithMessage-more}
 
 module _ {S : Type 0} (Exchange : S → Message → Response → S → Type 0) where
   -- more of the stream
@@ -27,7 +27,7 @@ module _ {S : Type 0} (Exchange : S → Message → Response → S → Type 0) w
       → Responses Exchange s stream responses t rest → Responses Exchange s (stream ++ more) responses t (rest ++ more)
   Responses-more s stream [] t rest more p = (p.0, ap (λ l. l ++ more) p.1)
   Responses-more s stream (response ∷ responses) t rest more p =
-      (p.0, p.1, p.2 ++ more, Begins-more stream more p.2 p.0 p.3, p.4, Responses-more p.1 p.2 responses t rest more p.5)
+      (p.0, p.1, p.2 ++ more, BeginsWithMessage-more stream more p.2 p.0 p.3, p.4, Responses-more p.1 p.2 responses t rest more p.5)
 
   -- the buffer after what came
   pub Responses-came : (s : S) (stream : List ℕ) (responses : List Response) (t : S) (old more new : List ℕ)
@@ -37,10 +37,10 @@ module _ {S : Type 0} (Exchange : S → Message → Response → S → Type 0) w
 
   -- one more message
   pub Responses-then : (s : S) (stream : List ℕ) (responses : List Response) (t : S) (rest : List ℕ) (m : Message) (response : Response) (u : S) (after : List ℕ)
-      → Responses Exchange s stream responses t rest → Begins rest m after → Exchange t m response u
+      → Responses Exchange s stream responses t rest → BeginsWithMessage rest m after → Exchange t m response u
       → Responses Exchange s stream (responses ++ response ∷ []) u after
   Responses-then s stream [] t rest m response u after p begins exchanged =
-      (m, u, after, subst (λ l. Begins l m after) p.1 begins, subst (λ v. Exchange v m response u) p.0 exchanged, (refl, refl))
+      (m, u, after, subst (λ l. BeginsWithMessage l m after) p.1 begins, subst (λ v. Exchange v m response u) p.0 exchanged, (refl, refl))
   Responses-then s stream (first ∷ responses) t rest m response u after p begins exchanged =
       (p.0, p.1, p.2, p.3, p.4, Responses-then p.1 p.2 responses t rest m response u after p.5 begins exchanged)
 
@@ -97,7 +97,7 @@ module _ {S : Type 0} (Exchange : S → Message → Response → S → Type 0) w
   -- a fault at one message, behind those that are answered
   pub Responses-broken : (s : S) (stream : List ℕ) (responses : List Response) (t : S) (bytes : List ℕ) (m : Message) (after : List ℕ) (u : S)
       (first old new : Option (List ℕ)) (fault : ServeFault)
-      → Responses Exchange s stream responses t bytes → AllOpen responses → Appends first old (texts responses) → Begins bytes m after
+      → Responses Exchange s stream responses t bytes → AllOpen responses → Appends first old (texts responses) → BeginsWithMessage bytes m after
       → ExchangeCut Exchange t m u old new fault
       → (more : List Response) × (rest : List ℕ) × (out : List ℕ) × Responses Exchange s stream more u rest × StreamCut fault more out × Appends first new out
   Responses-broken s stream responses t bytes m after u first old new faults.Read so_far opened out begins broken = absurd broken

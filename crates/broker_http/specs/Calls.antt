@@ -34,13 +34,13 @@ module _ {X : Type 0} (shown : Held X → State) (s t : BrokerView X) (old new :
 module _ {X : Type 0} (shown : Held X → State) (s t : BrokerView X) (before after old new : Option (List ℕ)) where
   -- on any disk and any database, what was read is answered message by message by what the broker does with each
   -- command; a fault leaves some messages answered
-  abbrev pub IsAnswered : Result Served ServeFault → Type 0
-  IsAnswered result = ServesStream (ByBroker shown) s t before after old new result
+  abbrev pub IsAnsweredByBroker : Result Served ServeFault → Type 0
+  IsAnsweredByBroker result = ServesStream (ByBroker shown) s t before after old new result
 
   -- what serving a stream promises
   pub record IsServed (result : Result Served ServeFault) : Type 0 where
     -- on any disk and any database, by what the broker does with each command
-    pub answers : IsAnswered result
+    pub answers : IsAnsweredByBroker result
     -- on a clean disk, from a database that holds a state of the machine, the answers are the machine's: those that
     -- are steps run it, in order, from that state to the last, which the database holds; so too those to the messages
     -- before a fault

@@ -3,7 +3,7 @@ use Rattle.std.specs.Prelude.{◌≡◌, ℕ, ◌<◌, Bool, true, false, List, 
 use Rattle.std.specs.List.{flat_map}
 use Rattle.std.specs.Io.KnownBytes.{Appends}
 use Rattle.http_messages.specs.Message.{Message}
-use Rattle.http_messages.specs.Messages.{Begins, HasNoMessage}
+use Rattle.http_messages.specs.Messages.{BeginsWithMessage, HasNoMessage}
 use Rattle.http_responses.specs.Responses.{Response}
 use Rattle.broker_http.specs.declared.served.ServeFault.{ServeFault}
 use Rattle.broker_http.specs.declared.served.ServeFault.TheVariants as faults
@@ -48,7 +48,7 @@ module _ {S : Type 0} (Exchange : S → Message → Response → S → Type 0) w
   Responses s stream [] t rest = (t ≡ s) × (rest ≡ stream)
   Responses s stream (response ∷ responses) t rest =
       (m : Message) × (u : S) × (after : List ℕ)
-      × Begins stream m after × Exchange s m response u × Responses u after responses t rest
+      × BeginsWithMessage stream m after × Exchange s m response u × Responses u after responses t rest
 
   -- one message is answered, and its response is out: it closes the stream, or it doesn't
   abbrev pub ExchangeDone : S → Message → S → Option (List ℕ) → Option (List ℕ) → Bool → Type 0

@@ -1,7 +1,7 @@
 //! Serving a stream.
 ghost use Rattle.std.specs.Prelude.{◌≡◌, ◌+◌, ◌≤◌, length, take, drop};
 ghost use Rattle.sqlite.specs.Held.{state};
-ghost use Rattle.broker_http.specs.Calls.{IsAnswered, IsServed};
+ghost use Rattle.broker_http.specs.Calls.{IsAnsweredByBroker, IsServed};
 
 use crate::exchange::answer;
 use crate::served::{Ended, ServeFault, Served};
@@ -33,7 +33,7 @@ fn serve_all<R: Read, W: Write, S: Alter>(
     reader: &mut R,
     writer: &mut W,
 ) -> Result<Served, ServeFault>
-    ensures { IsAnswered (state S.Store) broker.old broker.new
+    ensures { IsAnsweredByBroker (state S.Store) broker.old broker.new
         (R.remaining reader.old) (R.remaining reader.new)
         (W.contents writer.old) (W.contents writer.new) result }
 {

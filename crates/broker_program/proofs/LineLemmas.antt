@@ -7,7 +7,7 @@ use Rattle.clap.specs.Words.{App, HasKind, HasMatchesOf, Kinds, Row, Text, fault
 use Rattle.clap.specs.declared.error.Error.{Error}
 use Rattle.clap.specs.declared.error.kind.ErrorKind.TheVariants.{OutOfMemory}
 use Rattle.clap.specs.declared.parser.matches.ArgMatches.{ArgMatches}
-use Rattle.broker_program.specs.Lines.{BeginsWith, HasOptions, HasValues, command_at, command_named, command_of, commands, has_none, is_command, is_line, is_taken}
+use Rattle.broker_program.specs.Lines.{BeginsWithName, HasOptions, HasValues, command_at, command_named, command_of, commands, has_none, is_command, is_line, is_taken}
 use Rattle.broker_program.specs.declared.line.Line.{Line}
 use Rattle.broker_program.specs.declared.names.CommandName.{CommandName}
 use Rattle.broker_program.specs.declared.names.CommandName.TheVariants as names
@@ -61,13 +61,13 @@ found p (y ∷ ys) x e = first (p y) refl (found p ys x) e
     first false is later e = later e
 
 pub begins : (word : Text) (rest : List Text) (name : Option CommandName) → option_map command_named name ≡ command_at word
-    → MatchOption name (is_command (word ∷ rest) ≡ false) (BeginsWith (word ∷ rest))
+    → MatchOption name (is_command (word ∷ rest) ≡ false) (BeginsWithName (word ∷ rest))
 begins word rest None e = subst (λ (o : Option App). option_map_or (λ command. is_taken command (word ∷ rest)) o false ≡ false) e refl
 begins word rest (Some name) e =
     let same : word ≡ (command_named name).top.name = (bytes_eq-Decides word (command_named name).top.name).0 (found (λ command. bytes_eq word command.top.name) commands (command_named name) e) in
     (rest, ap (λ w. w ∷ rest) same, subst (λ (o : Option App). option_map_or (λ command. is_taken command (word ∷ rest)) o false ≡ is_taken (command_named name) (word ∷ rest)) e refl)
 
-pub taken : (words : List Text) (program : Text) (rest : List Text) (name : CommandName) → words ≡ program ∷ rest → BeginsWith rest name
+pub taken : (words : List Text) (program : Text) (rest : List Text) (name : CommandName) → words ≡ program ∷ rest → BeginsWithName rest name
     → is_line words ≡ true → is_taken (command_named name) rest ≡ true
 unfolding is_line
 taken words program rest name is begins line = sym begins.2 ∙ subst (λ (ws : List Text). is_line ws ≡ true) is line
@@ -85,7 +85,7 @@ wordless words is line =
     cc
 
 -- the words of a line are one
-pub line_taken : (words : List Text) (program : Text) (rest : List Text) (name : CommandName) (line : Line) → words ≡ program ∷ rest → BeginsWith rest name
+pub line_taken : (words : List Text) (program : Text) (rest : List Text) (name : CommandName) (line : Line) → words ≡ program ∷ rest → BeginsWithName rest name
     → (command_of line ≡ command_named name) × HasOptions rest line → is_line words ≡ true
 unfolding is_line
 line_taken words program rest name line is begins read =

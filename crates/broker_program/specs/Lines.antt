@@ -82,8 +82,8 @@ abbrev pub HasText : List Row → Text → Text → Type 0
 HasText rows name text = first_of name rows ≡ Some text
 
 -- the option has this number, which its text writes in decimal digits
-abbrev pub HasNumber : List Row → Text → ℕ → Type 0
-HasNumber rows name n =
+abbrev pub HasNumberOption : List Row → Text → ℕ → Type 0
+HasNumberOption rows name n =
     (text : Text) × (one_of name rows ≡ Some text) × (n ≡ digits_value 10 (without_leading_plus text))
     × (1 ≤ n) × (n ≤ 1000000)
 
@@ -94,7 +94,7 @@ HasValues rows (Init file token) = HasText rows (codes "file") file.now × HasTe
 HasValues rows (Migrate file) = HasText rows (codes "file") file.now
 HasValues rows (Serve file listen connections) =
     HasText rows (codes "file") file.now × HasText rows (codes "listen") listen.now
-    × HasNumber rows (codes "connections") connections
+    × HasNumberOption rows (codes "connections") connections
 HasValues rows Normalise = ⊤
 HasValues rows (Check pact replies) = HasText rows (codes "pact") pact.now × HasText rows (codes "replies") replies.now
 HasValues rows (CanIDeploy file token pacticipant version environment) =
@@ -145,7 +145,7 @@ command_named names.Check = check
 command_named names.CanIDeploy = can_i_deploy
 
 -- the words begin with the name, and are a command where its command takes them
-abbrev pub BeginsWith : List Text → CommandName → Type 0
-BeginsWith words name =
+abbrev pub BeginsWithName : List Text → CommandName → Type 0
+BeginsWithName words name =
     (rest : List Text) × (words ≡ (command_named name).top.name ∷ rest)
     × (is_command words ≡ is_taken (command_named name) words)

@@ -8,7 +8,7 @@ use Rattle.broker_service.specs.BrokerView.{BrokerView}
 use Rattle.broker_service.specs.Calls.{Created}
 
 -- over some connection, of an office with this token
-abbrev pub IsMade : {X : Type 0} → (Held X → State) → Text → Type 0
-IsMade {X} shown office =
+abbrev pub BrokerIsMade : {X : Type 0} → (Held X → State) → Text → Type 0
+BrokerIsMade {X} shown office =
     (connection : Held X) × (broker : BrokerView X)
     × Created shown connection (broker_primitives.digest_of office) (Ok broker)

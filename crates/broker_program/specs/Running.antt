@@ -7,7 +7,7 @@ use Rattle.broker_core.specs.Name.{IsToken}
 use Rattle.clap.specs.Words.{Text}
 use Rattle.broker_program.specs.Lines.{Says, is_line}
 use Rattle.broker_program.specs.Replays.{Replays, ReplaysUntil}
-use Rattle.broker_program.specs.Making.{IsMade}
+use Rattle.broker_program.specs.Making.{BrokerIsMade}
 use Rattle.broker_program.specs.Told.{Asks, AsksUntil, Checks, ChecksUntil, Normalises, NormalisesUntil}
 use Rattle.broker_program.specs.declared.can_i_deploy.Question.{Question}
 use Rattle.broker_program.specs.declared.line.Line.{Line}
@@ -25,35 +25,35 @@ module _ {X : Type 0} (shown : Held X → State) (before after old new : Option 
   IsSilent = (after ≡ before) × (new ≡ old)
 
   -- The command came to an end: it is done, its check passed or its version is permitted; or not so.
-  abbrev pub Ends : Line → Bool → Type 0
-  Ends (Replay token) passes = (passes ≡ true) × IsToken token.now × Replays token.now before after old new
-  Ends (Init file token) passes = (passes ≡ true) × IsToken token.now × IsMade shown token.now × IsSilent
-  Ends (Migrate file) passes = (passes ≡ true) × IsSilent
-  Ends (Serve file listen connections) passes = (passes ≡ true) × IsSilent
-  Ends Normalise passes = (passes ≡ true) × Normalises before after old new
-  Ends (Check pact replies) passes = (after ≡ before) × Checks old new passes
-  Ends (CanIDeploy file token pacticipant version environment) passes =
+  abbrev pub CommandEnds : Line → Bool → Type 0
+  CommandEnds (Replay token) passes = (passes ≡ true) × IsToken token.now × Replays token.now before after old new
+  CommandEnds (Init file token) passes = (passes ≡ true) × IsToken token.now × BrokerIsMade shown token.now × IsSilent
+  CommandEnds (Migrate file) passes = (passes ≡ true) × IsSilent
+  CommandEnds (Serve file listen connections) passes = (passes ≡ true) × IsSilent
+  CommandEnds Normalise passes = (passes ≡ true) × Normalises before after old new
+  CommandEnds (Check pact replies) passes = (after ≡ before) × Checks old new passes
+  CommandEnds (CanIDeploy file token pacticipant version environment) passes =
       (after ≡ before) × Asks shown (question token pacticipant version environment) old new passes
 
   -- The command failed: what it wrote is a beginning of what it would have told.
-  abbrev pub Fails : Line → Type 0
-  Fails (Replay token) = IsSilent ⊎ ReplaysUntil token.now before after old new
-  Fails (Init file token) = IsSilent
-  Fails (Migrate file) = IsSilent
-  Fails (Serve file listen connections) = IsSilent
-  Fails Normalise = (new ≡ old) ⊎ NormalisesUntil before after old new
-  Fails (Check pact replies) = (after ≡ before) × ((new ≡ old) ⊎ ChecksUntil old new)
-  Fails (CanIDeploy file token pacticipant version environment) =
+  abbrev pub CommandFails : Line → Type 0
+  CommandFails (Replay token) = IsSilent ⊎ ReplaysUntil token.now before after old new
+  CommandFails (Init file token) = IsSilent
+  CommandFails (Migrate file) = IsSilent
+  CommandFails (Serve file listen connections) = IsSilent
+  CommandFails Normalise = (new ≡ old) ⊎ NormalisesUntil before after old new
+  CommandFails (Check pact replies) = (after ≡ before) × ((new ≡ old) ⊎ ChecksUntil old new)
+  CommandFails (CanIDeploy file token pacticipant version environment) =
       (after ≡ before)
       × ((new ≡ old) ⊎ AsksUntil shown (question token pacticipant version environment) old new)
 
 -- Remaining is what a reader still gives, contents what a writer has taken.
 module _ {X I O : Type 0} (shown : Held X → State) (remaining : I → Option (List ℕ)) (contents : O → Option (List ℕ)) (before after : I) (old new : O) where
-  abbrev pub EndsOn : Line → Bool → Type 0
-  EndsOn = Ends shown (remaining before) (remaining after) (contents old) (contents new)
+  abbrev pub CommandEndsOn : Line → Bool → Type 0
+  CommandEndsOn = CommandEnds shown (remaining before) (remaining after) (contents old) (contents new)
 
-  abbrev pub FailsOn : Line → Type 0
-  FailsOn = Fails shown (remaining before) (remaining after) (contents old) (contents new)
+  abbrev pub CommandFailsOn : Line → Type 0
+  CommandFailsOn = CommandFails shown (remaining before) (remaining after) (contents old) (contents new)
 
 -- The texts are the words; the reader was before and is after, standard output was old and is new, standard error was
 -- untold and is told.
@@ -64,11 +64,11 @@ module _ {X I O E : Type 0} (shown : Held X → State) (remaining : I → Option
     -- what the command was to do is done, and standard output has what it tells
     pub done : status ≡ 0 → is_line words ≡ true
         → (line : Line) × Says words line
-        × EndsOn shown remaining contents before after old new line true
+        × CommandEndsOn shown remaining contents before after old new line true
     -- the check failed or the version isn't permitted, and standard output says so
     pub refused : status ≡ 1
         → (line : Line) × Says words line
-        × EndsOn shown remaining contents before after old new line false
+        × CommandEndsOn shown remaining contents before after old new line false
     -- in both nothing is on standard error
     pub quiet : status ≡ 0 → is_line words ≡ true → told ≡ untold
     pub quiet_refused : status ≡ 1 → told ≡ untold
@@ -80,4 +80,4 @@ module _ {X I O E : Type 0} (shown : Held X → State) (remaining : I → Option
     pub fails : status ≡ 3 → is_line words ≡ true
         → ((after ≡ before) × (new ≡ old))
         ⊎ ((line : Line) × Says words line
-        × FailsOn shown remaining contents before after old new line)
+        × CommandFailsOn shown remaining contents before after old new line)

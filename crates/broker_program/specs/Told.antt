@@ -89,18 +89,18 @@ asked question =
 
 module _ {X : Type 0} (shown : Held X → State) where
   -- a broker that isn't stopped answers so, to a caller with this token
-  abbrev pub IsAnswered : Text → Command → Answer → Type 0
-  IsAnswered token command answer =
+  abbrev pub BrokerAnswers : Text → Command → Answer → Type 0
+  BrokerAnswers token command answer =
       (old : BrokerView X) × (new : BrokerView X)
       × (old.is_stopped ≡ false) × Applied shown old (Some token) command answer new
 
   module _ (question : Question) (old new : Option (List ℕ)) where
     abbrev pub Asks : Bool → Type 0
     Asks permitted =
-        (answer : Answer) × IsAnswered question.token.now (asked question) answer × IsGate permitted answer
+        (answer : Answer) × BrokerAnswers question.token.now (asked question) answer × IsGate permitted answer
         × Appends old new (answer_text answer ++ newline)
 
     abbrev pub AsksUntil : Type 0
     AsksUntil =
-        (permitted : Bool) × (answer : Answer) × IsAnswered question.token.now (asked question) answer
+        (permitted : Bool) × (answer : Answer) × BrokerAnswers question.token.now (asked question) answer
         × IsGate permitted answer × IsBegun (answer_text answer ++ newline) old new

@@ -1,7 +1,7 @@
 //! Asking the broker in a file whether a version may be deployed.
 ghost use Rattle.std.specs.Prelude.{◌≡◌, ◌⊎◌, IfOk, IfSome, OnErr};
 ghost use Rattle.sqlite.specs.Held.{state};
-ghost use Rattle.broker_program.specs.Told.{Asks, AsksUntil, IsAnswered, IsGate, asked};
+ghost use Rattle.broker_program.specs.Told.{Asks, AsksUntil, BrokerAnswers, IsGate, asked};
 
 use crate::fault::RunFault;
 use crate::files::{open_broker, release};
@@ -48,7 +48,7 @@ fn answer_at(
     token: &Token,
     command: &Command,
 ) -> Result<Answer, RunFault>
-    ensures { IfOk result (IsAnswered (state ⟦<FileStore<File> as Store>⟧) token.now command.now) }
+    ensures { IfOk result (BrokerAnswers (state ⟦<FileStore<File> as Store>⟧) token.now command.now) }
 {
     let mut broker = open_broker(rt, file)?;
     let answer = broker.apply(rt.alloc(), Some(token.as_str()), command);

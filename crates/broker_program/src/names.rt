@@ -1,6 +1,6 @@
 //! The names of the commands.
 ghost use Rattle.std.specs.Prelude.{◌≡◌, MatchOption, false, option_map};
-ghost use Rattle.broker_program.specs.Lines.{BeginsWith, command_at, command_named, is_command, texts_of};
+ghost use Rattle.broker_program.specs.Lines.{BeginsWithName, command_at, command_named, is_command, texts_of};
 
 /// A command of the program, without its options.
 #[derive(Clone, Copy, Debug)]
@@ -45,7 +45,7 @@ fn named_by(word: &str) -> Option<CommandName>
 /// The command that the first of the words names.
 pub(crate) fn named(words: &[&str]) -> Option<CommandName>
     ensures { MatchOption result (is_command (texts_of words.now) ≡ false)
-        (BeginsWith (texts_of words.now)) }
+        (BeginsWithName (texts_of words.now)) }
 {
     match words.split_first() {
         Some((word, _)) => named_by(word),

@@ -1,7 +1,7 @@
 //! The values of a command's options, as `clap` found them.
 ghost use Rattle.std.specs.Prelude.{◌≡◌, IfErr, IfOk, IfSome, codes, option_map};
 ghost use Rattle.clap.specs.Words.{first_of, found_of, kind_of, rows_of};
-ghost use Rattle.broker_program.specs.Lines.{HasNumber, HasValues, command_named, command_of};
+ghost use Rattle.broker_program.specs.Lines.{HasNumberOption, HasValues, command_named, command_of};
 ghost use Rattle.broker_program.specs.Lines.{can_i_deploy, check, init, migrate, normalise, replay, serve};
 
 use crate::line::Line;
@@ -19,7 +19,7 @@ fn text_of<'a>(matches: &ArgMatches<'a>, name: &str) -> Option<&'a str>
 
 /// The number of an option, from 1 to 1,000,000.
 fn number_of(matches: &ArgMatches<'_>, name: &str) -> Option<u32>
-    ensures { IfSome result (HasNumber (rows_of (found_of matches.now)) name.now) }
+    ensures { IfSome result (HasNumberOption (rows_of (found_of matches.now)) name.now) }
 {
     match matches.get_one::<u32>(name) {
         Some(number) if number >= 1 && number <= 1_000_000 => Some(number),

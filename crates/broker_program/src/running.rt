@@ -6,7 +6,7 @@ ghost use Rattle.broker_program.specs.Told.{newline};
 ghost use Rattle.sqlite.specs.Held.{state};
 ghost use Rattle.clap.specs.Values.{kind_of};
 ghost use Rattle.broker_program.specs.Lines.{texts_of};
-ghost use Rattle.broker_program.specs.Running.{EndsOn, FailsOn, Ran};
+ghost use Rattle.broker_program.specs.Running.{CommandEndsOn, CommandFailsOn, Ran};
 
 use crate::can_i_deploy::{Question, ask};
 use crate::check::check;
@@ -69,9 +69,9 @@ fn carry_out<R: Read, W: Write>(
     input: &mut R,
     output: &mut W,
 ) -> Result<bool, RunFault>
-    ensures ends { IfOk result (EndsOn (state ⟦<FileStore<File> as Store>⟧) R.remaining W.contents
+    ensures ends { IfOk result (CommandEndsOn (state ⟦<FileStore<File> as Store>⟧) R.remaining W.contents
         input.old input.new output.old output.new line.entry) }
-    ensures fails { OnErr result (FailsOn (state ⟦<FileStore<File> as Store>⟧) R.remaining W.contents
+    ensures fails { OnErr result (CommandFailsOn (state ⟦<FileStore<File> as Store>⟧) R.remaining W.contents
         input.old input.new output.old output.new line.entry) }
 {
     match line {

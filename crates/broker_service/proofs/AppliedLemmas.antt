@@ -15,7 +15,7 @@ use Rattle.broker_core.specs.declared.command.Command.{Command}
 use Rattle.broker_service.specs.BrokerView.{BrokerView}
 use Rattle.broker_service.specs.Calls.{Applied}
 use Rattle.broker_service.specs.Causes.{HasReason, answer_of}
-use Rattle.broker_service.specs.Ends.{Applies, Ends, IsAsBefore, IsUnchangedUnlessDone, IsNoFailure, CommitsAtMostOnce, LeavesNoTransaction}
+use Rattle.broker_service.specs.Ends.{Applies, AppliesOrFails, IsAsBefore, IsUnchangedUnlessDone, IsNoFailure, CommitsAtMostOnce, LeavesNoTransaction}
 use Rattle.broker_service.specs.Stored.{HoldsState}
 use Rattle.broker_service.proofs.EndLemmas.{deployed_exactly, released_exactly}
 use Rattle.broker_service.proofs.LeavingLemmas.{command_leaves, stopped_leaves}
@@ -27,7 +27,7 @@ told (Ok answer) = answer
 told (Err fault.Memory) = answers.Memory
 told (Err fault.Store) = answers.Store
 
-applies_told : (s : Broker) (token : Option Text) (command : Command) (new : State) (r : Result Answer StoreFault) → Ends s token command new r → Applies s token command new (told r)
+applies_told : (s : Broker) (token : Option Text) (command : Command) (new : State) (r : Result Answer StoreFault) → AppliesOrFails s token command new r → Applies s token command new (told r)
 applies_told s token command new (Ok answer) (inl steps) = inl steps
 applies_told s token command new (Ok answer) (inr pattern) = inr (inl pattern)
 applies_told s token command new (Err fault.Memory) kept = inr (inr (inl (refl, kept)))
@@ -60,7 +60,7 @@ cause_told P (Err fault.Store) fault.Store it cause is = cause
 module _ {X : Type 0} (shown : Held X → State) where
   -- what a running broker's transaction leaves
   pub ran : (old : BrokerView X) (token : Option Text) (command : Command) (r : Result Answer StoreFault) (answer : Answer) (new : BrokerView X) → answer ≡ told r
-      → (HasCleanDisk (shown new.connection) → (s : Broker) → HoldsState s (shown old.connection) → Ends s token command (shown new.connection) r)
+      → (HasCleanDisk (shown new.connection) → (s : Broker) → HoldsState s (shown old.connection) → AppliesOrFails s token command (shown new.connection) r)
       → (HasCleanDisk (shown new.connection) → IsUnchangedUnlessDone (shown old.connection) (shown new.connection) r)
       → (HasCleanDisk (shown new.connection) → IfErr r (HasReason shown token command old.connection new.connection))
       → LeavesNoTransaction (shown old.connection) (shown new.connection) → CommitsAtMostOnce (shown old.connection) (shown new.connection)

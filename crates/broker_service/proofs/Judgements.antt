@@ -16,14 +16,14 @@ use Rattle.broker_tables.specs.Making.{IsMarked}
 use Rattle.broker_tables.specs.Holds.{IsMeta}
 use Rattle.registry_tables.specs.Format.{IsOfFormat, Finds, table_of}
 use Rattle.broker_service.specs.declared.opening.OpenFault.TheVariants.{Format}
-use Rattle.broker_service.specs.Opening.{IsJudged, judgement}
+use Rattle.broker_service.specs.Opening.{OpensOrRefuses, judgement}
 
 -- the judgement by the format that is found is right, whichever format is wanted
-pub judged : (wanted : ℕ) (db : Database) (found : Option ℕ) → Finds db found → IsJudged wanted db (judgement wanted found)
+pub judged : (wanted : ℕ) (db : Database) (found : Option ℕ) → Finds db found → OpensOrRefuses wanted db (judgement wanted found)
 judged wanted db None it = it
 judged wanted db (Some n) it = go (n == wanted) refl
   where
-    go : (b : Bool) → (n == wanted) ≡ b → IsJudged wanted db (if b then Ok tt else Err (Format n))
+    go : (b : Bool) → (n == wanted) ≡ b → OpensOrRefuses wanted db (if b then Ok tt else Err (Format n))
     go true e = subst (λ k. IsOfFormat k db) (let same : n ≡ wanted = eqb-true n wanted e in same) it
     go false e = (it, eqb-false n wanted e)
 

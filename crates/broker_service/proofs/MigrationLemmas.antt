@@ -36,7 +36,7 @@ use Rattle.registry_tables.specs.Format.{AreLike, AreKeys, HasForm, HasFormerTab
 use Rattle.command_facts.specs.Primitives.{broker_primitives}
 use Rattle.broker_service.specs.Calls.{Migrated}
 use Rattle.broker_service.specs.Ends.{CommitsAtMostOnce, LeavesNoTransaction}
-use Rattle.broker_service.specs.Migration.{StoresFormer, HoldsFormerState, MigratesOrFails, IsUnchangedUnlessFormer, IsJudgedFormer, WasGood, WasPermitted, WasFault, WasJudged, Showed, JudgesAsBefore, former_kind, former_fault, former_marks}
+use Rattle.broker_service.specs.Migration.{StoresFormer, HoldsFormerState, MigratesOrFails, IsUnchangedUnlessFormer, MigratesOrRefuses, WasGood, WasPermitted, WasFault, WasJudged, Showed, JudgesAsBefore, former_kind, former_fault, former_marks}
 use Rattle.broker_service.specs.Opening.{Refuses, IsUnchangedUnlessStore, judgement, open_fault}
 use Rattle.broker_service.specs.Stored.{Stores, HoldsState}
 use Rattle.broker_service.specs.declared.opening.OpenFault.{OpenFault}
@@ -100,11 +100,11 @@ former_found db s None held (inr (tells, lacks)) = absurd (lacks (former_tables_
 former_found db s (Some n) held it = marked_some former_format s.office db (Some n) (former_marked db s held) it.0
 
 -- the judgement by what is found is right
-judged_former : (db : Database) (found : Option ℕ) → FindsFormer db found → IsJudgedFormer db (judgement former_format found)
+judged_former : (db : Database) (found : Option ℕ) → FindsFormer db found → MigratesOrRefuses db (judgement former_format found)
 judged_former db None it = it
 judged_former db (Some n) it = go (n == former_format) refl
   where
-    go : (b : Bool) → (n == former_format) ≡ b → IsJudgedFormer db (if b then Ok tt else Err (Format n))
+    go : (b : Bool) → (n == former_format) ≡ b → MigratesOrRefuses db (if b then Ok tt else Err (Format n))
     go true e =
         let same : n ≡ former_format = eqb-true n former_format e in
         (subst (λ k. IsOfFormat k db) same it.0, it.1 same)

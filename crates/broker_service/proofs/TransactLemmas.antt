@@ -15,7 +15,7 @@ use Rattle.broker_core.specs.declared.command.Command.{Command}
 use Rattle.broker_tables.specs.Holds.{Holds}
 use Rattle.command_facts.specs.Performs.{PerformsBetween, TokensStep}
 use Rattle.broker_service.specs.Causes.{Concludes, Works, HasReason}
-use Rattle.broker_service.specs.Ends.{Ends, HoldsNext, IsAsBefore, IsUnchangedUnlessDone, CommitsAtMostOnce}
+use Rattle.broker_service.specs.Ends.{AppliesOrFails, HoldsNext, IsAsBefore, IsUnchangedUnlessDone, CommitsAtMostOnce}
 use Rattle.broker_service.specs.Stored.{Stores, HoldsState}
 use Rattle.broker_service.specs.Transaction.{Finishes}
 use Rattle.broker_service.proofs.Transaction.{IsTransaction, done_clean, seen, kept, as_before, unsure, last_commit, keeps_on, commits_once, finished_over}
@@ -28,7 +28,7 @@ module _ (token : Option Text) (command : Command) where
       × TokensStep token command s (record { answer = answer; state = t }) × Holds done.now t
 
   -- nothing has changed
-  pub fails_as_before : (s : Broker) (old new : State) (fault : StoreFault) → IsAsBefore old new → HoldsState s old → Ends s token command new (Err fault)
+  pub fails_as_before : (s : Broker) (old new : State) (fault : StoreFault) → IsAsBefore old new → HoldsState s old → AppliesOrFails s token command new (Err fault)
   fails_as_before s old new Memory is holds = keeps_on (λ db. Stores db s) old new is holds
   fails_as_before s old new Store is holds = keeps_unsure (λ db. Stores db s) _ _ (keeps_on (λ db. Stores db s) old new is holds)
 
@@ -37,7 +37,7 @@ module _ (token : Option Text) (command : Command) where
   unchanged_as_before old new Store is = is.commit
 
   pub transact_ends : (s : Broker) (old mid done new : State) (r : Result Answer StoreFault) (keeps did : Bool) → IsTransaction old mid done new r (IsPerformed mid done) keeps did
-      → (IsTrue keeps ↔ IsOkAnd r IsDone) → HasCleanDisk new → HoldsState s old → Ends s token command new (if did then r else Err Store)
+      → (IsTrue keeps ↔ IsOkAnd r IsDone) → HasCleanDisk new → HoldsState s old → AppliesOrFails s token command new (if did then r else Err Store)
   transact_ends s old mid done new (Ok answer) true true t is_kept clean holds =
       let was = seen old mid done new (Ok answer) _ true true t clean (λ db. Stores db s) holds in
       let next = t.works.ok (done_clean old mid done new (Ok answer) _ true true t clean) s was.tables in
@@ -73,9 +73,9 @@ module _ (token : Option Text) (command : Command) where
     transaction : IsTransaction old mid done new worked (IsPerformed mid done) it.keeps it.did
     transaction = record { begun = begun; begins = begins; works = works; ends = it.ends }
 
-    pub concluded_ends : HasCleanDisk new → (s : Broker) → HoldsState s old → Ends s token command new result
+    pub concluded_ends : HasCleanDisk new → (s : Broker) → HoldsState s old → AppliesOrFails s token command new result
     concluded_ends clean s holds =
-        subst (λ (r : Result Answer StoreFault). Ends s token command new r) (sym it.answer) (transact_ends s old mid done new worked it.keeps it.did transaction it.kept clean holds)
+        subst (λ (r : Result Answer StoreFault). AppliesOrFails s token command new r) (sym it.answer) (transact_ends s old mid done new worked it.keeps it.did transaction it.kept clean holds)
 
     pub concluded_unchanged : HasCleanDisk new → IsUnchangedUnlessDone old new result
     concluded_unchanged clean =

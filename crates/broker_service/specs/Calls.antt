@@ -24,8 +24,8 @@ use Rattle.broker_service.specs.Causes.{HasReason, answer_of}
 use Rattle.broker_service.specs.Ends.{Applies, IsAsBefore, CommitsAtMostOnce, LeavesNoTransaction}
 use Rattle.broker_service.specs.Handed.{left_by, verdict}
 use Rattle.broker_service.specs.Headline.{RecordsExactly}
-use Rattle.broker_service.specs.Migration.{StoresFormer, HoldsFormerState, JudgesAsBefore, IsJudgedFormer}
-use Rattle.broker_service.specs.Opening.{Refuses, MakesNew, RefusesNew, IsUnchangedUnlessStore, IsJudged, Judged}
+use Rattle.broker_service.specs.Migration.{StoresFormer, HoldsFormerState, JudgesAsBefore, MigratesOrRefuses}
+use Rattle.broker_service.specs.Opening.{Refuses, MakesNew, RefusesNew, IsUnchangedUnlessStore, OpensOrRefuses, Judged}
 use Rattle.broker_service.specs.Sessions.{CommandLeaves, MakingLeaves, OpeningLeaves}
 use Rattle.broker_service.specs.Stored.{Stores, HoldsState}
 use Rattle.broker_service.specs.declared.broker.Refused.{Refused}
@@ -99,7 +99,7 @@ module _ {X : Type 0} (shown : Held X → State) where
   -- What the opening of a broker leaves of a connection, and what it hands back.
   pub record Opened (old : Held X) (given : Result (BrokerView X) (Refused X)) : Type 0 where
     -- a failure aside: the database is of today's format, or it is told what it is instead
-    pub judges : HasCleanDisk (shown (left_by given)) → IsJudged format (shown old).now (verdict given)
+    pub judges : HasCleanDisk (shown (left_by given)) → OpensOrRefuses format (shown old).now (verdict given)
     -- of a database without tables: NotABroker, or a failure
     pub blank : HasCleanDisk (shown (left_by given)) → HoldsDurably IsBlank (shown old)
         → Judged format None (verdict given)
@@ -133,7 +133,7 @@ pub record Migrated (old new : State) (given : Result (Unit {0}) OpenFault) : Ty
   pub refuses : HasCleanDisk new → (s : Broker) → HoldsFormerState s old
       → IfErr given (Refuses (λ db. StoresFormer db s) (λ db. Stores db s) new)
   -- a failure aside: the database had the tables of format 1, or it is told what it is instead
-  pub judges : HasCleanDisk new → IsJudgedFormer old.now given
+  pub judges : HasCleanDisk new → MigratesOrRefuses old.now given
   -- of a database without tables: NotABroker, or a failure
   pub blank : HasCleanDisk new → HoldsDurably IsBlank old → Judged former_format None given
   -- of one that is marked with another format: which that is, or a failure

@@ -75,10 +75,10 @@ module _ (s : Broker) (token : Option Text) (command : Command) where
       ⊎ ((answer ≡ Store) × HoldsEither (λ db. Stores db s) HoldsNext new)))
 
   -- the same of a transaction, before its failure is an answer
-  abbrev pub Ends : State → Result Answer StoreFault → Type 0
-  Ends new (Ok answer) = Steps new answer ⊎ KeepsAtPattern new answer
-  Ends new (Err fault.Memory) = HoldsState s new
-  Ends new (Err fault.Store) = HoldsEither (λ db. Stores db s) HoldsNext new
+  abbrev pub AppliesOrFails : State → Result Answer StoreFault → Type 0
+  AppliesOrFails new (Ok answer) = Steps new answer ⊎ KeepsAtPattern new answer
+  AppliesOrFails new (Err fault.Memory) = HoldsState s new
+  AppliesOrFails new (Err fault.Store) = HoldsEither (λ db. Stores db s) HoldsNext new
 
 -- For private clauses: whatever the database is, only Done and a failure of the database leave it otherwise than it
 -- was, and after that failure the last commit is the old one while the connection is open.

@@ -102,13 +102,13 @@ BringsUp old new = (s : Broker) → HoldsFormer old s → Holds new s
 
 -- What is told of a database that is to be migrated, a failure aside: it has the tables of format 1; or its format is
 -- another; or it is no broker's, or of format 1 by its meta alone.
-abbrev pub IsJudgedFormer : Database → Result (Unit {0}) OpenFault → Type 0
-IsJudgedFormer db (Ok u) = IsOfFormat former_format db × HasFormerTables db.schema
-IsJudgedFormer db (Err NotABroker) = IsForeign db ⊎ (IsOfFormat former_format db × (¬ (HasFormerTables db.schema)))
-IsJudgedFormer db (Err (Format n)) = IsOfFormat n db × (n ≢ former_format)
-IsJudgedFormer db (Err NotEmpty) = ⊥
-IsJudgedFormer db (Err Memory) = Unit {0}
-IsJudgedFormer db (Err Store) = Unit {0}
+abbrev pub MigratesOrRefuses : Database → Result (Unit {0}) OpenFault → Type 0
+MigratesOrRefuses db (Ok u) = IsOfFormat former_format db × HasFormerTables db.schema
+MigratesOrRefuses db (Err NotABroker) = IsForeign db ⊎ (IsOfFormat former_format db × (¬ (HasFormerTables db.schema)))
+MigratesOrRefuses db (Err (Format n)) = IsOfFormat n db × (n ≢ former_format)
+MigratesOrRefuses db (Err NotEmpty) = ⊥
+MigratesOrRefuses db (Err Memory) = Unit {0}
+MigratesOrRefuses db (Err Store) = Unit {0}
 
 -- ---- for private clauses: the transaction of a migration
 

@@ -76,13 +76,13 @@ RefusesNew office old new fault =
 -- of this format it is to be
 module _ (wanted : ℕ) where
   -- a failure aside
-  abbrev pub IsJudged : Database → Result (Unit {0}) OpenFault → Type 0
-  IsJudged db (Ok u) = IsOfFormat wanted db
-  IsJudged db (Err NotABroker) = IsForeign db
-  IsJudged db (Err (Format n)) = IsOfFormat n db × (n ≢ wanted)
-  IsJudged db (Err NotEmpty) = ⊥
-  IsJudged db (Err Memory) = Unit {0}
-  IsJudged db (Err Store) = Unit {0}
+  abbrev pub OpensOrRefuses : Database → Result (Unit {0}) OpenFault → Type 0
+  OpensOrRefuses db (Ok u) = IsOfFormat wanted db
+  OpensOrRefuses db (Err NotABroker) = IsForeign db
+  OpensOrRefuses db (Err (Format n)) = IsOfFormat n db × (n ≢ wanted)
+  OpensOrRefuses db (Err NotEmpty) = ⊥
+  OpensOrRefuses db (Err Memory) = Unit {0}
+  OpensOrRefuses db (Err Store) = Unit {0}
 
   -- what is told of a database by the format that is found in it
   abbrev pub judgement : Option ℕ → Result (Unit {0}) OpenFault

@@ -14,7 +14,7 @@ ghost use Rattle.command_facts.specs.Primitives.{broker_primitives};
 ghost use Rattle.broker_service.specs.Ends.{IsAsBefore, CommitsAtMostOnce, LeavesNoTransaction};
 ghost use Rattle.broker_service.specs.Stored.{Stores};
 ghost use Rattle.broker_service.specs.Opening as spec;
-ghost use Rattle.broker_service.specs.Opening.{MakesRest, CreatesOrFails, FailsUnchanged, MakesNew, RefusesNew, IsUnchangedUnlessStore, Judged, IsJudged, judgement};
+ghost use Rattle.broker_service.specs.Opening.{MakesRest, CreatesOrFails, FailsUnchanged, MakesNew, RefusesNew, IsUnchangedUnlessStore, Judged, OpensOrRefuses, judgement};
 
 use crate::ending::finish;
 use broker_core::name::Token;
@@ -179,7 +179,7 @@ fn find_format<S: Alter>(conn: &mut Connection<S>) -> Result<Option<u32>, StoreF
 /// Looks for a broker's tables of this format, and changes nothing. A broker makes `meta` before
 /// each other table.
 pub(crate) fn open<S: Alter>(conn: &mut Connection<S>) -> Result<(), OpenFault>
-    ensures judges { HasCleanDisk (state S.Store conn.new) → IsJudged format (state S.Store conn.old).now result }
+    ensures judges { HasCleanDisk (state S.Store conn.new) → OpensOrRefuses format (state S.Store conn.old).now result }
     ensures blank { HasCleanDisk (state S.Store conn.new) → HoldsDurably IsBlank (state S.Store conn.old)
         → Judged format None result }
     ensures marked { HasCleanDisk (state S.Store conn.new) → (n : ℕ) (office : List ℕ)

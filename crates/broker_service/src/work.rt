@@ -8,7 +8,7 @@ ghost use Rattle.broker_core.specs.declared.answer.Answer.TheVariants.{BadForm};
 ghost use Rattle.command_facts.specs.Callers.{token_of};
 ghost use Rattle.command_facts.specs.Performs.{Performs, CallersStep, TokensStep};
 ghost use Rattle.broker_service.specs.Causes.{Concludes, HasReason};
-ghost use Rattle.broker_service.specs.Ends.{Ends, IsUnchangedUnlessDone, CommitsAtMostOnce, LeavesNoTransaction, IsNoFailure};
+ghost use Rattle.broker_service.specs.Ends.{AppliesOrFails, IsUnchangedUnlessDone, CommitsAtMostOnce, LeavesNoTransaction, IsNoFailure};
 ghost use Rattle.broker_service.specs.Stored.{HoldsState};
 
 use crate::ending::finish;
@@ -218,7 +218,7 @@ pub(crate) fn transact<S: Alter>(
     command: &Command,
 ) -> Result<Answer, StoreFault>
     ensures ends { HasCleanDisk (state S.Store conn.new) → (s : BrokerState) → HoldsState s (state S.Store conn.old)
-        → Ends s (token_of token.entry) command.now (state S.Store conn.new) result }
+        → AppliesOrFails s (token_of token.entry) command.now (state S.Store conn.new) result }
     ensures unchanged { HasCleanDisk (state S.Store conn.new)
         → IsUnchangedUnlessDone (state S.Store conn.old) (state S.Store conn.new) result }
     ensures cause { HasCleanDisk (state S.Store conn.new)

@@ -9,13 +9,13 @@ use Rattle.broker_core.specs.declared.answer.Answer.TheVariants.{Pattern}
 use Rattle.broker_core.specs.declared.command.Command.{Command}
 use Rattle.broker_core.specs.declared.command.Command.TheVariants.{PostReplies}
 use Rattle.broker_core.specs.declared.policy.Caller.{Caller}
-use Rattle.command_facts.specs.Primitives.{broker_primitives, HasPattern}
+use Rattle.command_facts.specs.Primitives.{broker_primitives, PactHasPattern}
 
 -- replies that nothing refuses are compared with a stored pact that has a pattern
 abbrev pub ComparesPattern : State → Caller → Command → Type 0
 ComparesPattern s caller (PostReplies path report replies) =
     broker_primitives.ReadsReplies replies None × (refusal s caller (PostReplies path report replies) ≡ None)
-    × ((text : Text) × (pact_text s (consumer_version path) path.provider ≡ Some text) × HasPattern text)
+    × ((text : Text) × (pact_text s (consumer_version path) path.provider ≡ Some text) × PactHasPattern text)
 ComparesPattern s caller _ = ⊥
 
 -- and the token is a known caller's

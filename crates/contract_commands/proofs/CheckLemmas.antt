@@ -21,7 +21,7 @@ use Rattle.pact_file.specs.Pact.{Pact}
 use Rattle.pact_file.specs.declared.fault.PactFault.{PactFault}
 use Rattle.reply_check.specs.Recorded.{Reply}
 use Rattle.reply_check.specs.Replies.{RepliesRead}
-use Rattle.pact_reading.specs.Readings.{HasPattern, HasPatternIfPact, Tells, reading_of}
+use Rattle.pact_reading.specs.Readings.{PactHasPattern, HasPatternIfPact, Tells, reading_of}
 use Rattle.pact_reading.specs.declared.checking.Comparison.{Comparison}
 use Rattle.pact_reading.specs.declared.checking.Comparison.TheVariants.{Failing, UnknownReply, Pattern, NoPact}
 use Rattle.contract_commands.specs.Checks.{Leads, Checks}
@@ -30,9 +30,9 @@ use Rattle.command_facts.specs.Primitives.{broker_primitives}
 use Rattle.command_facts.proofs.CallerSteps.{acts, refuses}
 
 -- a stored text is read as a pact, so it has the pattern that it would have
-stored_pattern : (s : State) (content : ℕ) (text : Text) → HasSoundContents broker_primitives s → text_of s content ≡ Some text → HasPatternIfPact text → HasPattern text
+stored_pattern : (s : State) (content : ℕ) (text : Text) → HasSoundContents broker_primitives s → text_of s content ≡ Some text → HasPatternIfPact text → PactHasPattern text
 stored_pattern s content text sound has would = let it = sound.normal content text has in by_answer it.0 it.1 it.2.0 it.2.1 it.2.2 where
-  by_answer : (consumer provider : Text) (answer : Result Pact PactFault) → Normal text answer → IsPact consumer provider text ≡ reading_of answer → HasPattern text
+  by_answer : (consumer provider : Text) (answer : Result Pact PactFault) → Normal text answer → IsPact consumer provider text ≡ reading_of answer → PactHasPattern text
   by_answer consumer provider (Ok p) reads is = (p, reads, would p reads)
   by_answer consumer provider (Err found) reads is = absurd cc
 

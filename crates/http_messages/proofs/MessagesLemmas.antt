@@ -8,7 +8,7 @@ use Rattle.std.specs.Result.{result_unwrap_or}
 use Rattle.httparse.proofs.GrammarLemmas.{request_unique}
 use Rattle.http_messages.specs.Heads.{Judgement, IsJudged, IsBodyLength, judge_head}
 use Rattle.http_messages.specs.Message.{Message}
-use Rattle.http_messages.specs.Messages.{IsHeadOf, Begins, HasNoMessage, message_of}
+use Rattle.http_messages.specs.Messages.{IsHeadOf, BeginsWithMessage, HasNoMessage, message_of}
 use Rattle.http_messages.specs.declared.messages.TheConstants.{HEAD_LIMIT}
 
 onto_first-more : (b : ℕ) (lines more : List (List ℕ)) → (others : List (List ℕ)) × (onto_first b (lines ++ more) ≡ onto_first b lines ++ others)
@@ -136,16 +136,16 @@ IsHeadOf-more stream more head p =
     p
 
 -- a message at the front stays there, whatever follows
-pub Begins-more : (stream more after : List ℕ) (m : Message) → Begins stream m after → Begins (stream ++ more) m (after ++ more)
-Begins-more stream more after m p = record {
+pub BeginsWithMessage-more : (stream more after : List ℕ) (m : Message) → BeginsWithMessage stream m after → BeginsWithMessage (stream ++ more) m (after ++ more)
+BeginsWithMessage-more stream more after m p = record {
   whole = ap (λ l. l ++ more) p.whole ∙ append_assoc m.head (m.body ++ after) more ∙ ap (λ l. m.head ++ l) (append_assoc m.body after more);
   head = IsHeadOf-more stream more m.head p.head;
   body = p.body;
 }
 
 -- a stream begins with one message
-pub Begins-unique : (stream after other : List ℕ) (m n : Message) → Begins stream m after → Begins stream n other → (m.head ≡ n.head) × (m.body ≡ n.body) × (after ≡ other)
-Begins-unique stream after other m n p q =
+pub BeginsWithMessage-unique : (stream after other : List ℕ) (m n : Message) → BeginsWithMessage stream m after → BeginsWithMessage stream n other → (m.head ≡ n.head) × (m.body ≡ n.body) × (after ≡ other)
+BeginsWithMessage-unique stream after other m n p q =
     let heads : m.head ≡ n.head = IsHeadOf-unique stream m.head n.head p.head q.head in
     let behind = append_same m.head n.head (m.body ++ after) (n.body ++ other) (ap length heads) (sym p.whole ∙ q.whole) in
     let lengths = IsBodyLength-unique n.head (length m.body) (length n.body) (subst (λ head. IsBodyLength head (length m.body)) heads p.body) q.body in
@@ -153,9 +153,9 @@ Begins-unique stream after other m n p q =
     (heads, bodies.0, bodies.1)
 
 -- so many bytes of head and body are a message
-pub Begins-of : (bytes : List ℕ) (head body : ℕ) → head + body ≤ length bytes → IsHeadOf bytes (take head bytes) → IsBodyLength (take head bytes) body
-    → Begins bytes (message_of bytes head body) (drop (head + body) bytes)
-Begins-of bytes head body within is_head is_body = record {
+pub BeginsWithMessage-of : (bytes : List ℕ) (head body : ℕ) → head + body ≤ length bytes → IsHeadOf bytes (take head bytes) → IsBodyLength (take head bytes) body
+    → BeginsWithMessage bytes (message_of bytes head body) (drop (head + body) bytes)
+BeginsWithMessage-of bytes head body within is_head is_body = record {
   whole = sym (take-append-drop head bytes) ∙ ap (λ l. take head bytes ++ l) (sym (take-append-drop body (drop head bytes)) ∙ ap (λ l. take body (drop head bytes) ++ l) (drop-drop body head bytes));
   head = is_head;
   body = subst (IsBodyLength (take head bytes)) (sym (length-take-le body (drop head bytes) (omega (arith, length-drop head bytes)))) is_body;

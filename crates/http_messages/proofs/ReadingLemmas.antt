@@ -13,7 +13,7 @@ use Rattle.http_messages.specs.declared.head.Refused.{Refused}
 use Rattle.http_messages.specs.declared.reading.ReadFault.{ReadFault}
 use Rattle.http_messages.specs.declared.reading.ReadFault.TheVariants.{Reader, Memory}
 use Rattle.http_messages.specs.declared.reading.ReadOutcome.TheVariants.{Message}
-use Rattle.http_messages.proofs.MessagesLemmas.{IsHeadOf-more, Begins-of, none_short}
+use Rattle.http_messages.proofs.MessagesLemmas.{IsHeadOf-more, BeginsWithMessage-of, none_short}
 
 -- nothing was read
 pub Gains-nil : (known : Option (List ℕ)) (bytes : List ℕ) → Gains known known bytes bytes
@@ -80,7 +80,7 @@ module _ (old more new : List ℕ) (head_len : ℕ) (read : Result Head Refused)
   -- with so many bytes the message is whole
   pub is_whole : head_len + announced read ≤ length new → IsOutcome new (Message head_len (announced read) read)
   is_whole enough =
-      (enough, read_now, Begins-of new head_len (announced read) enough head_now (announced-length (take head_len new) read read_now))
+      (enough, read_now, BeginsWithMessage-of new head_len (announced read) enough head_now (announced-length (take head_len new) read read_now))
 
   -- with fewer it isn't
   pub is_short : length new < head_len + announced read → HasNoMessage new

@@ -22,14 +22,14 @@ IsHeadFound bytes None = HasNoHead bytes
 IsHeadFound bytes (Some n) = (n ≤ length bytes) × (n ≤ HEAD_LIMIT) × IsHeadOf bytes (take n bytes)
 
 -- the stream begins with this message, and goes on with after
-pub record Begins (stream : List ℕ) (m : Message) (after : List ℕ) : Type 0 where
+pub record BeginsWithMessage (stream : List ℕ) (m : Message) (after : List ℕ) : Type 0 where
   pub whole : stream ≡ m.head ++ (m.body ++ after)
   pub head : IsHeadOf stream m.head
   pub body : IsBodyLength m.head (length m.body)
 
 -- no message is whole yet
 abbrev pub HasNoMessage : List ℕ → Type 0
-HasNoMessage stream = (m : Message) (after : List ℕ) → ¬ (Begins stream m after)
+HasNoMessage stream = (m : Message) (after : List ℕ) → ¬ (BeginsWithMessage stream m after)
 
 -- the message of so many bytes of head and body
 abbrev pub message_of : List ℕ → ℕ → ℕ → Message

@@ -1,7 +1,7 @@
 -- What reading a message leaves of the bytes, and what it finds.
 use Rattle.std.specs.Prelude.{◌≡◌, ℕ, ◌+◌, ◌<◌, ◌≤◌, max, List, ◌++◌, length, take, drop, Option}
 use Rattle.std.specs.Io.KnownBytes.{Consumes, IsAtEnd}
-use Rattle.http_messages.specs.Messages.{Begins, HasNoMessage, message_of}
+use Rattle.http_messages.specs.Messages.{BeginsWithMessage, HasNoMessage, message_of}
 use Rattle.http_messages.specs.Views.{IsHeadRead}
 use Rattle.http_messages.specs.declared.head.TheConstants.{BODY_LIMIT}
 use Rattle.http_messages.specs.declared.messages.TheConstants.{HEAD_LIMIT}
@@ -27,7 +27,7 @@ abbrev pub IsOutcome : List ℕ → ReadOutcome → Type 0
 IsOutcome bytes (outcomes.Message head_len body_len head) =
     (head_len + body_len ≤ length bytes)
     × IsHeadRead (take head_len bytes) head
-    × Begins bytes (message_of bytes head_len body_len) (drop (head_len + body_len) bytes)
+    × BeginsWithMessage bytes (message_of bytes head_len body_len) (drop (head_len + body_len) bytes)
 IsOutcome bytes outcomes.End = HasNoMessage bytes
 
 -- how many bytes are wanted at most: a head's limit until there is one, and then the message
@@ -49,7 +49,7 @@ module _ (before after : Option (List ℕ)) (old new : List ℕ) where
     pub wanted : length new ≤ max (length old) (size_limit read)
 
   -- what it promises where it fails
-  pub record FailsToRead (fault : ReadFault) : Type 0 where
+  pub record FailsToReadMessage (fault : ReadFault) : Type 0 where
     -- bytes are lost only where memory ran out, and some are lost then
     pub leaves : LeavesAtFault before after old new fault
     -- it fails only while no message is whole

@@ -2,7 +2,7 @@
 ghost use Rattle.std.specs.Prelude.{◌≡◌, ℕ, ◌+◌, ◌<◌, ◌≤◌, Bool, true, false, max, length, drop, take, vec_len, IfOk, IfErr, OnOk, OnErr, MatchOption};
 ghost use Rattle.std.specs.Io.KnownBytes.{IsAtEnd};
 ghost use Rattle.http_messages.specs.Messages.{HasNoHead, IsHeadFound};
-ghost use Rattle.http_messages.specs.Reading.{Gains, LeavesAtFault, ReadsMessage, FailsToRead};
+ghost use Rattle.http_messages.specs.Reading.{Gains, LeavesAtFault, ReadsMessage, FailsToReadMessage};
 ghost use Rattle.http_messages.specs.Views.{announced};
 
 use crate::buffer::Buffer;
@@ -160,7 +160,7 @@ fn read_up_to<R: Read>(reader: &mut R, buffer: &mut Buffer, len: usize) -> Resul
 pub fn read_message<R: Read>(reader: &mut R, buffer: &mut Buffer) -> Result<ReadOutcome, ReadFault>
     ensures ok { IfOk result (ReadsMessage (R.remaining reader.old) (R.remaining reader.new)
         buffer.old.items buffer.new.items) }
-    ensures err { IfErr result (FailsToRead (R.remaining reader.old) (R.remaining reader.new)
+    ensures err { IfErr result (FailsToReadMessage (R.remaining reader.old) (R.remaining reader.new)
         buffer.old.items buffer.new.items) }
     ensures bound { length buffer.new.items ≤ max (length buffer.old.items) (HEAD_LIMIT + BODY_LIMIT) }
 {

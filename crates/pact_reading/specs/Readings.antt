@@ -76,8 +76,8 @@ abbrev pub TellsRefusal : PactFault → Type 0
 TellsRefusal found = (i : ℕ) × (found ≡ Rules i rule_fault.Pattern)
 
 -- the text is read as a pact, and one of its interactions has a pattern
-abbrev pub HasPattern : Text → Type 0
-HasPattern text = (p : Pact) × Normal text (Ok p) × OneOf InteractionHasPattern p.interactions
+abbrev pub PactHasPattern : Text → Type 0
+PactHasPattern text = (p : Pact) × Normal text (Ok p) × OneOf InteractionHasPattern p.interactions
 
 -- if the text is read as a pact, it has a pattern
 abbrev pub HasPatternIfPact : Text → Type 0

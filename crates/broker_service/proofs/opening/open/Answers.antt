@@ -2,7 +2,7 @@ use Rattle.std.proofs.Common.{inl, sym, subst, ap, ◌∙◌}
 use Rattle.sqlite.specs.Held.{state}
 use Rattle.broker_tables.specs.Making.{IsBlank, IsMarked}
 use Rattle.broker_tables.specs.Holds.{format}
-use Rattle.broker_service.specs.Opening.{IsJudged, judgement}
+use Rattle.broker_service.specs.Opening.{OpensOrRefuses, judgement}
 use Rattle.broker_service.proofs.Judgements.{judged, blank_none, marked_some}
 use Rattle.broker_service.proofs.MigrationLemmas.{held_now}
 use Rattle.broker_service.proofs.opening.open.Goals as goal
@@ -10,7 +10,7 @@ use Rattle.broker_service.proofs.opening.open.Goals as goal
 pub returns-in-Ok-clause-judges : goal.returns-in-Ok-clause-judges
 returns-in-Ok-clause-judges g c clean =
     let old = state g.S.Store c.args.conn.now in
-    subst (IsJudged format old.now) (sym c.judge.ensures) (judged format old.now c.in-Ok.found (c.in-Ok.ensures.found clean).1)
+    subst (OpensOrRefuses format old.now) (sym c.judge.ensures) (judged format old.now c.in-Ok.found (c.in-Ok.ensures.found clean).1)
 
 pub returns-in-Ok-clause-blank : goal.returns-in-Ok-clause-blank
 returns-in-Ok-clause-blank g c clean keeps =
