@@ -1,6 +1,5 @@
 -- What files keep over any number of periods.
 use Rattle.std.proofs.Common.{◌≡◌, ◌≢◌, ◌<◌, ◌⊎◌, inl, inr, ℕ, List, [], ◌∷◌, ◌++◌, ◌==◌, eq-eqb, length, Some, None, Result, Ok, Err, true, false, IsTrue, refl, sym, subst, ap, ◌∙◌, arith}
-use Rattle.std.specs.Prelude.{IfErr}
 use Rattle.std.proofs.Math.Logic.{∥∥₁_elim, ∥∥₁_map}
 use Rattle.sqlite_disk.specs.declared.Disk.{Ghosts}
 use Rattle.sqlite_disk.specs.declared.Files.{Files}
@@ -36,17 +35,18 @@ use Rattle.broker_service.specs.BrokerView.{BrokerView}
 use Rattle.broker_service.specs.Calls.{Created, Opened, Migrated}
 use Rattle.broker_service.specs.Ends.{AddsNoCrashState}
 use Rattle.broker_service.specs.Handed.{left_by, verdict}
-use Rattle.broker_service.specs.Life.{Kept, Period, RunsFrom, LeavesAsWas, PeriodLeads, LifeLeads, AreTreesOf, IsOfFormerIfStore, PeriodLeaves, PeriodsLead, MayLeave, AreFilesOf, AreAfter, IsOpenedAfter, EndsAs, HoldsAsBefore, LeavesUnopened, GivenEnds, PeriodOnFiles, LifeOnFiles, LivesLead, IsUnharmed, OpeningSpares}
+use Rattle.broker_service.specs.Life.{Kept, Period, RunsFrom, LeavesAsWas, PeriodLeads, LifeLeads, AreTreesOf, PeriodLeaves, PeriodsLead, MayLeave, AreFilesOf, AreAfter, IsOpenedAfter, EndsAs, HoldsAsBefore, LeavesUnopened, GivenEnds, PeriodOnFiles, LifeOnFiles, LivesLead, IsUnharmed, OpeningSpares}
 use Rattle.broker_service.specs.Life.Kept.{Blank, OfFormer, OfToday}
 use Rattle.broker_service.specs.Life.Period.{Serving, Making, Migrating, NotOpened}
-use Rattle.broker_service.specs.Migration.{StoresFormer}
-use Rattle.broker_service.specs.Opening.{Judged, IsUnchangedUnlessStore}
+use Rattle.broker_service.specs.Migration.{StoresFormer, IsFormer}
+use Rattle.broker_service.specs.Opening.{Judged}
 use Rattle.broker_service.specs.Sessions.{IsOpenedOn, GivenLeaves, GivenRuns}
 use Rattle.broker_service.specs.Stored.{Stores}
 use Rattle.broker_service.specs.declared.broker.Refused.{Refused}
 use Rattle.broker_service.specs.declared.opening.OpenFault.{OpenFault}
 use Rattle.broker_service.specs.declared.opening.OpenFault.TheVariants as fault
-use Rattle.broker_service.proofs.MigrationLemmas.{former_marked}
+use Rattle.broker_service.proofs.Judgements.{blank_none, marked_some}
+use Rattle.broker_service.proofs.MigrationLemmas.{former_marked, held_now}
 use Rattle.broker_service.proofs.SchemaLemmas.{one_schema}
 use Rattle.broker_service.proofs.SessionLemmas.{Leads, given_clean, given_lead}
 
@@ -168,37 +168,19 @@ module _ {X : Type 0} (shown : Held X → State) (settled : (c : Held X) (t : Tr
     left_as : (kept : Kept) → AreTreesOf kept trees → AddsNoCrashState (shown old) (shown new) → AreTreesOf kept last
     left_as kept are less = as_found trees (shown old) on (settled old) kept are last (less last may)
 
-    told : (f : OpenFault) → given ≡ Err f → IsUnchangedUnlessStore (shown old) (shown new) f
-    told f is = subst (λ r. IfErr r (IsUnchangedUnlessStore (shown old) (shown new))) is (migrated.unchanged clean)
-
-    has_former : (s : Broker) → IsOnDisk (λ db. StoresFormer db s) trees → (shown old).committed.schema ≡ schema_of (former_tables ++ [])
-    has_former s are = ((holds_former trees (shown old) on (settled old) s are).held on.opens.is_open).has.tables.schema
-
-    migrates_blank : IsOnDisk IsBlank trees → IsOfFormerIfStore trees given → (kept : Kept) × PeriodLeads Blank Migrating kept × AreTreesOf kept last
-    migrates_blank are former =
+    migrates_blank : IsOnDisk IsBlank trees → (kept : Kept) × PeriodLeads Blank Migrating kept × AreTreesOf kept last
+    migrates_blank are =
         let blank = holds_blank trees (shown old) on (settled old) are in
-        elim (migrated.blank clean blank) [
-          | inl is ↦ (Blank, refl, left_as Blank are (told fault.NotABroker is).left)
-          | inr (inl is) ↦ (Blank, refl, left_as Blank are (told fault.Memory is).left)
-          | inr (inr is) ↦
-              let it = former is in
-              let both : no_schema ≡ schema_of (former_tables ++ []) = sym (blank.held on.opens.is_open).has.schema ∙ has_former it.0 it.1 in
-              absurd (apart 0 13 refl (ap (λ (x : Schema). length x.tables) both))
-        ]
+        let none = (held_now IsBlank (shown old) blank on.opens.is_open).schema in
+        let other : ¬ (IsFormer (shown old).now) = λ former. absurd (let wrong : Some former_format ≡ None = blank_none (shown old).now (Some former_format) none former.0 in cc) in
+        (Blank, refl, left_as Blank are (migrated.spares clean other))
 
-    migrates_today : (s : Broker) → IsOnDisk (λ db. Stores db s) trees → IsOfFormerIfStore trees given → (kept : Kept) × PeriodLeads (OfToday s) Migrating kept × AreTreesOf kept last
-    migrates_today s are former =
+    migrates_today : (s : Broker) → IsOnDisk (λ db. Stores db s) trees → (kept : Kept) × PeriodLeads (OfToday s) Migrating kept × AreTreesOf kept last
+    migrates_today s are =
         let today = holds_today trees (shown old) on (settled old) s are in
-        let marked = held_as (λ db. Stores db s) (IsMarked format s.office) (shown old) (λ db is. today_marked db s is) today in
-        let other : format ≢ former_format = λ same. absurd (cc) in
-        elim (migrated.marked clean format s.office other marked) [
-          | inl is ↦ (OfToday s, refl, left_as (OfToday s) are (told (fault.Format format) is).left)
-          | inr (inl is) ↦ (OfToday s, refl, left_as (OfToday s) are (told fault.Memory is).left)
-          | inr (inr is) ↦
-              let it = former is in
-              let both : broker_schema ≡ schema_of (former_tables ++ []) = sym (today.held on.opens.is_open).has.tables.broker.schema ∙ has_former it.0 it.1 in
-              absurd (apart 15 13 refl (ap (λ (x : Schema). length x.tables) both))
-        ]
+        let marked = today_marked (shown old).now s (held_now (λ db. Stores db s) (shown old) today on.opens.is_open) in
+        let other : ¬ (IsFormer (shown old).now) = λ former. absurd (let wrong : Some former_format ≡ Some format = marked_some format s.office (shown old).now (Some former_format) marked former.0 in cc) in
+        (OfToday s, refl, left_as (OfToday s) are (migrated.spares clean other))
 
   migrates_former : (old new : Held X) (given : Result (Unit {0}) OpenFault) (trees last : Trees) → IsOpenedOn trees (shown old) → Migrated (shown old) (shown new) given → HasCleanDisk (shown new) → (shown new).may_leave last
       → (s : Broker) → IsOnDisk (λ db. StoresFormer db s) trees → (kept : Kept) × PeriodLeads (OfFormer s) Migrating kept × AreTreesOf kept last
@@ -245,9 +227,9 @@ module _ {X : Type 0} (shown : Held X → State) (settled : (c : Held X) (t : Tr
       ) in
       makes_none it.0 first it.2 (OfFormer s) office it.1 calls last are it.3 some it.4
   periods_lead Blank (Making office calls) first last are it = makes_new it.0 first it.2 office it.1 calls last are it.3 it.4
-  periods_lead (OfToday s) Migrating first last are it = migrates_today it.0 it.1 it.2 first last it.3 it.4 it.6 it.7 s are it.5
-  periods_lead (OfFormer s) Migrating first last are it = migrates_former it.0 it.1 it.2 first last it.3 it.4 it.6 it.7 s are
-  periods_lead Blank Migrating first last are it = migrates_blank it.0 it.1 it.2 first last it.3 it.4 it.6 it.7 are it.5
+  periods_lead (OfToday s) Migrating first last are it = migrates_today it.0 it.1 it.2 first last it.3 it.4 it.5 it.6 s are
+  periods_lead (OfFormer s) Migrating first last are it = migrates_former it.0 it.1 it.2 first last it.3 it.4 it.5 it.6 s are
+  periods_lead Blank Migrating first last are it = migrates_blank it.0 it.1 it.2 first last it.3 it.4 it.5 it.6 are
   periods_lead (OfToday s) NotOpened first last are it = (OfToday s, refl, subst (AreTreesOf (OfToday s)) (sym it) are)
   periods_lead (OfFormer s) NotOpened first last are it = (OfFormer s, refl, subst (AreTreesOf (OfFormer s)) (sym it) are)
   periods_lead Blank NotOpened first last are it = (Blank, refl, subst (AreTreesOf Blank) (sym it) are)
@@ -324,9 +306,8 @@ module _ {D : Type 0} (g : Ghosts D) where
         let r : Led From (λ old. PeriodLeads old (Making office calls)) image = (one.0, led.0, one.2, led.1, ∣ inl (end.0, end.2, led.2) ∣₁) in r))
     period_leads From first last Migrating hyp it image may =
         ∥∥₁_elim (opened_one From first it.0 hyp it.3) squash₁ (λ (one : FoundOne From it.0).
-        ∥∥₁_map (ends it.1 last image it.7 may) (λ (end : EndsIn ((file_state {D = D} {g = g} it.1).may_leave) image).
-        let former = subst (λ (t : Trees). IsOfFormerIfStore t it.2) one.4.found it.5 in
-        let led = periods_lead (file_state {D = D} {g = g}) settled one.0 Migrating one.1 end.0 one.3 (it.0, it.1, it.2, one.4, it.4, former, it.6, end.1) in
+        ∥∥₁_map (ends it.1 last image it.6 may) (λ (end : EndsIn ((file_state {D = D} {g = g} it.1).may_leave) image).
+        let led = periods_lead (file_state {D = D} {g = g}) settled one.0 Migrating one.1 end.0 one.3 (it.0, it.1, it.2, one.4, it.4, it.5, end.1) in
         let r : Led From (λ old. PeriodLeads old Migrating) image = (one.0, led.0, one.2, led.1, ∣ inl (end.0, end.2, led.2) ∣₁) in r))
     period_leads From first last NotOpened hyp it image may = elim (it.2 image may) [
       | inl before ↦ ∥∥₁_map (hyp image (it.1.left image before)) (λ (one : KeepsOne From image). let r : Led From (λ old. PeriodLeads old NotOpened) image = (one.0, one.0, one.1, not_opened one.0, one.2) in r)

@@ -9,13 +9,13 @@ use Rattle.table_access.specs.declared.StoreFault.TheVariants.{Memory, Store}
 use Rattle.table_access.proofs.EndLemmas.{keeps_unsure}
 use Rattle.broker_core.specs.State.{State as Broker}
 use Rattle.broker_tables.specs.Former.{former_format}
-use Rattle.registry_tables.specs.Format.{FindsFormer}
-use Rattle.broker_service.specs.Ends.{IsAsBefore}
-use Rattle.broker_service.specs.Migration.{StoresFormer, HoldsFormerState, MigratesOrFails, IsUnchangedUnlessFormer, BringsUp}
+use Rattle.registry_tables.specs.Format.{FindsFormer, IsOfFormat}
+use Rattle.broker_service.specs.Ends.{IsAsBefore, AddsNoCrashState}
+use Rattle.broker_service.specs.Migration.{StoresFormer, HoldsFormerState, IsFormer, MigratesOrFails, IsUnchangedUnlessFormer, BringsUp}
 use Rattle.broker_service.specs.Opening.{CreatesOrFails, FailsUnchanged, Refuses, open_fault}
 use Rattle.broker_service.specs.Stored.{Stores}
 use Rattle.broker_service.proofs.MigrationLemmas.{former_found}
-use Rattle.broker_service.proofs.Transaction.{IsTransaction, done_clean, seen, opened, kept, as_before, unsure, last_commit, keeps_on}
+use Rattle.broker_service.proofs.Transaction.{IsTransaction, adds_nothing, commits_nothing, done_clean, seen, opened, kept, as_before, unsure, last_commit, keeps_on}
 
 -- ---- from a database of the first kind to one of the second, or nothing has changed
 
@@ -88,6 +88,20 @@ migration_ends s old mid done new (Ok found) false true t is_kept clean holds =
 migration_ends s old mid done new (Err fault) false true t is_kept clean holds = migrates_as_before s old new fault (as_before old mid done new (Err fault) _ false true t clean refl) holds
 migration_ends s old mid done new (Err fault) true did t is_kept clean holds = absurd (is_kept.0 refl)
 migration_ends s old mid done new r false false t is_kept clean holds = migrates_as_before s old new Store (as_before old mid done new r _ false false t clean refl) holds
+
+-- nothing is committed but by a database of format 1
+former_of : (db : Database) (found : Option ℕ) → FindsFormer db found → found ≡ Some former_format → IsFormer db
+former_of db None it is = absurd (cc)
+former_of db (Some n) it is = let same : n ≡ former_format = cc in (subst (λ k. IsOfFormat k db) same it.0, it.1 same)
+
+pub migration_spares : (old mid done new : State) (r : Result (Option ℕ) StoreFault) (keeps did : Bool) → IsTransaction old mid done new r (IsBroughtUp mid done) keeps did
+    → (IsTrue keeps ↔ IsOkAnd r (λ found. found ≡ Some former_format)) → HasCleanDisk new → ¬ (IsFormer old.now) → AddsNoCrashState old new
+migration_spares old mid done new r false did t is_kept clean other = adds_nothing old new (commits_nothing old mid done new r _ false did t refl) clean
+migration_spares old mid done new (Err fault) true did t is_kept clean other = absurd (is_kept.0 refl)
+migration_spares old mid done new (Ok found) true did t is_kept clean other =
+    let is = (t.works.ok (done_clean old mid done new (Ok found) _ true did t clean)).0 in
+    let there : IsFormer mid.now = former_of mid.now found is (is_kept.0 refl) in
+    absurd (other (subst IsFormer (opened old mid done new (Ok found) _ true did t clean).1 there))
 
 pub migration_as_before : (old new : State) (fault : StoreFault) → IsAsBefore old new → IsUnchangedUnlessFormer old new (Err fault)
 migration_as_before old new Memory is = is

@@ -35,8 +35,8 @@ use Rattle.broker_tables.proofs.Former.{unmarked}
 use Rattle.registry_tables.specs.Format.{AreLike, AreKeys, HasForm, HasFormerTables, IsOfFormat, FindsFormer}
 use Rattle.command_facts.specs.Primitives.{broker_primitives}
 use Rattle.broker_service.specs.Calls.{Migrated}
-use Rattle.broker_service.specs.Ends.{CommitsAtMostOnce, LeavesNoTransaction}
-use Rattle.broker_service.specs.Migration.{StoresFormer, HoldsFormerState, MigratesOrFails, IsUnchangedUnlessFormer, MigratesOrRefuses, WasGood, WasPermitted, WasFault, WasJudged, Showed, JudgesAsBefore, former_kind, former_fault, former_marks}
+use Rattle.broker_service.specs.Ends.{AddsNoCrashState, CommitsAtMostOnce, LeavesNoTransaction}
+use Rattle.broker_service.specs.Migration.{StoresFormer, HoldsFormerState, MigratesOrFails, IsUnchangedUnlessFormer, IsFormer, MigratesOrRefuses, WasGood, WasPermitted, WasFault, WasJudged, Showed, JudgesAsBefore, former_kind, former_fault, former_marks}
 use Rattle.broker_service.specs.Opening.{Refuses, IsUnchangedUnlessStore, judgement, open_fault}
 use Rattle.broker_service.specs.Stored.{Stores, HoldsState}
 use Rattle.broker_service.specs.declared.opening.OpenFault.{OpenFault}
@@ -248,8 +248,8 @@ refused_other old new (Some n) it = go (n == former_format) refl
 pub migrated : (old new : State) (found : Option ℕ) → (HasCleanDisk new → IsTrue old.is_open × FindsFormer old.now found)
     → (HasCleanDisk new → (s : Broker) → HoldsFormerState s old → MigratesOrFails s new (Ok found))
     → (HasCleanDisk new → IsUnchangedUnlessFormer old new (Ok found))
-    → LeavesNoTransaction old new → CommitsAtMostOnce old new → Migrated old new (judgement former_format found)
-migrated old new found is_found ends unchanged over survives = record {
+    → LeavesNoTransaction old new → CommitsAtMostOnce old new → (HasCleanDisk new → ¬ (IsFormer old.now) → AddsNoCrashState old new) → Migrated old new (judgement former_format found)
+migrated old new found is_found ends unchanged over survives spares = record {
   migrates = λ clean s keeps. always (judgement former_format found) (HoldsState s new) (ends clean s keeps).1;
   permits = λ clean s keeps. always (judgement former_format found) (JudgesAsBefore s) (judges_former old.now s (held_now (λ db. StoresFormer db s) old keeps (is_found clean).0).tables);
   refuses = λ clean s keeps.
@@ -265,14 +265,15 @@ migrated old new found is_found ends unchanged over survives = record {
   unchanged = λ clean. refused_other old new found (unchanged clean);
   over = over;
   survives = survives;
+  spares = spares;
 }
 
 -- the database failed
 pub unmigrated : (old new : State) (fault : StoreFault)
     → (HasCleanDisk new → (s : Broker) → HoldsFormerState s old → MigratesOrFails s new (Err fault))
     → (HasCleanDisk new → IsUnchangedUnlessFormer old new (Err fault))
-    → LeavesNoTransaction old new → CommitsAtMostOnce old new → Migrated old new (Err (open_fault fault))
-unmigrated old new store_fault.Memory ends unchanged over survives = record {
+    → LeavesNoTransaction old new → CommitsAtMostOnce old new → (HasCleanDisk new → ¬ (IsFormer old.now) → AddsNoCrashState old new) → Migrated old new (Err (open_fault fault))
+unmigrated old new store_fault.Memory ends unchanged over survives spares = record {
   migrates = λ _ _ _. tt;
   permits = λ _ _ _. tt;
   refuses = ends;
@@ -282,8 +283,9 @@ unmigrated old new store_fault.Memory ends unchanged over survives = record {
   unchanged = unchanged;
   over = over;
   survives = survives;
+  spares = spares;
 }
-unmigrated old new store_fault.Store ends unchanged over survives = record {
+unmigrated old new store_fault.Store ends unchanged over survives spares = record {
   migrates = λ _ _ _. tt;
   permits = λ _ _ _. tt;
   refuses = ends;
@@ -293,4 +295,5 @@ unmigrated old new store_fault.Store ends unchanged over survives = record {
   unchanged = unchanged;
   over = over;
   survives = survives;
+  spares = spares;
 }

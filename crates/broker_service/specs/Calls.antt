@@ -21,10 +21,10 @@ use Rattle.broker_tables.specs.Making.{IsBlank, IsMarked}
 use Rattle.broker_tables.specs.Schema.{no_schema}
 use Rattle.broker_service.specs.BrokerView.{BrokerView}
 use Rattle.broker_service.specs.Causes.{HasReason, answer_of}
-use Rattle.broker_service.specs.Ends.{Applies, IsAsBefore, CommitsAtMostOnce, LeavesNoTransaction}
+use Rattle.broker_service.specs.Ends.{Applies, IsAsBefore, AddsNoCrashState, CommitsAtMostOnce, LeavesNoTransaction}
 use Rattle.broker_service.specs.Handed.{left_by, verdict}
 use Rattle.broker_service.specs.Headline.{RecordsExactly}
-use Rattle.broker_service.specs.Migration.{StoresFormer, HoldsFormerState, JudgesAsBefore, MigratesOrRefuses}
+use Rattle.broker_service.specs.Migration.{StoresFormer, HoldsFormerState, JudgesAsBefore, MigratesOrRefuses, IsFormer}
 use Rattle.broker_service.specs.Opening.{Refuses, MakesNew, RefusesNew, IsUnchangedUnlessStore, OpensOrRefuses, Judged}
 use Rattle.broker_service.specs.Sessions.{CommandLeaves, MakingLeaves, OpeningLeaves}
 use Rattle.broker_service.specs.Stored.{Stores, HoldsState}
@@ -145,3 +145,5 @@ pub record Migrated (old new : State) (given : Result (Unit {0}) OpenFault) : Ty
   pub over : LeavesNoTransaction old new
   -- on a disk that fails, and when the program is stopped in the call: at most one commit
   pub survives : CommitsAtMostOnce old new
+  -- and none on a database that isn't of format 1, whatever the answer is: what a crash leaves, it left before
+  pub spares : HasCleanDisk new → ¬ (IsFormer old.now) → AddsNoCrashState old new

@@ -1,7 +1,7 @@
 -- The files of a broker from the first byte to the last: what is found in them after a program has opened them any
 -- number of times, made a broker or migrated one, served and ended, or was stopped anywhere on the way (this project's
 -- own).
-use Rattle.std.specs.Prelude.{◌≡◌, ◌⊎◌, List, [], ◌∷◌, IsTrue, Result, Ok, Err}
+use Rattle.std.specs.Prelude.{◌≡◌, ◌⊎◌, List, [], ◌∷◌, IsTrue, Result}
 use Rattle.sqlite_disk.specs.declared.Disk.{Ghosts}
 use Rattle.sqlite_disk.specs.declared.Files.{Files}
 use Rattle.sqlite.specs.Closing.{IsCopied}
@@ -31,7 +31,6 @@ use Rattle.broker_service.specs.SessionFiles.{IsGivenBack}
 use Rattle.broker_service.specs.Stored.{Stores}
 use Rattle.broker_service.specs.declared.broker.Refused.{Refused}
 use Rattle.broker_service.specs.declared.opening.OpenFault.{OpenFault}
-use Rattle.broker_service.specs.declared.opening.OpenFault.TheVariants as fault
 
 -- ---- what is kept, and what changes it
 
@@ -87,11 +86,6 @@ AreTreesOf Blank = IsOnDisk IsBlank
 AreTreesOf (OfFormer s) = IsOnDisk (λ db. StoresFormer db s)
 AreTreesOf (OfToday s) = IsOnDisk (λ db. Stores db s)
 
--- a migration that failed in the store was one of format 1. Of any other database it is only promised that the last
--- commit is the old one while the connection is open
-abbrev pub IsOfFormerIfStore : Trees → Result (Unit {0}) OpenFault → Type 0
-IsOfFormerIfStore first given = given ≡ Err fault.Store → (s : Broker) × AreTreesOf (OfFormer s) first
-
 -- shown is what a connection shows of its store
 module _ {X : Type 0} (shown : Held X → State) where
   -- A period from a connection that is open to the trees that a crash may leave of it at its end.
@@ -104,8 +98,7 @@ module _ {X : Type 0} (shown : Held X → State) where
       × Created shown conn office given × GivenLeaves shown given calls last
   PeriodLeaves first Migrating last =
       (old : Held X) × (new : Held X) × (given : Result (Unit {0}) OpenFault) × IsOpenedOn first (shown old)
-      × Migrated (shown old) (shown new) given × IsOfFormerIfStore first given
-      × HasCleanDisk (shown new) × (shown new).may_leave last
+      × Migrated (shown old) (shown new) given × HasCleanDisk (shown new) × (shown new).may_leave last
   PeriodLeaves first NotOpened last = last ≡ first
 
   -- After a period the trees keep what it leads to.
@@ -172,7 +165,6 @@ module _ {D : Type 0} (g : Ghosts D) where
   PeriodOnFiles first Migrating last =
       (old : Held (FileStore D g)) × (new : Held (FileStore D g)) × (given : Result (Unit {0}) OpenFault)
       × IsOpenedAfter first old × Migrated (file_state old) (file_state new) given
-      × IsOfFormerIfStore (file_state old).committed.trees given
       × HasCleanDisk (file_state new) × EndsAs new last
   PeriodOnFiles first NotOpened last = (files : Files D) × AreAfter first files × LeavesUnopened files last
 

@@ -100,10 +100,14 @@ pub record JudgesAsBefore (s : Broker) : Type 0 where
 abbrev pub BringsUp : Database → Database → Type 0
 BringsUp old new = (s : Broker) → HoldsFormer old s → Holds new s
 
+-- of format 1, and with its tables: what is migrated
+abbrev pub IsFormer : Database → Type 0
+IsFormer db = IsOfFormat former_format db × HasFormerTables db.schema
+
 -- What is told of a database that is to be migrated, a failure aside: it has the tables of format 1; or its format is
 -- another; or it is no broker's, or of format 1 by its meta alone.
 abbrev pub MigratesOrRefuses : Database → Result (Unit {0}) OpenFault → Type 0
-MigratesOrRefuses db (Ok u) = IsOfFormat former_format db × HasFormerTables db.schema
+MigratesOrRefuses db (Ok u) = IsFormer db
 MigratesOrRefuses db (Err NotABroker) = IsForeign db ⊎ (IsOfFormat former_format db × (¬ (HasFormerTables db.schema)))
 MigratesOrRefuses db (Err (Format n)) = IsOfFormat n db × (n ≢ former_format)
 MigratesOrRefuses db (Err NotEmpty) = ⊥

@@ -8,8 +8,8 @@ ghost use Rattle.broker_tables.specs.Holds.{format};
 ghost use Rattle.broker_tables.specs.Former.{HoldsFormer, HoldsUnmarked, former_format, added_tables};
 ghost use Rattle.registry_tables.specs.Format.{FindsFormer};
 ghost use Rattle.broker_service.specs.Calls.{Migrated};
-ghost use Rattle.broker_service.specs.Ends.{CommitsAtMostOnce, LeavesNoTransaction};
-ghost use Rattle.broker_service.specs.Migration.{BringsUp, HoldsFormerState, MigratesOrFails, IsUnchangedUnlessFormer};
+ghost use Rattle.broker_service.specs.Ends.{AddsNoCrashState, CommitsAtMostOnce, LeavesNoTransaction};
+ghost use Rattle.broker_service.specs.Migration.{BringsUp, HoldsFormerState, IsFormer, MigratesOrFails, IsUnchangedUnlessFormer};
 
 use crate::ending::finish;
 use crate::opening::{OpenFault, judge, make_indexes, open_fault};
@@ -69,6 +69,8 @@ fn run<S: Alter>(conn: &mut Connection<S>) -> Result<Option<u32>, StoreFault>
         → IsUnchangedUnlessFormer (state S.Store conn.old) (state S.Store conn.new) result }
     ensures over { LeavesNoTransaction (state S.Store conn.old) (state S.Store conn.new) }
     ensures survives { CommitsAtMostOnce (state S.Store conn.old) (state S.Store conn.new) }
+    ensures spares { HasCleanDisk (state S.Store conn.new) → ¬ (IsFormer (state S.Store conn.old).now)
+        → AddsNoCrashState (state S.Store conn.old) (state S.Store conn.new) }
 {
     done!(begin(conn));
     let found = bring_up(conn);
@@ -88,7 +90,8 @@ fn run<S: Alter>(conn: &mut Connection<S>) -> Result<Option<u32>, StoreFault>
 /// table of that format isn't there, or has other columns or other keys. `Format`: the format in that row is this other
 /// one; today's is refused too. After both, and after `Memory`, the database is as it was.
 /// `Store`: the database refused a call, the commit or a rollback, or the format isn't a number from 0 to 2^32 - 1; the
-/// last commit is the old one, and after a refused commit a crash may leave today's database, whole.
+/// last commit is the old one, and after a refused commit a crash may leave today's database, whole. On a database that
+/// isn't of format 1 nothing is committed, whatever fails.
 pub fn migrate<S: Alter>(conn: &mut Connection<S>) -> Result<(), OpenFault>
     ensures { Migrated (state S.Store conn.old) (state S.Store conn.new) result }
 {

@@ -1,8 +1,8 @@
 use Rattle.std.proofs.Common.{true, false}
 use Rattle.sqlite.specs.Held.{state}
 use Rattle.registry_tables.specs.Format.{FindsFormer}
-use Rattle.broker_service.proofs.Transaction.{IsTransaction, commits_once, once_at_most, not_begun, left_over, finished_over}
-use Rattle.broker_service.proofs.MakeLemmas.{finds, migration_ends, migration_unchanged, migrates_as_before}
+use Rattle.broker_service.proofs.Transaction.{IsTransaction, adds_nothing, commits_once, once_at_most, not_begun, left_over, finished_over}
+use Rattle.broker_service.proofs.MakeLemmas.{finds, migration_ends, migration_unchanged, migration_spares, migrates_as_before}
 use Rattle.broker_service.proofs.migration.run.Goals as goal
 
 pub returns-then-finish-clause-found : goal.returns-then-finish-clause-found
@@ -57,3 +57,16 @@ returns-else-finish-clause-over g c clean was = finished_over (state g.S.Store c
 
 pub returns-in-Err-clause-over : goal.returns-in-Err-clause-over
 returns-in-Err-clause-over g c clean was = left_over (state g.S.Store c.args.conn.now) (state g.S.Store c.begin.new.conn) (c.in-Err.ensures.refused clean) was
+
+pub returns-then-finish-clause-spares : goal.returns-then-finish-clause-spares
+returns-then-finish-clause-spares g c clean other =
+    migration_spares (state g.S.Store c.args.conn.now) (state g.S.Store c.begin.new.conn) (state g.S.Store c.bring_up-found.new.conn) (state g.S.Store c.finish.new.conn) c.bring_up-found.result c.is_former.result true
+    (record { begun = c.in-Ok.ensures.begun; begins = c.begin.ensures.survives; works = c.bring_up-found.ensures.call; ends = c.if-finish.ensures }) c.is_former.ensures clean other
+
+pub returns-else-finish-clause-spares : goal.returns-else-finish-clause-spares
+returns-else-finish-clause-spares g c clean other =
+    migration_spares (state g.S.Store c.args.conn.now) (state g.S.Store c.begin.new.conn) (state g.S.Store c.bring_up-found.new.conn) (state g.S.Store c.finish.new.conn) c.bring_up-found.result c.is_former.result false
+    (record { begun = c.in-Ok.ensures.begun; begins = c.begin.ensures.survives; works = c.bring_up-found.ensures.call; ends = c.if-finish.ensures }) c.is_former.ensures clean other
+
+pub returns-in-Err-clause-spares : goal.returns-in-Err-clause-spares
+returns-in-Err-clause-spares g c clean other = adds_nothing (state g.S.Store c.args.conn.now) (state g.S.Store c.begin.new.conn) c.begin.ensures.survives clean
