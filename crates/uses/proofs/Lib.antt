@@ -1,2 +1,3 @@
 pub mod Deployed
+pub mod Reopened
 pub mod Served

@@ -1,4 +1,5 @@
 pub mod Deploying
 pub mod Pacts
+pub mod Reopening
 pub mod Replies
 pub mod Streams

@@ -4,10 +4,12 @@
 
 mod deploying;
 mod pacts;
+mod reopening;
 mod replies;
 mod streams;
 
 pub use deploying::{deploy, deployment};
 pub use pacts::normal_text;
+pub use reopening::{NotReopened, reopen};
 pub use replies::{Unjudged, failing};
 pub use streams::answers;

@@ -1,0 +1,92 @@
+-- What files keep that were closed, and what is left of them if they can't be opened.
+use Rattle.std.proofs.Common.{◌≡◌, ◌⊎◌, ◌∙◌, inl, inr, [], false, Result, Ok, Err, IfOk, IfErr, ap, arith}
+use Rattle.std.proofs.Math.Logic.{∥∥₁_elim, ∥∥₁_map}
+use Rattle.sqlite_disk.specs.declared.Disk.{Ghosts}
+use Rattle.sqlite_disk.specs.declared.Files.{Files}
+use Rattle.sqlite.specs.Closing.{IsCopied, HoldsAlone}
+use Rattle.sqlite.specs.Files.{HoldsDatabase, Finds, IsCleanLeft, IsOpened, LeavesFiles, file_state, image_of}
+use Rattle.sqlite.specs.Held.{Held}
+use Rattle.sqlite.specs.Recovery.{Image}
+use Rattle.sqlite.specs.State.{HasCleanDisk}
+use Rattle.sqlite.specs.Tree.{Trees}
+use Rattle.sqlite.specs.WalReads.{AreClean}
+use Rattle.sqlite.specs.declared.FileStore.{FileStore}
+use Rattle.sqlite.specs.declared.file.Leftover.{Leftover}
+use Rattle.sqlite.proofs.Callers.{finds_again}
+use Rattle.broker_core.specs.State.{State as Broker}
+use Rattle.broker_service.specs.BrokerView.{BrokerView}
+use Rattle.broker_service.specs.Calls.{Opened}
+use Rattle.broker_service.specs.Life.{AreTreesOf, AreFilesOf, HoldsAsBefore, OpeningSpares}
+use Rattle.broker_service.specs.Life.Kept.{Blank, OfToday}
+use Rattle.broker_service.specs.SessionFiles.{ClosedFilesHold}
+use Rattle.broker_service.specs.Stored.{HoldsState}
+use Rattle.broker_service.specs.declared.broker.Refused.{Refused}
+use Rattle.uses.specs.Reopening.{KeepState, KeepsOverCrash, KeepsAsFiles, AreClosed, IsLeftOf, IsOpenedOver, IsOpenedAgain, LosesNothing}
+use Rattle.uses.specs.declared.reopening.NotReopened.{NotReopened}
+
+module _ {D : Type 0} (g : Ghosts D) where
+  -- the trees that two files hold, or files without a byte
+  abbrev Holds : Broker → Image → Type 0
+  Holds s image = ((trees : Trees) × HoldsDatabase image trees × AreTreesOf (OfToday s) trees) ⊎ ((OfToday s ≡ Blank) × (image.db ≡ []))
+
+  keep_state : (s : Broker) (old : BrokerView (FileStore D g)) (files : Files D) → ClosedFilesHold g → HoldsState s (file_state {D = D} {g = g} old.connection) → IsCopied old.connection files → KeepState g s files
+  keep_state s old files law held copied =
+      let was = held.held copied.was_open in
+      let trees = (file_state {D = D} {g = g} old.connection).committed.trees in
+      let kept : AreTreesOf (OfToday s) trees = record { schema = (file_state {D = D} {g = g} old.connection).committed.schema; sound = was.sound; has = was.has } in
+      let found = λ (image : Image) (alone : HoldsAlone image trees). ∥∥₁_map alone.both (λ holds. let r : Holds s image = inl (trees, holds, kept) in r) in
+      record {
+        seen = found (image_of g files) copied.seen;
+        left = λ image may. found image (copied.left image may);
+        found = λ conn opened finds. law s old.connection conn files held copied opened finds;
+      }
+
+  pub closed : (old : BrokerView (FileStore D g)) (files : Files D) → ClosedFilesHold g → IsCopied old.connection files → AreClosed old files
+  closed old files law copied = record { copied = copied; keep = λ s held. keep_state s old files law held copied }
+
+  -- what holds the database that was there keeps the state that was there
+  kept_before : (s : Broker) (old new : Image) → AreFilesOf g (OfToday s) old → HoldsAsBefore g old new → AreFilesOf g (OfToday s) new
+  kept_before s old new keeps same =
+      ∥∥₁_elim keeps squash₁ (λ (it : Holds s old). elim it [
+        | inl found ↦ ∥∥₁_map (same.same found.0 found.1) (λ holds. let r : Holds s new = inl (found.0, holds, found.2) in r)
+        | inr blank ↦ absurd (let none : OfToday s ≡ Blank = blank.0 in cc)
+      ])
+
+  pub left_of : (s : Broker) (files : Files D) (left : Leftover D g) → OpeningSpares g → (AreClean g files.log files.db → KeepState g s files) → (IsCleanLeft left → LeavesFiles files left) → IsLeftOf s left
+  left_of s files left law keep leaves = record {
+    files = files;
+    kept = keep;
+    leaves = leaves;
+    still = λ clean clean_left unharmed image may. elim (law files left (leaves clean_left) unharmed image may) [
+      | inl old ↦ (keep clean).left image old
+      | inr same ↦ kept_before s (image_of g files) image (keep clean).seen same
+    ];
+  }
+
+  module _ (files : Files D) (conn : Held (FileStore D g)) (found : HasCleanDisk (file_state {D = D} {g = g} conn) → IsOpened conn × Finds files conn) where
+    pub over : (b : BrokerView (FileStore D g)) → Opened (file_state {D = D} {g = g}) conn (Ok b) → HasCleanDisk (file_state {D = D} {g = g} b.connection) → IsOpenedOver files b
+    over b opened clean =
+        let was : HasCleanDisk (file_state {D = D} {g = g} conn) = omega (arith, opened.survives.clean, clean) in
+        let it = found was in
+        record { conn = conn; opened = it.0; finds = it.1; same = opened.kept clean; holds = opened.holds clean }
+
+    pub refused : (s : Broker) (r : Refused (FileStore D g)) → Opened (file_state {D = D} {g = g}) conn (Err r) → (AreClean g files.log files.db → KeepState g s files)
+        → HasCleanDisk (file_state {D = D} {g = g} r.connection) → KeepsOverCrash s (file_state {D = D} {g = g} r.connection).may_leave
+    refused s r opened keep clean trees may =
+        let was : HasCleanDisk (file_state {D = D} {g = g} conn) = omega (arith, opened.survives.clean, clean) in
+        let it = found was in
+        ((keep it.1.honest).found conn it.0 it.1).left trees (elim (opened.survives.crash clean trees may) [ inl old ↦ old | inr none ↦ absurd none ])
+
+  module _ (old : BrokerView (FileStore D g)) (files : Files D) (closed : AreClean g files.log files.db → AreClosed old files) where
+    pub opened_again : (r : Result (BrokerView (FileStore D g)) (NotReopened D g)) → IfOk r (λ b. b.is_stopped ≡ false)
+        → IfOk r (λ b. HasCleanDisk (file_state {D = D} {g = g} b.connection) → IsOpenedOver files b) → IfOk r (IsOpenedAgain old)
+    opened_again (Ok b) runs over = record {
+      runs = runs;
+      holds = λ clean s held. let it = over clean in it.holds s (((closed it.finds.honest).keep s held).found it.conn it.opened it.finds);
+      commit = λ clean is_open. let it = over clean in ap (λ db. db.trees) (it.same.commit.committed is_open) ∙ finds_again old.connection it.conn files (λ clean. (closed clean).copied) it.finds;
+    }
+    opened_again (Err lost) runs over = tt
+
+    pub nothing_lost : (r : Result (BrokerView (FileStore D g)) (NotReopened D g)) → IfErr r (KeepsAsFiles files) → IfErr r (LosesNothing old)
+    nothing_lost (Ok b) kept = tt
+    nothing_lost (Err lost) kept = λ s held. kept s (λ clean. (closed clean).keep s held)
