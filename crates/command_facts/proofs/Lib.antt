@@ -1,3 +1,4 @@
 pub mod CallerLemmas
+pub mod CalmLemmas
 pub mod CallerSteps
 pub mod PerformLemmas

@@ -4,6 +4,7 @@ ghost use Rattle.std.specs.Prelude.{◌≡◌, ◌↔◌, IfErr, ℕ, List, Some
 ghost use Rattle.broker_core.specs.Machine.{IsCallerOfDigest, IsCallerOfToken};
 ghost use Rattle.broker_core.specs.Name.{IsName};
 ghost use Rattle.broker_tables.specs.Holds.{Queries};
+ghost use Rattle.broker_tables.specs.Calm.{CalmQueries};
 ghost use Rattle.command_facts.specs.Callers.{token_of};
 ghost use Rattle.command_facts.specs.Primitives.{broker_primitives};
 
@@ -52,7 +53,7 @@ fn team_with<S: Alter>(
     conn: &mut Connection<S>,
     digest: &str,
 ) -> Result<Option<Name>, StoreFault>
-    ensures { Queries S.Store conn.old conn.new result
+    ensures { CalmQueries S.Store conn.old conn.new result
         (λ team s. MatchOption team ((t : List ℕ) → ¬ (s.teams t ≡ Some digest.now))
         (λ name. s.teams name ≡ Some digest.now)) }
 {
@@ -68,7 +69,7 @@ pub fn holder_of<S: Alter>(
     conn: &mut Connection<S>,
     digest: &str,
 ) -> Result<Option<Caller>, StoreFault>
-    ensures { Queries S.Store conn.old conn.new result (λ who s. IsCallerOfDigest s digest.now who) }
+    ensures { CalmQueries S.Store conn.old conn.new result (λ who s. IsCallerOfDigest s digest.now who) }
 {
     let office = done!(office_digest(conn));
     if is_same(office.as_str(), digest) {

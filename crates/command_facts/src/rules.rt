@@ -3,7 +3,7 @@ ghost use Rattle.std.specs.Prelude.{◌≡◌, ◌↔◌, IfErr, IsSomeAnd, [], 
 ghost use Rattle.broker_core.specs.Policy.{allows, is_office};
 ghost use Rattle.broker_core.specs.Request.{has_grant};
 ghost use Rattle.broker_core.specs.Name.{IsName};
-ghost use Rattle.broker_tables.specs.Holds.{Queries};
+ghost use Rattle.broker_tables.specs.Calm.{CalmQueries, CalmQueriesInPlace};
 ghost use Rattle.command_facts.specs.Owners.{owners_of, IsOwnerRead};
 
 use crate::callers::stored_name;
@@ -61,11 +61,13 @@ fn is_allowed(
     owner: &Option<String>,
     granted: bool,
 ) -> Result<bool, StoreFault>
-    ensures { IfOk result (λ is_allowed.
+    ensures ok { IfOk result (λ is_allowed.
         is_allowed ≡ allows rule caller.now
         (owners_of (option_map string_bytes owner.now)) granted) }
+    ensures cause { IfErr result (λ fault. (fault ≡ StoreFault.Store)
+        ↔ IsSomeAnd owner.now (λ text. ¬ (IsName (string_bytes text)))) }
 {
-    let owners = owners(alloc, owner)?;
+    let owners = done!(owners(alloc, owner));
     let ask = Ask {
         rule,
         owners,
@@ -88,7 +90,7 @@ pub fn read_owner<S: Alter>(
     pacticipant: &Name,
     granted: bool,
 ) -> Result<OwnerFacts, StoreFault>
-    ensures { Queries S.Store conn.old conn.new result
+    ensures { CalmQueries S.Store conn.old conn.new result
         (λ found s. IsOwnerRead s caller.now rule pacticipant.now granted found) }
 {
     let owner = done!(owner_of(conn, pacticipant.as_str()));
@@ -108,7 +110,7 @@ pub fn has_pacticipant<S: Alter>(
     conn: &mut Connection<S>,
     pacticipant: &Name,
 ) -> Result<bool, StoreFault>
-    ensures { Queries S.Store conn.old conn.new result (λ has s. is_some (s.pacticipants pacticipant.now) ≡ has) }
+    ensures { CalmQueries S.Store conn.old conn.new result (λ has s. is_some (s.pacticipants pacticipant.now) ≡ has) }
 {
     let owner = done!(owner_of(conn, pacticipant.as_str()));
     Ok(owner.is_some())
@@ -123,7 +125,7 @@ pub fn read_grant<S: Alter>(
     caller: &Caller,
     environment: &Name,
 ) -> Result<bool, StoreFault>
-    ensures { Queries S.Store conn.old conn.new result
+    ensures { CalmQueriesInPlace S.Store conn.old conn.new result
         (λ has s. has ≡ has_grant s caller.now (Some environment.now)) }
 {
     match caller {

@@ -12,4 +12,4 @@ returns-in-Ok g c =
       subst (λ (o : Option (Bor (List ℕ))). IsCallerOfToken broker_primitives s (option_map (λ text. text.now) o) who) (sym c.in-Some.is)
           (subst (λ (d : Text). IsCallerOfDigest s d who) (c.as_str.ensures.value ∙ c.in-Ok.ensures.ok) (h s held).0),
       (h s held).1,
-    )) c.holder_of.ensures
+    )) c.holder_of.ensures.call

@@ -13,4 +13,4 @@ returns g c =
       provider_is = there;
       consumer_is = h.pacticipant_is;
       may_is = λ granted. sole_publisher (s.pacticipants c.args.consumer.now) c.args.caller.now granted ∙ h.may_is;
-    }) c.in-Ok.ensures c.in-Ok-read_owner.ensures
+    }) c.in-Ok.ensures.call c.in-Ok-read_owner.ensures.call

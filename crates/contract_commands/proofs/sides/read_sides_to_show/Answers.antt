@@ -13,7 +13,7 @@ returns-then-provider g c =
       provider_is = h.pacticipant_is;
       consumer_is = k.pacticipant_is;
       may_is = λ granted. two_owners (s.pacticipants c.args.provider.now) (s.pacticipants c.args.consumer.now) c.args.caller.now granted ∙ (λ i. h.may_is i || k.may_is i) ∙ ap (λ (b : Bool). b || q.is_allowed) c.if-provider.true ∙ sym c.if-provider.true;
-    }) c.in-Ok.ensures c.in-Ok-read_owner.ensures
+    }) c.in-Ok.ensures.call c.in-Ok-read_owner.ensures.call
 
 pub returns-else-provider : goal.returns-else-provider
 returns-else-provider g c =
@@ -24,4 +24,4 @@ returns-else-provider g c =
       provider_is = h.pacticipant_is;
       consumer_is = k.pacticipant_is;
       may_is = λ granted. two_owners (s.pacticipants c.args.provider.now) (s.pacticipants c.args.consumer.now) c.args.caller.now granted ∙ (λ i. h.may_is i || k.may_is i) ∙ ap (λ (b : Bool). b || q.is_allowed) c.if-provider.false;
-    }) c.in-Ok.ensures c.in-Ok-read_owner.ensures
+    }) c.in-Ok.ensures.call c.in-Ok-read_owner.ensures.call

@@ -13,4 +13,4 @@ returns g c =
       provider_is = h.pacticipant_is;
       consumer_is = there;
       may_is = λ granted. sole_verifier (s.pacticipants c.args.provider.now) c.args.caller.now granted ∙ h.may_is;
-    }) c.in-Ok.ensures c.in-Ok-has_pacticipant.ensures
+    }) c.in-Ok.ensures.call c.in-Ok-has_pacticipant.ensures.call
