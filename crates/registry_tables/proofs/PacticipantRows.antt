@@ -84,6 +84,10 @@ owner_stands p old new rows row s held readable h head =
     text_stands owner_sql (Text p ∷ []) old new 4 2 _ _ _ (owner_means old.now held.broker) (owners old.now held.broker) rows row h head
     (readable.pacticipants p (text 0 row) (sym (owner_found p old new rows s held h) ∙ ap (option_map (text 0)) head)).1.0
 
+-- where there is no such pacticipant, no row is shown
+pub owner_missing : (p : List ℕ) (old new : State) (s : Broker) → Holds old.now s → s.pacticipants p ≡ None → (rows : List Row) (row : Row) → Shown owner_sql (Text p ∷ []) old new rows → slice_get rows 0 ≡ Some row → ⊥
+owner_missing p old new s held none rows row h head = let clash : Some (text 0 row) ≡ None = ap (option_map (text 0)) (sym head) ∙ owner_found p old new rows s held h ∙ none in cc
+
 abbrev pub add_sql : List ℕ
 add_sql = codes "INSERT INTO pacticipants (name, team) VALUES (?1, ?2)"
 

@@ -91,6 +91,10 @@ digest_stands team old new rows row s held readable h head =
     text_stands digest_sql (Text team ∷ []) old new 1 2 _ _ _ (digest_means old.now held.broker) (digests old.now held.broker) rows row h head
     (readable.teams team (text 0 row) (sym (digest_found team old new rows s held h) ∙ ap (option_map (text 0)) head)).1
 
+-- where there is no such team, no row is shown
+pub digest_missing : (team : List ℕ) (old new : State) (s : Broker) → Holds old.now s → s.teams team ≡ None → (rows : List Row) (row : Row) → Shown digest_sql (Text team ∷ []) old new rows → slice_get rows 0 ≡ Some row → ⊥
+digest_missing team old new s held none rows row h head = let clash : Some (text 0 row) ≡ None = ap (option_map (text 0)) (sym head) ∙ digest_found team old new rows s held h ∙ none in cc
+
 -- ---- the team of a digest
 
 abbrev pub team_sql : List ℕ
@@ -137,6 +141,10 @@ pub team_stands : (digest : List ℕ) (old new : State) (rows : List Row) (row :
 team_stands digest old new rows row s held readable h head =
     text_stands team_sql (Text digest ∷ []) old new 1 1 _ _ _ (team_means old.now held.broker) (names old.now held.broker) rows row h head
     (readable.teams (text 0 row) digest (subst (IsTeamOf s digest) (ap (option_map (text 0)) head) (team_found digest old new rows s held h))).0.0
+
+-- where no team has this digest, no row is shown
+pub team_missing : (digest : List ℕ) (old new : State) (s : Broker) → Holds old.now s → ((t : List ℕ) → ¬ (s.teams t ≡ Some digest)) → (rows : List Row) (row : Row) → Shown team_sql (Text digest ∷ []) old new rows → slice_get rows 0 ≡ Some row → ⊥
+team_missing digest old new s held none rows row h head = none (text 0 row) (subst (IsTeamOf s digest) (ap (option_map (text 0)) head) (team_found digest old new rows s held h))
 
 pub by_view : {X : Type 0} (view : X → List ℕ) (s : Broker) (digest : List ℕ) (found : Option X) → IsTeamOf s digest (option_map view found) → MatchOption found ((t : List ℕ) → ¬ (s.teams t ≡ Some digest)) (λ name. s.teams (view name) ≡ Some digest)
 by_view view s digest None h = h

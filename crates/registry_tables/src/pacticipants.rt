@@ -1,7 +1,8 @@
 //! Pacticipants, and the teams that own them.
-ghost use Rattle.std.specs.Prelude.{◌≡◌, option_map, string_bytes};
+ghost use Rattle.std.specs.Prelude.{◌≡◌, None, option_map, string_bytes};
 ghost use Rattle.broker_tables.specs.Holds.{Changes};
 ghost use Rattle.broker_tables.specs.Calm.{CalmQueries};
+ghost use Rattle.registry_tables.specs.Missing.{NeedsNoRoom};
 ghost use Rattle.registry_tables.specs.Registry.{AddsPacticipant};
 
 use sqlite::{Alter, Connection, params};
@@ -10,14 +11,15 @@ use table_access::{StoreFault, change, text_of};
 /// The team that owns a pacticipant, or `None` if there is no such pacticipant.
 ///
 /// # Errors
-/// `StoreFault::Memory` if the database is out of memory, or there is none for the answer; `StoreFault::Store` if it
-/// refused the query.
+/// `StoreFault::Memory` if the database is out of memory, or there is none for the team's name; `StoreFault::Store` if
+/// it refused the query.
 pub fn owner_of<S: Alter>(
     conn: &mut Connection<S>,
     pacticipant: &str,
 ) -> Result<Option<String>, StoreFault>
-    ensures { CalmQueries S.Store conn.old conn.new result
+    ensures answers { CalmQueries S.Store conn.old conn.new result
         (λ owner s. option_map string_bytes owner ≡ s.pacticipants pacticipant.now) }
+    ensures missing { NeedsNoRoom S.Store conn.old conn.new result (λ s. s.pacticipants pacticipant.now ≡ None) }
 {
     text_of(
         conn,

@@ -2,6 +2,7 @@
 ghost use Rattle.std.specs.Prelude.{◌≡◌, ℕ, List, Some, None, MatchOption, option_map, string_bytes, is_some};
 ghost use Rattle.broker_tables.specs.Holds.{Changes};
 ghost use Rattle.broker_tables.specs.Calm.{CalmQueries, CalmQueriesInPlace};
+ghost use Rattle.registry_tables.specs.Missing.{NeedsNoRoom};
 ghost use Rattle.registry_tables.specs.Registry.{AddsTeam};
 
 use sqlite::{Alter, Connection, params};
@@ -18,8 +19,9 @@ pub fn digest_of<S: Alter>(
     conn: &mut Connection<S>,
     team: &str,
 ) -> Result<Option<String>, StoreFault>
-    ensures { CalmQueries S.Store conn.old conn.new result
+    ensures answers { CalmQueries S.Store conn.old conn.new result
         (λ digest s. option_map string_bytes digest ≡ s.teams team.now) }
+    ensures missing { NeedsNoRoom S.Store conn.old conn.new result (λ s. s.teams team.now ≡ None) }
 {
     text_of(conn, DIGEST_OF_TEAM, params![team])
 }
@@ -43,10 +45,12 @@ pub fn team_of_digest<S: Alter>(
     conn: &mut Connection<S>,
     digest: &str,
 ) -> Result<Option<String>, StoreFault>
-    ensures { CalmQueries S.Store conn.old conn.new result
+    ensures answers { CalmQueries S.Store conn.old conn.new result
         (λ team s. MatchOption team
         ((t : List ℕ) → ¬ (s.teams t ≡ Some digest.now))
         (λ name. s.teams (string_bytes name) ≡ Some digest.now)) }
+    ensures missing { NeedsNoRoom S.Store conn.old conn.new result
+        (λ s. (t : List ℕ) → ¬ (s.teams t ≡ Some digest.now)) }
 {
     text_of(
         conn,

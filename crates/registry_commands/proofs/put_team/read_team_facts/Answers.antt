@@ -6,4 +6,4 @@ use Rattle.registry_commands.proofs.put_team.read_team_facts.Goals as goal
 pub returns : goal.returns
 returns g c =
     read_both (state g.S.Store c.args.conn.now) (state g.S.Store c.digest_of.new.conn) (state g.S.Store c.holder_of.new.conn) c.in-Ok.value c.in-Ok-holder_of.value (record { digest = c.in-Ok.value; holder = c.in-Ok-holder_of.value }) _ _ _
-    (λ s old holder. record { team_is = sym (ap s.teams c.as_str.ensures) ∙ sym old; holder_is = holder }) c.in-Ok.ensures.call c.in-Ok-holder_of.ensures.call
+    (λ s old holder. record { team_is = sym (ap s.teams c.as_str.ensures) ∙ sym old; holder_is = holder }) c.in-Ok.ensures.answers.call c.in-Ok-holder_of.ensures.call
