@@ -3,3 +3,4 @@ mod ModeLemmas
 mod OneReading
 mod StreamHeadline
 mod ResponsesLemmas
+mod RefusalExample

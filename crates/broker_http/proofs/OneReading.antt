@@ -8,7 +8,7 @@ use Rattle.broker_http.specs.declared.served.Ended.TheVariants.{AtEnd, Rest, Clo
 use Rattle.http_messages.specs.Messages.{BeginsWithMessage}
 use Rattle.http_messages.proofs.MessagesLemmas.{BeginsWithMessage-unique, none_in_nothing}
 
-same_message : (m n : Message) → m.head ≡ n.head → m.body ≡ n.body → m ≡ n
+pub same_message : (m n : Message) → m.head ≡ n.head → m.body ≡ n.body → m ≡ n
 same_message m n p q =
     ap₂
     (λ (head body : List ℕ).
@@ -21,7 +21,7 @@ not_closed : (front : List Response) (last : Response) → [] ≡ front ++ last 
 not_closed front last e = omega (arith, ap length e, length-append front (last ∷ []))
 
 -- where the responses are over, none is left to give
-none_left : (ended : Ended) (stream : List ℕ) (m : Message) (after : List ℕ) → StreamEnds ended [] stream → BeginsWithMessage stream m after → ⊥
+pub none_left : (ended : Ended) (stream : List ℕ) (m : Message) (after : List ℕ) → StreamEnds ended [] stream → BeginsWithMessage stream m after → ⊥
 none_left AtEnd stream m after ends begins = none_in_nothing m after (subst (λ l. BeginsWithMessage l m after) ends.1 begins)
 none_left Rest stream m after ends begins = ends.2 m after begins
 none_left Closed stream m after ends begins = not_closed ends.0 ends.1 ends.2

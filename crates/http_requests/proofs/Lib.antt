@@ -1,3 +1,4 @@
 mod QueryLemmas
 mod TargetLemmas
-mod OneRequest
+pub mod OneRequest
+pub mod RequestExamples

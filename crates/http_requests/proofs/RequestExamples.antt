@@ -1,0 +1,154 @@
+-- a worked example of a request, computed from its bytes: the message that they begin with, and the command that it asks
+use Rattle.std.proofs.Common.{◌≡◌, ◌≢◌, ◌<◌, ◌≤◌, arith, true, false, refl, inr}
+use Rattle.std.proofs.lemmas.List.Elements.{All-cons, All-nil}
+use Rattle.std.proofs.lemmas.List.Sums.{AllPass-from_list_all}
+use Rattle.std.proofs.lemmas.Bool.{ltb-true}
+use Rattle.std.proofs.lemmas.Str.{IsUtf8-from_ascii}
+use Rattle.std.proofs.lemmas.Str.Ascii.{IsAscii-from_all}
+use Rattle.std.proofs.Math.Dec.{ltb}
+use Rattle.std.specs.Prelude.{ℕ, List, [], ◌∷◌, ◌++◌, codes, length, nat_lt, All, Some, None, Ok}
+use Rattle.std.specs.List.{list_all}
+use Rattle.std.specs.Str.{IsUtf8}
+use Rattle.httparse.proofs.OnLiterals.{httparse_on_literals}
+use Rattle.httparse.specs.Grammar.{RequestHead, IsRequestHead, Field, IsField, IsToken, AllPass, crlf, is_token_byte, is_value_byte, is_uri_byte, print_request}
+use Rattle.percent_encoding.proofs.OnLiterals.{percent_encoding_on_literals}
+use Rattle.serde_json.proofs.OnLiterals.{serde_json_on_literals}
+use Rattle.serde_json.specs.Data.{Data, string, object, member, no_members}
+use Rattle.broker_core.specs.Name.{IsName, IsNameByte, IsToken as IsCallersToken, is_token_byte as is_callers_byte}
+use Rattle.broker_core.specs.Text.{Text, version}
+use Rattle.broker_core.specs.declared.command.Command.TheVariants.{Deploy}
+use Rattle.http_messages.specs.Fields.{same_name, values_named}
+use Rattle.http_messages.specs.Heads.{IsHeadText, IsJudged, IsBodyLength, judge_head, judge, body_length, served_method, fields_of}
+use Rattle.http_messages.specs.Message.{Message, message}
+use Rattle.http_messages.specs.Messages.{BeginsWithMessage}
+use Rattle.http_routes.specs.Routes.{fits, is_on, resource_of, segment}
+use Rattle.http_requests.specs.Bodies.{IsObject, IsNameField}
+use Rattle.http_requests.specs.Commands.{IsVersionFields, IsCommand}
+use Rattle.http_requests.specs.Names.{IsNamed, IsPathName}
+use Rattle.http_requests.specs.Requests.{IsRequest, path_of, query_of}
+use Rattle.http_requests.specs.Tokens.{IsTokenOf}
+use Rattle.http_requests.specs.declared.requests.Request.TheVariants.{Asks}
+use Rattle.http_routes.specs.declared.Operation.TheVariants as operation
+use Rattle.http_routes.specs.declared.places.TheConstants.{OWN_NAME}
+
+-- ---- the request: a team asks that version 1 of shop be recorded as deployed to prod
+
+abbrev pub deployment_head : List ℕ
+deployment_head = codes "POST /environments/prod/deployments HTTP/1.1\r\nhost: broker\r\nauthorization: Bearer red-team-token-01\r\ncontent-length: 36\r\n\r\n"
+
+abbrev pub deployment_body : List ℕ
+deployment_body = codes "{\"pacticipant\":\"shop\",\"version\":\"1\"}"
+
+abbrev pub deployment_message : Message
+deployment_message = message deployment_head deployment_body
+
+-- ---- its head
+
+abbrev field : List ℕ → List ℕ → Field
+field name raw = record { name = name; raw = raw; end = crlf }
+
+abbrev fields : List Field
+fields = field (codes "host") (codes " broker") ∷ field (codes "authorization") (codes " Bearer red-team-token-01") ∷ field (codes "content-length") (codes " 36") ∷ []
+
+abbrev parsed : RequestHead
+parsed = record {
+  blank = [];
+  method = codes "POST";
+  target = codes "/environments/prod/deployments";
+  minor = 1;
+  line_end = crlf;
+  fields = fields;
+  last = crlf;
+}
+
+in_ascii : (bytes : List ℕ) → list_all (λ b. ltb b 128) bytes ≡ true → IsUtf8 bytes
+in_ascii bytes low =
+    IsUtf8-from_ascii bytes (IsAscii-from_all bytes (λ k d m. ltb-true _ 128 (AllPass-from_list_all (λ b. ltb b 128) bytes low k d m)))
+
+some_token : (bytes : List ℕ) → 0 < length bytes → list_all is_token_byte bytes ≡ true → IsToken bytes
+some_token bytes some passes = (some, AllPass-from_list_all is_token_byte bytes passes)
+
+is_field : (name raw : List ℕ) → 0 < length name → list_all is_token_byte name ≡ true → list_all is_value_byte raw ≡ true → IsField (field name raw)
+is_field name raw some named valued = record { name = some_token name some named; raw = AllPass-from_list_all is_value_byte raw valued }
+
+are_fields : All IsField fields
+unfolding httparse_on_literals
+are_fields =
+    All-cons IsField (field (codes "host") (codes " broker")) (field (codes "authorization") (codes " Bearer red-team-token-01") ∷ field (codes "content-length") (codes " 36") ∷ [])
+    (is_field (codes "host") (codes " broker") (omega arith) refl refl)
+    (All-cons IsField (field (codes "authorization") (codes " Bearer red-team-token-01")) (field (codes "content-length") (codes " 36") ∷ [])
+    (is_field (codes "authorization") (codes " Bearer red-team-token-01") (omega arith) refl refl)
+    (All-cons IsField (field (codes "content-length") (codes " 36")) []
+    (is_field (codes "content-length") (codes " 36") (omega arith) refl refl)
+    (All-nil IsField)))
+
+is_head : IsRequestHead parsed
+unfolding httparse_on_literals
+is_head = record {
+  method = some_token (codes "POST") (omega arith) refl;
+  target = (omega arith, AllPass-from_list_all is_uri_byte (codes "/environments/prod/deployments") refl);
+  target_text = in_ascii (codes "/environments/prod/deployments") refl;
+  minor = omega arith;
+  fields = are_fields;
+}
+
+is_head_text : IsHeadText deployment_head parsed
+unfolding print_request
+is_head_text = record { reads = (is_head, refl); few = omega arith }
+
+is_judged : IsJudged deployment_head (judge_head parsed)
+is_judged = inr (inr (refl, parsed, is_head_text, refl))
+
+pub the_stream_begins_with_the_message : BeginsWithMessage (deployment_head ++ deployment_body) deployment_message []
+unfolding IsBodyLength judge body_length served_method same_name httparse_on_literals
+the_stream_begins_with_the_message = record { whole = refl; head = refl; body = (judge_head parsed, is_judged, refl) }
+
+-- ---- what it asks
+
+plain : (b : ℕ) → 32 ≤ b → b < 127 → IsNameByte b
+plain b low high = let other : b ≢ 127 = omega arith in (low, other)
+
+prod_name : IsName (codes "prod")
+prod_name = record { some = omega arith; short = omega arith; plain = (All-cons IsNameByte 112 (114 ∷ 111 ∷ 100 ∷ []) (plain 112 (omega arith) (omega arith)) (All-cons IsNameByte 114 (111 ∷ 100 ∷ []) (plain 114 (omega arith) (omega arith)) (All-cons IsNameByte 111 (100 ∷ []) (plain 111 (omega arith) (omega arith)) (All-cons IsNameByte 100 ([]) (plain 100 (omega arith) (omega arith)) (All-nil IsNameByte))))) }
+
+shop_name : IsName (codes "shop")
+shop_name = record { some = omega arith; short = omega arith; plain = (All-cons IsNameByte 115 (104 ∷ 111 ∷ 112 ∷ []) (plain 115 (omega arith) (omega arith)) (All-cons IsNameByte 104 (111 ∷ 112 ∷ []) (plain 104 (omega arith) (omega arith)) (All-cons IsNameByte 111 (112 ∷ []) (plain 111 (omega arith) (omega arith)) (All-cons IsNameByte 112 ([]) (plain 112 (omega arith) (omega arith)) (All-nil IsNameByte))))) }
+
+one_name : IsName (codes "1")
+one_name = record { some = omega arith; short = omega arith; plain = (All-cons IsNameByte 49 ([]) (plain 49 (omega arith) (omega arith)) (All-nil IsNameByte)) }
+
+named : (text : Text) → list_all (λ b. ltb b 128) text ≡ true → IsName text → IsNamed text (Some text)
+named text low name = (refl, in_ascii text low, name)
+
+abbrev body_fields : Data
+body_fields = object (member (codes "pacticipant") (string (codes "shop")) (member (codes "version") (string (codes "1")) no_members))
+
+environment_named : IsPathName OWN_NAME (path_of parsed.target) (Ok (codes "prod"))
+unfolding segment percent_encoding_on_literals
+environment_named = (Some (codes "prod"), named (codes "prod") refl prod_name, refl)
+
+body_read : IsObject deployment_body (Some body_fields)
+unfolding serde_json_on_literals
+body_read = (Some body_fields, (in_ascii deployment_body refl, refl), refl)
+
+version_named : IsVersionFields (Some body_fields) (Ok (version (codes "shop") (codes "1")))
+version_named = (Ok (codes "shop"), (Some (codes "shop"), named (codes "shop") refl shop_name, refl), (Ok (codes "1"), (Some (codes "1"), named (codes "1") refl one_name, refl), refl))
+
+the_command : IsCommand operation.Deploy (path_of parsed.target) (query_of parsed.target) deployment_body (Deploy (codes "prod") (version (codes "shop") (codes "1")) None)
+the_command = (
+  Ok (Deploy (codes "prod") (version (codes "shop") (codes "1")) None),
+  (Ok (codes "prod"), environment_named, (Some body_fields, body_read, (Ok (version (codes "shop") (codes "1")), version_named, (Ok None, refl, refl)))),
+  refl,
+)
+
+the_token : IsTokenOf (values_named (codes "authorization") (fields_of parsed)) (Some (codes "red-team-token-01"))
+unfolding same_name httparse_on_literals
+the_token = (refl, record { long = omega arith; short = omega arith; plain = AllPass-from_list_all is_callers_byte (codes "red-team-token-01") refl })
+
+pub the_message_asks_a_deployment : IsRequest deployment_message (Asks (Some (codes "red-team-token-01")) (Deploy (codes "prod") (version (codes "shop") (codes "1")) None) false)
+unfolding IsRequest resource_of is_on fits judge body_length served_method same_name httparse_on_literals
+the_message_asks_a_deployment = (
+  judge_head parsed,
+  is_judged,
+  (parsed, is_head_text, (Deploy (codes "prod") (version (codes "shop") (codes "1")) None, Some (codes "red-team-token-01"), the_command, the_token, refl)),
+)
