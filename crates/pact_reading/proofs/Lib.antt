@@ -2,3 +2,4 @@ pub mod Patterns
 pub mod Refusals
 pub mod Again
 pub mod Digests
+mod DigestExamples
