@@ -1,7 +1,6 @@
 //! A walk down a location.
-ghost use Rattle.std.specs.Prelude.{◌≡◌, IfOk};
-ghost use Rattle.pact_paths.specs.Paths.{Location};
-ghost use Rattle.pact_rules.specs.Walks.{walk};
+ghost use Rattle.std.specs.Prelude.{IfOk};
+ghost use Rattle.pact_rules.specs.Walks.{WasStarted};
 
 use pact_paths::Step;
 use pact_rules::{Alive, RuleTable};
@@ -13,7 +12,7 @@ pub(crate) fn walked(
     rules: &RuleTable,
     location: &[Step],
 ) -> Result<Alive, AllocError>
-    ensures { IfOk result (λ a. (at : Location) × (a ≡ walk rules.now.body at)) }
+    ensures { IfOk result (λ a. WasStarted rules.now a) }
 {
     let mut alive = rules.start(alloc)?;
     for step in location {

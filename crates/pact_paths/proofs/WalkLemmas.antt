@@ -1,10 +1,12 @@
 -- Weights of a path while a location grows by one step at its end.
-use Rattle.std.proofs.Common.{◌≡◌, ◌⊎◌, inl, inr, ℕ, zero, suc, ◌+◌, ◌*◌, ◌^◌, ◌<◌, ◌≤◌, Bool, true, false, ◌&&◌, cond, eqb, ltb, leb, List, [], ◌∷◌, ◌++◌, map, length, filter, slice_get, zip, Some, refl, sym, ap, ◌∙◌, arith, mul-one, one-mul, mul-zero, zero-mul, mul_assoc, mul_comm, pow-suc, length-append, lt-ltb, le-leb, ltb-false, bytes_eq, true≢false, mul-pos, eq-zero-or-pos}
-use Rattle.std.proofs.lemmas.Bool.{and_right}
+use Rattle.std.proofs.Common.{◌≡◌, ◌⊎◌, inl, inr, ℕ, zero, suc, ◌+◌, ◌*◌, ◌^◌, ◌<◌, ◌≤◌, Bool, true, false, ◌&&◌, cond, eqb, ltb, leb, List, [], ◌∷◌, ◌++◌, map, length, filter, slice_get, zip, Some, None, option_and_then, get_or, option_map, ⊎_elim, refl, sym, ap, ◌∙◌, arith, mul-one, one-mul, mul-zero, zero-mul, mul_assoc, mul_comm, pow-suc, length-append, lt-ltb, le-leb, ltb-false, bytes_eq, true≢false, mul-pos, eq-zero-or-pos}
+use Rattle.std.proofs.lemmas.Bool.{and_right, cases_lt, eqb-true}
 use Rattle.std.proofs.lemmas.List.{length-map}
 use Rattle.std.proofs.lemmas.List.Elements.{filter-append}
 use Rattle.std.proofs.lemmas.Slice.Zip.{length-zip}
-use Rattle.std.proofs.lemmas.Option.{none-some, same_Some}
+use Rattle.std.proofs.lemmas.Option.{none-some, same_Some, slice_get-get_or, slice_get-map, slice_get_past}
+use Rattle.std.proofs.lemmas.Slice.Eq.{bytes_eq-Decides}
+use Rattle.pact_paths.specs.Asked.{only_step, asked}
 use Rattle.pact_paths.specs.Paths.{Token, named, indexed, any, Step, key, item, Location}
 use Rattle.pact_paths.specs.Weights.{token_weight, token_weights, product, product_over, weight, is_alive, exact_tokens}
 
@@ -142,3 +144,36 @@ weight_dead ts at e = nothing (leb (length ts) (length at)) where
       let h : product_over ts at ≤ 0 = ltb-false 0 (product_over ts at) e in
       omega (arith, h)
   nothing false = refl
+
+-- ---- what a path asks of the next step
+
+if_equal : (b : Bool) → ltb 0 (cond b 2 0) ≡ true → b ≡ true
+if_equal true h = refl
+if_equal false h = absurd (true≢false (sym h))
+
+token_asks : (t : Token) (s : Step) → ltb 0 (token_weight t s) ≡ true → (only_step t ≡ None) ⊎ (only_step t ≡ Some s)
+token_asks (named n) (key k) h = inr (ap (λ m. Some (key m)) ((bytes_eq-Decides n k).0 (if_equal (bytes_eq n k) h)))
+token_asks (named n) (item j) h = absurd (true≢false (sym h))
+token_asks (indexed i) (key k) h = absurd (true≢false (sym h))
+token_asks (indexed i) (item j) h = let same : i ≡ j = eqb-true i j (if_equal (eqb i j) h) in inr (ap (λ m. Some (item m)) same)
+token_asks any s h = inl refl
+
+and_second : (a b : Bool) → (a && b) ≡ true → b ≡ true
+and_second true b h = h
+and_second false b h = absurd (true≢false (sym h))
+
+-- a path asks nothing from its end on
+pub asks_nothing_past : (ts : List Token) (n : ℕ) → length ts ≤ n → asked ts n ≡ None
+asks_nothing_past ts n h = ap (option_and_then only_step) (slice_get_past ts n h)
+
+-- a path that lives on asks nothing of the step, or this very step
+pub alive_asks : (ts : List Token) (at : Location) (s : Step) → is_alive ts (at ++ s ∷ []) ≡ true → (asked ts (length at) ≡ None) ⊎ (asked ts (length at) ≡ Some s)
+alive_asks ts at s h =
+    ⊎_elim (λ more.
+    let t = get_or ts (length at) any in
+    let there : slice_get ts (length at) ≡ Some t = slice_get-get_or ts (length at) any more in
+    let counts : slice_get (map (λ t. token_weight t s) ts) (length at) ≡ Some (token_weight t s) = slice_get-map (λ t. token_weight t s) ts (length at) ∙ ap (option_map (λ t. token_weight t s)) there in
+    let lives = and_second (is_alive ts at) (ltb 0 (token_weight t s)) (sym (alive_step ts at s (token_weight t s) more counts) ∙ h) in
+    let here : asked ts (length at) ≡ only_step t = ap (option_and_then only_step) there in
+    ⊎_elim (λ none. inl (here ∙ none)) (λ this. inr (here ∙ this)) (token_asks t s lives))
+    (λ past. inl (asks_nothing_past ts (length at) past)) (cases_lt (length at) (length ts))

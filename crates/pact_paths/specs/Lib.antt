@@ -6,3 +6,5 @@ pub mod Weights
 pub mod Spelling
 pub mod PathReading
 pub mod Readings
+pub mod Asked
+pub mod AskedView

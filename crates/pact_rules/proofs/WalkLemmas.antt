@@ -1,38 +1,97 @@
 -- The rules that are alive, step by step, and the best of them.
-use Rattle.std.proofs.Common.{◌≡◌, ℕ, zero, suc, ◌+◌, ◌-◌, ◌^◌, ◌<◌, ◌≤◌, Bool, true, false, cond, ltb, List, [], ◌∷◌, ◌++◌, map, length, get_or, drop, Option, None, Some, option_map, MatchOption, slice_get, refl, sym, ap, ◌∙◌, subst, ⊎_elim, arith, add-one, lt-ltb, true≢false, eqb, ne_eqb, IsTrue, ◌↔◌}
-use Rattle.std.proofs.lemmas.Bool.{cases_lt}
+use Rattle.std.proofs.Common.{◌≡◌, ◌≢◌, ◌⊎◌, inl, inr, ℕ, zero, suc, ◌+◌, ◌-◌, ◌^◌, ◌<◌, ◌≤◌, Bool, true, false, cond, ltb, leb, List, [], ◌∷◌, ◌++◌, map, length, length-append, get_or, min, Option, None, Some, option_map, option_and_then, MatchOption, slice_get, refl, sym, ap, ◌∙◌, subst, ⊎_elim, arith, add-one, true≢false, ltb-true, ltb-false, eqb, ne_eqb, IsTrue, ◌↔◌, Ordering, Less, Equal, Greater, eq-zero-or-pos}
+use Rattle.std.proofs.lemmas.Bool.{cases_lt, cases_eq}
 use Rattle.std.proofs.lemmas.Bool.Decides.{nat_tests}
 use Rattle.std.proofs.Math.Nat.{min-le_left, min-eq_left, min-eq_right}
-use Rattle.std.proofs.lemmas.List.{length-map, map_push, append-nil}
-use Rattle.std.proofs.lemmas.Option.{same_Some, slice_get-get_or, slice_get-map}
-use Rattle.std.specs.List.{AllByRecursion, filter}
-use Rattle.std.specs.Option.{option_to_list}
+use Rattle.std.proofs.lemmas.Cmp.{nat_list_cmp_total, on_total}
+use Rattle.std.proofs.lemmas.List.{length-map, map_push, get_or-map, map-append}
+use Rattle.std.proofs.lemmas.List.Elements.{Contains-append_left, Contains-append_right, Contains-append_cases, Contains-push}
+use Rattle.std.proofs.lemmas.List.Sorted.{Contains-permutation, IsPermutation-map, IsPermutation-sym, searchable_from_sorted, IsPartitionedBy-ltb, IsPartitionedBy-leb}
+use Rattle.std.proofs.lemmas.Option.{same_Some, slice_get-get_or, slice_get-map, get_or_from_slice_get}
+use Rattle.std.specs.Ordering.{is_lt, is_le, ordering_index, ordering_reverse}
+use Rattle.std.specs.List.{AllByRecursion, Contains}
+use Rattle.std.specs.List.Sorted.{IsPermutation, IsSortedBy, IsSortedByKey, IsPartitionedBy, IsPartitionPoint}
+use Rattle.std.specs.Cmp.{IsTotalOrder}
 use Rattle.pact_paths.specs.Paths.{Token, Step, Location}
+use Rattle.pact_paths.specs.Asked.{asked, asked_cmp, sort_key}
+use Rattle.pact_paths.specs.Spelling.{path_text}
 use Rattle.pact_paths.specs.Weights.{token_weight, weight, is_alive, exact_tokens}
-use Rattle.pact_paths.proofs.WalkLemmas.{alive_at_root, exact_at_root, alive_past, exact_past, alive_step, exact_step, exact_few, weight_dead}
-use Rattle.pact_rules.specs.Rules.{BodyRule, IsInOrder}
+use Rattle.pact_paths.proofs.WalkLemmas.{alive_at_root, exact_at_root, alive_past, exact_past, alive_step, exact_step, exact_few, weight_dead, alive_asks}
+use Rattle.pact_rules.specs.Rules.{BodyRule, IsInOrder, IsBefore}
 use Rattle.pact_rules.specs.Choice.{best, pick, beats, outranks, chosen, IsChoice, IsOwnPlace}
-use Rattle.pact_rules.specs.Walks.{alive_rules, Walk, walk, step_count, survivor, own_place, own_place_of}
-use Rattle.pact_rules.specs.Survivors.{survivor_view}
+use Rattle.pact_rules.specs.Walks.{Walk, IsWalkTo, IsAlive, rule_asks, step_count, survivor, own_place, own_place_of}
+use Rattle.pact_rules.specs.Survivors.{survivor_view, StaysOf}
+use Rattle.pact_rules.specs.RuleViews.{rule_view}
+use Rattle.pact_rules.specs.declared.table.BodyRule as code
 use Rattle.pact_rules.specs.declared.table.Candidate.{Candidate}
 use Rattle.pact_rules.specs.declared.walk.Survivor.{Survivor}
-use Rattle.pact_rules.specs.Candidates.{better_of}
-use Rattle.pact_rules.proofs.ChoiceLemmas.{IsBest, as_candidate, candidate_step, one_of_two, none_or, best_is_best, slice_get_within, choice_only}
+use Rattle.pact_rules.specs.Candidates.{preferred, outdoes}
+use Rattle.pact_rules.proofs.ChoiceLemmas.{slice_get_within, choice_only}
 
--- what a walk keeps of a rule
-abbrev pub kept_of : Location → ℕ × BodyRule → ℕ × ℕ
-kept_of at a = (a.0, exact_tokens a.1.path at)
+-- ---- elements of a list
 
-abbrev pub alive_at : Location → ℕ × BodyRule → Bool
-alive_at at a = is_alive a.1.path at
+pub got_some : {A : Type 0} (xs : List A) (k : ℕ) → k < length xs → (x : A) × (slice_get xs k ≡ Some x)
+got_some [] k lt = absurd (omega (arith, lt))
+got_some (x ∷ xs) zero lt = (x, refl)
+got_some (x ∷ xs) (suc k) lt = got_some xs k (omega (arith, lt))
+
+-- what stands in a list stands at a place
+pub place_of : {A : Type 0} (xs : List A) (x : A) → Contains xs x → (k : ℕ) × (k < length xs) × (slice_get xs k ≡ Some x)
+place_of xs x h = (h.0, h.1, slice_get-get_or xs h.0 x h.1 ∙ ap (λ y. Some y) h.2)
+
+pub contains_at : {A : Type 0} (xs : List A) (k : ℕ) (x : A) → slice_get xs k ≡ Some x → Contains xs x
+contains_at xs k x is = (k, slice_get_within xs k x is, get_or_from_slice_get xs k x x is)
+
+the_one : {A : Type 0} (x y : A) → Contains (y ∷ []) x → x ≡ y
+the_one x y (zero, lt, is) = sym is
+the_one x y (suc k, lt, is) = absurd (omega (arith, lt))
+
+-- nothing stands in an empty list
+pub none_there : {T : Type 0} (e : ℕ × ℕ) (xs : List Survivor) → xs ≡ [] → Contains (map survivor_view xs) e → T
+none_there e xs is h = absurd (omega (arith, h.1, ap (λ ys. length (map survivor_view ys)) is))
+
+-- one more element at the end
+pub contains_pushed : {A : Type 0} (xs : List A) (y x : A) → Contains (xs ++ y ∷ []) x ↔ (Contains xs x ⊎ (x ≡ y))
+contains_pushed xs y x = (
+  λ h. ⊎_elim inl (λ last. inr (the_one x y last)) (Contains-append_cases xs (y ∷ []) x h),
+  λ h. ⊎_elim (Contains-append_left xs (y ∷ []) x) (λ is. subst (Contains (xs ++ y ∷ [])) (sym is) (Contains-push xs y)) h,
+)
+
+-- the same elements in another order
+pub same_elements : {A B : Type 0} (f : A → B) (xs ys : List A) → IsPermutation xs ys → (y : B) → Contains (map f ys) y ↔ Contains (map f xs) y
+same_elements f xs ys h y = (
+  Contains-permutation (map f ys) (map f xs) y (IsPermutation-sym (map f xs) (map f ys) (IsPermutation-map f xs ys h)),
+  Contains-permutation (map f xs) (map f ys) y (IsPermutation-map f xs ys h),
+)
+
+pub sorted_map : {A B : Type 0} (f : A → B) (lt : B → B → Bool) (d : A) (xs : List A) → IsSortedBy (λ a b. lt (f a) (f b)) xs → IsSortedBy lt (map f xs)
+sorted_map f lt d xs up = λ k e low high.
+    let within : k + 1 < length xs = omega (arith, high, length-map xs f) in
+    ap (lt (get_or (map f xs) (k + 1) e)) (get_or-map f xs k d e (omega (arith, within)))
+    ∙ ap (λ b. lt b (f (get_or xs k d))) (get_or-map f xs (k + 1) d e within)
+    ∙ up k d low within
 
 -- ---- no step
 
-pub start_more : (k : ℕ) (r : BodyRule) (rest rules : List BodyRule) → rules ≡ r ∷ rest → map (kept_of []) (alive_rules k rules []) ≡ (k, 0) ∷ map (kept_of []) (alive_rules (k + 1) rest [])
-start_more k r rest rules is =
-    ap (λ rs. map (kept_of []) (alive_rules k rs [])) is
-    ∙ ap (λ b. map (kept_of []) (cond b ((k, r) ∷ alive_rules (k + 1) rest []) (alive_rules (k + 1) rest []))) (alive_at_root r.path)
-    ∙ ap (λ n. (k, n) ∷ map (kept_of []) (alive_rules (k + 1) rest [])) (exact_at_root r.path)
+pub alive_at_start : (rules : List BodyRule) (e : ℕ × ℕ) → ((e.0 < length rules) × (e.1 ≡ 0)) ↔ IsAlive rules [] e
+alive_at_start rules e = (
+  λ h. let r = got_some rules e.0 h.0 in (r.0, r.1, alive_at_root r.0.path, h.1 ∙ sym (exact_at_root r.0.path)),
+  λ h. (slice_get_within rules e.0 h.0 h.1, h.3 ∙ exact_at_root h.0.path),
+)
+
+pub start_push : (xs more : List Survivor) (k : ℕ) (e : ℕ × ℕ) → more ≡ xs ++ record { index = k; exact = 0 } ∷ []
+    → (Contains (map survivor_view xs) e ↔ ((e.0 < k) × (e.1 ≡ 0))) → Contains (map survivor_view more) e ↔ ((e.0 < k + 1) × (e.1 ≡ 0))
+start_push xs more k e is h =
+    let ys = map survivor_view xs in
+    let same : map survivor_view more ≡ ys ++ (k, 0) ∷ [] = ap (map survivor_view) is ∙ map_push survivor_view xs (record { index = k; exact = 0 }) in (
+      λ has. ⊎_elim (λ before. let i = h.0 before in (omega (arith, i.0), i.1)) (λ now. let i : e.0 ≡ k = ap (λ (p : ℕ × ℕ). p.0) now in (omega (arith, i), ap (λ (p : ℕ × ℕ). p.1) now))
+          ((contains_pushed ys (k, 0) e).0 (subst (λ zs. Contains zs e) same has)),
+      λ i. subst (λ zs. Contains zs e) (sym same) ((contains_pushed ys (k, 0) e).1
+          (⊎_elim (λ now. inr (both e k now i.1)) (λ ne. let apart : e.0 ≡ k → ⊥ = ne in inl (h.1 (omega (arith, i.0, apart), i.1))) (cases_eq e.0 k))),
+    )
+  where
+    both : (e : ℕ × ℕ) (k : ℕ) → e.0 ≡ k → e.1 ≡ 0 → e ≡ (k, 0)
+    both e k now none = ap (λ n. (n, e.1)) now ∙ ap (λ n. (k, n)) none
 
 -- ---- one step more
 
@@ -44,120 +103,202 @@ dead_stays ts at s dead =
     alive_step ts at s (get_or ws (length at) 0) more (slice_get-get_or ws (length at) 0 lt) ∙ rw dead refl)
     (λ past. alive_past ts at s past ∙ dead) (cases_lt (length at) (length ts))
 
-next_by : (b c : Bool) (a : ℕ × BodyRule) (more next : List (ℕ × BodyRule)) (p : ℕ × BodyRule → Bool) → p a ≡ c → (b ≡ false → c ≡ false) → next ≡ filter p more
-    → cond c (a ∷ next) next ≡ filter p (cond b (a ∷ more) more)
-next_by true true a more next p is dead h = rw is (ap (λ xs. a ∷ xs) h)
-next_by true false a more next p is dead h = rw is h
-next_by false true a more next p is dead h = absurd (true≢false (dead refl))
-next_by false false a more next p is dead h = h
+pub alive_before : (ts : List Token) (at : Location) (s : Step) → is_alive ts (at ++ s ∷ []) ≡ true → is_alive ts at ≡ true
+alive_before ts at s h = by (is_alive ts at) refl where
+  by : (b : Bool) → is_alive ts at ≡ b → is_alive ts at ≡ true
+  by true is = is
+  by false is = absurd (true≢false (sym h ∙ dead_stays ts at s is))
 
-pub next_rules : (k : ℕ) (rules : List BodyRule) (at : Location) (s : Step) → alive_rules k rules (at ++ s ∷ []) ≡ filter (alive_at (at ++ s ∷ [])) (alive_rules k rules at)
-next_rules k [] at s = refl
-next_rules k (r ∷ rules) at s =
-    next_by (is_alive r.path at) (is_alive r.path (at ++ s ∷ [])) (k, r) (alive_rules (k + 1) rules at) (alive_rules (k + 1) rules (at ++ s ∷ [])) (alive_at (at ++ s ∷ [])) refl
-    (dead_stays r.path at s) (next_rules (k + 1) rules at s)
+-- an entry's rule lives on by the step: it asks nothing of it, or this very step
+pub asks_or_not : (rules : List BodyRule) (at : Location) (s : Step) (e : ℕ × ℕ) → IsAlive rules (at ++ s ∷ []) e → (n : ℕ)
+    → (rule_asks rules (length at) (e.0, n) ≡ None) ⊎ (rule_asks rules (length at) (e.0, n) ≡ Some s)
+asks_or_not rules at s e h n =
+    let here : rule_asks rules (length at) (e.0, n) ≡ asked h.0.path (length at) = ap (option_and_then (λ (r : BodyRule). asked r.path (length at))) h.1 in
+    ⊎_elim (λ none. inl (here ∙ none)) (λ this. inr (here ∙ this)) (alive_asks h.0.path at s h.2)
 
--- ---- a rule that is alive
+-- it was an entry before
+pub was_alive : (rules : List BodyRule) (at : Location) (s : Step) (e : ℕ × ℕ) → (h : IsAlive rules (at ++ s ∷ []) e) → IsAlive rules at (e.0, exact_tokens h.0.path at)
+was_alive rules at s e h = (h.0, h.1, alive_before h.0.path at s h.2, refl)
 
-heads : {A : Type 0} {x y : A} {xs ys : List A} → ◌≡◌ {A = List A} (x ∷ xs) (y ∷ ys) → x ≡ y
-heads e = cc
-
-tails : {A : Type 0} {x y : A} {xs ys : List A} → ◌≡◌ {A = List A} (x ∷ xs) (y ∷ ys) → xs ≡ ys
-tails e = cc
-
-pub drop_head : {A : Type 0} (k : ℕ) (xs : List A) (x : A) (rest : List A) → drop k xs ≡ x ∷ rest → (slice_get xs k ≡ Some x) × (drop (k + 1) xs ≡ rest)
-drop_head zero [] x rest e = absurd cc
-drop_head zero (y ∷ xs) x rest e = (ap (λ z. Some z) (heads e), tails e)
-drop_head (suc k) [] x rest e = absurd cc
-drop_head (suc k) (y ∷ xs) x rest e =
-    let h = drop_head k xs x rest e in (h.0, ap (λ n. drop n (y ∷ xs)) (add-one (suc k)) ∙ ap (λ n. drop n xs) (sym (add-one k)) ∙ h.1)
-
--- it stands at its index in the table
-abbrev pub IsAlive : List BodyRule → Location → ℕ × BodyRule → Type 0
-IsAlive rules at a = (slice_get rules a.0 ≡ Some a.1) × (is_alive a.1.path at ≡ true)
-
-facts_by : (b : Bool) (rules : List BodyRule) (at : Location) (a : ℕ × BodyRule) (more : List (ℕ × BodyRule)) → is_alive a.1.path at ≡ b → slice_get rules a.0 ≡ Some a.1 → AllByRecursion (IsAlive rules at) more
-    → AllByRecursion (IsAlive rules at) (cond b (a ∷ more) more)
-facts_by true rules at a more is there all = ((there, is), all)
-facts_by false rules at a more is there all = all
-
-pub alive_facts : (rules : List BodyRule) (at : Location) (k : ℕ) (rest : List BodyRule) → drop k rules ≡ rest → AllByRecursion (IsAlive rules at) (alive_rules k rest at)
-alive_facts rules at k [] e = tt
-alive_facts rules at k (r ∷ rest) e =
-    let h = drop_head k rules r rest e in
-    facts_by (is_alive r.path at) rules at (k, r) (alive_rules (k + 1) rest at) refl h.0 (alive_facts rules at (k + 1) rest h.1)
-
--- the rule behind what is kept at a index of the walk
-pub kept_at : {A : Type 0} (view : A → ℕ × ℕ) (P : ℕ × BodyRule → Type 0) (at : Location) (xs : List A) (alive : List (ℕ × BodyRule)) (i : ℕ) (d : A) → map view xs ≡ map (kept_of at) alive → AllByRecursion P alive → i < length xs
-    → (a : ℕ × BodyRule) × (drop i alive ≡ a ∷ drop (i + 1) alive) × (view (get_or xs i d) ≡ kept_of at a) × P a
-kept_at view P at [] rest i d e all lt = absurd (omega (arith, lt))
-kept_at view P at (y ∷ xs) [] i d e all lt = absurd cc
-kept_at view P at (y ∷ xs) (a ∷ rest) zero d e all lt = (a, refl, heads e, all.0)
-kept_at view P at (y ∷ xs) (a ∷ rest) (suc i) d e all lt =
-    let h = kept_at view P at xs rest i d (tails e) all.1 (omega (arith, lt)) in
-    (h.0, h.1 ∙ ap (λ n. h.0 ∷ drop n rest) (add-one i) ∙ ap (λ n. h.0 ∷ drop n (a ∷ rest)) (sym (add-one (suc i))), h.2, h.3)
-
--- the rule behind an entry of a walk
-pub item_of : (steps : ℕ) (xs : List Survivor) (rules : List BodyRule) (at : Location) (i : ℕ) (d : Survivor) → ◌≡◌ {A = Walk} (record { steps = steps; alive = map survivor_view xs }) (walk rules at) → i < length xs
-    → (a : ℕ × BodyRule) × (drop i (alive_rules 0 rules at) ≡ a ∷ drop (i + 1) (alive_rules 0 rules at)) × (survivor_view (get_or xs i d) ≡ kept_of at a) × IsAlive rules at a
-item_of steps xs rules at i d e lt = kept_at survivor_view (IsAlive rules at) at xs (alive_rules 0 rules at) i d (ap (λ (w : Walk). w.alive) e) (alive_facts rules at 0 rules refl) lt
-
-pub index_within : (steps : ℕ) (xs : List Survivor) (rules : List BodyRule) (at : Location) (i : ℕ) (d : Survivor) → ◌≡◌ {A = Walk} (record { steps = steps; alive = map survivor_view xs }) (walk rules at) → i < length xs
-    → (get_or xs i d).index < length rules
-index_within steps xs rules at i d e lt =
-    let h = item_of steps xs rules at i d e lt in
-    subst (λ (p : ℕ × ℕ). p.0 < length rules) (sym h.2) (slice_get_within rules h.0.0 h.0.1 h.3.0)
-
--- what is known of an entry, where its path was looked up
-pub entry_facts : (steps : ℕ) (xs : List Survivor) (rules : List BodyRule) (at : Location) (i : ℕ) (d : Survivor) (path : List Token) → ◌≡◌ {A = Walk} (record { steps = steps; alive = map survivor_view xs }) (walk rules at) → i < length xs
-    → ((r : BodyRule) → slice_get rules (get_or xs i d).index ≡ Some r → path ≡ r.path)
-    → (a : ℕ × BodyRule) × (drop i (alive_rules 0 rules at) ≡ a ∷ drop (i + 1) (alive_rules 0 rules at)) × ((get_or xs i d).index ≡ a.0) × (path ≡ a.1.path) × (is_alive path at ≡ true) × ((get_or xs i d).exact ≡ exact_tokens path at)
-entry_facts steps xs rules at i d path e lt look_up =
-    let h = item_of steps xs rules at i d e lt in
-    let index : (get_or xs i d).index ≡ h.0.0 = ap (λ (p : ℕ × ℕ). p.0) h.2 in
-    let same : path ≡ h.0.1.path = look_up h.0.1 (ap (slice_get rules) index ∙ h.3.0) in
-    (h.0, h.1, index, same, ap (λ p. is_alive p at) same ∙ h.3.1, ap (λ (p : ℕ × ℕ). p.1) h.2 ∙ ap (λ p. exact_tokens p at) (sym same))
+pub compares_equal : (a b : Option Step) → a ≡ b → asked_cmp a b ≡ Equal
+compares_equal a b is = ap (asked_cmp a) (sym is) ∙ itself (asked_cmp a a) (nat_list_cmp_total.antisymm (sort_key a) (sort_key a)) where
+  itself : (o : Ordering) → o ≡ ordering_reverse o → o ≡ Equal
+  itself Less h = absurd cc
+  itself Equal h = refl
+  itself Greater h = absurd cc
 
 pub exact_within : (exact : ℕ) (path : List Token) (at : Location) → exact ≡ exact_tokens path at → exact ≤ length path
 exact_within exact path at is = subst (λ n. n ≤ length path) (sym is) (exact_few path at)
 
-pub pushed : (left more : List Survivor) (next : Survivor) (o : Option Survivor) → o ≡ Some next → more ≡ left ++ next ∷ [] → map survivor_view more ≡ map survivor_view left ++ option_to_list (option_map survivor_view o)
-pushed left more next o is e = ap (map survivor_view) e ∙ map_push survivor_view left next ∙ ap (λ p. map survivor_view left ++ option_to_list (option_map survivor_view p)) (sym is)
+-- ---- the run of those that ask the same
 
-pub not_pushed : (left more : List Survivor) (o : Option Survivor) → ((next : Survivor) → o ≡ Some next → ⊥) → more ≡ left → map survivor_view more ≡ map survivor_view left ++ option_to_list (option_map survivor_view o)
-not_pushed left more None none e = ap (map survivor_view) e ∙ sym (append-nil (map survivor_view left))
-not_pushed left more (Some next) none e = absurd (none next refl)
+pub asked_total : IsTotalOrder asked_cmp
+asked_total = on_total sort_key nat_list_cmp_total
 
-same_length : {A B C : Type 0} (f : A → C) (g : B → C) (xs : List A) (ys : List B) → map f xs ≡ map g ys → length ys ≡ length xs
-same_length f g xs ys e = sym (length-map ys g) ∙ ap length (sym e) ∙ length-map xs f
+-- a sorted list under a function is sorted by its values
+pub sorted_unmap : {A B : Type 0} (f : A → B) (lt : B → B → Bool) (xs : List A) → IsSortedBy lt (map f xs) → IsSortedBy (λ a b. lt (f a) (f b)) xs
+sorted_unmap f lt xs up = λ k d low high.
+    let within : k + 1 < length (map f xs) = omega (arith, high, length-map xs f) in
+    ap (lt (f (get_or xs (k + 1) d))) (sym (get_or-map f xs k d (f d) (omega (arith, high))))
+    ∙ ap (λ b. lt b (get_or (map f xs) k (f d))) (sym (get_or-map f xs (k + 1) d (f d) high))
+    ∙ up k (f d) low within
 
-drop_end : {A : Type 0} (n : ℕ) (xs : List A) → length xs ≤ n → drop n xs ≡ []
-drop_end zero [] le = refl
-drop_end zero (x ∷ xs) le = absurd (omega (arith, le))
-drop_end (suc n) [] le = refl
-drop_end (suc n) (x ∷ xs) le = drop_end n xs (omega (arith, le))
+as_lt : (o : Ordering) → ltb (ordering_index o) 1 ≡ is_lt o
+as_lt Less = refl
+as_lt Equal = refl
+as_lt Greater = refl
 
--- nothing is left behind the last entry
-pub none_left : (steps : ℕ) (xs : List Survivor) (rules : List BodyRule) (at : Location) (n : ℕ) → ◌≡◌ {A = Walk} (record { steps = steps; alive = map survivor_view xs }) (walk rules at) → length xs ≤ n → drop n (alive_rules 0 rules at) ≡ []
-none_left steps xs rules at n e le =
-    drop_end n (alive_rules 0 rules at) (omega (arith, le, same_length survivor_view (kept_of at) xs (alive_rules 0 rules at) (ap (λ (w : Walk). w.alive) e)))
+as_le : (o : Ordering) → leb (ordering_index o) 1 ≡ is_le o
+as_le Less = refl
+as_le Equal = refl
+as_le Greater = refl
 
-pub drop_some : {A : Type 0} (k : ℕ) (xs : List A) → k < length xs → (x : A) × (drop k xs ≡ x ∷ drop (k + 1) xs)
-drop_some k [] lt = absurd (omega (arith, lt))
-drop_some zero (x ∷ xs) lt = (x, refl)
-drop_some (suc k) (x ∷ xs) lt =
-    let h = drop_some k xs (omega (arith, lt)) in (h.0, h.1 ∙ ap (λ n. h.0 ∷ drop n xs) (add-one k) ∙ ap (λ n. h.0 ∷ drop n (x ∷ xs)) (sym (add-one (suc k))))
+module _ (asks : ℕ × ℕ → Option Step) (w : Option Step) (xs : List Survivor) where
+  abbrev order_of : Survivor → Ordering
+  order_of y = asked_cmp (asks (survivor_view y)) w
 
--- what one step more leaves of it
-survive_by : (b : Bool) (k : ℕ) (a : ℕ × BodyRule) (at : Location) (more : List (ℕ × BodyRule)) → alive_at at a ≡ b → k ≡ a.0
-    → map (kept_of at) (filter (alive_at at) (a ∷ more)) ≡ option_to_list (cond b (Some (k, exact_tokens a.1.path at)) None) ++ map (kept_of at) (filter (alive_at at) more)
-survive_by true k a at more is same = rw is (ap (λ n. (n, exact_tokens a.1.path at) ∷ map (kept_of at) (filter (alive_at at) more)) (sym same))
-survive_by false k a at more is same = rw is refl
+  pub below_first : IsSortedBy (λ a b. is_lt (asked_cmp (asks a) (asks b))) (map survivor_view xs) → IsPartitionedBy (λ y. is_lt (order_of y)) xs
+  below_first up = λ i j d le lt e.
+      let rises = searchable_from_sorted asked_total (λ y. asks (survivor_view y)) xs w (sorted_unmap survivor_view (λ a b. is_lt (asked_cmp (asks a) (asks b))) xs up) in
+      sym (as_lt (order_of (get_or xs i d))) ∙ IsPartitionedBy-ltb (λ y. ordering_index (order_of y)) xs 1 rises i j d le lt (as_lt (order_of (get_or xs j d)) ∙ e)
 
-pub survive : (k : ℕ) (path : List Token) (a : ℕ × BodyRule) (at : Location) (more : List (ℕ × BodyRule)) (left : Option (ℕ × ℕ)) → left ≡ survivor k path at → path ≡ a.1.path → k ≡ a.0
-    → map (kept_of at) (filter (alive_at at) (a ∷ more)) ≡ option_to_list left ++ map (kept_of at) (filter (alive_at at) more)
-survive k path a at more left is same index =
-    survive_by (alive_at at a) k a at more refl index ∙ ap (λ o. option_to_list o ++ map (kept_of at) (filter (alive_at at) more)) (sym (is ∙ ap (λ p. survivor k p at) same))
+  pub upto_last : IsSortedBy (λ a b. is_lt (asked_cmp (asks a) (asks b))) (map survivor_view xs) → IsPartitionedBy (λ y. is_le (order_of y)) xs
+  upto_last up = λ i j d le lt e.
+      let rises = searchable_from_sorted asked_total (λ y. asks (survivor_view y)) xs w (sorted_unmap survivor_view (λ a b. is_lt (asked_cmp (asks a) (asks b))) xs up) in
+      sym (as_le (order_of (get_or xs i d))) ∙ IsPartitionedBy-leb (λ y. ordering_index (order_of y)) xs 1 rises i j d le lt (as_le (order_of (get_or xs j d)) ∙ e)
+
+  -- an entry that asks this is of the run
+  pub in_run : (from to k : ℕ) (e : ℕ × ℕ)
+      → IsPartitionPoint (λ y. is_lt (order_of y) ≡ true) (λ y. is_lt (order_of y) ≡ false) xs from
+      → IsPartitionPoint (λ y. is_le (order_of y) ≡ true) (λ y. is_le (order_of y) ≡ false) xs to
+      → slice_get (map survivor_view xs) k ≡ Some e → asks e ≡ w → (from ≤ k) × (k < to)
+  in_run from to k e first last there is =
+      let d : Survivor = record { index = 0; exact = 0 } in
+      let within : k < length xs = omega (arith, slice_get_within (map survivor_view xs) k e there, length-map xs survivor_view) in
+      let here : survivor_view (get_or xs k d) ≡ e = sym (get_or-map survivor_view xs k d e within) ∙ get_or_from_slice_get (map survivor_view xs) k e e there in
+      let equal : order_of (get_or xs k d) ≡ Equal = ap (λ x. asked_cmp (asks x) w) here ∙ compares_equal (asks e) w is in (
+        ⊎_elim (λ lt. absurd (true≢false (sym (first.0 k d (omega arith) lt) ∙ ap is_lt equal))) (λ le. le) (cases_lt k from),
+        ⊎_elim (λ lt. lt) (λ le. absurd (true≢false (sym (ap is_le equal) ∙ last.1 k d le within))) (cases_lt k to),
+      )
+
+-- ---- what a step leaves
+
+pub one_stays : (rules : List BodyRule) (next : Location) (x : ℕ × ℕ) (r : BodyRule) → slice_get rules x.0 ≡ Some r → (o : Option (ℕ × ℕ)) → o ≡ survivor x.0 r.path next
+    → (e : ℕ × ℕ) → (o ≡ Some e) ↔ ((x.0 ≡ e.0) × IsAlive rules next e)
+one_stays rules next x r there o is e = (by (is_alive r.path next) refl, back) where
+  by : (b : Bool) → is_alive r.path next ≡ b → o ≡ Some e → (x.0 ≡ e.0) × IsAlive rules next e
+  by true alive now =
+      let same : (x.0, exact_tokens r.path next) ≡ e = same_Some (x.0, exact_tokens r.path next) e (ap (λ b. cond b (Some (x.0, exact_tokens r.path next)) None) (sym alive) ∙ sym is ∙ now) in
+      let index : x.0 ≡ e.0 = ap (λ (p : ℕ × ℕ). p.0) same in
+      (index, (r, ap (slice_get rules) (sym index) ∙ there, alive, sym (ap (λ (p : ℕ × ℕ). p.1) same)))
+  by false dead now =
+      let gone : None ≡ Some e = ap (λ b. cond b (Some (x.0, exact_tokens r.path next)) None) (sym dead) ∙ sym is ∙ now in absurd cc
+
+  back : (x.0 ≡ e.0) × IsAlive rules next e → o ≡ Some e
+  back h =
+      let same : r ≡ h.1.0 = same_Some r h.1.0 (sym there ∙ ap (slice_get rules) h.0 ∙ h.1.1) in
+      is ∙ ap (λ (q : BodyRule). survivor x.0 q.path next) same
+      ∙ ap (λ b. cond b (Some (x.0, exact_tokens h.1.0.path next)) None) h.1.2
+      ∙ ap (λ n. Some (n, exact_tokens h.1.0.path next)) h.0 ∙ ap (λ n. Some (e.0, n)) (sym h.1.3)
+
+pub after_push : (left more : List Survivor) (next : Survivor) (o : Option Survivor) → o ≡ Some next → more ≡ left ++ next ∷ []
+    → (e : ℕ × ℕ) → Contains (map survivor_view more) e ↔ (Contains (map survivor_view left) e ⊎ (option_map survivor_view o ≡ Some e))
+after_push left more next o is pushed e =
+    let same : map survivor_view more ≡ map survivor_view left ++ survivor_view next ∷ [] = ap (map survivor_view) pushed ∙ map_push survivor_view left next in
+    let both = contains_pushed (map survivor_view left) (survivor_view next) e in (
+      λ h. ⊎_elim inl (λ now. inr (ap (option_map survivor_view) is ∙ ap (λ p. Some p) (sym now))) (both.0 (subst (λ zs. Contains zs e) same h)),
+      λ h. subst (λ zs. Contains zs e) (sym same) (both.1 (⊎_elim inl (λ now. inr (sym (same_Some (survivor_view next) e (sym (ap (option_map survivor_view) is) ∙ now)))) h)),
+    )
+
+pub after_none : (left more : List Survivor) (o : Option Survivor) → ((next : Survivor) → o ≡ Some next → ⊥) → more ≡ left
+    → (e : ℕ × ℕ) → Contains (map survivor_view more) e ↔ (Contains (map survivor_view left) e ⊎ (option_map survivor_view o ≡ Some e))
+after_none left more None none is e = (λ h. inl (subst (λ zs. Contains (map survivor_view zs) e) is h), λ h. ⊎_elim (λ before. subst (λ zs. Contains (map survivor_view zs) e) (sym is) before) (λ now. absurd cc) h)
+after_none left more (Some next) none is e = absurd (none next refl)
+
+pub stays_none : {T : Type 0} (rules : List BodyRule) (xs : List (ℕ × ℕ)) (from : ℕ) (next : Location) (e : ℕ × ℕ) → StaysOf rules xs from from next e → T
+stays_none rules xs from next e h = absurd (omega (arith, h.1, h.2))
+
+pub stays_more : (rules : List BodyRule) (xs : List (ℕ × ℕ)) (from k : ℕ) (next : Location) (e x : ℕ × ℕ) (A B P : Type 0) → from ≤ k → slice_get xs k ≡ Some x
+    → (A ↔ StaysOf rules xs from k next e) → (B ↔ (A ⊎ P)) → (P ↔ ((x.0 ≡ e.0) × IsAlive rules next e)) → B ↔ StaysOf rules xs from (k + 1) next e
+stays_more rules xs from k next e x A B P le there before more now = (
+  λ b. ⊎_elim (λ a. let h = before.0 a in (h.0, h.1, omega (arith, h.2), h.3, h.4))
+      (λ p. let h = now.0 p in (k, le, omega arith, ap (option_map (λ (x : ℕ × ℕ). x.0)) there ∙ ap (λ n. Some n) h.0, h.1)) (more.0 b),
+  λ h. more.1 (⊎_elim (λ is. let same : h.0 ≡ k = is in inr (now.1 (same_Some x.0 e.0 (sym (ap (option_map (λ (x : ℕ × ℕ). x.0)) there) ∙ ap (λ n. option_map (λ (x : ℕ × ℕ). x.0) (slice_get xs n)) (sym same) ∙ h.3), h.4)))
+      (λ ne. let apart : h.0 ≡ k → ⊥ = ne in inl (before.1 (h.0, h.1, omega (arith, h.2, apart), h.3, h.4))) (cases_eq h.0 k)),
+)
+
+pub stays_all : (rules : List BodyRule) (xs : List (ℕ × ℕ)) (from k to : ℕ) (next : Location) (e : ℕ × ℕ) (A : Type 0) → (k ≤ to) ⊎ (k ≡ from) → to ≤ k
+    → (A ↔ StaysOf rules xs from k next e) → A ↔ StaysOf rules xs from to next e
+stays_all rules xs from k to next e A bound done h = (
+  λ a. let s = h.0 a in (s.0, s.1, ⊎_elim (λ le. omega (arith, s.2, le)) (λ is. absurd (omega (arith, s.1, s.2, is))) bound, s.3, s.4),
+  λ s. h.1 (s.0, s.1, omega (arith, s.2, done), s.3, s.4),
+)
+
+pub in_either : (left more all : List Survivor) → all ≡ left ++ more → (e : ℕ × ℕ) → Contains (map survivor_view all) e ↔ (Contains (map survivor_view left) e ⊎ Contains (map survivor_view more) e)
+in_either left more all is e =
+    let same : map survivor_view all ≡ map survivor_view left ++ map survivor_view more = ap (map survivor_view) is ∙ map-append survivor_view left more in (
+      λ h. Contains-append_cases (map survivor_view left) (map survivor_view more) e (subst (λ zs. Contains zs e) same h),
+      λ h. subst (λ zs. Contains zs e) (sym same) (⊎_elim (Contains-append_left (map survivor_view left) (map survivor_view more) e) (Contains-append_right (map survivor_view left) (map survivor_view more) e) h),
+    )
+
+-- the two runs have all that the step leaves
+pub both_runs : (rules : List BodyRule) (w : Walk) (at : Location) (s : Step) (e : ℕ × ℕ) (f t g u : ℕ) (A B C : Type 0) → IsWalkTo rules w at
+    → ((k : ℕ) (x : ℕ × ℕ) → slice_get w.alive k ≡ Some x → rule_asks rules (length at) x ≡ None → (f ≤ k) × (k < t))
+    → ((k : ℕ) (x : ℕ × ℕ) → slice_get w.alive k ≡ Some x → rule_asks rules (length at) x ≡ Some s → (g ≤ k) × (k < u))
+    → (A ↔ StaysOf rules w.alive f t (at ++ s ∷ []) e) → (B ↔ StaysOf rules w.alive g u (at ++ s ∷ []) e) → (C ↔ (A ⊎ B))
+    → C ↔ IsAlive rules (at ++ s ∷ []) e
+both_runs rules w at s e f t g u A B C h free asking a b c = (
+  λ x. ⊎_elim (λ y. (a.0 y).4) (λ y. (b.0 y).4) (c.0 x),
+  λ x.
+      let n = exact_tokens x.0.path at in
+      let place = place_of w.alive (e.0, n) ((h.alive (e.0, n)).1 (was_alive rules at s e x)) in
+      let index : option_map (λ (x : ℕ × ℕ). x.0) (slice_get w.alive place.0) ≡ Some e.0 = ap (option_map (λ (x : ℕ × ℕ). x.0)) place.2 in
+      c.1 (⊎_elim (λ none. let i = free place.0 (e.0, n) place.2 none in inl (a.1 (place.0, i.0, i.1, index, x)))
+      (λ this. let i = asking place.0 (e.0, n) place.2 this in inr (b.1 (place.0, i.0, i.1, index, x))) (asks_or_not rules at s e x n)),
+)
+
+pub next_count : (at : Location) (s : Step) (steps : ℕ) → steps ≡ step_count at → min (steps + 1) (2 ^ 64 - 1) ≡ step_count (at ++ s ∷ [])
+next_count at s steps is =
+    let more : length (at ++ s ∷ []) ≡ length at + 1 = length-append at (s ∷ []) in
+    ap (λ n. min (n + 1) (2 ^ 64 - 1)) is ∙ capped (length at) (cases_lt (length at) (2 ^ 64 - 1)) ∙ ap (λ n. min n (2 ^ 64 - 1)) (sym more)
+  where
+    capped : (n : ℕ) → (n < 2 ^ 64 - 1) ⊎ (2 ^ 64 - 1 ≤ n) → min (min n (2 ^ 64 - 1) + 1) (2 ^ 64 - 1) ≡ min (n + 1) (2 ^ 64 - 1)
+    capped n h = ⊎_elim (λ lt. ap (λ m. min (m + 1) (2 ^ 64 - 1)) (min-eq_left (omega (arith, lt))))
+        (λ le.
+        let full : min n (2 ^ 64 - 1) ≡ 2 ^ 64 - 1 = min-eq_right le in
+        let over : 2 ^ 64 - 1 ≤ (2 ^ 64 - 1) + 1 = omega arith in
+        let far : 2 ^ 64 - 1 ≤ n + 1 = omega (arith, le) in
+        ap (λ m. min (m + 1) (2 ^ 64 - 1)) full ∙ min-eq_right over ∙ sym (min-eq_right far)) h
+
+-- an entry, and its rule
+pub entry_at : (rules : List BodyRule) (steps : ℕ) (xs : List Survivor) (at : Location) (i : ℕ) (d : Survivor) → IsWalkTo rules (record { steps = steps; alive = map survivor_view xs }) at → i < length xs
+    → (slice_get (map survivor_view xs) i ≡ Some (survivor_view (get_or xs i d))) × IsAlive rules at (survivor_view (get_or xs i d))
+entry_at rules steps xs at i d h lt =
+    let there : slice_get (map survivor_view xs) i ≡ Some (survivor_view (get_or xs i d)) = slice_get-map survivor_view xs i ∙ ap (option_map survivor_view) (slice_get-get_or xs i d lt) in
+    (there, (h.alive (survivor_view (get_or xs i d))).0 (contains_at (map survivor_view xs) i (survivor_view (get_or xs i d)) there))
+
+-- ---- a walk, from what was found and sorted
+
+pub walk_of : (body before_of after_of : List BodyRule) (steps : ℕ) (before after : List Survivor) (at : Location) → before_of ≡ body → after_of ≡ body → steps ≡ step_count at
+    → ((e : ℕ × ℕ) → Contains (map survivor_view after) e ↔ Contains (map survivor_view before) e)
+    → ((e : ℕ × ℕ) → Contains (map survivor_view before) e ↔ IsAlive before_of at e)
+    → ((at : Location) → steps ≡ step_count at → IsSortedByKey (rule_asks after_of (length at)) asked_cmp (map survivor_view after))
+    → IsWalkTo body (record { steps = steps; alive = map survivor_view after }) at
+walk_of body before_of after_of steps before after at same_before same_after count same found order = record {
+  steps = count;
+  alive = λ e. subst (λ rs. Contains (map survivor_view after) e ↔ IsAlive rs at e) same_before
+      (λ h. (found e).0 ((same e).0 h), λ h. (same e).1 ((found e).1 h));
+  order = subst (λ rs. IsSortedByKey (rule_asks rs (length at)) asked_cmp (map survivor_view after)) same_after (order at count);
+}
+
+pub start_alive : (bs : List code.BodyRule) (xs : List Survivor) → ((e : ℕ × ℕ) → Contains (map survivor_view xs) e ↔ ((e.0 < length bs) × (e.1 ≡ 0)))
+    → (e : ℕ × ℕ) → Contains (map survivor_view xs) e ↔ IsAlive (map rule_view bs) [] e
+start_alive bs xs h e =
+    let same = length-map bs rule_view in
+    let both = alive_at_start (map rule_view bs) e in (
+      λ x. let i = (h e).0 x in both.0 (omega (arith, i.0, same), i.1),
+      λ a. let i = both.1 a in (h e).1 (omega (arith, i.0, same), i.1),
+    )
 
 -- ---- step_count steps
 
@@ -181,47 +322,144 @@ survive_step k e w path at s more is alive exact =
 
 -- ---- the best
 
-abbrev pub candidate_of : Location → ℕ × BodyRule → Candidate
-candidate_of at a = record { index = a.0; weight = weight a.1.path at; tokens = length a.1.path }
+-- greater in the first number, or else in the second, or else less in the third
+abbrev pub IsAhead : ℕ → ℕ → ℕ → ℕ → ℕ → ℕ → Type 0
+IsAhead w l i v m j = (v < w) ⊎ ((v ≡ w) × ((m < l) ⊎ ((m ≡ l) × (i < j))))
 
-abbrev pub best_from : Location → List (ℕ × BodyRule) → Option Candidate
-best_from at [] = None
-best_from at (a ∷ more) = better_of (candidate_of at a) (best_from at more)
+outdone : (w v l m i j : ℕ) → outranks w v l m (ltb i j) ≡ true → IsAhead w l i v m j
+outdone w v l m i j h = grind (arith, nat_tests)
 
-pub same_candidate : (c : Candidate) (k : ℕ) (path : List Token) (a : ℕ × BodyRule) (at : Location) → c.index ≡ k → c.weight ≡ weight path at → c.tokens ≡ length path → k ≡ a.0 → path ≡ a.1.path → c ≡ candidate_of at a
-same_candidate c k path a at index heavy tokens ka same =
-    ap (λ n. record { index = n; weight = c.weight; tokens = c.tokens }) (index ∙ ka)
-    ∙ ap (λ n. record { index = a.0; weight = n; tokens = c.tokens }) (heavy ∙ ap (λ p. weight p at) same)
-    ∙ ap (λ n. record { index = a.0; weight = weight a.1.path at; tokens = n }) (tokens ∙ ap (λ (p : List Token). length p) same)
+not_outdone : (w v l m i j : ℕ) → outranks w v l m (ltb i j) ≡ false → i ≢ j → IsAhead v m j w l i
+not_outdone w v l m i j h ne = grind (arith, nat_tests)
 
-positive_first : (w v l m : ℕ) (t : Bool) → w ≡ 0 → 0 < v → outranks v w l m t ≡ true
-positive_first w v l m t none more = rw (none, lt-ltb 0 v more) refl
+ahead_of_all : (w l i v m j u n k : ℕ) → IsAhead w l i v m j → IsAhead v m j u n k → IsAhead w l i u n k
+ahead_of_all w l i v m j u n k h g = grind arith
 
--- a rule of no weight is passed over
-zero_pick : (at : Location) (r : BodyRule) (rules : List BodyRule) (k : ℕ) (o : Option (ℕ × BodyRule)) → IsBest rules at o → weight r.path at ≡ 0 → as_candidate k at (pick at r o) ≡ as_candidate (k + 1) at o
-zero_pick at r rules k None is none = none_or at r k (ltb 0 (weight r.path at)) ∙ ap (λ w. cond (ltb 0 w) (Some (record { index = k; weight = weight r.path at; tokens = length r.path })) None) none
-zero_pick at r rules k (Some b) is none =
-    one_of_two at r b k (beats at b.1 r)
-    ∙ ap (λ t. cond t (as_candidate (k + 1) at (Some b)) (Some (record { index = k; weight = weight r.path at; tokens = length r.path })))
-    (positive_first (weight r.path at) (weight b.1.path at) (length b.1.path) (length r.path) _ none is.1)
+abbrev pub IsBestOf : List BodyRule → Location → List (ℕ × ℕ) → ℕ → Option Candidate → Type 0
+IsBestOf rules at xs n found =
+    MatchOption found ((k : ℕ) (e : ℕ × ℕ) (s : BodyRule) → k < n → slice_get xs k ≡ Some e → slice_get rules e.0 ≡ Some s → weight s.path at ≡ 0)
+    (λ f. (r : BodyRule) × (slice_get rules f.index ≡ Some r) × (0 < f.weight) × (f.weight ≡ weight r.path at) × (f.tokens ≡ length r.path)
+    × ((k : ℕ) (e : ℕ × ℕ) (s : BodyRule) → k < n → slice_get xs k ≡ Some e → slice_get rules e.0 ≡ Some s → e.0 ≢ f.index → 0 < weight s.path at
+    → IsAhead f.weight f.tokens f.index (weight s.path at) (length s.path) e.0))
 
-best_by : (b : Bool) (at : Location) (r : BodyRule) (rules : List BodyRule) (k : ℕ) (more : List (ℕ × BodyRule)) → is_alive r.path at ≡ b → IsInOrder (r ∷ rules) → best_from at more ≡ as_candidate (k + 1) at (best rules at)
-    → best_from at (cond b ((k, r) ∷ more) more) ≡ as_candidate k at (pick at r (best rules at))
-best_by true at r rules k more is order h =
-    ap (better_of (candidate_of at (k, r))) h ∙ sym (candidate_step at r rules k (best rules at) order.0 (best_is_best rules at order.1))
-best_by false at r rules k more is order h = h ∙ sym (zero_pick at r rules k (best rules at) (best_is_best rules at order.1) (weight_dead r.path at is))
+-- up to the next place: what holds of those before, and of the one there
+upto_next : (rules : List BodyRule) (xs : List (ℕ × ℕ)) (n : ℕ) (x : ℕ × ℕ) (r : BodyRule) (P : ℕ × ℕ → BodyRule → Type 0) → slice_get xs n ≡ Some x → slice_get rules x.0 ≡ Some r
+    → ((k : ℕ) (e : ℕ × ℕ) (s : BodyRule) → k < n → slice_get xs k ≡ Some e → slice_get rules e.0 ≡ Some s → P e s) → P x r
+    → (k : ℕ) (e : ℕ × ℕ) (s : BodyRule) → k < n + 1 → slice_get xs k ≡ Some e → slice_get rules e.0 ≡ Some s → P e s
+upto_next rules xs n x r P there has before now = λ k e s lt at_k gets.
+    ⊎_elim (λ is.
+    let place : k ≡ n = is in
+    let same : x ≡ e = same_Some x e (sym there ∙ ap (slice_get xs) (sym place) ∙ at_k) in
+    let rule : r ≡ s = same_Some r s (sym has ∙ ap (λ (p : ℕ × ℕ). slice_get rules p.0) same ∙ gets) in
+    subst (λ p. P p s) same (subst (P x) rule now))
+    (λ ne. let apart : k ≡ n → ⊥ = ne in before k e s (omega (arith, lt, apart)) at_k gets) (cases_eq k n)
 
-pub walk_best : (at : Location) (rules : List BodyRule) (k : ℕ) → IsInOrder rules → best_from at (alive_rules k rules at) ≡ as_candidate k at (best rules at)
-walk_best at [] k order = refl
-walk_best at (r ∷ rules) k order = best_by (is_alive r.path at) at r rules k (alive_rules (k + 1) rules at) refl order (walk_best at rules (k + 1) order.1)
+first_best : (b : Bool) (rules : List BodyRule) (at : Location) (xs : List (ℕ × ℕ)) (n : ℕ) (c : Candidate) (x : ℕ × ℕ) (r : BodyRule) → ltb 0 c.weight ≡ b
+    → c.index ≡ x.0 → c.weight ≡ weight r.path at → c.tokens ≡ length r.path → slice_get xs n ≡ Some x → slice_get rules x.0 ≡ Some r
+    → ((k : ℕ) (e : ℕ × ℕ) (s : BodyRule) → k < n → slice_get xs k ≡ Some e → slice_get rules e.0 ≡ Some s → weight s.path at ≡ 0)
+    → IsBestOf rules at xs (n + 1) (cond b (Some c) None)
+first_best true rules at xs n c x r test index heavy tokens there has none = (
+  r,
+  ap (slice_get rules) index ∙ has,
+  ltb-true 0 c.weight test,
+  heavy,
+  tokens,
+  upto_next rules xs n x r (λ e s. e.0 ≢ c.index → 0 < weight s.path at → IsAhead c.weight c.tokens c.index (weight s.path at) (length s.path) e.0) there has
+      (λ k e s lt at_k gets ne pos. absurd (omega (arith, pos, none k e s lt at_k gets))) (λ ne pos. absurd (ne (sym index))),
+)
+first_best false rules at xs n c x r test index heavy tokens there has none =
+    upto_next rules xs n x r (λ e s. weight s.path at ≡ 0) there has none (sym heavy ∙ le_zero (ltb-false 0 c.weight test))
+  where
+    le_zero : {n : ℕ} → n ≤ 0 → n ≡ 0
+    le_zero le = omega (arith, le)
 
-index_of_candidate : (at : Location) (o : Option (ℕ × BodyRule)) → option_map (λ (c : Candidate). c.index) (as_candidate 0 at o) ≡ option_map (λ (b : ℕ × BodyRule). b.0) o
-index_of_candidate at None = refl
-index_of_candidate at (Some b) = ap (λ n. Some n) (omega arith)
+next_best : (b : Bool) (rules : List BodyRule) (at : Location) (xs : List (ℕ × ℕ)) (n : ℕ) (c f : Candidate) (x : ℕ × ℕ) (r : BodyRule) → outdoes c f ≡ b
+    → c.index ≡ x.0 → c.weight ≡ weight r.path at → c.tokens ≡ length r.path → slice_get xs n ≡ Some x → slice_get rules x.0 ≡ Some r
+    → IsBestOf rules at xs n (Some f) → IsBestOf rules at xs (n + 1) (cond b (Some c) (Some f))
+next_best true rules at xs n c f x r test index heavy tokens there has h =
+    let ahead : IsAhead c.weight c.tokens c.index f.weight f.tokens f.index = outdone c.weight f.weight c.tokens f.tokens c.index f.index test in
+    let old : (k : ℕ) (e : ℕ × ℕ) (s : BodyRule) → k < n → slice_get xs k ≡ Some e → slice_get rules e.0 ≡ Some s → e.0 ≢ c.index → 0 < weight s.path at → IsAhead c.weight c.tokens c.index (weight s.path at) (length s.path) e.0
+    = λ k e s lt at_k gets ne pos.
+    ⊎_elim (λ is.
+    let place : e.0 ≡ f.index = is in
+    let rule : h.0 ≡ s = same_Some h.0 s (sym h.1 ∙ ap (slice_get rules) (sym place) ∙ gets) in
+    ahead_as c.weight c.tokens c.index f.weight f.tokens f.index (weight s.path at) (length s.path) e.0 (h.3 ∙ ap (λ (q : BodyRule). weight q.path at) rule) (h.4 ∙ ap (λ (q : BodyRule). length q.path) rule) (sym place) ahead)
+    (λ apart. ahead_of_all c.weight c.tokens c.index f.weight f.tokens f.index (weight s.path at) (length s.path) e.0 ahead (h.5 k e s lt at_k gets apart pos)) (cases_eq e.0 f.index) in (
+      r,
+      ap (slice_get rules) index ∙ has,
+      ahead_positive c.weight c.tokens c.index f.weight f.tokens f.index ahead h.2,
+      heavy,
+      tokens,
+      upto_next rules xs n x r (λ e s. e.0 ≢ c.index → 0 < weight s.path at → IsAhead c.weight c.tokens c.index (weight s.path at) (length s.path) e.0) there has
+          old (λ ne pos. absurd (ne (sym index))),
+    )
+  where
+    ahead_as : (w l i v m j v' m' j' : ℕ) → v ≡ v' → m ≡ m' → j ≡ j' → IsAhead w l i v m j → IsAhead w l i v' m' j'
+    ahead_as w l i v m j v' m' j' e f g h = subst (λ a. IsAhead w l i a m' j') e (subst (λ a. IsAhead w l i v a j') f (subst (IsAhead w l i v m) g h))
 
-pub chosen_of_walk : (at : Location) (rules : List BodyRule) (found : Option Candidate) → IsInOrder rules → found ≡ best_from at (alive_rules 0 rules at) → option_map (λ (c : Candidate). c.index) found ≡ chosen rules at
-chosen_of_walk at rules found order is =
-    ap (option_map (λ (c : Candidate). c.index)) (is ∙ walk_best at rules 0 order) ∙ index_of_candidate at (best rules at)
+    ahead_positive : (w l i v m j : ℕ) → IsAhead w l i v m j → 0 < v → 0 < w
+    ahead_positive w l i v m j h pos = grind arith
+next_best false rules at xs n c f x r test index heavy tokens there has h = (
+  h.0,
+  h.1,
+  h.2,
+  h.3,
+  h.4,
+  upto_next rules xs n x r (λ e s. e.0 ≢ f.index → 0 < weight s.path at → IsAhead f.weight f.tokens f.index (weight s.path at) (length s.path) e.0) there has h.5
+      (λ ne pos. ahead_by c.weight c.tokens c.index f.weight f.tokens f.index (weight r.path at) (length r.path) x.0 heavy tokens index
+      (not_outdone c.weight f.weight c.tokens f.tokens c.index f.index test (λ same. ne (sym index ∙ same)))),
+)
+  where
+    ahead_by : (w l i v m j w' l' i' : ℕ) → w ≡ w' → l ≡ l' → i ≡ i' → IsAhead v m j w l i → IsAhead v m j w' l' i'
+    ahead_by w l i v m j w' l' i' e f g h = subst (λ a. IsAhead v m j a l' i') e (subst (λ a. IsAhead v m j w a i') f (subst (IsAhead v m j w l) g h))
+
+-- one more entry
+pub best_more : (rules : List BodyRule) (at : Location) (xs : List (ℕ × ℕ)) (n : ℕ) (c : Candidate) (found : Option Candidate) (x : ℕ × ℕ) (r : BodyRule)
+    → c.index ≡ x.0 → c.weight ≡ weight r.path at → c.tokens ≡ length r.path → slice_get xs n ≡ Some x → slice_get rules x.0 ≡ Some r
+    → IsBestOf rules at xs n found → IsBestOf rules at xs (n + 1) (preferred c found)
+best_more rules at xs n c None x r index heavy tokens there has h = first_best (ltb 0 c.weight) rules at xs n c x r refl index heavy tokens there has h
+best_more rules at xs n c (Some f) x r index heavy tokens there has h = next_best (outdoes c f) rules at xs n c f x r refl index heavy tokens there has h
+
+get_all : {A : Type 0} (P : A → Type 0) (xs : List A) (i : ℕ) (x : A) → AllByRecursion P xs → slice_get xs i ≡ Some x → P x
+get_all P [] i x h e = absurd cc
+get_all P (y ∷ xs) zero x h e = subst P (same_Some y x e) h.0
+get_all P (y ∷ xs) (suc i) x h e = get_all P xs i x h.1 e
+
+-- of two rules the one of the lower index has the lower text
+texts_rise : (rules : List BodyRule) → IsInOrder rules → (i j : ℕ) (r s : BodyRule) → slice_get rules i ≡ Some r → slice_get rules j ≡ Some s → i < j → IsBefore (path_text r.path) (path_text s.path)
+texts_rise [] order i j r s a b lt = absurd cc
+texts_rise (q ∷ rules) order zero zero r s a b lt = absurd (omega (arith, lt))
+texts_rise (q ∷ rules) order zero (suc j) r s a b lt = get_all (λ (x : BodyRule). IsBefore (path_text r.path) (path_text x.path)) rules j s (subst (λ (q : BodyRule). AllByRecursion (λ (x : BodyRule). IsBefore (path_text q.path) (path_text x.path)) rules) (same_Some q r a) order.0) b
+texts_rise (q ∷ rules) order (suc i) zero r s a b lt = absurd (omega (arith, lt))
+texts_rise (q ∷ rules) order (suc i) (suc j) r s a b lt = texts_rise rules order.1 i j r s a b (omega (arith, lt))
+
+-- a rule of positive weight is one of the entries
+entry_of : (rules : List BodyRule) (w : Walk) (at : Location) → IsWalkTo rules w at → (j : ℕ) (s : BodyRule) → slice_get rules j ≡ Some s → 0 < weight s.path at
+    → (k : ℕ) × (k < length w.alive) × (slice_get w.alive k ≡ Some (j, exact_tokens s.path at))
+entry_of rules w at h j s gets pos = place_of w.alive (j, exact_tokens s.path at) ((h.alive (j, exact_tokens s.path at)).1 (s, gets, by (is_alive s.path at) refl, refl)) where
+  by : (b : Bool) → is_alive s.path at ≡ b → is_alive s.path at ≡ true
+  by true is = is
+  by false is = absurd (omega (arith, pos, weight_dead s.path at is))
+
+-- the best of all entries is the choice
+pub best_is_choice : (rules : List BodyRule) (w : Walk) (at : Location) (n : ℕ) (found : Option Candidate) → IsInOrder rules → IsWalkTo rules w at → length w.alive ≤ n
+    → IsBestOf rules at w.alive n found → IsChoice rules at (option_map (λ (c : Candidate). c.index) found)
+best_is_choice rules w at n None order h all best = λ j s gets.
+    ⊎_elim (λ none. none) (λ pos. let k = entry_of rules w at h j s gets pos in best k.0 (j, exact_tokens s.path at) s (omega (arith, k.1, all)) k.2 gets) (eq-zero-or-pos (weight s.path at))
+best_is_choice rules w at n (Some f) order h all best = (
+  best.0,
+  best.1,
+  subst (λ n. 0 < n) best.3 best.2,
+  λ j s gets ne pos.
+      let k = entry_of rules w at h j s gets pos in
+      let ahead = best.5 k.0 (j, exact_tokens s.path at) s (omega (arith, k.1, all)) k.2 gets ne pos in
+      by_text (IsBefore (path_text best.0.path) (path_text s.path)) f.weight f.tokens f.index (weight s.path at) (length s.path) j (weight best.0.path at) (length best.0.path) best.3 best.4
+      (texts_rise rules order f.index j best.0 s best.1 gets) ahead,
+)
+  where
+    by_text : (T : Type 0) (w l i v m j w' l' : ℕ) → w ≡ w' → l ≡ l' → (i < j → T) → IsAhead w l i v m j → (v < w') ⊎ ((v ≡ w') × ((m < l') ⊎ ((m ≡ l') × T)))
+    by_text T w l i v m j w' l' e g lower h =
+        ⊎_elim (λ lt. inl (omega (arith, lt, e))) (λ x. inr (x.0 ∙ e, ⊎_elim (λ lt. inl (omega (arith, lt, g))) (λ y. inr (y.0 ∙ g, lower y.1)) x.1)) h
 
 -- ---- the own place
 

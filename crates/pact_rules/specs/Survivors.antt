@@ -1,9 +1,10 @@
 -- For private clauses: the entries of a walk as the code keeps them.
-use Rattle.std.specs.Prelude.{◌≡◌, ℕ, true, List, map}
+use Rattle.std.specs.Prelude.{◌≡◌, ◌≤◌, ◌<◌, ℕ, true, List, map, Some, option_map, slice_get}
 use Rattle.pact_paths.specs.Paths.{Token, Location}
 use Rattle.pact_paths.specs.Weights.{is_alive, exact_tokens}
 use Rattle.pact_rules.specs.RuleViews.{rule_view}
-use Rattle.pact_rules.specs.Walks.{Walk, walk, step_count}
+use Rattle.pact_rules.specs.Rules as rules
+use Rattle.pact_rules.specs.Walks.{IsWalkTo, IsAlive, step_count}
 use Rattle.pact_rules.specs.declared.table.BodyRule.{BodyRule}
 use Rattle.pact_rules.specs.declared.walk.Survivor.{Survivor}
 
@@ -14,8 +15,13 @@ survivor_view s = (s.index, s.exact)
 -- the entries, after so many steps, are the walk of the rules to the location
 abbrev pub AreLeftAt : List BodyRule → ℕ → List Survivor → Location → Type 0
 AreLeftAt rules steps entries at =
-    ◌≡◌ {A = Walk} (record { steps = steps; alive = map survivor_view entries }) (walk (map rule_view rules) at)
+    IsWalkTo (map rule_view rules) (record { steps = steps; alive = map survivor_view entries }) at
 
 -- after so many steps the location leaves the path alive, with so many exact tokens
 abbrev pub IsLeftAt : List Token → ℕ → ℕ → Location → Type 0
 IsLeftAt path steps exact at = (steps ≡ step_count at) × (is_alive path at ≡ true) × (exact ≡ exact_tokens path at)
+
+-- the rule of one of the entries from one place up to another is alive at the location
+abbrev pub StaysOf : List rules.BodyRule → List (ℕ × ℕ) → ℕ → ℕ → Location → ℕ × ℕ → Type 0
+StaysOf rules entries from to at e =
+    (k : ℕ) × (from ≤ k) × (k < to) × (option_map (λ x. x.0) (slice_get entries k) ≡ Some e.0) × IsAlive rules at e

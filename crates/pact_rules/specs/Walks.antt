@@ -1,17 +1,14 @@
 -- A walk down a tree: the rules that no step has ruled out, each with how many of its tokens equal the step of the
 -- same index.
-use Rattle.std.specs.Prelude.{◌≡◌, ℕ, ◌+◌, ◌-◌, ◌^◌, Bool, false, ◌==◌, List, [], ◌∷◌, length, map, Option, Some, None, if◌then◌else◌}
-use Rattle.std.specs.Prelude.{min}
-use Rattle.pact_paths.specs.Paths.{Token, Location}
+use Rattle.std.specs.Prelude.{◌≡◌, ◌↔◌, ℕ, ◌-◌, ◌^◌, Bool, true, false, ◌==◌, List, length, Option, Some, None, if◌then◌else◌}
+use Rattle.std.specs.Prelude.{min, option_and_then, slice_get}
+use Rattle.std.specs.List.{Contains}
+use Rattle.std.specs.List.Sorted.{IsSortedByKey}
+use Rattle.pact_paths.specs.Asked.{asked, asked_cmp}
+use Rattle.pact_paths.specs.Paths.{Token, Step, Location}
 use Rattle.pact_paths.specs.Weights.{is_alive, exact_tokens}
 use Rattle.pact_rules.specs.Rules.{BodyRule, Rules}
 use Rattle.pact_rules.specs.Choice.{best}
-
--- the rules that no step of a location rules out, each with its index, that of the first being given
-abbrev pub alive_rules : ℕ → List BodyRule → Location → List (ℕ × BodyRule)
-alive_rules index [] at = []
-alive_rules index (r ∷ rules) at =
-    if is_alive r.path at then (index, r) ∷ alive_rules (index + 1) rules at else alive_rules (index + 1) rules at
 
 -- how many steps were taken, and the index and the exact tokens of each rule that is alive
 pub record Walk : Type 0 where
@@ -22,14 +19,25 @@ pub record Walk : Type 0 where
 abbrev pub step_count : Location → ℕ
 step_count at = min (length at) (2 ^ 64 - 1)
 
--- the walk of a table's rules to a location
-abbrev pub walk : List BodyRule → Location → Walk
-walk rules at =
-    record { steps = step_count at; alive = map (λ a. (a.0, exact_tokens a.1.path at)) (alive_rules 0 rules at) }
+-- a rule that no step of a location rules out, by its index, and how many of its tokens are exact
+abbrev pub IsAlive : List BodyRule → Location → ℕ × ℕ → Type 0
+IsAlive rules at e =
+    (r : BodyRule) × (slice_get rules e.0 ≡ Some r) × (is_alive r.path at ≡ true) × (e.1 ≡ exact_tokens r.path at)
+
+-- what a rule, by its index, asks of the step after so many
+abbrev pub rule_asks : List BodyRule → ℕ → ℕ × ℕ → Option Step
+rule_asks rules steps e = option_and_then (λ r. asked r.path steps) (slice_get rules e.0)
+
+-- the walk of a table's rules to a location: it has each rule that is alive there, and no other, in the order of what
+-- they ask of the next step
+pub record IsWalkTo (rules : List BodyRule) (w : Walk) (at : Location) : Type 0 where
+  pub steps : w.steps ≡ step_count at
+  pub alive : (e : ℕ × ℕ) → Contains w.alive e ↔ IsAlive rules at e
+  pub order : IsSortedByKey (rule_asks rules (length at)) asked_cmp w.alive
 
 -- the walk that was started on the table has come to the location
 abbrev pub HasReached : Rules → Walk → Location → Type 0
-HasReached table w at = w ≡ walk table.body at
+HasReached table w at = IsWalkTo table.body w at
 
 -- the walk was started on the table
 abbrev pub WasStarted : Rules → Walk → Type 0

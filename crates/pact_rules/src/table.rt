@@ -260,7 +260,7 @@ fn best_of(rules: &[BodyRule], location: &[Step]) -> Option<usize>
 }
 
 /// The earlier rule, unless the one found after it is heavier, or as heavy and longer.
-pub(crate) fn better(earlier: Candidate, found: Option<Candidate>) -> Option<Candidate>
+fn better(earlier: Candidate, found: Option<Candidate>) -> Option<Candidate>
     ensures { result ≡ better_of earlier found }
 {
     match found {

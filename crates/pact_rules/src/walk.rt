@@ -1,19 +1,26 @@
 //! A walk down a tree with the rules that no step has ruled out.
 
-ghost use Rattle.std.specs.Prelude.{◌≡◌, ◌≤◌, ◌<◌, ◌++◌, ◌∷◌, [], ℕ, length, map, option_map, slice_get, Some, IfOk};
-ghost use Rattle.std.specs.Prelude.{IfSome, IsTrue, ◌↔◌};
+ghost use Rattle.std.specs.Prelude.{◌≡◌, ◌≤◌, ◌<◌, ◌++◌, ◌∷◌, [], ℕ, length, map, option_map, slice_get, Some};
+ghost use Rattle.std.specs.Prelude.{IfOk, IfSome, IsTrue, ◌↔◌};
+ghost use Rattle.std.specs.List.{Contains};
+ghost use Rattle.std.specs.List.Sorted.{IsSortedByKey};
 ghost use Rattle.pact_paths.specs.Paths.{Location};
 ghost use Rattle.pact_paths.specs.Locations.{step_view};
+ghost use Rattle.pact_paths.specs.Asked.{asked_cmp};
+ghost use Rattle.pact_paths.specs.AskedView.{asked_view};
 ghost use Rattle.pact_paths.specs.Weights.{weight as weight_of};
 ghost use Rattle.pact_rules.specs.Rules.{IsInOrder, BodyRule as TableRule};
 ghost use Rattle.pact_rules.specs.RuleViews.{rule_view};
+ghost use Rattle.pact_rules.specs.Candidates.{outdoes as outdoes_of, preferred as preferred_of};
 ghost use Rattle.pact_rules.specs.Choice.{IsChoice, IsOwnPlace, chosen as chosen_of};
-ghost use Rattle.pact_rules.specs.Walks.{walk, HasReached, WasStarted, survivor, own_place as own_place_of};
-ghost use Rattle.pact_rules.specs.Survivors.{survivor_view, AreLeftAt, IsLeftAt};
+ghost use Rattle.pact_rules.specs.Walks.{HasReached, WasStarted, IsAlive, step_count, rule_asks, survivor};
+ghost use Rattle.pact_rules.specs.Walks.{own_place as own_place_of};
+ghost use Rattle.pact_rules.specs.Survivors.{survivor_view, AreLeftAt, IsLeftAt, StaysOf};
 
-use crate::table::{BodyRule, Candidate, RuleTable, better};
-use pact_paths::{Path, Step};
+use crate::table::{BodyRule, Candidate, RuleTable};
+use pact_paths::{Asked, Path, Step};
 use std::alloc::{AllocError, Global};
+use std::cmp::Ordering;
 use std::marker::Model;
 
 /// An entry that no step has ruled out, with how many of its tokens equal the step of the same index.
@@ -44,15 +51,14 @@ impl Model for Alive {
 impl RuleTable {
     /// A walk that has taken no step; `Err` if no memory is left.
     pub fn start(&self, alloc: Global) -> Result<Alive, AllocError>
-        ensures walk { IfOk result (λ a. a ≡ walk self.now.body []) }
+        ensures walk { IfOk result (λ a. HasReached self.now a []) }
 
         // The entries stand in order of canonical text.
         ensures order { IsInOrder self.now.body }
     {
-        Ok(Alive {
-            entries: first_survivors(alloc, &self.body)?,
-            steps: 0,
-        })
+        let mut entries = first_survivors(alloc, &self.body)?;
+        sort_by_asked(&mut entries, &self.body, 0);
+        Ok(Alive { entries, steps: 0 })
     }
 }
 
@@ -63,10 +69,10 @@ impl Alive {
         ensures { IfOk result (λ a. (at : Location) → HasReached table.now self.now at
             → HasReached table.now a (at ++ step_view step.now ∷ [])) }
     {
-        Ok(Alive {
-            entries: survivors_of_step(alloc, &self.entries, &table.body, self.steps, step)?,
-            steps: self.steps.saturating_add(1),
-        })
+        let mut entries = survivors_of_step(alloc, &self.entries, &table.body, self.steps, step)?;
+        let steps = self.steps.saturating_add(1);
+        sort_by_asked(&mut entries, &table.body, steps);
+        Ok(Alive { entries, steps })
     }
 
     /// The index of the entry that `choose` chooses at the steps taken, on the table that the walk was started on.
@@ -100,8 +106,8 @@ impl Alive {
 
 /// All entries of a table: no step was taken yet.
 fn first_survivors(alloc: Global, rules: &[BodyRule]) -> Result<Vec<Survivor>, AllocError>
-    ensures { IfOk result (λ v.
-        map survivor_view v.items ≡ (walk (map rule_view rules.now) []).alive) }
+    ensures { IfOk result (λ v. (e : ℕ × ℕ)
+        → Contains (map survivor_view v.items) e ↔ ((e.0 < length rules.now) × (e.1 ≡ 0))) }
 {
     let mut entries = Vec::new(alloc);
     for index in 0..rules.len() {
@@ -110,7 +116,38 @@ fn first_survivors(alloc: Global, rules: &[BodyRule]) -> Result<Vec<Survivor>, A
     Ok(entries)
 }
 
-/// The entries that one step more leaves.
+/// Puts the entries in the order of what they ask of the next step.
+fn sort_by_asked(entries: &mut Vec<Survivor>, rules: &[BodyRule], steps: usize)
+    ensures same { (e : ℕ × ℕ) → Contains (map survivor_view entries.new.items) e
+        ↔ Contains (map survivor_view entries.old.items) e }
+    ensures order { (at : Location) → steps ≡ step_count at
+        → IsSortedByKey (rule_asks (map rule_view rules.now) (length at)) asked_cmp
+        (map survivor_view entries.new.items) }
+{
+    entries.sort_unstable_by(|left, right| asked_order(left, right, rules, steps));
+}
+
+/// How what two entries ask of the step after so many compares.
+fn asked_order(left: &Survivor, right: &Survivor, rules: &[BodyRule], steps: usize) -> Ordering
+    ensures { (at : Location) → steps ≡ step_count at
+        → result ≡ asked_cmp (rule_asks (map rule_view rules.now) (length at) (survivor_view left.now))
+        (rule_asks (map rule_view rules.now) (length at) (survivor_view right.now)) }
+{
+    asked_by(left, rules, steps).compare(asked_by(right, rules, steps))
+}
+
+/// What an entry asks of the step after so many.
+fn asked_by<'a>(entry: &Survivor, rules: &'a [BodyRule], steps: usize) -> Asked<'a>
+    ensures { (at : Location) → steps ≡ step_count at
+        → asked_view result ≡ rule_asks (map rule_view rules.now) (length at) (survivor_view entry.now) }
+{
+    match rules.get(entry.index) {
+        Some(rule) if steps < rule.path.len() => rule.path.asked(steps),
+        Some(_) | None => Asked::Nothing,
+    }
+}
+
+/// The entries that one step more leaves: only those can be left that ask nothing of the step, or this very step.
 fn survivors_of_step(
     alloc: Global,
     entries: &[Survivor],
@@ -119,13 +156,69 @@ fn survivors_of_step(
     step: &Step,
 ) -> Result<Vec<Survivor>, AllocError>
     requires { (at : Location) × AreLeftAt rules.now steps entries.now at }
-    ensures { IfOk result (λ v. (at : Location) → AreLeftAt rules.now steps entries.now at
-        → map survivor_view v.items ≡ (walk (map rule_view rules.now) (at ++ step_view step.now ∷ [])).alive) }
+    ensures { IfOk result (λ v. (at : Location) → AreLeftAt rules.now steps entries.now at → (e : ℕ × ℕ)
+        → Contains (map survivor_view v.items) e
+        ↔ IsAlive (map rule_view rules.now) (at ++ step_view step.now ∷ []) e) }
+{
+    let free = run_of(entries, rules, steps, Asked::Nothing);
+    let mut left = survivors_of_run(alloc, entries, rules, steps, step, free)?;
+    let asking = run_of(entries, rules, steps, step.as_asked());
+    let mut more = survivors_of_run(alloc, entries, rules, steps, step, asking)?;
+    left.append(&mut more)?;
+    Ok(left)
+}
+
+/// Some entries of a walk, by the places of the first and of the one after the last.
+#[derive(Clone, Copy)]
+struct Run {
+    from: usize,
+    to: usize,
+}
+
+/// The run of the entries that ask this.
+fn run_of(entries: &[Survivor], rules: &[BodyRule], steps: usize, wanted: Asked<'_>) -> Run
+    ensures within { result.to ≤ length entries.now }
+    ensures run { (at : Location) → AreLeftAt rules.now steps entries.now at → (k : ℕ) (e : ℕ × ℕ)
+        → slice_get (map survivor_view entries.now) k ≡ Some e
+        → rule_asks (map rule_view rules.now) (length at) e ≡ asked_view wanted.entry
+        → (result.from ≤ k) × (k < result.to) }
+{
+    Run {
+        from: entries.partition_point(|entry| order_to(entry, rules, steps, wanted).is_lt()),
+        to: entries.partition_point(|entry| order_to(entry, rules, steps, wanted).is_le()),
+    }
+}
+
+/// How what an entry asks of the step after so many compares with this.
+fn order_to(entry: &Survivor, rules: &[BodyRule], steps: usize, wanted: Asked<'_>) -> Ordering
+    ensures { (at : Location) → steps ≡ step_count at
+        → result ≡ asked_cmp (rule_asks (map rule_view rules.now) (length at) (survivor_view entry.now))
+        (asked_view wanted.entry) }
+{
+    asked_by(entry, rules, steps).compare(wanted)
+}
+
+/// What one step more leaves of a run.
+fn survivors_of_run(
+    alloc: Global,
+    entries: &[Survivor],
+    rules: &[BodyRule],
+    steps: usize,
+    step: &Step,
+    run: Run,
+) -> Result<Vec<Survivor>, AllocError>
+    requires within { run.to ≤ length entries.now }
+    requires started { (at : Location) × AreLeftAt rules.now steps entries.now at }
+    ensures { IfOk result (λ v. (at : Location) → AreLeftAt rules.now steps entries.now at → (e : ℕ × ℕ)
+        → Contains (map survivor_view v.items) e
+        ↔ StaysOf (map rule_view rules.now) (map survivor_view entries.now) run.from run.to
+        (at ++ step_view step.now ∷ []) e) }
 {
     let mut left = Vec::new(alloc);
-    for entry in entries {
+    for index in run.from..run.to {
+        let entry = entries[index];
         let path = path_at(rules, entry.index);
-        if let Some(next) = survivor_after(*entry, path, steps, step) {
+        if let Some(next) = survivor_after(entry, path, steps, step) {
             left.push(next)?;
         }
     }
@@ -165,15 +258,34 @@ fn best_alive(entries: &[Survivor], rules: &[BodyRule], steps: usize) -> Option<
     requires order { IsInOrder (map rule_view rules.now) }
     requires started { (at : Location) × AreLeftAt rules.now steps entries.now at }
     ensures { (at : Location) → AreLeftAt rules.now steps entries.now at
-        → result ≡ chosen_of (map rule_view rules.now) at }
+        → IsChoice (map rule_view rules.now) at result }
 {
     let mut found: Option<Candidate> = None;
-    for index in (0..entries.len()).rev() {
-        let entry = entries[index];
+    for entry in entries {
         let path = path_at(rules, entry.index);
-        found = better(candidate(entry, path, steps), found);
+        found = preferred(candidate(*entry, path, steps), found);
     }
     found.map(|candidate| candidate.index)
+}
+
+/// The one that is heavier, or as heavy and longer, or else the one whose index is less; a weight of 0 is none.
+fn preferred(one: Candidate, found: Option<Candidate>) -> Option<Candidate>
+    ensures { result ≡ preferred_of one found }
+{
+    match found {
+        Some(best) if !outdoes(&one, &best) => Some(best),
+        Some(_) => Some(one),
+        None if one.weight > 0 => Some(one),
+        None => None,
+    }
+}
+
+fn outdoes(a: &Candidate, b: &Candidate) -> bool
+    ensures { result ≡ outdoes_of a.now b.now }
+{
+    a.weight > b.weight
+        || a.weight == b.weight
+            && (a.tokens > b.tokens || a.tokens == b.tokens && a.index < b.index)
 }
 
 /// An entry beside its weight, which is 0 while its path is longer than the steps taken.

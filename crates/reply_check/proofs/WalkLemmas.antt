@@ -8,7 +8,7 @@ use Rattle.pact_rules.specs.Rules.{Rules, IsInOrder, BodyRule, Entry, is_regex, 
 use Rattle.pact_rules.specs.RuleViews.{matcher_view}
 use Rattle.pact_rules.specs.Choice.{best, chosen}
 use Rattle.pact_rules.specs.Matching.{entry_holds}
-use Rattle.pact_rules.specs.Walks.{Walk, walk, own_place, own_place_of}
+use Rattle.pact_rules.specs.Walks.{Walk, HasReached, own_place, own_place_of}
 use Rattle.pact_rules.specs.declared.table.Matcher as code
 use Rattle.pact_rules.proofs.ChoiceLemmas.{got}
 use Rattle.pact_rules.proofs.WalkLemmas.{IsThere, best_there}
@@ -62,7 +62,7 @@ regex_chosen rules index e is h = rw (regex_in_body rules.body index e is h) ref
 -- ---- the relation
 
 -- what is computed at the root decides the relation there
-pub decided : {E : Type 0} (rules : Rules) (order : IsInOrder rules.body) (w : Walk) (x y : Node) (r : Result Bool E) → w ≡ walk rules.body [] → IfOk r (λ b. (at : Location) → w ≡ walk rules.body at → b ≡ fits rules at x y)
+pub decided : {E : Type 0} (rules : Rules) (order : IsInOrder rules.body) (w : Walk) (x y : Node) (r : Result Bool E) → HasReached rules w [] → IfOk r (λ b. (at : Location) → HasReached rules w at → b ≡ fits rules at x y)
     → IfOk r (λ b. IsTrue b ↔ Fits rules [] x y)
 decided rules order w x y (Ok b) started h = subst (λ b. IsTrue b ↔ Fits rules [] x y) (sym (h [] started)) (fits_decides rules order [] x y)
 decided rules order w x y (Err e) started h = tt

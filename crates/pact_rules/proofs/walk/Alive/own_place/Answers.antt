@@ -5,7 +5,7 @@ use Rattle.pact_rules.proofs.walk.Alive.own_place.Goals as goal
 
 pub returns-in-Some-clause-computed : goal.returns-in-Some-clause-computed
 returns-in-Some-clause-computed c = λ at e.
-    own_walk c.args.table.now.body at c.in-Some.index c.self.inside.steps c.len.result c.path.result.now (sym c.in-Some.is ∙ c.chosen.ensures.computed at e) c.path.ensures (ap (λ (w : Walk). w.steps) (c.self.view_is ∙ e)) c.len.ensures.value c.len.ensures.few
+    own_walk c.args.table.now.body at c.in-Some.index c.self.inside.steps c.len.result c.path.result.now (sym c.in-Some.is ∙ c.chosen.ensures.computed at e) c.path.ensures (ap (λ (w : Walk). w.steps) c.self.view_is ∙ e.steps) c.len.ensures.value c.len.ensures.few
 
 pub returns-in-Some-clause-place : goal.returns-in-Some-clause-place
 returns-in-Some-clause-place c = λ at e.
