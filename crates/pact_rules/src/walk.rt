@@ -15,7 +15,7 @@ ghost use Rattle.pact_rules.specs.Candidates.{outdoes as outdoes_of, preferred a
 ghost use Rattle.pact_rules.specs.Choice.{IsChoice, IsOwnPlace, chosen as chosen_of};
 ghost use Rattle.pact_rules.specs.Walks.{HasReached, WasStarted, IsAlive, step_count, rule_asks, survivor};
 ghost use Rattle.pact_rules.specs.Walks.{own_place as own_place_of};
-ghost use Rattle.pact_rules.specs.Survivors.{survivor_view, AreLeftAt, IsLeftAt, StaysOf};
+ghost use Rattle.pact_rules.specs.Survivors.{survivor_view, AreLeftAt, IsLeftAt, IsLeftOf, IsRunOf};
 
 use crate::table::{BodyRule, Candidate, RuleTable};
 use pact_paths::{Asked, Path, Step};
@@ -178,10 +178,8 @@ struct Run {
 /// The run of the entries that ask this.
 fn run_of(entries: &[Survivor], rules: &[BodyRule], steps: usize, wanted: Asked<'_>) -> Run
     ensures within { result.to ≤ length entries.now }
-    ensures run { (at : Location) → AreLeftAt rules.now steps entries.now at → (k : ℕ) (e : ℕ × ℕ)
-        → slice_get (map survivor_view entries.now) k ≡ Some e
-        → rule_asks (map rule_view rules.now) (length at) e ≡ asked_view wanted.entry
-        → (result.from ≤ k) × (k < result.to) }
+    ensures run { (at : Location) → AreLeftAt rules.now steps entries.now at
+        → IsRunOf rules.now entries.now (asked_view wanted.entry) result.from result.to at }
 {
     Run {
         from: entries.partition_point(|entry| order_to(entry, rules, steps, wanted).is_lt()),
@@ -211,8 +209,7 @@ fn survivors_of_run(
     requires started { (at : Location) × AreLeftAt rules.now steps entries.now at }
     ensures { IfOk result (λ v. (at : Location) → AreLeftAt rules.now steps entries.now at → (e : ℕ × ℕ)
         → Contains (map survivor_view v.items) e
-        ↔ StaysOf (map rule_view rules.now) (map survivor_view entries.now) run.from run.to
-        (at ++ step_view step.now ∷ []) e) }
+        ↔ IsLeftOf rules.now entries.now run.from run.to (at ++ step_view step.now ∷ []) e) }
 {
     let mut left = Vec::new(alloc);
     for index in run.from..run.to {

@@ -1,12 +1,13 @@
 -- Fitting, item by item and member by member.
-use Rattle.std.proofs.Common.{◌≡◌, ℕ, zero, suc, Bool, true, ◌&&◌, List, [], ◌∷◌, ◌++◌, length, Option, Some, None, option_map, slice_get, String, Global, Vec, BTreeMap, string_bytes, nat_cmp, Bor, refl, sym, ap, ◌∙◌, rules}
+use Rattle.std.proofs.Common.{◌≡◌, ℕ, zero, suc, Bool, true, ◌&&◌, List, [], ◌∷◌, ◌++◌, length, Option, Some, None, option_map, slice_get, String, Global, Vec, BTreeMap, string_bytes, nat_cmp, Bor, refl, sym, ap, ◌∙◌, rules, ◌+◌, ◌<◌, get_or, drop, add-one}
+use Rattle.std.proofs.lemmas.List.{drop_more}
 use Rattle.std.specs.Slice.{IsItemAt}
 use Rattle.std.proofs.lemmas.Option.{slice_get_past, slice_get_read}
 use Rattle.std.specs.Option.{option_or, option_copied}
 use Rattle.pact_rules.specs.Trees.{Node, list, object, Nodes, no_nodes, node, Fields, no_fields, field}
-use Rattle.pact_paths.specs.Paths.{Location, key}
+use Rattle.pact_paths.specs.Paths.{Location, key, item}
 use Rattle.pact_rules.specs.Rules.{Rules}
-use Rattle.pact_rules.specs.TreeView.{tree_view, list_view, object_view}
+use Rattle.pact_rules.specs.TreeView.{tree_view, list_view, optional_view, object_view}
 use Rattle.pact_rules.specs.declared.tree.Tree.{Tree, List as ListOf, Object}
 use Rattle.pact_rules.proofs.MatchingLemmas.{Entry, view-List, view-Object, view-lookup}
 use Rattle.pact_rules.specs.Matching.{get_field, has_keys_of}
@@ -90,3 +91,17 @@ example_view ts i a b r ea eb er = ap (option_map (λ (t : Bor Tree). tree_view 
 pub got_item : (ts : List Tree) (i : ℕ) (r : Option (Bor Tree)) → IsItemAt ts i r → option_copied r ≡ slice_get ts i
 got_item ts i None h = sym (slice_get_past ts i h.3)
 got_item ts i (Some x) h = sym (slice_get_read ts (length ts) i x.now refl h.3.0 h.1)
+
+-- one item more that fits, or of which nothing is asked
+pub item_step : (rules : Rules) (at : Location) (xs : Nodes) (i : ℕ) (ts : List Tree) (y : Tree) (x : Option Node) → i < length ts → y ≡ get_or ts i y → x ≡ example xs i
+    → if_there x (λ x. fits rules (at ++ item i ∷ []) x (tree_view y)) ≡ true → items_fit rules at xs i (list_view (drop i ts)) ≡ items_fit rules at xs (i + 1) (list_view (drop (i + 1) ts))
+item_step rules at xs i ts y x lt is expected met =
+    let rest = list_view (drop (i + 1) ts) in
+    ap (λ us. items_fit rules at xs i (list_view us)) (drop_more ts i y lt ∙ ap (λ z. z ∷ drop (i + 1) ts) (sym is))
+    ∙ ap (λ o. if_there o (λ x. fits rules (at ++ item i ∷ []) x (tree_view y)) && items_fit rules at xs (suc i) rest) (sym expected)
+    ∙ ap (λ b. b && items_fit rules at xs (suc i) rest) met
+    ∙ ap (λ n. items_fit rules at xs n rest) (sym (add-one i))
+
+pub no_view : (o : Option (Bor Tree)) → ((x : Bor Tree) → o ≡ Some x → ⊥) → None ≡ optional_view o
+no_view None none = refl
+no_view (Some x) none = absurd (none x refl)

@@ -1,9 +1,10 @@
-use Rattle.std.proofs.Common.{◌∙◌, true, false, Some, None, string_bytes, refl, sym, ap}
-use Rattle.pact_rules.specs.TreeView.{tree_view, object_view}
+use Rattle.std.proofs.Common.{◌∙◌, ◌<◌, true, false, Some, None, length, string_bytes, refl, sym, ap, arith}
+use Rattle.pact_rules.specs.TreeView.{tree_view, list_view, optional_view, object_view}
 use Rattle.pact_rules.proofs.MatchingLemmas.{Entry}
 use Rattle.reply_check.specs.Computed.{members_fit}
-use Rattle.reply_check.proofs.FitLemmas.{list_without_example, object_without_example, expected_at, not_expected, member_step, member_fits}
+use Rattle.reply_check.proofs.FitLemmas.{list_without_example, object_without_example, expected_at, not_expected, member_step, member_fits, item_step, no_view}
 use Rattle.reply_check.proofs.fit.+fitting.Goals as goal
+use Rattle.reply_check.proofs.fit.+fitting.Goals.{items_fit-in-Some+in_ok-fits_below+else-not-branch+in-Key-1, items_fit-in-Some+in_ok-fits_below+else-not-branch+in-Index-1, items_fit-in_default}
 
 pub fits_here-returns-in-None-clause-value : goal.fits_here-returns-in-None-clause-value
 fits_here-returns-in-None-clause-value t c = λ at h.
@@ -40,3 +41,17 @@ members_fit-loop-key-preserved t c = λ at h.
     let e : Entry = (c.in-Some.key.now, c.in-Some.member.now) in
     c.loop-key.invariant at h ∙ ap (λ es. members_fit rules at fs (object_view es)) c.in-Some.ensures.steps
     ∙ member_step rules at fs e c.next.new.self None true (not_expected c.as_str.result.now (string_bytes e.0) c.args.expected.now.entries c.get.result c.as_str.ensures.value c.get.ensures.value c.in_default.not-Some) refl
+
+pub items_fit-loop-index-preserved : goal.items_fit-loop-index-preserved
+items_fit-loop-index-preserved t c = λ at h.
+    let rules = c.args.rules.now in
+    let xs = list_view c.args.expected.now.items in
+    let i = c.loop-index.index in
+    let ts = c.deref-item-items.result.now in
+    let y = c.item-item.result in
+    let within : i < length ts = omega (arith, c.loop-index-test.true) in
+    c.loop-index.invariant at h ∙ (elim c.match-example_at.branch [
+      | items_fit-in-Some+in_ok-fits_below+else-not-branch+in-Key-1 w ↦ item_step rules at xs i ts y (Some (tree_view w.in-Some.example.now)) within c.item-item.is (sym (ap optional_view w.in-Some.is) ∙ c.example_at.ensures) (sym (w.in_ok-fits_below.ensures.value at h) ∙ w.if-not-branch.false)
+      | items_fit-in-Some+in_ok-fits_below+else-not-branch+in-Index-1 w ↦ item_step rules at xs i ts y (Some (tree_view w.in-Some.example.now)) within c.item-item.is (sym (ap optional_view w.in-Some.is) ∙ c.example_at.ensures) (sym (w.in_ok-fits_below.ensures.value at h) ∙ w.if-not-branch.false)
+      | items_fit-in_default w ↦ item_step rules at xs i ts y None within c.item-item.is (no_view c.example_at.result w.in_default.not-Some ∙ c.example_at.ensures) refl
+    ])
