@@ -83,10 +83,10 @@ grant_found team e old new rows s held h =
 abbrev pub add_sql : List ℕ
 add_sql = codes "INSERT INTO grants (team, environment) VALUES (?1, ?2)"
 
-abbrev add_command : Command
+abbrev pub add_command : Command
 add_command = Insert 6 (Values (lit Null ∷ col 0 0 ∷ col 0 1 ∷ []) 3)
 
-add_text : Means broker_schema add_sql add_command
+pub add_text : Means broker_schema add_sql add_command
 unfolding understood everything
 add_text = record { is = refl; plain = (refl, refl); unlisted = refl }
 

@@ -1,6 +1,7 @@
 pub mod OfficeRows
 pub mod TeamRows
 pub mod PacticipantRows
+pub mod GrantRefusals
 pub mod GrantRows
 pub mod VersionRows
 pub mod BranchRows

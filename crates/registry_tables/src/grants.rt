@@ -2,6 +2,7 @@
 ghost use Rattle.std.specs.Prelude.{◌≡◌};
 ghost use Rattle.broker_tables.specs.Holds.{Changes};
 ghost use Rattle.broker_tables.specs.Calm.{CalmQueriesInPlace};
+ghost use Rattle.registry_tables.specs.Refusals.{IsCalmChange};
 ghost use Rattle.registry_tables.specs.Registry.{AddsGrant, RemovesGrant};
 
 use sqlite::{Alter, Connection, params};
@@ -35,7 +36,8 @@ pub fn add_grant<S: Alter>(
     team: &str,
     environment: &str,
 ) -> Result<(), StoreFault>
-    ensures { Changes S.Store conn.old conn.new result (AddsGrant team.now environment.now) }
+    ensures changes { Changes S.Store conn.old conn.new result (AddsGrant team.now environment.now) }
+    ensures calm { IsCalmChange S.Store conn.old conn.new result (AddsGrant team.now environment.now) }
 {
     change(
         conn,

@@ -21,4 +21,4 @@ returns-in-Ok-add_grant g c =
       record s { grants = put_at (same_pair same_text same_text) s.grants (c.args.team.now, c.args.environment.now) true },
       (team_is, environment_is, grant_is, λ i. record s { grants = put_at (same_pair same_text same_text) s.grants (sym c.as_str.ensures i, sym c.as_str-in-None.ensures i) true }),
       it.3,
-    )) c.in-Ok.ensures c.in-Ok-add_grant.ensures
+    )) c.in-Ok.ensures c.in-Ok-add_grant.ensures.changes
