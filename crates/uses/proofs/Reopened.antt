@@ -1,5 +1,5 @@
 -- What files keep that were closed, and what is left of them if they can't be opened.
-use Rattle.std.proofs.Common.{◌≡◌, ◌⊎◌, ◌∙◌, inl, inr, [], false, Result, Ok, Err, IfOk, IfErr, ap, arith}
+use Rattle.std.proofs.Common.{◌≡◌, ◌⊎◌, ◌∙◌, inl, inr, [], false, Some, Result, Ok, Err, IfOk, IfErr, ap, arith}
 use Rattle.std.proofs.Math.Logic.{∥∥₁_elim, ∥∥₁_map}
 use Rattle.sqlite_disk.specs.declared.Disk.{Ghosts}
 use Rattle.sqlite_disk.specs.declared.Files.{Files}
@@ -7,22 +7,43 @@ use Rattle.sqlite.specs.Closing.{IsCopied, HoldsAlone}
 use Rattle.sqlite.specs.Files.{HoldsDatabase, Finds, IsCleanLeft, IsOpened, LeavesFiles, file_state, image_of}
 use Rattle.sqlite.specs.Held.{Held}
 use Rattle.sqlite.specs.Recovery.{Image}
-use Rattle.sqlite.specs.State.{HasCleanDisk}
+use Rattle.sqlite.specs.Effect.{Database}
+use Rattle.sqlite.specs.State.{State, HasCleanDisk}
 use Rattle.sqlite.specs.Tree.{Trees}
 use Rattle.sqlite.specs.WalReads.{AreClean}
 use Rattle.sqlite.specs.declared.FileStore.{FileStore}
 use Rattle.sqlite.specs.declared.file.Leftover.{Leftover}
 use Rattle.sqlite.proofs.Callers.{finds_again}
+use Rattle.table_access.specs.Durability.{HoldsDurably}
 use Rattle.broker_core.specs.State.{State as Broker}
+use Rattle.broker_tables.specs.Holds.{format}
+use Rattle.broker_tables.specs.Making.{IsMarked}
 use Rattle.broker_service.specs.BrokerView.{BrokerView}
 use Rattle.broker_service.specs.Calls.{Opened}
 use Rattle.broker_service.specs.Life.{AreTreesOf, AreFilesOf, HoldsAsBefore, OpeningSpares}
 use Rattle.broker_service.specs.Life.Kept.{Blank, OfToday}
 use Rattle.broker_service.specs.SessionFiles.{ClosedFilesHold}
-use Rattle.broker_service.specs.Stored.{HoldsState}
+use Rattle.broker_service.specs.Opening.{Judged}
+use Rattle.broker_service.specs.Stored.{Stores, HoldsState}
 use Rattle.broker_service.specs.declared.broker.Refused.{Refused}
-use Rattle.uses.specs.Reopening.{KeepState, KeepsOverCrash, KeepsAsFiles, AreClosed, IsLeftOf, IsOpenedOver, IsOpenedAgain, LosesNothing}
+use Rattle.broker_service.specs.declared.opening.OpenFault.{OpenFault}
+use Rattle.uses.specs.Reopening.{KeepState, KeepsOverCrash, KeepsAsFiles, AreClosed, IsLeftOf, IsOpenedOver, IsOpenedAgain, IsOfDatabase, LosesNothing}
 use Rattle.uses.specs.declared.reopening.NotReopened.{NotReopened}
+
+-- a database that holds a state has the mark of today's format
+marked : (s : Broker) (c : State) → HoldsState s c → HoldsDurably (IsMarked format s.office) c
+marked s c holds =
+    let has = λ (db : Database) (it : Stores db s). let r : IsMarked format s.office db = record { tables = _; indexes = _; schema = it.tables.broker.schema; row = it.tables.meta } in r in
+    record {
+      held = λ now. let it = holds.held now in record { autocommit = it.autocommit; same = it.same; sound = it.sound; has = has c.committed it.has };
+      left = λ t may. let d = holds.left t may in record { schema = d.schema; sound = d.sound; has = has _ d.has };
+    }
+
+-- so no broker is found in it only if the database failed
+failed : (why : OpenFault) → Judged format (Some format) (Err why) → IsOfDatabase why
+failed why (inl is) = absurd (cc)
+failed why (inr (inl memory)) = inl (cc)
+failed why (inr (inr store)) = inr (cc)
 
 module _ {D : Type 0} (g : Ghosts D) where
   -- the trees that two files hold, or files without a byte
@@ -71,11 +92,14 @@ module _ {D : Type 0} (g : Ghosts D) where
         record { conn = conn; opened = it.0; finds = it.1; same = opened.kept clean; holds = opened.holds clean }
 
     pub refused : (s : Broker) (r : Refused (FileStore D g)) → Opened (file_state {D = D} {g = g}) conn (Err r) → (AreClean g files.log files.db → KeepState g s files)
-        → HasCleanDisk (file_state {D = D} {g = g} r.connection) → KeepsOverCrash s (file_state {D = D} {g = g} r.connection).may_leave
-    refused s r opened keep clean trees may =
+        → HasCleanDisk (file_state {D = D} {g = g} r.connection) → KeepsOverCrash s (file_state {D = D} {g = g} r.connection).may_leave × IsOfDatabase r.fault
+    refused s r opened keep clean =
         let was : HasCleanDisk (file_state {D = D} {g = g} conn) = omega (arith, opened.survives.clean, clean) in
         let it = found was in
-        ((keep it.1.honest).found conn it.0 it.1).left trees (elim (opened.survives.crash clean trees may) [ inl old ↦ old | inr none ↦ absurd none ])
+        let held = (keep it.1.honest).found conn it.0 it.1 in (
+          λ trees may. held.left trees (elim (opened.survives.crash clean trees may) [ inl old ↦ old | inr none ↦ absurd none ]),
+          failed r.fault (opened.marked clean format s.office (marked s (file_state {D = D} {g = g} conn) held)),
+        )
 
   module _ (old : BrokerView (FileStore D g)) (files : Files D) (closed : AreClean g files.log files.db → AreClosed old files) where
     pub opened_again : (r : Result (BrokerView (FileStore D g)) (NotReopened D g)) → IfOk r (λ b. b.is_stopped ≡ false)

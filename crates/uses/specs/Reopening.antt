@@ -1,5 +1,5 @@
 -- What the caller that closes a broker's files and opens them again promises (this project's own).
-use Rattle.std.specs.Prelude.{◌≡◌, false, IsTrue}
+use Rattle.std.specs.Prelude.{◌≡◌, ◌⊎◌, false, IsTrue}
 use Rattle.sqlite_disk.specs.declared.Disk.{Ghosts}
 use Rattle.sqlite_disk.specs.declared.Files.{Files}
 use Rattle.sqlite.specs.Closing.{IsCopied}
@@ -19,8 +19,14 @@ use Rattle.broker_service.specs.Ends.{IsAsBefore}
 use Rattle.broker_service.specs.Life.{AreTreesOf, AreFilesOf, IsUnharmed, MayLeave}
 use Rattle.broker_service.specs.Life.Kept.{OfToday}
 use Rattle.broker_service.specs.Stored.{HoldsState}
+use Rattle.broker_service.specs.declared.opening.OpenFault.{OpenFault}
+use Rattle.broker_service.specs.declared.opening.OpenFault.TheVariants as fault
 use Rattle.uses.specs.declared.reopening.NotReopened.{NotReopened}
 use Rattle.uses.specs.declared.reopening.NotReopened.TheVariants.{Unclosed, Unopened, NoBroker}
+
+-- the database failed, or had no memory
+abbrev pub IsOfDatabase : OpenFault → Type 0
+IsOfDatabase why = (why ≡ fault.Memory) ⊎ (why ≡ fault.Store)
 
 -- whatever a crash leaves keeps the state
 abbrev pub KeepsOverCrash : Broker → (Trees → Type 0) → Type 0
@@ -73,12 +79,14 @@ module _ {D : Type 0} {g : Ghosts D} where
 
   -- ---- no broker
 
-  -- what is handed back keeps the state over a crash
+  -- What is handed back keeps the state over a crash; and if there is no broker in files that were opened, it is the
+  -- database that failed.
   abbrev pub StillKeeps : Broker → NotReopened D g → Type 0
   StillKeeps s (Unclosed error store) = KeepsOverCrash s (recovers store)
   StillKeeps s (Unopened error left) = IsLeftOf s left
   StillKeeps s (NoBroker refused) =
-      HasCleanDisk (file_state refused.connection) → KeepsOverCrash s (file_state refused.connection).may_leave
+      HasCleanDisk (file_state refused.connection)
+      → KeepsOverCrash s (file_state refused.connection).may_leave × IsOfDatabase refused.fault
 
   -- for private clauses: each state that these files kept, it keeps
   abbrev pub KeepsAsFiles : Files D → NotReopened D g → Type 0
