@@ -12,7 +12,7 @@ use Rattle.broker_tables.specs.Rows.{truth, IsTruthAt}
 use Rattle.contract_tables.specs.declared.version_results.ContentPass.{ContentPass}
 use Rattle.contract_tables.specs.declared.version_results.LatestResult.{LatestResult}
 
--- in the order of contents, of which each stands once
+-- for private clauses: in the order of contents, each of which is there once
 abbrev pub pass_cmp : ContentPass → ContentPass → Ordering
 pass_cmp x y = nat_cmp x.content y.content
 
@@ -31,11 +31,11 @@ ReadsAsPass row = IsNumberRow row × IsTruthAt 1 row
 abbrev pub FailsAsPass : Row → StoreFault → Type 0
 FailsAsPass row fault = (fault ≡ Store) × (¬ ReadsAsPass row)
 
--- the content is one of these
+-- for private clauses: the content is one of these
 abbrev pub is_among : List ℕ → ℕ → Bool
 is_among contents content = list_any (λ c. c == content) contents
 
--- what a result says, which the broker checked where its content is one of these
+-- for private clauses: what a result says, which the broker checked if its content is one of these
 abbrev pub marked : List ℕ → ContentPass → LatestResult
 marked checked x = record {
   content = x.content;

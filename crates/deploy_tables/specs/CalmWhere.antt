@@ -1,4 +1,4 @@
--- Why a query fails that is asked only of some states.
+-- For private clauses: why a query fails that is asked only of some states.
 use Rattle.std.specs.Prelude.{Result, IfErr}
 use Rattle.sqlite.specs.Held.{Held, state}
 use Rattle.sqlite.specs.State.{State, HasCleanDisk}

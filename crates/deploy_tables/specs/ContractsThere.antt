@@ -1,5 +1,5 @@
--- The contracts with one provider of the versions that stand in an environment, as their rows are read, by the
--- numbers of the versions.
+-- For private clauses: the contracts with one provider of the versions that are in an environment, as their rows are
+-- read, by the numbers of the versions.
 use Rattle.std.specs.Prelude.{Contains, ◌≡◌, ◌↔◌, ℕ, List, Some, IsTrue, pos}
 use Rattle.std.specs.List.Sorted.{IsSortedBy}
 use Rattle.std.specs.Ordering.{nat_cmp, is_lt}

@@ -1,4 +1,5 @@
--- What the latest results say: whether each is a pass, and the numbers of those that the broker checked.
+-- For private clauses: what the latest results say, whether each is a pass, and the numbers of those that the broker
+-- checked.
 use Rattle.std.specs.Prelude.{Contains, ◌≡◌, ◌⊎◌, ℕ, true, List, Option, Some, None, pos}
 use Rattle.std.specs.List.Sorted.{IsSortedBy}
 use Rattle.std.specs.Ordering.{nat_cmp, is_lt}

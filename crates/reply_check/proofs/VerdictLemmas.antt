@@ -7,7 +7,7 @@ use Rattle.pact_file.specs.Pact.{Interaction}
 use Rattle.pact_rules.specs.Lists.{OneOf, IsIn}
 use Rattle.reply_check.specs.Meeting.{HasPattern}
 use Rattle.reply_check.specs.Recorded.{Reply}
-use Rattle.reply_check.specs.Verdicts.{BelongsTo, IsKnown, AreKnown, IsFirstUnknown, Passes, Fails, IsAscending, AreFailing, UsesPattern}
+use Rattle.reply_check.specs.Verdicts.{BelongsTo, IsKnown, AreKnown, IsFirstUnknown, Passes, InteractionFails, IsAscending, AreFailing, UsesPattern}
 use Rattle.reply_check.proofs.Deciding.{by_test}
 
 -- ---- indices
@@ -67,10 +67,10 @@ module _ (interactions : List Interaction) (replies : List Reply) where
   pub record IsSoFar (n : ℕ) (indices : List ℕ) : Type 0 where
     pub ascending : IsAscending indices
     pub below_all : AllByRecursion (λ i. i < n) indices
-    pub failing : (i : ℕ) → i < n → IsIn i indices ↔ Fails interactions replies i
+    pub failing : (i : ℕ) → i < n → IsIn i indices ↔ InteractionFails interactions replies i
 
   module _ (n : ℕ) (x : Interaction) (indices : List ℕ) (stands : slice_get interactions n ≡ Some x) (h : IsSoFar n indices) where
-    passing : (i : ℕ) → Passes replies x → (i < n) ⊎ (i ≡ n) → IsIn i indices ↔ Fails interactions replies i
+    passing : (i : ℕ) → Passes replies x → (i < n) ⊎ (i ≡ n) → IsIn i indices ↔ InteractionFails interactions replies i
     passing i p (inl l) = h.failing i l
     passing i p (inr same) = (
       λ m. let l : i < n = below n indices i h.below_all m in absurd (omega arith),
@@ -80,7 +80,7 @@ module _ (interactions : List Interaction) (replies : List Reply) where
     pub one_passes : Passes replies x → IsSoFar (n + 1) indices
     one_passes p = record { ascending = h.ascending; below_all = all_weaker n indices h.below_all; failing = λ i l. passing i p (up_to n i l) }
 
-    failing_one : (i : ℕ) → ¬ Passes replies x → (i < n) ⊎ (i ≡ n) → IsIn i (indices ++ n ∷ []) ↔ Fails interactions replies i
+    failing_one : (i : ℕ) → ¬ Passes replies x → (i < n) ⊎ (i ≡ n) → IsIn i (indices ++ n ∷ []) ↔ InteractionFails interactions replies i
     failing_one i f (inl l) = (λ m. (h.failing i l).0 (earlier (of_push n indices i m)), λ k. in_push n indices i ((h.failing i l).1 k)) where
       earlier : IsIn i indices ⊎ (i ≡ n) → IsIn i indices
       earlier (inl m) = m

@@ -30,8 +30,8 @@ abbrev pub Passes : List Reply → Interaction → Type 0
 Passes replies x = OneOf (λ r. BelongsTo x r × Meets x r) replies
 
 -- the interaction at this index has no reply, or its reply doesn't meet it
-abbrev pub Fails : List Interaction → List Reply → ℕ → Type 0
-Fails interactions replies i = (x : Interaction) × (slice_get interactions i ≡ Some x) × ¬ Passes replies x
+abbrev pub InteractionFails : List Interaction → List Reply → ℕ → Type 0
+InteractionFails interactions replies i = (x : Interaction) × (slice_get interactions i ≡ Some x) × ¬ Passes replies x
 
 abbrev pub IsAscending : List ℕ → Type 0
 IsAscending [] = ⊤
@@ -40,7 +40,7 @@ IsAscending (i ∷ is) = AllByRecursion (λ j. i < j) is × IsAscending is
 -- just the indices of the failing interactions, ascending
 pub record AreFailing (interactions : List Interaction) (replies : List Reply) (indices : List ℕ) : Type 0 where
   pub ascending : IsAscending indices
-  pub failing : (i : ℕ) → IsIn i indices ↔ Fails interactions replies i
+  pub failing : (i : ℕ) → IsIn i indices ↔ InteractionFails interactions replies i
 
 -- an interaction that has a reply has a pattern
 abbrev pub UsesPattern : List Interaction → List Reply → Type 0
