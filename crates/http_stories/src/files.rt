@@ -8,6 +8,9 @@ use sqlite_disk::{Crash, Disk, Fuse, Memory};
 use std::alloc::Global;
 use std::fmt;
 
+/// The files of a database in memory, each of which may stop.
+pub(crate) type Storage = Files<Fuse<Memory>>;
+
 /// A file of a database.
 #[derive(Clone, Copy, Debug)]
 pub(crate) enum Side {
@@ -33,7 +36,7 @@ impl fmt::Display for Stop {
 }
 
 /// The files of a connection that is over.
-fn files_of<D: Disk + Drop>(connection: Connection<FileStore<D>>) -> Files<D> {
+fn files_of(connection: Connection<FileStore<Fuse<Memory>>>) -> Storage {
     match connection.close_files() {
         Ok(files) => files,
         Err((_, store)) => store.close(),
@@ -41,10 +44,7 @@ fn files_of<D: Disk + Drop>(connection: Connection<FileStore<D>>) -> Files<D> {
 }
 
 /// A connection over the files, or the files again if there is none.
-fn connect<D: Disk + Drop>(
-    alloc: Global,
-    files: Files<D>,
-) -> Result<Connection<FileStore<D>>, Files<D>> {
+fn connect(alloc: Global, files: Storage) -> Result<Connection<FileStore<Fuse<Memory>>>, Storage> {
     if !files.may_be_used() {
         return Err(files);
     }
@@ -55,11 +55,7 @@ fn connect<D: Disk + Drop>(
 }
 
 /// Whether a broker is made on the files, and the files that this leaves.
-pub(crate) fn make<D: Disk + Drop>(
-    alloc: Global,
-    files: Files<D>,
-    office: &Token,
-) -> (bool, Files<D>) {
+pub(crate) fn make(alloc: Global, files: Storage, office: &Token) -> (bool, Storage) {
     match connect(alloc, files) {
         Ok(connection) => match Broker::create(alloc, connection, office) {
             Ok(broker) => (true, files_of(broker.close())),
@@ -70,7 +66,7 @@ pub(crate) fn make<D: Disk + Drop>(
 }
 
 /// Whether the files are migrated, and what this leaves of them.
-pub(crate) fn migrated<D: Disk + Drop>(alloc: Global, files: Files<D>) -> (bool, Files<D>) {
+pub(crate) fn migrated(alloc: Global, files: Storage) -> (bool, Storage) {
     match connect(alloc, files) {
         Ok(mut connection) => {
             let done = migrate(&mut connection).is_ok();
@@ -81,56 +77,47 @@ pub(crate) fn migrated<D: Disk + Drop>(alloc: Global, files: Files<D>) -> (bool,
 }
 
 /// A broker over the files, or the files again if there is none.
-fn open<D: Disk + Drop>(alloc: Global, files: Files<D>) -> Result<Broker<FileStore<D>>, Files<D>> {
+fn open(alloc: Global, files: Storage) -> Result<Broker<FileStore<Fuse<Memory>>>, Storage> {
     match Broker::open(connect(alloc, files)?) {
         Ok(broker) => Ok(broker),
         Err(refused) => Err(files_of(refused.connection)),
     }
 }
 
-/// What a broker writes to a stream, however serving it ends.
-fn answers<S: Alter>(
+/// What the broker over the files answers a stream, however serving it ends, and the files that this leaves. Nothing is
+/// answered if none could be opened.
+pub(crate) fn session(
     alloc: Global,
     routes: &RouteTable,
-    broker: &mut Broker<S>,
+    files: Storage,
     stream: &[u8],
-) -> Vec<u8> {
-    let mut reader = stream;
+) -> (Vec<u8>, Storage) {
     let mut out = Vec::new(alloc);
-    let _ = serve(alloc, routes, broker, &mut reader, &mut out);
-    out
-}
-
-/// What the broker over the files answers a stream, and the files that this leaves. Nothing is answered if none could
-/// be opened.
-pub(crate) fn session<D: Disk + Drop>(
-    alloc: Global,
-    routes: &RouteTable,
-    files: Files<D>,
-    stream: &[u8],
-) -> (Vec<u8>, Files<D>) {
     match open(alloc, files) {
         Ok(mut broker) => {
-            let out = answers(alloc, routes, &mut broker, stream);
+            let mut reader = stream;
+            let _ = serve(alloc, routes, &mut broker, &mut reader, &mut out);
             (out, files_of(broker.close()))
         }
-        Err(files) => (Vec::new(alloc), files),
+        Err(files) => (out, files),
     }
 }
 
-/// Executes the statements one after another.
-fn execute_all<S: Alter>(
+/// Executes the statements one after another, but for empty ones.
+pub(crate) fn execute_all<S: Alter>(
     connection: &mut Connection<S>,
     statements: &[String],
 ) -> Result<(), Fault> {
     for statement in statements {
-        connection.execute(statement.as_str(), &[])?;
+        if !statement.is_empty() {
+            connection.execute(statement.as_str(), &[])?;
+        }
     }
     Ok(())
 }
 
 /// The files of a database that these statements make.
-pub(crate) fn files_made_by(alloc: Global, statements: &[String]) -> Result<Files<Memory>, Fault> {
+pub(crate) fn files_made_by(alloc: Global, statements: &[String]) -> Result<Storage, Fault> {
     let Ok(mut connection) = connect(alloc, empty_files(alloc)) else {
         return Err(Fault::Broker);
     };
@@ -140,41 +127,46 @@ pub(crate) fn files_made_by(alloc: Global, statements: &[String]) -> Result<File
     Ok(files)
 }
 
-/// Files without a byte.
-pub(crate) fn empty_files(alloc: Global) -> Files<Memory> {
-    Files {
-        log: Memory::new(alloc),
-        db: Memory::new(alloc),
-    }
-}
-
-/// A file of these bytes, all of them synced.
-fn copy(alloc: Global, bytes: &[u8]) -> Memory {
+/// A file of these bytes, all of them synced, that passes so many calls on.
+fn file_of(alloc: Global, bytes: &[u8], calls: u64) -> Fuse<Memory> {
     let mut file = Memory::new(alloc);
     if file.write_at(0, bytes).is_ok() {
         let _ = file.sync();
     }
-    file
+    Fuse::new(file, calls)
 }
 
-/// Files of the same bytes, all of them synced.
-pub(crate) fn copies(alloc: Global, files: &Files<Memory>) -> Files<Memory> {
+/// Files without a byte.
+pub(crate) fn empty_files(alloc: Global) -> Storage {
     Files {
-        log: copy(alloc, files.log.bytes()),
-        db: copy(alloc, files.db.bytes()),
+        log: file_of(alloc, &[], u64::MAX),
+        db: file_of(alloc, &[], u64::MAX),
+    }
+}
+
+/// Files of the same bytes, all of them synced, that don't stop.
+pub(crate) fn copies(alloc: Global, files: &Storage) -> Storage {
+    Files {
+        log: file_of(alloc, files.log.inner().bytes(), u64::MAX),
+        db: file_of(alloc, files.db.inner().bytes(), u64::MAX),
     }
 }
 
 /// Copies of the files, one of which stops there.
-pub(crate) fn stopping(alloc: Global, files: &Files<Memory>, stop: Stop) -> Files<Fuse<Memory>> {
+pub(crate) fn stopping(alloc: Global, files: &Storage, stop: Stop) -> Storage {
     let (log, db) = match stop.side {
         Side::Log => (stop.calls, u64::MAX),
         Side::Database => (u64::MAX, stop.calls),
     };
     Files {
-        log: Fuse::new(copy(alloc, files.log.bytes()), log),
-        db: Fuse::new(copy(alloc, files.db.bytes()), db),
+        log: file_of(alloc, files.log.inner().bytes(), log),
+        db: file_of(alloc, files.db.inner().bytes(), db),
     }
+}
+
+/// Whether the files have the same bytes.
+pub(crate) fn are_same(a: &Storage, b: &Storage) -> bool {
+    a.log.inner().bytes() == b.log.inner().bytes() && a.db.inner().bytes() == b.db.inner().bytes()
 }
 
 /// Whether the file passes one more call on, so that it refused none.
@@ -186,14 +178,10 @@ fn passes(file: &mut Fuse<Memory>) -> bool {
 }
 
 /// Whether no call was refused, and the files when the machine is back with what was synced.
-pub(crate) fn crashed(alloc: Global, files: Files<Fuse<Memory>>) -> (bool, Files<Memory>) {
+pub(crate) fn crashed(alloc: Global, files: Storage) -> (bool, Storage) {
     let mut files = files;
     let is_whole = passes(&mut files.log) && passes(&mut files.db);
     files.log.crash();
     files.db.crash();
-    let left = Files {
-        log: copy(alloc, files.log.inner().bytes()),
-        db: copy(alloc, files.db.inner().bytes()),
-    };
-    (is_whole, left)
+    (is_whole, copies(alloc, &files))
 }

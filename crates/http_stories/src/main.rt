@@ -61,7 +61,7 @@ mod story;
 
 use crate::fault::Fault;
 use crate::lines::joined_lines;
-use crate::play::{Outcome, play};
+use crate::play::{AsWritten, play};
 use crate::setting::{Kept, stop_all};
 use crate::stops::Stops;
 use crate::story::Story;
@@ -102,8 +102,8 @@ fn take_other(rt: &HostRuntime, story: &mut Story, name: &str) -> Result<(), Fau
     Ok(())
 }
 
-/// Reads the story of this name.
-fn read_story(rt: &HostRuntime, name: &str) -> Result<Story, Fault> {
+/// Reads and plays the story of this name.
+fn play_story(rt: &HostRuntime, name: &str) -> Result<AsWritten, Fault> {
     let mut story = Story::new(rt.alloc());
     for line in lines_of(rt, name, STORY)? {
         match line.as_str().strip_prefix("& ") {
@@ -112,17 +112,11 @@ fn read_story(rt: &HostRuntime, name: &str) -> Result<Story, Fault> {
         }
     }
     story.finish(rt.alloc())?;
-    Ok(story)
-}
-
-/// Reads and plays the story of this name.
-fn outcome(rt: &HostRuntime, name: &str) -> Result<Outcome, Fault> {
-    let story = read_story(rt, name)?;
     play(rt.alloc(), &story)
 }
 
-/// Reads the file of stops of this name.
-fn read_stops(rt: &HostRuntime, name: &str) -> Result<Stops, Fault> {
+/// Reads the file of stops of this name, and stops what it says.
+fn stop_file(rt: &HostRuntime, name: &str) -> Result<Kept, Fault> {
     let mut stops = Stops::new(rt.alloc());
     for line in lines_of(rt, name, STOPS)? {
         match line.as_str().strip_prefix("& ") {
@@ -131,20 +125,14 @@ fn read_stops(rt: &HostRuntime, name: &str) -> Result<Stops, Fault> {
         }
     }
     stops.first.finish(rt.alloc())?;
-    Ok(stops)
-}
-
-/// Reads the file of stops of this name, and stops what it says.
-fn kept(rt: &HostRuntime, name: &str) -> Result<Kept, Fault> {
-    let stops = read_stops(rt, name)?;
     stop_all(rt.alloc(), &stops)
 }
 
 /// Plays all stories, and prints what came of each.
 fn play_stories(rt: &HostRuntime) -> io::Result<()> {
     for name in names(rt, STORY)? {
-        match outcome(rt, name.as_str()) {
-            Ok(outcome) => println!(rt; "{name}: {outcome}")?,
+        match play_story(rt, name.as_str()) {
+            Ok(as_written) => println!(rt; "{name}: {as_written}")?,
             Err(fault) => println!(rt; "{name}: {fault}")?,
         }
     }
@@ -154,7 +142,7 @@ fn play_stories(rt: &HostRuntime) -> io::Result<()> {
 /// Stops what all files of stops say, and prints what came of each.
 fn stop_steps(rt: &HostRuntime) -> io::Result<()> {
     for name in names(rt, STOPS)? {
-        match kept(rt, name.as_str()) {
+        match stop_file(rt, name.as_str()) {
             Ok(kept) => println!(rt; "{name}: {kept}")?,
             Err(fault) => println!(rt; "{name}: {fault}")?,
         }

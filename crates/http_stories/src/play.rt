@@ -1,5 +1,6 @@
 //! Playing a story over new brokers.
 use crate::fault::Fault;
+use crate::files::execute_all;
 use crate::story::{Story, Stream};
 use broker_core::name::Token;
 use broker_http::{RouteTable, Served, serve};
@@ -8,6 +9,7 @@ use sqlite::{Connection, MemStore};
 use std::alloc::{AllocError, Global};
 use std::fmt;
 use std::io::Read;
+use thiserror::Error;
 
 /// About how many answers are asked for at most, if a story is played again and again with its streams cut in two.
 const MOST_ANSWERS: usize = 4000;
@@ -16,7 +18,7 @@ const MOST_ANSWERS: usize = 4000;
 const MOST_BYTES: usize = 5_000_000;
 
 /// How a stream is read.
-#[derive(Clone, Copy)]
+#[derive(Clone, Copy, Debug)]
 pub(crate) enum Reading {
     Whole,
     ByteByByte,
@@ -35,54 +37,31 @@ impl fmt::Display for Reading {
 }
 
 /// What is otherwise in a stream than written.
-#[derive(Drop)]
+#[derive(Debug, Drop, Error)]
 pub(crate) enum Difference {
     /// The answer of this number, from 1, and how what was got begins there.
+    #[error("answer {number} differs: got {got}")]
     Answer { number: u64, got: String },
     /// The answers are as written, but serving ended otherwise.
+    #[error("the end differs: got {0:?}")]
     End(Served),
 }
 
-impl fmt::Display for Difference {
-    fn fmt<W: fmt::Write>(&self, f: &mut fmt::Formatter<W>) -> fmt::Result {
-        match self {
-            Difference::Answer { number, got } => write!(f, "answer {number} differs: got {got}"),
-            Difference::End(served) => write!(f, "the end differs: got {served:?}"),
-        }
-    }
+/// A story is as written: so many answers, however the streams are read, also if they are cut in two at places so many
+/// bytes apart.
+#[derive(Clone, Copy)]
+pub(crate) struct AsWritten {
+    answers: usize,
+    step: usize,
 }
 
-/// What came of a story.
-#[derive(Drop)]
-pub(crate) enum Outcome {
-    /// So many answers are as written, however the streams are read, also if they are cut in two at places so many
-    /// bytes apart.
-    AsWritten {
-        answers: usize,
-        step: usize,
-    },
-    /// The stream of this number, from 1, differs if the streams are read so.
-    Differs {
-        reading: Reading,
-        stream: u64,
-        difference: Difference,
-    },
-}
-
-impl fmt::Display for Outcome {
+impl fmt::Display for AsWritten {
     fn fmt<W: fmt::Write>(&self, f: &mut fmt::Formatter<W>) -> fmt::Result {
-        match self {
-            Outcome::AsWritten { answers, step: 1 } => {
-                write!(f, "{answers} answers as written, cut at every place")
-            }
-            Outcome::AsWritten { answers, step } => {
-                write!(f, "{answers} answers as written, cut every {step} bytes")
-            }
-            Outcome::Differs {
-                reading,
-                stream,
-                difference,
-            } => write!(f, "read {reading}, in stream {stream} {difference}"),
+        let AsWritten { answers, step } = *self;
+        if step == 1 {
+            write!(f, "{answers} answers as written, cut at every place")
+        } else {
+            write!(f, "{answers} answers as written, cut every {step} bytes")
         }
     }
 }
@@ -123,11 +102,7 @@ fn opened_behind(
         return Ok(broker);
     }
     let mut connection = broker.close();
-    for statement in statements {
-        if !statement.is_empty() {
-            connection.execute(statement.as_str(), &[])?;
-        }
-    }
+    execute_all(&mut connection, statements)?;
     match Broker::open(connection) {
         Ok(broker) => Ok(broker),
         Err(refused) => Err(Fault::Opening(refused.fault)),
@@ -206,30 +181,33 @@ fn play_stream(
     }
 }
 
-/// Plays all streams over a new broker, the story's own read so. The result is what differs first, with the number of
-/// its stream, from 1.
+/// Plays all streams over a new broker, the story's own read so. A fault names the first stream that differs.
 fn play_all(
     alloc: Global,
     routes: &RouteTable,
     story: &Story,
     reading: Reading,
-) -> Result<Option<(u64, Difference)>, Fault> {
+) -> Result<(), Fault> {
     let office = story.office(alloc)?;
     let mut broker = new_broker(alloc, &office)?;
     let mut number = 1u64;
     for stream in &story.streams {
         broker = opened_behind(broker, stream.statements.as_slice())?;
-        let reading = if stream.is_own {
+        let here = if stream.is_own {
             reading
         } else {
             Reading::Whole
         };
-        if let Some(difference) = play_stream(alloc, routes, &mut broker, stream, reading)? {
-            return Ok(Some((number, difference)));
+        if let Some(difference) = play_stream(alloc, routes, &mut broker, stream, here)? {
+            return Err(Fault::Stream {
+                reading,
+                stream: number,
+                difference,
+            });
         }
         number = number.saturating_add(1);
     }
-    Ok(None)
+    Ok(())
 }
 
 /// The length of the longest stream of the story's own.
@@ -252,23 +230,6 @@ fn answer_count(streams: &[Stream]) -> usize {
     count
 }
 
-/// The outcome of a story that is read so, if something differs.
-fn differs(
-    alloc: Global,
-    routes: &RouteTable,
-    story: &Story,
-    reading: Reading,
-) -> Result<Option<Outcome>, Fault> {
-    match play_all(alloc, routes, story, reading)? {
-        Some((stream, difference)) => Ok(Some(Outcome::Differs {
-            reading,
-            stream,
-            difference,
-        })),
-        None => Ok(None),
-    }
-}
-
 /// How many bytes apart the places are where a story's streams of this length are cut, with so many answers.
 fn step_between(length: usize, answers: usize) -> usize {
     let by_answers = length.saturating_mul(answers) / MOST_ANSWERS;
@@ -277,20 +238,16 @@ fn step_between(length: usize, answers: usize) -> usize {
 }
 
 /// Plays a story with its streams whole, byte by byte, and cut in two.
-pub(crate) fn play(alloc: Global, story: &Story) -> Result<Outcome, Fault> {
+pub(crate) fn play(alloc: Global, story: &Story) -> Result<AsWritten, Fault> {
     let routes = RouteTable::new(alloc)?;
     for reading in [Reading::Whole, Reading::ByteByByte] {
-        if let Some(outcome) = differs(alloc, &routes, story, reading)? {
-            return Ok(outcome);
-        }
+        play_all(alloc, &routes, story, reading)?;
     }
     let length = longest(story.streams.as_slice());
     let answers = answer_count(story.streams.as_slice());
     let step = step_between(length, answers);
     for place in (0..length).step_by(step.max(1)) {
-        if let Some(outcome) = differs(alloc, &routes, story, Reading::Cut(place))? {
-            return Ok(outcome);
-        }
+        play_all(alloc, &routes, story, Reading::Cut(place))?;
     }
-    Ok(Outcome::AsWritten { answers, step })
+    Ok(AsWritten { answers, step })
 }

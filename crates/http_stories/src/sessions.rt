@@ -1,13 +1,11 @@
 //! Sessions in a row, each of two requests, that are stopped at every call on the store.
 use crate::fault::Fault;
-use crate::files::{Side, Stop, copies, crashed, session, stopping};
+use crate::files::{Side, Stop, Storage, copies, crashed, session, stopping};
 use crate::flaw::{Flaw, Lapse};
 use crate::play::shown;
 use crate::setting::Setting;
 use crate::stopping::{MOST_CALLS, STORE, end_of, endless};
 use crate::stops::{Act, Step};
-use sqlite::Files;
-use sqlite_disk::Memory;
 use std::alloc::{AllocError, Global};
 
 /// The answer once the store failed.
@@ -22,7 +20,7 @@ const SESSION: usize = 2;
 struct Run {
     answered: Vec<Vec<u8>>,
     kept: Vec<u8>,
-    left: Files<Memory>,
+    left: Storage,
 }
 
 /// The bytes of the first so many requests of a session.
@@ -101,7 +99,7 @@ fn run_count(steps: &[Step]) -> u32 {
 impl Setting<'_> {
     /// The run of this number. Its digits to the base 3, the lowest first, are how many requests of each session are
     /// done.
-    fn run_of(&self, base: &Files<Memory>, steps: &[Step], number: u32) -> Result<Run, AllocError> {
+    fn run_of(&self, base: &Storage, steps: &[Step], number: u32) -> Result<Run, AllocError> {
         let mut left = copies(self.alloc, base);
         let mut answered = Vec::new(self.alloc);
         let mut digits = number;
@@ -121,7 +119,7 @@ impl Setting<'_> {
     }
 
     /// All runs, in the order of their numbers.
-    fn all_runs(&self, base: &Files<Memory>, steps: &[Step]) -> Result<Vec<Run>, AllocError> {
+    fn all_runs(&self, base: &Storage, steps: &[Step]) -> Result<Vec<Run>, AllocError> {
         let mut runs = Vec::new(self.alloc);
         for number in 0..run_count(steps) {
             runs.push(self.run_of(base, steps, number)?)?;
@@ -132,7 +130,7 @@ impl Setting<'_> {
     /// What comes of the sessions if each is stopped there, and whether no call was refused.
     fn stopped_run(
         &self,
-        base: &Files<Memory>,
+        base: &Storage,
         steps: &[Step],
         stop: Stop,
     ) -> Result<(Run, bool), AllocError> {
@@ -161,7 +159,7 @@ impl Setting<'_> {
     /// lapse.
     fn stop_sessions(
         &self,
-        base: &Files<Memory>,
+        base: &Storage,
         steps: &[Step],
         runs: &[Run],
         side: Side,
@@ -182,16 +180,6 @@ impl Setting<'_> {
         Ok(endless(side))
     }
 
-    /// Stops the sessions at every call of both files.
-    fn stop_both(&self, base: &Files<Memory>, steps: &[Step], runs: &[Run]) -> Result<(), Fault> {
-        for side in [Side::Log, Side::Database] {
-            if let Some((stop, lapse)) = self.stop_sessions(base, steps, runs, side)? {
-                return Err(Fault::Flaw(Flaw::Sessions(stop, lapse)));
-            }
-        }
-        Ok(())
-    }
-
     /// Tries that the sessions, unstopped, are answered as written.
     fn try_answers(&self, steps: &[Step], whole: &Run) -> Result<(), Fault> {
         for (pair, out) in steps.chunks(SESSION).zip(whole.answered.iter()) {
@@ -204,17 +192,17 @@ impl Setting<'_> {
     }
 
     /// Does the sessions, unstopped and each stopped at every call, and gives the files that they leave unstopped.
-    pub(crate) fn try_sessions(
-        &self,
-        steps: &[Step],
-        base: &Files<Memory>,
-    ) -> Result<Files<Memory>, Fault> {
+    pub(crate) fn try_sessions(&self, steps: &[Step], base: &Storage) -> Result<Storage, Fault> {
         let runs = self.all_runs(base, steps)?;
         let Some(whole) = runs.last() else {
             return Ok(copies(self.alloc, base));
         };
         self.try_answers(steps, whole)?;
-        self.stop_both(base, steps, runs.as_slice())?;
+        for side in [Side::Log, Side::Database] {
+            if let Some((stop, lapse)) = self.stop_sessions(base, steps, runs.as_slice(), side)? {
+                return Err(Fault::Flaw(Flaw::Sessions(stop, lapse)));
+            }
+        }
         Ok(copies(self.alloc, &whole.left))
     }
 }

@@ -1,14 +1,12 @@
 //! What the steps of a file of stops have in common, and what is done over files.
 use crate::fault::Fault;
-use crate::files::{copies, empty_files, files_made_by, make, migrated, session};
+use crate::files::{Storage, copies, empty_files, files_made_by, make, migrated, session};
 use crate::flaw::Flaw;
 use crate::play::{first_other, shown};
-use crate::stops::{Act, DONE, Stops};
+use crate::stops::{Act, DONE, Step, Stops};
 use crate::story::Stream;
 use broker_core::name::Token;
 use broker_http::RouteTable;
-use sqlite::Files;
-use sqlite_disk::{Disk, Memory};
 use std::alloc::{AllocError, Global};
 use std::fmt;
 
@@ -33,11 +31,11 @@ fn told(alloc: Global, is_done: bool) -> Result<Vec<u8>, AllocError> {
 
 impl Setting<'_> {
     /// Acts on the files: what is answered, and the files that this leaves.
-    pub(crate) fn act_on<D: Disk + Drop>(
+    pub(crate) fn act_on(
         &self,
-        files: Files<D>,
+        files: Storage,
         act: &Act,
-    ) -> Result<(Vec<u8>, Files<D>), AllocError> {
+    ) -> Result<(Vec<u8>, Storage), AllocError> {
         match act {
             Act::Create => {
                 let (is_done, left) = make(self.alloc, files, self.office);
@@ -52,47 +50,47 @@ impl Setting<'_> {
     }
 
     /// What the questions are answered over copies of the files; nothing if there is no broker.
-    pub(crate) fn asked(&self, files: &Files<Memory>) -> Vec<u8> {
+    pub(crate) fn asked(&self, files: &Storage) -> Vec<u8> {
         let files = copies(self.alloc, files);
         let (out, _) = session(self.alloc, self.routes, files, self.questions);
         out
     }
 
-    /// Serves a stream, which must be answered as written, and gives the files after it.
-    fn serve_first(&self, files: Files<Memory>, stream: &Stream) -> Result<Files<Memory>, Fault> {
-        let (out, left) = session(self.alloc, self.routes, files, stream.sent.as_slice());
-        match first_other(stream.answers.as_slice(), out.as_slice()) {
-            Some((_, rest)) => Err(Fault::Flaw(Flaw::First(shown(self.alloc, rest)?))),
-            None => Ok(left),
-        }
-    }
-
-    /// The files of a new broker after these streams.
-    fn served(&self, streams: &[Stream]) -> Result<Files<Memory>, Fault> {
-        let (is_made, files) = make(self.alloc, empty_files(self.alloc), self.office);
+    /// The files of a new broker after these streams, which must be answered as written.
+    fn served(&self, streams: &[Stream]) -> Result<Storage, Fault> {
+        let (is_made, mut files) = make(self.alloc, empty_files(self.alloc), self.office);
         if !is_made {
             return Err(Fault::Broker);
         }
-        let mut files = files;
         for stream in streams {
-            files = self.serve_first(files, stream)?;
+            let (out, left) = session(self.alloc, self.routes, files, stream.sent.as_slice());
+            if let Some((_, rest)) = first_other(stream.answers.as_slice(), out.as_slice()) {
+                return Err(Fault::Flaw(Flaw::First(shown(self.alloc, rest)?)));
+            }
+            files = left;
         }
         Ok(files)
     }
 
     /// The files before the first step.
-    fn base(&self, stops: &Stops) -> Result<Files<Memory>, Fault> {
+    fn base(&self, stops: &Stops) -> Result<Storage, Fault> {
         if !stops.statements.is_empty() {
             return files_made_by(self.alloc, stops.statements.as_slice());
         }
-        if stops.makes_broker() {
+        if matches!(
+            stops.steps.first(),
+            Some(Step {
+                act: Act::Create,
+                ..
+            })
+        ) {
             return Ok(empty_files(self.alloc));
         }
         self.served(stops.first.streams.as_slice())
     }
 
     /// The files after all that is stopped.
-    fn try_all(&self, stops: &Stops) -> Result<Files<Memory>, Fault> {
+    fn try_all(&self, stops: &Stops) -> Result<Storage, Fault> {
         let base = self.base(stops)?;
         if stops.in_sessions {
             self.try_sessions(stops.steps.as_slice(), &base)

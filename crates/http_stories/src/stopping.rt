@@ -1,12 +1,10 @@
 //! Steps that are stopped at every call on the store.
 use crate::fault::Fault;
-use crate::files::{Side, Stop, copies, crashed, session, stopping};
+use crate::files::{Side, Stop, Storage, are_same, copies, crashed, session, stopping};
 use crate::flaw::{Flaw, Lapse};
 use crate::play::shown;
 use crate::setting::Setting;
 use crate::stops::{Kind, Step};
-use sqlite::Files;
-use sqlite_disk::Memory;
 use std::alloc::AllocError;
 
 /// More calls than any step makes.
@@ -20,7 +18,7 @@ pub(crate) const STORE: &[u8] =
 #[derive(Clone, Copy)]
 struct Trial<'a> {
     step: &'a Step,
-    base: &'a Files<Memory>,
+    base: &'a Storage,
     before: &'a [u8],
     after: &'a [u8],
 }
@@ -28,16 +26,11 @@ struct Trial<'a> {
 /// Files that a stop left, and what was found over them.
 #[derive(Drop)]
 struct Left {
-    files: Files<Memory>,
+    files: Storage,
     /// What the questions are answered.
     kept: Vec<u8>,
     /// Whether the step, if it may be repeated, leaves what it must when it is done again.
     is_repeated: bool,
-}
-
-/// Whether the files have the same bytes.
-fn are_same(a: &Files<Memory>, b: &Files<Memory>) -> bool {
-    a.log.bytes() == b.log.bytes() && a.db.bytes() == b.db.bytes()
 }
 
 /// How a step lapses that gave this answer and left this, if it does.
@@ -75,7 +68,7 @@ pub(crate) fn endless(side: Side) -> Option<(Stop, Lapse)> {
 
 impl Setting<'_> {
     /// Whether a step that may be repeated leaves what it must when it is done again on copies of these files.
-    fn is_repeated(&self, trial: &Trial<'_>, files: &Files<Memory>) -> Result<bool, AllocError> {
+    fn is_repeated(&self, trial: &Trial<'_>, files: &Storage) -> Result<bool, AllocError> {
         if trial.step.kind == Kind::Once {
             return Ok(true);
         }
@@ -87,7 +80,7 @@ impl Setting<'_> {
     fn find(
         &self,
         trial: &Trial<'_>,
-        files: Files<Memory>,
+        files: Storage,
         last: Option<Left>,
     ) -> Result<Left, AllocError> {
         if let Some(left) = last {
@@ -109,7 +102,7 @@ impl Setting<'_> {
         &self,
         trial: &Trial<'_>,
         stop: Stop,
-    ) -> Result<(Vec<u8>, bool, Files<Memory>), AllocError> {
+    ) -> Result<(Vec<u8>, bool, Storage), AllocError> {
         let files = stopping(self.alloc, trial.base, stop);
         let (out, left) = self.act_on(files, &trial.step.act)?;
         let (is_whole, files) = crashed(self.alloc, left);
@@ -152,18 +145,13 @@ impl Setting<'_> {
     }
 
     /// Whether the files are left as by a session without a request.
-    fn is_untouched(&self, base: &Files<Memory>, left: &Files<Memory>) -> bool {
+    fn is_untouched(&self, base: &Storage, left: &Storage) -> bool {
         let (_, idle) = session(self.alloc, self.routes, copies(self.alloc, base), &[]);
         are_same(&idle, left)
     }
 
     /// Does a step, unstopped and then stopped at every call, and gives the files that it leaves unstopped.
-    fn try_step(
-        &self,
-        number: u64,
-        step: &Step,
-        base: &Files<Memory>,
-    ) -> Result<Files<Memory>, Fault> {
+    fn try_step(&self, number: u64, step: &Step, base: &Storage) -> Result<Storage, Fault> {
         let (out, left) = self.act_on(copies(self.alloc, base), &step.act)?;
         if out.as_slice() != step.answer.as_slice() {
             return Err(Fault::Flaw(Flaw::Step(number, shown(self.alloc, out.as_slice())?)));
@@ -188,11 +176,7 @@ impl Setting<'_> {
     }
 
     /// Does the steps one after another, each unstopped and stopped, and gives the files after them.
-    pub(crate) fn try_steps(
-        &self,
-        steps: &[Step],
-        base: Files<Memory>,
-    ) -> Result<Files<Memory>, Fault> {
+    pub(crate) fn try_steps(&self, steps: &[Step], base: Storage) -> Result<Storage, Fault> {
         let mut base = base;
         let mut number = 1u64;
         for step in steps {

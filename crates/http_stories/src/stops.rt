@@ -168,12 +168,4 @@ impl Stops {
             Err(line_fault(alloc, line))
         }
     }
-
-    /// Whether the first step makes the broker.
-    pub(crate) fn makes_broker(&self) -> bool {
-        match self.steps.first() {
-            Some(step) => matches!(&step.act, Act::Create),
-            None => false,
-        }
-    }
 }

@@ -62,7 +62,7 @@ pub(crate) struct Story {
 pub(crate) fn line_fault(alloc: Global, line: &str) -> Fault {
     match String::from_str(alloc, line) {
         Ok(line) => Fault::Line(line),
-        Err(_) => Fault::Memory,
+        Err(fault) => Fault::Memory(fault),
     }
 }
 
@@ -114,16 +114,6 @@ impl Story {
         }
     }
 
-    /// The token of the caller of this name.
-    fn token(&self, name: &str) -> Option<&str> {
-        for caller in &self.callers {
-            if caller.name.as_str() == name {
-                return Some(caller.token.as_str());
-            }
-        }
-        None
-    }
-
     /// The token of the caller whom a text names first, if it isn't `-`, and the rest of the text. `None` if there is
     /// no such caller.
     fn split_caller<'a>(&'a self, text: &'a str) -> Option<(Option<&'a str>, &'a str)> {
@@ -131,24 +121,18 @@ impl Story {
         if name == "-" {
             return Some((None, rest));
         }
-        match self.token(name) {
-            Some(token) => Some((Some(token), rest)),
-            None => None,
+        for caller in &self.callers {
+            if caller.name.as_str() == name {
+                return Some((Some(caller.token.as_str()), rest));
+            }
         }
+        None
     }
 
     /// The bytes of a request: a caller, or `-` for none, and the request. `None` if there is no such caller.
     pub(crate) fn request(&self, alloc: Global, text: &str) -> Result<Option<Vec<u8>>, AllocError> {
         match self.split_caller(text) {
             Some((token, rest)) => Ok(Some(request(alloc, token, rest)?)),
-            None => Ok(None),
-        }
-    }
-
-    /// The bytes of such a request with each beginning of its body in place of it.
-    fn requests_cut(&self, alloc: Global, text: &str) -> Result<Option<Vec<Vec<u8>>>, AllocError> {
-        match self.split_caller(text) {
-            Some((token, rest)) => Ok(Some(requests_cut(alloc, token, rest)?)),
             None => Ok(None),
         }
     }
@@ -180,11 +164,12 @@ impl Story {
         Ok(true)
     }
 
-    /// Sends each of the requests, if there are some.
-    fn send_each(&mut self, requests: Option<Vec<Vec<u8>>>) -> Result<bool, Fault> {
-        let Some(requests) = requests else {
+    /// Sends such a request with each beginning of its body in place of it.
+    fn send_each(&mut self, alloc: Global, text: &str) -> Result<bool, Fault> {
+        let Some((token, rest)) = self.split_caller(text) else {
             return Ok(false);
         };
+        let requests = requests_cut(alloc, token, rest)?;
         self.cut = requests.len();
         for request in &requests {
             self.current.sent.extend_from_slice(request.as_slice())?;
@@ -241,10 +226,7 @@ impl Story {
             }
             ">>" => self.send(unescaped(alloc, text)?),
             ">+" => self.send(repeated(alloc, text)?),
-            ">/" => {
-                let requests = self.requests_cut(alloc, text)?;
-                self.send_each(requests)
-            }
+            ">/" => self.send_each(alloc, text),
             "<" => self.want(answer(alloc, text)?),
             "</" => self.want_each(alloc, text),
             "<<" => self.want(unescaped(alloc, text)?),
