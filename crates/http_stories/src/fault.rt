@@ -28,7 +28,7 @@ pub(crate) enum Fault {
     },
     /// What is stopped isn't as written, or a stop took something.
     #[error("{0}")]
-    Flaw(#[from] Flaw),
+    Flaw(Flaw),
     /// A statement was refused.
     #[error("a statement: {0}")]
     Statement(#[from] sqlite::Error),

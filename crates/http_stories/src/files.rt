@@ -146,10 +146,11 @@ pub(crate) fn empty_files(alloc: Global) -> Storage {
 
 /// Files of the same bytes, all of them synced, that don't stop.
 pub(crate) fn copies(alloc: Global, files: &Storage) -> Storage {
-    Files {
-        log: file_of(alloc, files.log.inner().bytes(), u64::MAX),
-        db: file_of(alloc, files.db.inner().bytes(), u64::MAX),
-    }
+    let never = Stop {
+        side: Side::Log,
+        calls: u64::MAX,
+    };
+    stopping(alloc, files, never)
 }
 
 /// Copies of the files, one of which stops there.
