@@ -1,0 +1,99 @@
+"""The definitions of the crates' specs/: where each is, what it names, and what rests on what."""
+import os, re
+from collections import defaultdict
+from functools import lru_cache
+
+TOP = os.path.dirname(os.path.dirname(os.path.abspath(__file__)))
+DEFINED = re.compile(r"(?:(?:pub|abbrev|unfoldable|opaque)\s+)*(?:(?:record|data)\s+([^\s:]+)|([^\s:]+)\s*:(?=\s))")
+NAMED = re.compile(r"(?m)^\s*(?:ghost |pub |unfoldable )*use Rattle\.(\w+)\.specs\.([\w.]+?)\.\{([^}]*)\}")
+WHOLE = re.compile(r"(?m)^\s*(?:ghost |pub )*use Rattle\.(\w+)\.specs\.([\w.]+?) as (\w+)")
+PASSED_ON = re.compile(r"(?m)^(?!pub use ).*$")
+PRIVATE = re.compile(r"(?im)^\s*-- (?:---- )?for private clauses|no public\s+(?:-- )?clause")
+WORD = re.compile(r"[^\s(){},;:λ.→]+")
+
+
+@lru_cache(None)
+def text_of(path):
+    with open(path, encoding="utf-8") as it:
+        return it.read()
+
+
+def files_of(crate, part, ending):
+    home = f"{TOP}/crates/{crate}/{part}"
+    return sorted(f"{at}/{name}" for at, _, names in os.walk(home) for name in names if name.endswith(ending))
+
+
+def definitions_in(text):
+    """The names that a file of specs/ defines, operators aside, with their lines: those of the file itself, and of its
+    modules."""
+    is_inside = False
+    for number, row in enumerate(text.split("\n"), 1):
+        if re.match(r"\S", row) and not row.startswith("--"):
+            is_inside = bool(re.match(r"(?:abbrev )?mutual\b|module\b", row))
+        indent = len(row) - len(row.lstrip(" "))
+        found = DEFINED.match(row, indent) if indent == 0 or indent == 2 and is_inside else None
+        name = found and (found[1] or found[2])
+        if name and "◌" not in name:
+            yield name, number
+
+
+def named_in(text):
+    """What a file of src/ or specs/ names of specs/, by the names that it has there."""
+    found = {}
+    for crate, module, names in NAMED.findall(text):
+        for it in filter(None, (it.strip() for it in names.split(","))):
+            found[it.split(" as ")[-1]] = (crate, module, it.split(" as ")[0])
+    return found
+
+
+def named_through(text, words):
+    """What a text names through a module that the file takes whole, as in `schema.tables`."""
+    modules = {alias: (crate, module) for crate, module, alias in WHOLE.findall(text)}
+    for alias, name in re.findall(r"(?<![\w.])(\w+)\.([^\s(){},;:λ.→]+)", words):
+        if alias in modules:
+            yield (*modules[alias], name)
+
+
+def definitions_of(crate):
+    """Each definition with its place, how many lines it has with the comment above it, what it names, and whether it is
+    marked as for private clauses."""
+    for path in files_of(crate, "specs", ".antt"):
+        text, module = text_of(path), os.path.relpath(path, f"{TOP}/crates/{crate}/specs")[:-5].replace("/", ".")
+        rows, found, named = text.split("\n"), list(definitions_in(text)), named_in(text)
+        named.update({name: (crate, module, name) for name, _ in found})
+        whole = PRIVATE.search(text[: text.find("\nuse ") + 1])
+        for (name, line), end in zip(found, [line - 1 for _, line in found[1:]] + [len(rows)]):
+            sections = [it for it in rows[:line] if it.startswith("-- ---- ")]
+            above = line - 1
+            while above and rows[above - 1].lstrip().startswith("--"):
+                above -= 1
+            marked = whole or sections and PRIVATE.search(sections[-1]) or PRIVATE.search("\n".join(rows[above : line - 1]))
+            own = "\n".join(it for it in rows[line - 1 : end] if not it.lstrip().startswith("--"))
+            cited = {named[it] for it in WORD.findall(own) if it in named} | set(named_through(text, own))
+            lines = line - 1 - above + len([it for it in own.split("\n") if it.strip() and not it.startswith("use ")])
+            yield (crate, module, name), (f"{os.path.relpath(path, TOP)}:{line}", lines), cited, marked
+        yield from (((crate, module, name), None, {of}, None) for name, of in named_in(PASSED_ON.sub("", text)).items())
+
+
+def graph(crates):
+    """Where each definition of these crates is and how many lines it has, what each names, and which are marked as for
+    private clauses."""
+    places, names, marked = {}, defaultdict(set), set()
+    for crate in crates:
+        for key, place, cited, is_marked in definitions_of(crate):
+            names[key] |= cited
+            if place:
+                places.setdefault(key, place)
+            if is_marked:
+                marked.add(key)
+    return places, names, marked
+
+
+def closure(roots, names):
+    """All that these definitions rest on, themselves among it."""
+    found, left = set(), set(roots)
+    while left:
+        it = left.pop()
+        found.add(it)
+        left |= names[it] - found
+    return found
