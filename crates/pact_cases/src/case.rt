@@ -16,8 +16,7 @@ pub(crate) struct Case {
 }
 
 /// The names of all questions' fields.
-const FIELDS: &str =
-    " actual at bytes expected file first matcher name new old own path pattern replies response rules second sent step token value ";
+const FIELDS: &str = " actual at file first name path pattern rules second step token value ";
 
 /// The two parts of a text around its first space; without one the second is empty.
 pub(crate) fn parted(text: &str) -> (&str, &str) {
@@ -59,14 +58,6 @@ impl Case {
         }
     }
 
-    /// The name and the text of the last field.
-    pub(crate) fn last(&self) -> Result<(&str, &str)> {
-        match self.fields.last() {
-            Some(field) => Ok((field.name.as_str(), field.text.as_str())),
-            None => bail!("a field is wanted"),
-        }
-    }
-
     /// Gives a field.
     pub(crate) fn give(&mut self, alloc: Global, name: &str, text: &str) -> Result<()> {
         let word = format!(in alloc; " {name} ")?;
@@ -80,15 +71,6 @@ impl Case {
         Ok(())
     }
 
-    /// Appends a line feed and a text to the last field.
-    pub(crate) fn push_line(&mut self, text: &str) -> Result<()> {
-        if let Some(last) = self.fields.last_mut() {
-            last.text.push_str("\n")?;
-            last.text.push_str(text)?;
-        }
-        Ok(())
-    }
-
     /// Appends copies of a text to the last field: how many, and the text.
     pub(crate) fn repeat(&mut self, alloc: Global, copies: &str) -> Result<()> {
         let (count, text) = parted(copies);
@@ -96,17 +78,6 @@ impl Case {
         if let Some(last) = self.fields.last_mut() {
             for copy in 0..count {
                 push_copy(alloc, &mut last.text, text, copy.saturating_add(1))?;
-            }
-        }
-        Ok(())
-    }
-
-    /// Appends spaces to the last field, up to a length in bytes.
-    pub(crate) fn pad(&mut self, length: &str) -> Result<()> {
-        let length = length.parse::<usize>()?;
-        if let Some(last) = self.fields.last_mut() {
-            for _ in last.text.len()..length {
-                last.text.push_str(" ")?;
             }
         }
         Ok(())

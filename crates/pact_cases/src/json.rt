@@ -15,18 +15,10 @@ pub(crate) fn tree_in(alloc: Global, case: &Case, name: &str) -> Result<Tree> {
     Ok(tree_of(alloc, &value(alloc, case, name)?)?)
 }
 
-/// The tree of a field that may be given.
-pub(crate) fn tree_given(alloc: Global, case: &Case, name: &str) -> Result<Option<Tree>> {
-    match case.given(name) {
-        Some(_) => Ok(Some(tree_in(alloc, case, name)?)),
-        None => Ok(None),
-    }
-}
-
 /// The table of the field `rules`, without entries if it isn't given.
 pub(crate) fn rules_in(alloc: Global, case: &Case) -> Result<RuleTable> {
-    match tree_given(alloc, case, "rules")? {
-        Some(rules) => Ok(RuleTable::read(alloc, &rules)?),
+    match case.given("rules") {
+        Some(_) => Ok(RuleTable::read(alloc, &tree_in(alloc, case, "rules")?)?),
         None => Ok(RuleTable::none(alloc)),
     }
 }

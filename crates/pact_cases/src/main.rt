@@ -7,12 +7,8 @@
 //! - `# TEXT`, or nothing: no part of the cases.
 //! - `? QUESTION`: what the cases after it ask. The fields of earlier cases are forgotten.
 //! - `FIELD TEXT`: a field of the case. It holds for the cases after it too, until it is given again.
-//! - `| TEXT`: a line feed and the text after the last field.
 //! - `+ COUNT TEXT`: the text so many times more after the last field; `#` in it is the number of the copy, from 1 on.
-//! - `_ LENGTH`: spaces after the last field, up to so many bytes.
 //! - `= TEXT`: the wanted answer, which ends a case. The text of a fault is an answer too.
-//! - `==`: the same answer again.
-//! - `/ TEXT`: the answer that is wanted for each beginning of the last field that lacks a byte or more.
 //!
 //! The questions are those of `sheet::answer`; each is written with its fields and its answer at the function that
 //! answers it.
@@ -20,10 +16,8 @@
 
 mod case;
 mod json;
-mod pacts;
 mod parts;
 mod paths;
-mod replies;
 mod rules;
 mod sheet;
 mod walk;

@@ -1,8 +1,9 @@
-//! Questions about the parts of pact files and replies. The field `value` is the JSON that has the part.
+//! Questions about the parts of pact files and replies. The field `value` is the JSON that has the part, `file` a pact
+//! file.
 use crate::case::Case;
 use crate::json::value;
 use anyhow::{Result, bail};
-use pact_file::{Header, Interaction, read_headers, read_states, read_status};
+use pact_file::{Header, Interaction, read_headers, read_pact, read_states, read_status};
 use pact_rules::{RuleTable, Tree};
 use std::alloc::{AllocError, Global};
 
@@ -35,10 +36,7 @@ fn kind(body: Option<&Tree>) -> &'static str {
 }
 
 /// Appends an interaction's description, how many states it has and their text, its status, headers and kind of body.
-pub(crate) fn push_interaction(
-    text: &mut String,
-    interaction: &Interaction,
-) -> Result<(), AllocError> {
+fn push_interaction(text: &mut String, interaction: &Interaction) -> Result<(), AllocError> {
     let description = interaction.description();
     let count = interaction.states().len();
     let states = interaction.states_text();
@@ -81,4 +79,16 @@ pub(crate) fn status(alloc: Global, case: &Case) -> Result<String> {
         Some(status) => Ok(status.to_string(alloc)?),
         None => bail!("refused"),
     }
+}
+
+/// The two sides of the file's pact and the parts of each interaction.
+pub(crate) fn lent(alloc: Global, case: &Case) -> Result<String> {
+    let pact = read_pact(alloc, case.text("file")?.as_bytes())?;
+    let consumer = pact.consumer();
+    let provider = pact.provider();
+    let mut text = format!(in alloc; "{consumer} with {provider}")?;
+    for interaction in pact.interactions() {
+        push_interaction(&mut text, interaction)?;
+    }
+    Ok(text)
 }

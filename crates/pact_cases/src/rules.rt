@@ -55,31 +55,6 @@ pub(crate) fn patterns(alloc: Global, case: &Case) -> Result<String> {
     yes_or_no(alloc, rules_in(alloc, case)?.has_regex())
 }
 
-/// A table that has one matcher for the root.
-fn rules_with(alloc: Global, matcher: &str) -> Result<RuleTable> {
-    let text = format!(in alloc; "{{\"body\":{{\"$\":{{\"matchers\":[{matcher}]}}}}}}")?;
-    let rules = tree_of(alloc, &Value::from_str(alloc, text.as_str())?)?;
-    Ok(RuleTable::read(alloc, &rules)?)
-}
-
-/// Whether `matcher` holds of the `expected` and the `actual` value; with `own no` not at its own place.
-pub(crate) fn holds(alloc: Global, case: &Case) -> Result<String> {
-    let rules = rules_with(alloc, case.text("matcher")?)?;
-    let expected = tree_in(alloc, case, "expected")?;
-    let actual = tree_in(alloc, case, "actual")?;
-    let own_place = case.given("own") != Some("no");
-    let Some(index) = rules.choose(&[]) else {
-        bail!("no rule");
-    };
-    match rules.entry(index).matchers.first() {
-        Some(matcher) => {
-            let is = holds_of(alloc, matcher, &expected, &actual, own_place)?;
-            yes_or_no(alloc, is)
-        }
-        None => bail!("no matcher"),
-    }
-}
-
 /// Whether the `pattern`, which no table has to have, is found in the text of the `actual` value.
 pub(crate) fn pattern(alloc: Global, case: &Case) -> Result<String> {
     let matcher = Matcher::Regex(String::from_str(alloc, case.text("pattern")?)?);

@@ -1,6 +1,6 @@
 //! Asking the cases of a text.
 use crate::case::{Case, parted};
-use crate::{pacts, parts, paths, replies, rules};
+use crate::{parts, paths, rules};
 use anyhow::{Result, bail};
 use std::alloc::{AllocError, Global};
 use std::fmt;
@@ -52,8 +52,6 @@ fn joined(alloc: Global, text: &str) -> Result<Vec<Line>, AllocError> {
 struct Sheet {
     question: String,
     case: Case,
-    /// The last wanted answer.
-    wanted: String,
     /// Whether fields were given since the last answer.
     is_open: bool,
     /// How many answers were as written.
@@ -72,22 +70,12 @@ fn answer(alloc: Global, question: &str, case: &Case) -> Result<String> {
         "choice" => rules::choice(alloc, case),
         "header" => rules::header(alloc, case),
         "patterns" => rules::patterns(alloc, case),
-        "holds" => rules::holds(alloc, case),
         "pattern" => rules::pattern(alloc, case),
         "keys" => rules::keys(alloc, case),
-        "pact" => pacts::pact(alloc, case),
-        "normal length" => pacts::normal_length(alloc, case),
-        "fault number" => pacts::fault_number(alloc, case),
-        "lent" => pacts::lent(alloc, case),
+        "lent" => parts::lent(alloc, case),
         "states" => parts::states(alloc, case),
         "headers" => parts::headers(alloc, case),
         "status" => parts::status(alloc, case),
-        "replies" => replies::replies(alloc, case),
-        "bytes" => replies::bytes(alloc, case),
-        "verdict" => replies::verdict(alloc, case),
-        "response" => replies::response(alloc, case),
-        "body" => replies::body(alloc, case),
-        "fit" => replies::fit(alloc, case),
         _ => bail!("no question {question}"),
     }
 }
@@ -103,47 +91,18 @@ impl Sheet {
         Ok(())
     }
 
-    /// Asks the case that is given; the answer or the fault, if it isn't the wanted text.
-    fn ask(&self, alloc: Global) -> Result<Option<String>, AllocError> {
+    /// Ends a case and asks it; the answer or the fault, if it isn't the wanted text.
+    fn end(&mut self, alloc: Global, wanted: &str) -> Result<Option<String>, AllocError> {
+        self.is_open = false;
+        self.cases = self.cases.saturating_add(1);
         let got = match answer(alloc, self.question.as_str(), &self.case) {
             Ok(answer) => answer,
             Err(fault) => fault.to_string(alloc)?,
         };
-        if got.as_str() == self.wanted.as_str() {
+        if got.as_str() == wanted {
             Ok(None)
         } else {
             Ok(Some(got))
-        }
-    }
-
-    /// Asks the case with each beginning of its last field, up to the first that is answered otherwise.
-    fn ask_cut(&mut self, alloc: Global) -> Result<Option<String>> {
-        let (name, text) = self.case.last()?;
-        let name = String::from_str(alloc, name)?;
-        let text = String::from_str(alloc, text)?;
-        for end in 0..text.len() {
-            if let Some(cut) = text.as_str().get(..end) {
-                self.case.give(alloc, name.as_str(), cut)?;
-                if let Some(got) = self.ask(alloc)? {
-                    return Ok(Some(got));
-                }
-            }
-        }
-        self.case.give(alloc, name.as_str(), text.as_str())?;
-        Ok(None)
-    }
-
-    /// Ends a case; what was got, if it isn't what is wanted.
-    fn end(&mut self, alloc: Global, mark: &str, wanted: &str) -> Result<Option<String>> {
-        if mark != "==" {
-            self.wanted = String::from_str(alloc, wanted)?;
-        }
-        self.is_open = false;
-        self.cases = self.cases.saturating_add(1);
-        if mark == "/" {
-            self.ask_cut(alloc)
-        } else {
-            Ok(self.ask(alloc)?)
         }
     }
 
@@ -151,9 +110,7 @@ impl Sheet {
     fn take_field(&mut self, alloc: Global, mark: &str, rest: &str) -> Result<()> {
         self.is_open = true;
         match mark {
-            "|" => self.case.push_line(rest),
             "+" => self.case.repeat(alloc, rest),
-            "_" => self.case.pad(rest),
             field => self.case.give(alloc, field, rest),
         }
     }
@@ -164,7 +121,7 @@ impl Sheet {
         match mark {
             "" | "#" => {}
             "?" => self.begin(alloc, rest)?,
-            "=" | "==" | "/" => return self.end(alloc, mark, rest),
+            "=" => return Ok(self.end(alloc, rest)?),
             _ => self.take_field(alloc, mark, rest)?,
         }
         Ok(None)
@@ -176,7 +133,6 @@ pub(crate) fn asked(alloc: Global, text: &str) -> Result<Verdict, AllocError> {
     let mut sheet = Sheet {
         question: String::new(alloc),
         case: Case::new(alloc),
-        wanted: String::new(alloc),
         is_open: false,
         cases: 0,
     };
