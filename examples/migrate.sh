@@ -8,6 +8,6 @@ program=${1:?the path of the program broker}
 file=${2:?the file of the broker}
 copy=${3:?the file to keep a copy in}
 
-"$(dirname "$0")/backup.sh" "$file" "$copy"
+"$(dirname "$0")/backup.sh" "$program" "$file" "$copy"
 "$program" migrate --file "$file"
 echo "$file is migrated"
