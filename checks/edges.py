@@ -655,6 +655,80 @@ def pattern(room):
         same("a sound one", it.ask(replies), ['{"answer":"done","failing":[],"result":1,"success":true}'])
 
 
+# A pause
+
+
+def pause(process, seconds=0.2):
+    """Stops the process for so long, as a debugger or a backup does, and lets it go on."""
+    process.send_signal(signal.SIGSTOP)
+    for _ in range(PATIENCE * 100):
+        with open(f"/proc/{process.pid}/stat", encoding="ascii") as it:
+            if it.read().rsplit(") ", 1)[1].startswith("T"):
+                break
+        time.sleep(0.01)
+    else:
+        raise Wrong("it doesn't stop")
+    time.sleep(seconds)
+    process.send_signal(signal.SIGCONT)
+    time.sleep(0.1)
+
+
+def answered(peer, what):
+    """The body of the next answer, which has to come whole."""
+    text = b""
+    while b"\r\n\r\n" not in text or len(text.split(b"\r\n\r\n", 1)[1]) < int(text.lower().split(b"content-length: ")[1].split(b"\r\n")[0]):
+        try:
+            more = peer.recv(65536)
+        except ConnectionResetError:
+            more = b""
+        if not more:
+            raise Wrong(f"{what}: the connection is closed after {text!r}")
+        text += more
+    return text.split(b"\r\n\r\n", 1)[1].decode()
+
+
+@case("a broker that is paused and goes on, before a connection, a request, and in the middle of one: the client is answered")
+def paused_in_requests(room):
+    """The longest pause is longer than the limit for a request, which counts only what is waited for."""
+    with Serving(new_file(room), 1) as it:
+        pause(it.process)
+        with it.open() as peer:
+            for name, cut, seconds in ("idle", 0, 0.2), ("head", 20, 0.2), ("body", -5, 0.2), ("long", 20, 11):
+                text = put_team(name)
+                peer.sendall(text[:cut] if cut else b"")
+                time.sleep(0.2)
+                for _ in range(3 if seconds < 1 else 1):
+                    pause(it.process, seconds)
+                peer.sendall(text[cut:])
+                same(name, answered(peer, name), DONE)
+        same("the end", it.ended(), (0, "", ""))
+
+
+@case("a broker that is paused and goes on in the middle of an answer: all of it comes")
+def paused_in_answers(room):
+    """Twelve answers of 900 kB are more than the sockets take, so the broker waits for the client to read on."""
+    file = served_shop(room)
+    red, path = "token-of-the-team-red", "/pacts/provider/stock/consumer/shop/version/2"
+    text = PACT.replace('"headers":{"a":"1"}', '"headers":{"a":"1"},"body":"%s"' % ("x" * 900_000))
+    with Serving(file, 2) as it:
+        stock = request("PUT /pacticipants/stock", body='{"team":"red"}')
+        *answers, shown = it.ask(stock + request(f"PUT {path}", red, text) + request(f"GET {path}", red))
+        same("answers", answers, [DONE, '{"answer":"done","content":1}'])
+        with it.open() as peer:
+            peer.sendall(request(f"GET {path}", red) * 12)
+            got = b""
+            for _ in range(6):
+                time.sleep(0.2)
+                pause(it.process)
+                end = len(got) + 400_000
+                while len(got) < end and (more := peer.recv(65536)):
+                    got += more
+            peer.shutdown(socket.SHUT_WR)
+            got += all_of(peer).encode()
+        same("whole answers", [body == shown for body in bodies(got.decode())], [True] * 12)
+        same("the end", it.ended(), (0, "", ""))
+
+
 # Memory
 
 
