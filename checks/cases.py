@@ -346,6 +346,7 @@ def main():
         for path, sheet, answers in asked:
             name = os.path.basename(path).removesuffix(".cases")
             well &= tell(name, path, sheet, list(answers), lines.get(name))
+    print(f"{sum(sheet.cases for _, sheet in sheets)} cases in {len(sheets)} files, {'as written' if well else 'some otherwise'}")
     return 0 if well else 1
 
 

@@ -96,7 +96,7 @@ def statements(file, text):
 def former_file(room):
     """A file of format 1."""
     file = f"{room}/former.db"
-    with open(f"{TOP}/crates/command_lines/data/former.sql", encoding="utf-8") as it:
+    with open(f"{TOP}/checks/lines/former.sql", encoding="utf-8") as it:
         statements(file, it.read())
     return file
 
@@ -391,7 +391,7 @@ def loose(text):
 
 @case("another's file of format 1 is migrated if its tables have the columns and the keys; else it is `open 2`, and as it was")
 def declared_former(room):
-    with open(f"{TOP}/crates/command_lines/data/former.sql", encoding="utf-8") as it:
+    with open(f"{TOP}/checks/lines/former.sql", encoding="utf-8") as it:
         former = it.read()
     released = "CREATE TABLE released (environment TEXT, version_number INTEGER, PRIMARY KEY (environment, version_number))"
     instead = [

@@ -5,7 +5,7 @@
 # Needs sqlite3 (the Debian package). Ends with 0 if all is as it should be, and with 77 if sqlite3 isn't there.
 set -u
 program=${1:?the path of the program broker}
-former=$(dirname "$0")/../crates/command_lines/data/former.sql
+former=$(dirname "$0")/lines/former.sql
 command -v sqlite3 > /dev/null || { echo "not run: sqlite3 isn't installed"; exit 77; }
 
 work=$(mktemp -d)

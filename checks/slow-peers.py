@@ -1,5 +1,6 @@
 #!/usr/bin/env python3
-"""Peers that make a serving broker wait, and what others get meanwhile. Takes about a minute.
+"""Peers that make a serving broker wait, and what others get meanwhile. Takes a minute and a half, nearly all of it waiting;
+`.ci/program` runs it beside the rest.
 
     checks/slow-peers.py PROGRAM           serves a new file on a free port, and tries each kind of peer
     checks/slow-peers.py PROGRAM nginx     2,000 requests by 16 clients through nginx (the Debian package), which keeps
@@ -103,13 +104,41 @@ def trickle(slow, stop):
         time.sleep(1)
 
 
+def push(slow, sent):
+    """Sends more of a stream of requests, as far as there is room for it, and tells how much of it is sent then."""
+    try:
+        return sent + slow.send((ASK * 1000)[sent % len(ASK) :])
+    except OSError:
+        return sent
+
+
 def unread(slow, stop):
     slow.settimeout(1)
+    sent = 0
     while not stop.is_set():
+        sent = push(slow, sent)
+
+
+def partly(slow, stop):
+    """Takes a part of what is sent, and then stops."""
+    slow.settimeout(1)
+    sent = push(slow, 0)
+    slow.recv(1000)
+    while not stop.is_set():
+        sent = push(slow, sent)
+
+
+def sip(slow, stop):
+    """Takes ten bytes now and then."""
+    slow.settimeout(0.5)
+    sent = 0
+    while not stop.is_set():
+        sent = push(slow, sent)
         try:
-            slow.sendall(ASK * 1000)
+            slow.recv(10)
         except OSError:
-            pass
+            return
+        time.sleep(0.1)
 
 
 def kept(broker):
@@ -140,15 +169,18 @@ def pipelined(broker):
 
 
 def peers():
+    """The short limits first: beside the plays of `.ci/program` are only those that the wait for a peer makes long."""
     with Broker() as broker:
         held(broker, "idle after an answer", 1, idle)
+        kept(broker)
         held(broker, "silent from the start", 3, lambda slow, stop: None)
+        pipelined(broker)
         held(broker, "half a head", 12, lambda slow, stop: slow.sendall(ASK[:20]))
         held(broker, "half a body", 12, lambda slow, stop: slow.sendall(ASK.replace(b"GET", b"PUT")[:-2] + b"content-length: 9\r\n\r\n{}"))
         held(broker, "a byte now and then", 12, trickle)
         held(broker, "answers that aren't read", 14, unread, 4096)
-        kept(broker)
-        pipelined(broker)
+        held(broker, "answers of which a part is read", 14, partly, 4096)
+        held(broker, "answers of which ten bytes are read now and then", 14, sip, 4096)
 
 
 CONFIG = """daemon off; worker_processes 2; pid {room}/pid; error_log {room}/error.log;

@@ -1,7 +1,7 @@
 //! Tests of what can't be written as data: devices that fail, a socket, and calls on the tables that no request makes.
 //!
-//! The crate has no code of its own. What has a text form is a story (`crates/http_stories`), a command line
-//! (`crates/command_lines`) or a case of pacts (`crates/pact_cases`).
+//! The crate has no code of its own. What has a text form is a story (`checks/stories`), a command line (`checks/lines`)
+//! or a case of pacts (`crates/pact_cases`).
 #![tactic(auto)]
 
 #[cfg(test)]

@@ -2,28 +2,6 @@
 use crate::lines::split_word;
 use std::alloc::{AllocError, Global};
 
-/// The bytes of a request by this token, if there is one, with this body.
-fn with_body(
-    alloc: Global,
-    token: Option<&str>,
-    method: &str,
-    path: &str,
-    body: &[u8],
-) -> Result<Vec<u8>, AllocError> {
-    let len = body.len();
-    let mut head = format!(in alloc; "{method} {path} HTTP/1.1\r\nhost: b\r\n")?;
-    if let Some(token) = token {
-        head.push_str("authorization: Bearer ")?;
-        head.push_str(token)?;
-        head.push_str("\r\n")?;
-    }
-    let rest = format!(in alloc; "content-length: {len}\r\n\r\n")?;
-    head.push_str(rest.as_str())?;
-    let mut bytes = head.into_bytes();
-    bytes.extend_from_slice(body)?;
-    Ok(bytes)
-}
-
 /// The bytes of a request by this token, if there is one: a method, a path, and after a space all the rest, which is
 /// its body.
 pub(crate) fn request(
@@ -33,24 +11,17 @@ pub(crate) fn request(
 ) -> Result<Vec<u8>, AllocError> {
     let (method, target) = split_word(text);
     let (path, body) = split_word(target);
-    with_body(alloc, token, method, path, body.as_bytes())
-}
-
-/// The bytes of such a request with each beginning of its body in place of it, from the empty one to all but one byte.
-pub(crate) fn requests_cut(
-    alloc: Global,
-    token: Option<&str>,
-    text: &str,
-) -> Result<Vec<Vec<u8>>, AllocError> {
-    let (method, target) = split_word(text);
-    let (path, body) = split_word(target);
-    let body = body.as_bytes();
-    let mut requests = Vec::new(alloc);
-    for place in 0..body.len() {
-        let front = body.get(..place).unwrap_or(body);
-        requests.push(with_body(alloc, token, method, path, front)?)?;
+    let len = body.len();
+    let mut head = format!(in alloc; "{method} {path} HTTP/1.1\r\nhost: b\r\n")?;
+    if let Some(token) = token {
+        head.push_str("authorization: Bearer ")?;
+        head.push_str(token)?;
+        head.push_str("\r\n")?;
     }
-    Ok(requests)
+    let rest = format!(in alloc; "content-length: {len}\r\n\r\n")?;
+    head.push_str(rest.as_str())?;
+    head.push_str(body)?;
+    Ok(head.into_bytes())
 }
 
 /// The phrase of a status.

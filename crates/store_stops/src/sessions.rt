@@ -2,8 +2,8 @@
 use crate::fault::Fault;
 use crate::files::{Side, Stop, Storage, copies, crashed, session, stopping};
 use crate::flaw::{Flaw, Lapse};
-use crate::play::shown;
 use crate::setting::Setting;
+use crate::shown::shown;
 use crate::stopping::{MOST_CALLS, STORE, end_of, endless};
 use crate::stops::{Act, Step};
 use std::alloc::{AllocError, Global};

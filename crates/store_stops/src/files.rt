@@ -1,4 +1,4 @@
-//! Brokers over files in memory, and over files that stop.
+//! Brokers over files in memory that stop.
 use crate::fault::Fault;
 use broker_core::name::Token;
 use broker_http::{RouteTable, serve};
@@ -103,15 +103,10 @@ pub(crate) fn session(
     }
 }
 
-/// Executes the statements one after another, but for empty ones.
-pub(crate) fn execute_all<S: Alter>(
-    connection: &mut Connection<S>,
-    statements: &[String],
-) -> Result<(), Fault> {
+/// Executes the statements one after another.
+fn execute_all<S: Alter>(connection: &mut Connection<S>, statements: &[String]) -> Result<(), Fault> {
     for statement in statements {
-        if !statement.is_empty() {
-            connection.execute(statement.as_str(), &[])?;
-        }
+        connection.execute(statement.as_str(), &[])?;
     }
     Ok(())
 }

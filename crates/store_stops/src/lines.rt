@@ -1,4 +1,4 @@
-//! The lines of a story.
+//! The lines of a file.
 use std::alloc::{AllocError, Global};
 
 /// The lines of a text. A line that begins with two spaces goes on where the line before it ended.

@@ -2,8 +2,8 @@
 use crate::fault::Fault;
 use crate::files::{Side, Stop, Storage, are_same, copies, crashed, session, stopping};
 use crate::flaw::{Flaw, Lapse};
-use crate::play::shown;
 use crate::setting::Setting;
+use crate::shown::shown;
 use crate::stops::{Kind, Step};
 use std::alloc::AllocError;
 

@@ -1,5 +1,4 @@
 //! A file of stops: what is stopped, and what must be left.
-use crate::escapes::unescaped;
 use crate::fault::Fault;
 use crate::lines::split_word;
 use crate::messages::answer;
@@ -130,11 +129,7 @@ impl Stops {
     }
 
     fn add_statement(&mut self, alloc: Global, text: &str) -> Result<bool, AllocError> {
-        let Some(bytes) = unescaped(alloc, text)? else {
-            return Ok(false);
-        };
-        let statement = String::from_utf8_lossy(alloc, bytes.as_slice())?;
-        self.statements.push(statement)?;
+        self.statements.push(String::from_str(alloc, text)?)?;
         Ok(true)
     }
 

@@ -2,9 +2,9 @@
 use crate::fault::Fault;
 use crate::files::{Storage, copies, empty_files, files_made_by, make, migrated, session};
 use crate::flaw::Flaw;
-use crate::play::{first_other, shown};
+use crate::shown::{first_other, shown};
 use crate::stops::{Act, DONE, Step, Stops};
-use crate::story::Stream;
+use crate::story::Story;
 use broker_core::name::Token;
 use broker_http::RouteTable;
 use std::alloc::{AllocError, Global};
@@ -56,20 +56,17 @@ impl Setting<'_> {
         out
     }
 
-    /// The files of a new broker after these streams, which must be answered as written.
-    fn served(&self, streams: &[Stream]) -> Result<Storage, Fault> {
-        let (is_made, mut files) = make(self.alloc, empty_files(self.alloc), self.office);
+    /// The files of a new broker after this story, which must be answered as written.
+    fn served(&self, first: &Story) -> Result<Storage, Fault> {
+        let (is_made, files) = make(self.alloc, empty_files(self.alloc), self.office);
         if !is_made {
             return Err(Fault::Broker);
         }
-        for stream in streams {
-            let (out, left) = session(self.alloc, self.routes, files, stream.sent.as_slice());
-            if let Some((_, rest)) = first_other(stream.answers.as_slice(), out.as_slice()) {
-                return Err(Fault::Flaw(Flaw::First(shown(self.alloc, rest)?)));
-            }
-            files = left;
+        let (out, left) = session(self.alloc, self.routes, files, first.sent.as_slice());
+        match first_other(first.answers.as_slice(), out.as_slice()) {
+            Some(rest) => Err(Fault::Flaw(Flaw::First(shown(self.alloc, rest)?))),
+            None => Ok(left),
         }
-        Ok(files)
     }
 
     /// The files before the first step.
@@ -86,7 +83,7 @@ impl Setting<'_> {
         ) {
             return Ok(empty_files(self.alloc));
         }
-        self.served(stops.first.streams.as_slice())
+        self.served(&stops.first)
     }
 
     /// The files after all that is stopped.
