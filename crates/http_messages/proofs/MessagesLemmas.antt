@@ -9,7 +9,7 @@ use Rattle.httparse.proofs.GrammarLemmas.{request_unique}
 use Rattle.http_messages.specs.Heads.{Judgement, IsJudged, IsBodyLength, judge_head}
 use Rattle.http_messages.specs.Message.{Message}
 use Rattle.http_messages.specs.Messages.{IsHeadOf, BeginsWithMessage, HasNoMessage, message_of}
-use Rattle.http_messages.specs.declared.messages.TheConstants.{HEAD_LIMIT}
+use Rattle.http_messages.specs.Limits.{head_limit}
 
 onto_first-more : (b : ℕ) (lines more : List (List ℕ)) → (others : List (List ℕ)) × (onto_first b (lines ++ more) ≡ onto_first b lines ++ others)
 onto_first-more b [] more = (onto_first b more, refl)
@@ -108,7 +108,7 @@ by_option (Some t) P whole a b p q = p ∙ sym q
 
 -- a stream has one head at its front
 pub IsHeadOf-unique : (stream a b : List ℕ) → IsHeadOf stream a → IsHeadOf stream b → a ≡ b
-IsHeadOf-unique stream a b p q = by_option (head_text (take HEAD_LIMIT stream)) (HEAD_LIMIT ≤ length stream) (take HEAD_LIMIT stream) a b p q
+IsHeadOf-unique stream a b p q = by_option (head_text (take head_limit stream)) (head_limit ≤ length stream) (take head_limit stream) a b p q
 
 goes_on : (old new : Option (List ℕ)) (P Q : Type 0) (whole more head : List ℕ)
     → ((t : List ℕ) → old ≡ Some t → new ≡ Some t) → (P → (new ≡ old) × (more ≡ whole) × Q)
@@ -126,12 +126,12 @@ take_more (suc n) (x ∷ a) b = let rest = take_more n a b in (rest.0, ap (λ l.
 -- the head at the front stays, whatever follows
 pub IsHeadOf-more : (stream more head : List ℕ) → IsHeadOf stream head → IsHeadOf (stream ++ more) head
 IsHeadOf-more stream more head p =
-    let grown = take_more HEAD_LIMIT stream more in
-    goes_on (head_text (take HEAD_LIMIT stream)) (head_text (take HEAD_LIMIT (stream ++ more))) (HEAD_LIMIT ≤ length stream) (HEAD_LIMIT ≤ length (stream ++ more))
-    (take HEAD_LIMIT stream) (take HEAD_LIMIT (stream ++ more)) head
-    (λ t found. ap head_text grown.1 ∙ head_text-more (take HEAD_LIMIT stream) grown.0 t found)
+    let grown = take_more head_limit stream more in
+    goes_on (head_text (take head_limit stream)) (head_text (take head_limit (stream ++ more))) (head_limit ≤ length stream) (head_limit ≤ length (stream ++ more))
+    (take head_limit stream) (take head_limit (stream ++ more)) head
+    (λ t found. ap head_text grown.1 ∙ head_text-more (take head_limit stream) grown.0 t found)
     (λ long.
-    let same = take-append-le HEAD_LIMIT stream more long in
+    let same = take-append-le head_limit stream more long in
     (ap head_text same, same, omega (arith, long, length-append stream more)))
     p
 
@@ -182,19 +182,19 @@ no_head (Some u) P whole a e none p = cc
 
 module _ (bytes : List ℕ) where
   -- a head text that ends within the limit
-  pub IsHeadOf-some : (n : ℕ) → n ≤ length (take HEAD_LIMIT bytes) → head_text (take HEAD_LIMIT bytes) ≡ Some (take n (take HEAD_LIMIT bytes)) → IsHeadOf bytes (take n bytes)
+  pub IsHeadOf-some : (n : ℕ) → n ≤ length (take head_limit bytes) → head_text (take head_limit bytes) ≡ Some (take n (take head_limit bytes)) → IsHeadOf bytes (take n bytes)
   IsHeadOf-some n within found =
-      head_some (head_text (take HEAD_LIMIT bytes)) (HEAD_LIMIT ≤ length bytes) (take HEAD_LIMIT bytes) (take n bytes) _ found
-      (sym (take-take n HEAD_LIMIT bytes (omega (arith, within, length-take HEAD_LIMIT bytes))))
+      head_some (head_text (take head_limit bytes)) (head_limit ≤ length bytes) (take head_limit bytes) (take n bytes) _ found
+      (sym (take-take n head_limit bytes (omega (arith, within, length-take head_limit bytes))))
 
   -- a whole limit of bytes with none
-  pub IsHeadOf-none : head_text (take HEAD_LIMIT bytes) ≡ None → HEAD_LIMIT ≤ length bytes → IsHeadOf bytes (take HEAD_LIMIT bytes)
-  IsHeadOf-none none long = head_none (head_text (take HEAD_LIMIT bytes)) (HEAD_LIMIT ≤ length bytes) (take HEAD_LIMIT bytes) (take HEAD_LIMIT bytes) none refl long
+  pub IsHeadOf-none : head_text (take head_limit bytes) ≡ None → head_limit ≤ length bytes → IsHeadOf bytes (take head_limit bytes)
+  IsHeadOf-none none long = head_none (head_text (take head_limit bytes)) (head_limit ≤ length bytes) (take head_limit bytes) (take head_limit bytes) none refl long
 
   -- fewer bytes with none
-  pub IsHeadOf-short : head_text (take HEAD_LIMIT bytes) ≡ None → length bytes < HEAD_LIMIT → (head : List ℕ) → IsHeadOf bytes head → ⊥
+  pub IsHeadOf-short : head_text (take head_limit bytes) ≡ None → length bytes < head_limit → (head : List ℕ) → IsHeadOf bytes head → ⊥
   IsHeadOf-short none short head p =
-      no_head (head_text (take HEAD_LIMIT bytes)) (HEAD_LIMIT ≤ length bytes) (take HEAD_LIMIT bytes) head none (λ long. omega (arith, short, long)) p
+      no_head (head_text (take head_limit bytes)) (head_limit ≤ length bytes) (take head_limit bytes) head none (λ long. omega (arith, short, long)) p
 
 -- nothing is no message
 pub none_in_nothing : HasNoMessage []

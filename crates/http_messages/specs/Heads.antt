@@ -10,7 +10,7 @@ use Rattle.http_messages.specs.Lines.{lines_of, head_text, from_first}
 use Rattle.http_messages.specs.Fields.{values_named, IsField, is_short_number}
 use Rattle.http_messages.specs.Options.{has_close}
 use Rattle.http_messages.specs.declared.fields.Field.{Field}
-use Rattle.http_messages.specs.declared.head.TheConstants.{FIELD_LIMIT, BODY_LIMIT}
+use Rattle.http_messages.specs.Limits.{field_limit, body_limit}
 use Rattle.http_messages.specs.declared.head.Refusal.{Refusal}
 use Rattle.http_messages.specs.declared.head.Refusal.TheVariants.{BadRequest, BodyTooLarge, HeadTooLarge, NotImplemented}
 
@@ -27,7 +27,7 @@ unfoldable pub body_length : List (List ℕ) → Result ℕ Refusal
 body_length [] = Ok 0
 body_length (value ∷ []) =
     if is_short_number value
-    then (if nat_lt BODY_LIMIT (digits_value 10 value) then Err BodyTooLarge else Ok (digits_value 10 value))
+    then (if nat_lt body_limit (digits_value 10 value) then Err BodyTooLarge else Ok (digits_value 10 value))
     else Err BadRequest
 body_length (value ∷ other ∷ values) = Err BadRequest
 
@@ -88,12 +88,12 @@ is_last_head h = is_last h.minor (values_named (codes "connection") (fields_of h
 -- the whole text is this head, of no more fields than the limit
 pub record IsHeadText (text : List ℕ) (h : RequestHead) : Type 0 where
   pub reads : ReadsRequest text h []
-  pub few : length h.fields ≤ FIELD_LIMIT
+  pub few : length h.fields ≤ field_limit
 
 -- no head text, or too many lines between its first that isn't empty and its last
 abbrev pub is_too_large : List ℕ → Bool
 is_too_large text =
-    if is_some (head_text text) then nat_lt (FIELD_LIMIT + 2) (length (from_first (lines_of text)))
+    if is_some (head_text text) then nat_lt (field_limit + 2) (length (from_first (lines_of text)))
     else true
 
 -- What the checks on a head text come to: it is too large, it is no head, or the head is judged.

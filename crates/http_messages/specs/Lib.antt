@@ -1,5 +1,6 @@
 pub mod Buffer
 pub mod Message
+pub mod Limits
 pub mod Lines
 pub mod Fields
 pub mod Options

@@ -3,13 +3,13 @@ use Rattle.std.specs.Prelude.{◌≡◌, ℕ, ◌≤◌, List, ◌++◌, length,
 use Rattle.http_messages.specs.Message.{Message, message}
 use Rattle.http_messages.specs.Lines.{head_text}
 use Rattle.http_messages.specs.Heads.{IsBodyLength}
-use Rattle.http_messages.specs.declared.messages.TheConstants.{HEAD_LIMIT}
+use Rattle.http_messages.specs.Limits.{head_limit}
 
 -- the head text that ends within the limit, or a whole limit of bytes in which none ends
 abbrev pub IsHeadOf : List ℕ → List ℕ → Type 0
 IsHeadOf stream head =
-    MatchOption (head_text (take HEAD_LIMIT stream))
-    ((head ≡ take HEAD_LIMIT stream) × (HEAD_LIMIT ≤ length stream))
+    MatchOption (head_text (take head_limit stream))
+    ((head ≡ take head_limit stream) × (head_limit ≤ length stream))
     (λ text. head ≡ text)
 
 -- no head is whole yet
@@ -19,7 +19,7 @@ HasNoHead stream = (head : List ℕ) → ¬ (IsHeadOf stream head)
 -- the head of so many bytes is at the front, or none is whole yet
 abbrev pub IsHeadFound : List ℕ → Option ℕ → Type 0
 IsHeadFound bytes None = HasNoHead bytes
-IsHeadFound bytes (Some n) = (n ≤ length bytes) × (n ≤ HEAD_LIMIT) × IsHeadOf bytes (take n bytes)
+IsHeadFound bytes (Some n) = (n ≤ length bytes) × (n ≤ head_limit) × IsHeadOf bytes (take n bytes)
 
 -- the stream begins with this message, and goes on with after
 pub record BeginsWithMessage (stream : List ℕ) (m : Message) (after : List ℕ) : Type 0 where

@@ -3,8 +3,7 @@ use Rattle.std.specs.Prelude.{◌≡◌, ℕ, ◌+◌, ◌<◌, ◌≤◌, max, 
 use Rattle.std.specs.Io.KnownBytes.{Consumes, IsAtEnd}
 use Rattle.http_messages.specs.Messages.{BeginsWithMessage, HasNoMessage, message_of}
 use Rattle.http_messages.specs.Views.{IsHeadRead}
-use Rattle.http_messages.specs.declared.head.TheConstants.{BODY_LIMIT}
-use Rattle.http_messages.specs.declared.messages.TheConstants.{HEAD_LIMIT}
+use Rattle.http_messages.specs.Limits.{head_limit, body_limit}
 use Rattle.http_messages.specs.declared.reading.ReadFault.{ReadFault}
 use Rattle.http_messages.specs.declared.reading.ReadFault.TheVariants.{Reader, Memory}
 use Rattle.http_messages.specs.declared.reading.ReadOutcome.{ReadOutcome}
@@ -32,8 +31,8 @@ IsOutcome bytes outcomes.End = HasNoMessage bytes
 
 -- how many bytes are wanted at most: a head's limit until there is one, and then the message
 abbrev pub size_limit : ReadOutcome → ℕ
-size_limit (outcomes.Message head_len body_len head) = max HEAD_LIMIT (head_len + body_len)
-size_limit outcomes.End = HEAD_LIMIT + BODY_LIMIT
+size_limit (outcomes.Message head_len body_len head) = max head_limit (head_len + body_len)
+size_limit outcomes.End = head_limit + body_limit
 
 -- The reader had before to give and has after; the buffer had the bytes old and has new.
 module _ (before after : Option (List ℕ)) (old new : List ℕ) where

@@ -4,6 +4,7 @@ ghost use Rattle.httparse.specs.Grammar.{RequestHead};
 ghost use Rattle.httparse.specs.Spans.{IsHeaderWithin, header_bytes, IsRequestAt, IsRequestWithin};
 ghost use Rattle.http_messages.specs.Fields.{IsField, values_named};
 ghost use Rattle.http_messages.specs.Heads.{served_method, body_length, AreChecked, IsHeadText, is_too_large, is_last, unread};
+ghost use Rattle.http_messages.specs.Limits.{body_limit};
 ghost use Rattle.http_messages.specs.Views.{judgement_of, length_found, IsHeadRead, announced};
 
 use crate::fields::{Field, field_of, short_number};
@@ -61,7 +62,7 @@ pub fn served_method(method: &[u8]) -> Option<Method>
 #[tactic(auto, unfolding(crate::specs::Heads::body_length))]
 fn body_length(field: Field<'_>) -> Result<usize, Refusal>
     ensures length { (values : List (List ℕ)) → IsField values field.entry → result ≡ body_length values }
-    ensures small { IfOk result (λ n. n ≤ BODY_LIMIT) }
+    ensures small { IfOk result (λ n. n ≤ body_limit) }
 {
     match field {
         Field::Absent => Ok(0),
@@ -86,7 +87,7 @@ fn judge(
 ) -> Result<(Method, usize), Refusal>
     ensures judged { AreChecked method.now target.now minor host.entry coding.entry length.entry (length_found result) }
     ensures served { IfOk result (λ found. served_method method.now ≡ Some found.0) }
-    ensures small { IfOk result (λ found. found.1 ≤ BODY_LIMIT) }
+    ensures small { IfOk result (λ found. found.1 ≤ body_limit) }
 {
     if target.is_empty() || target[0] != b'/' {
         return Err(Refusal::BadRequest);
@@ -171,7 +172,7 @@ fn is_last(text: &[u8], minor: u8, fields: &[HeaderSpan]) -> bool
 /// `text` is a head text, or as many bytes as a head may have in which none ends.
 /// The first check that fails is reported.
 pub fn read_head(text: &[u8]) -> Result<Head, Refused>
-    ensures small { announced result ≤ BODY_LIMIT }
+    ensures small { announced result ≤ body_limit }
     ensures read { IsHeadRead text.now result }
 {
     if is_too_large(text) {

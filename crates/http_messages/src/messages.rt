@@ -1,5 +1,6 @@
 //! The head at the front of a stream.
 ghost use Rattle.std.specs.Prelude.{◌≡◌, ℕ, ◌<◌, ◌≤◌, length, take, IfSome, IfNone};
+ghost use Rattle.http_messages.specs.Limits.{head_limit};
 ghost use Rattle.http_messages.specs.Messages.{IsHeadOf, HasNoHead};
 
 use crate::lines::head_len;
@@ -11,8 +12,8 @@ pub const HEAD_LIMIT: usize = 16_384;
 pub(crate) fn whole_head(bytes: &[u8]) -> Option<usize>
     ensures within { IfSome result (λ n. n ≤ length bytes.now) }
     ensures found { IfSome result (λ n. IsHeadOf bytes.now (take n bytes.now)) }
-    ensures small { IfSome result (λ n. n ≤ HEAD_LIMIT) }
-    ensures short { IfNone result (length bytes.now < HEAD_LIMIT) }
+    ensures small { IfSome result (λ n. n ≤ head_limit) }
+    ensures short { IfNone result (length bytes.now < head_limit) }
     ensures none { IfNone result (HasNoHead bytes.now) }
 {
     let limited = &bytes[..HEAD_LIMIT.min(bytes.len())];

@@ -1,6 +1,7 @@
 //! Reading one message after another from a device.
 ghost use Rattle.std.specs.Prelude.{◌≡◌, ℕ, ◌+◌, ◌<◌, ◌≤◌, Bool, true, false, max, length, drop, take, vec_len, IfOk, IfErr, OnOk, OnErr, MatchOption};
 ghost use Rattle.std.specs.Io.KnownBytes.{IsAtEnd};
+ghost use Rattle.http_messages.specs.Limits.{head_limit, body_limit};
 ghost use Rattle.http_messages.specs.Messages.{HasNoHead, IsHeadFound};
 ghost use Rattle.http_messages.specs.Reading.{Gains, LeavesAtFault, ReadsMessage, FailsToReadMessage};
 ghost use Rattle.http_messages.specs.Views.{announced};
@@ -119,7 +120,7 @@ fn read_head_bytes<R: Read>(reader: &mut R, buffer: &mut Buffer) -> Result<Optio
         (LeavesAtFault (R.remaining reader.old) (R.remaining reader.new)
         buffer.old.items buffer.new.items) }
     ensures none { OnErr result (HasNoHead buffer.new.items) }
-    ensures bound { length buffer.new.items ≤ max (length buffer.old.items) HEAD_LIMIT }
+    ensures bound { length buffer.new.items ≤ max (length buffer.old.items) head_limit }
 {
     loop {
         if let Some(head_len) = whole_head(buffer.as_slice()) {
@@ -162,7 +163,7 @@ pub fn read_message<R: Read>(reader: &mut R, buffer: &mut Buffer) -> Result<Read
         buffer.old.items buffer.new.items) }
     ensures err { IfErr result (FailsToReadMessage (R.remaining reader.old) (R.remaining reader.new)
         buffer.old.items buffer.new.items) }
-    ensures bound { length buffer.new.items ≤ max (length buffer.old.items) (HEAD_LIMIT + BODY_LIMIT) }
+    ensures bound { length buffer.new.items ≤ max (length buffer.old.items) (head_limit + body_limit) }
 {
     let Some(head_len) = read_head_bytes(reader, buffer)? else {
         return Ok(ReadOutcome::End);

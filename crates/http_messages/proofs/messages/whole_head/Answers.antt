@@ -1,12 +1,12 @@
 use Rattle.std.proofs.Common.{◌≡◌, ℕ, List, min, length, take, ap, ◌∙◌}
 use Rattle.std.proofs.lemmas.List.{take_min}
-use Rattle.http_messages.specs.declared.messages.TheConstants.{HEAD_LIMIT}
+use Rattle.http_messages.specs.Limits.{head_limit}
 use Rattle.http_messages.proofs.MessagesLemmas.{IsHeadOf-some, IsHeadOf-none, IsHeadOf-short}
 use Rattle.http_messages.proofs.messages.whole_head.Goals as goal
 
 -- the bytes that are looked at
-limited : (k : ℕ) (bytes : List ℕ) → k ≡ min HEAD_LIMIT (length bytes) → take k bytes ≡ take HEAD_LIMIT bytes
-limited k bytes e = ap (λ n. take n bytes) e ∙ take_min HEAD_LIMIT bytes
+limited : (k : ℕ) (bytes : List ℕ) → k ≡ min head_limit (length bytes) → take k bytes ≡ take head_limit bytes
+limited k bytes e = ap (λ n. take n bytes) e ∙ take_min head_limit bytes
 
 pub returns-in-Some-clause-found : goal.returns-in-Some-clause-found
 returns-in-Some-clause-found c =

@@ -2,7 +2,7 @@ use Rattle.std.proofs.Common.{◌≤◌, rules, length, take}
 use Rattle.std.proofs.lemmas.Result.{err_from_is_err_and}
 use Rattle.http_messages.specs.Messages.{IsHeadOf, HasNoHead}
 use Rattle.http_messages.specs.Views.{IsHeadRead}
-use Rattle.http_messages.specs.declared.messages.TheConstants.{HEAD_LIMIT}
+use Rattle.http_messages.specs.Limits.{head_limit}
 use Rattle.http_messages.proofs.ReadingLemmas.{Gains-trans, LeavesAtFault-after, no_message, grown_at_fault, is_whole, is_short}
 use Rattle.http_messages.proofs.reading.read_message.Goals as goal
 
@@ -28,7 +28,7 @@ pub returns-in_err-read_up_to-clause-err : goal.returns-in_err-read_up_to-clause
 returns-in_err-read_up_to-clause-err g c =
     let bytes = c.read_head_bytes.new.buffer.items in
     let head_len = c.in-Some.head_len in
-    let found : (head_len ≤ length bytes) × (head_len ≤ HEAD_LIMIT) × IsHeadOf bytes (take head_len bytes) = rw c.in-Some.is at c.in_ok-head_len.ensures.found in
+    let found : (head_len ≤ length bytes) × (head_len ≤ head_limit) × IsHeadOf bytes (take head_len bytes) = rw c.in-Some.is at c.in_ok-head_len.ensures.found in
     let read : IsHeadRead (take head_len bytes) c.read_head-head.result = rw c.as_slice.ensures at c.read_head-head.ensures.read in
     let short = c.in_err-read_up_to.ensures.lacks in
     let grown = grown_at_fault _ _ _ _ _ c.in_err-read_up_to.ensures.err in
@@ -42,7 +42,7 @@ pub returns-then-branch-clause-ok : goal.returns-then-branch-clause-ok
 returns-then-branch-clause-ok g c =
     let bytes = c.read_head_bytes.new.buffer.items in
     let head_len = c.in-Some.head_len in
-    let found : (head_len ≤ length bytes) × (head_len ≤ HEAD_LIMIT) × IsHeadOf bytes (take head_len bytes) = rw c.in-Some.is at c.in_ok-head_len.ensures.found in
+    let found : (head_len ≤ length bytes) × (head_len ≤ head_limit) × IsHeadOf bytes (take head_len bytes) = rw c.in-Some.is at c.in_ok-head_len.ensures.found in
     let read : IsHeadRead (take head_len bytes) c.read_head-head.result = rw c.as_slice.ensures at c.read_head-head.ensures.read in
     let whole = c.in_ok-read_up_to.ensures.whole c.if-branch.true in
     let grown = c.in_ok-read_up_to.ensures.ok in
@@ -57,7 +57,7 @@ pub returns-else-branch-clause-ok : goal.returns-else-branch-clause-ok
 returns-else-branch-clause-ok g c =
     let bytes = c.read_head_bytes.new.buffer.items in
     let head_len = c.in-Some.head_len in
-    let found : (head_len ≤ length bytes) × (head_len ≤ HEAD_LIMIT) × IsHeadOf bytes (take head_len bytes) = rw c.in-Some.is at c.in_ok-head_len.ensures.found in
+    let found : (head_len ≤ length bytes) × (head_len ≤ head_limit) × IsHeadOf bytes (take head_len bytes) = rw c.in-Some.is at c.in_ok-head_len.ensures.found in
     let read : IsHeadRead (take head_len bytes) c.read_head-head.result = rw c.as_slice.ensures at c.read_head-head.ensures.read in
     let short = c.in_ok-read_up_to.ensures.short c.if-branch.false in
     let grown = c.in_ok-read_up_to.ensures.ok in

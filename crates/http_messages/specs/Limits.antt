@@ -1,0 +1,14 @@
+-- The limits on a message (this project's own choice).
+use Rattle.std.specs.Prelude.{ℕ}
+
+-- the most bytes of a head
+abbrev pub head_limit : ℕ
+head_limit = 16384
+
+-- the most fields of a head
+abbrev pub field_limit : ℕ
+field_limit = 64
+
+-- the most bytes of a body
+abbrev pub body_limit : ℕ
+body_limit = 1048576
