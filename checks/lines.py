@@ -197,7 +197,7 @@ def add(room, case, mark, rest):
 def run_file(room, name):
     """Runs the command lines of a file, and says how many there are."""
     count, case = 0, None
-    for number, line in enumerate(read(room, f"{name}.lines").decode().split("\n"), 1):
+    for number, line in enumerate(read(room, f"{name}.lines").decode().removesuffix("\n").split("\n"), 1):
         mark, rest = parted(line)
         try:
             if case is None and mark == "$":
@@ -223,7 +223,7 @@ def attempt(name):
         shutil.copytree(DATA, room, dirs_exist_ok=True)
         try:
             return run_file(room, name), None
-        except Wrong as it:
+        except (Wrong, OSError, UnicodeDecodeError) as it:
             return None, it
 
 

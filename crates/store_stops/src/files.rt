@@ -104,7 +104,10 @@ pub(crate) fn session(
 }
 
 /// Executes the statements one after another.
-fn execute_all<S: Alter>(connection: &mut Connection<S>, statements: &[String]) -> Result<(), Fault> {
+fn execute_all<S: Alter>(
+    connection: &mut Connection<S>,
+    statements: &[String],
+) -> Result<(), Fault> {
     for statement in statements {
         connection.execute(statement.as_str(), &[])?;
     }
