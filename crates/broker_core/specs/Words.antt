@@ -1,6 +1,6 @@
 -- the words that stand in answers for rules, for what is missing or stands otherwise, for kinds of faults and for
 -- faults of form (this project's own choice)
-use Rattle.std.specs.Prelude.{◌++◌, codes}
+use Rattle.std.specs.Prelude.{◌++◌, codes, Option, Some, None}
 use Rattle.broker_core.specs.declared.policy.Rule.{Rule}
 use Rattle.broker_core.specs.declared.policy.Rule.TheVariants.{A1, A2, A3, A4, A5, A6, A7, A8}
 use Rattle.broker_core.specs.declared.need.Kind.{Kind}
@@ -56,3 +56,15 @@ fault_text fault.Names = codes "names"
 fault_text (fault.Pact place) = codes "pact " ++ place
 fault_text (fault.Replies place) = codes "replies " ++ place
 fault_text fault.UnknownReply = codes "check 1"
+
+-- what a fault names: the field, the key or the place
+abbrev pub named_in : FormFault → Option Text
+named_in fault.Name = None
+named_in fault.Json = None
+named_in (fault.Field field) = Some field
+named_in (fault.Query key) = Some key
+named_in fault.Token = None
+named_in fault.Names = None
+named_in (fault.Pact place) = Some place
+named_in (fault.Replies place) = Some place
+named_in fault.UnknownReply = None

@@ -1,6 +1,7 @@
 //! Commands: one variant a route, and one for what couldn't be read.
-ghost use Rattle.std.specs.Prelude.{◌≡◌, IfOk, IfSome};
+ghost use Rattle.std.specs.Prelude.{◌≡◌, IfOk, IfSome, IsOk, None};
 ghost use Rattle.broker_core.specs.Name.{IsName};
+ghost use Rattle.broker_core.specs.Words.{named_in};
 ghost use Rattle.broker_core.specs.SoundNames.{AreNames, AreNamesOfPath, AreNamesOfReport, VersionHasNames};
 
 use crate::name::{Body, Name, Text, Token};
@@ -63,9 +64,10 @@ pub enum FormFault {
 }
 
 impl FormFault {
-    /// The same fault once more. The error is out of memory.
+    /// The same fault once more. The error is out of memory, and comes only if the fault names a field, a key or a place.
     pub fn clone(&self) -> Result<FormFault, AllocError>
-        ensures { IfOk result (λ copy. copy ≡ self.now) }
+        ensures same { IfOk result (λ copy. copy ≡ self.now) }
+        ensures plain { named_in self.now ≡ None → IsOk result }
     {
         match self {
             FormFault::Name => Ok(FormFault::Name),

@@ -1,5 +1,5 @@
 //! Names, tokens and other texts: what a contract sees of each is the list of its bytes.
-ghost use Rattle.std.specs.Prelude.{◌≡◌, ◌↔◌, IfOk, IsErrOf, string_bytes, ℕ, List, Some, nat_eq, refl};
+ghost use Rattle.std.specs.Prelude.{◌≡◌, ◌↔◌, IfOk, IsErrOf, IsTrue, string_bytes, ℕ, List, Some, nat_eq, refl};
 ghost use Rattle.std.specs.Ordering.{nat_cmp};
 ghost use Rattle.std.specs.Cmp.Lexicographic.{pointwise, slice_cmp, nat_list_eq_equiv, nat_list_cmp_total, texts_ties, texts_po};
 ghost use Rattle.std.specs.Cmp.{partial_equiv_from_equiv};
@@ -51,6 +51,19 @@ pub enum NameFault {
 }
 
 impl Name {
+    /// Whether the text is a name. No memory is taken.
+    pub fn is_valid(text: &str) -> bool
+        ensures { IsTrue result ↔ IsName text.now }
+    {
+        if text.is_empty() || text.len() > LONGEST_NAME {
+            return false;
+        }
+        !text
+            .as_bytes()
+            .iter()
+            .any(|byte| *byte < 32 || *byte == 127)
+    }
+
     /// A copy of the text as a name.
     ///
     /// [`NameFault::BadName`] comes if and only if the text isn't a name, before memory is asked for.
@@ -58,14 +71,7 @@ impl Name {
         ensures ok { IfOk result (λ name. (name ≡ text.now) × IsName text.now) }
         ensures bad { IsErrOf result NameFault.BadName ↔ (¬ (IsName text.now)) }
     {
-        if text.is_empty() || text.len() > LONGEST_NAME {
-            return Err(NameFault::BadName);
-        }
-        if text
-            .as_bytes()
-            .iter()
-            .any(|byte| *byte < 32 || *byte == 127)
-        {
+        if !Name::is_valid(text) {
             return Err(NameFault::BadName);
         }
         let text = String::from_str(alloc, text).map_err(|_| NameFault::Memory)?;

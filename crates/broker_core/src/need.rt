@@ -1,6 +1,6 @@
 //! What the gate looks at, after the Pact Broker's can-i-deploy: the needs of a version, and their
 //! faults.
-ghost use Rattle.std.specs.Prelude.{◌≡◌, IfOk, nat_eq};
+ghost use Rattle.std.specs.Prelude.{◌≡◌, IfOk, Ok, None, nat_eq};
 ghost use Rattle.std.proofs.Common.{rules};
 ghost use Rattle.std.specs.Cmp.{partial_order_from_own_ties};
 ghost use Rattle.std.specs.Cmp.Rules.{comparing};
@@ -166,9 +166,10 @@ impl Need {
         }
     }
 
-    /// The fault of this need, none if it is good.
+    /// The fault of this need, none if it is good. A good need takes no memory.
     pub(crate) fn fault(&self, strict: bool) -> Result<Option<PairFault>, AllocError>
-        ensures { IfOk result (λ fault. fault ≡ fault_of strict self.now) }
+        ensures fault { IfOk result (λ fault. fault ≡ fault_of strict self.now) }
+        ensures good { fault_of strict self.now ≡ None → result ≡ Ok None }
     {
         let Some(kind) = self.kind(strict) else {
             return Ok(None);

@@ -7,9 +7,9 @@ use Rattle.broker_core.proofs.Lists.{Contains-from_filter_map, Contains-filter_m
 use Rattle.broker_core.proofs.Order.{fault_cmp_total, fault_eq, fault_eq_equiv, fault_ties, fault_same}
 use Rattle.broker_core.proofs.gate.decide.Goals as goal
 
-pub returns : goal.returns
-returns c =
-    let all = c.in_ok-faults.ensures in
+pub returns-clause-faults : goal.returns-clause-faults
+returns-clause-faults c =
+    let all = c.in_ok-faults.ensures.faults in
     let kept = dedup_is _ _ _ c.dedup.ensures.filtered in
     let both = sorted_dedup {E = fault_eq} fault_cmp_total fault_eq_equiv fault_ties fault_same _ _ c.sort_unstable.ensures.permutation c.sort_unstable.ensures.sorted in
     subst (Lists fault_cmp (IsFaultAmong c.args.strict c.args.needs.now)) (sym kept) (record {

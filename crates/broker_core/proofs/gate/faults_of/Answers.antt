@@ -13,10 +13,10 @@ loop-need-preserved c =
     let more = filter_map_more (fault_of c.args.strict) c.args.needs.now c.loop-need.need-index c.need-item.result c.loop-need-test.true c.need-item.is in
     elim c.match-branch-2.branch [
       | in-Some+in_ok-push w ↦ ap (λ v. v.items) w.faults-is ∙ w.in_ok-push.ensures.items ∙ ap (λ xs. xs ++ w.in-Some.fault ∷ []) c.loop-need.invariant
-          ∙ ap (λ o. before ++ cons_option o []) (sym w.in-Some.is ∙ c.in_ok-fault.ensures) ∙ sym more
+          ∙ ap (λ o. before ++ cons_option o []) (sym w.in-Some.is ∙ c.in_ok-fault.ensures.fault) ∙ sym more
       | in_default w ↦ ap (λ v. v.items) w.faults-is ∙ c.loop-need.invariant ∙ sym (append-nil before)
-          ∙ ap (λ o. before ++ cons_option o []) (sym w.in_default.is ∙ c.in_ok-fault.ensures) ∙ sym more
+          ∙ ap (λ o. before ++ cons_option o []) (sym w.in_default.is ∙ c.in_ok-fault.ensures.fault) ∙ sym more
     ]
 
-pub returns : goal.returns
-returns c = c.loop-need.invariant ∙ ap (filter_map (fault_of c.args.strict)) (take_all c.loop-need.need-index c.args.needs.now (omega arith))
+pub returns-clause-faults : goal.returns-clause-faults
+returns-clause-faults c = c.loop-need.invariant ∙ ap (filter_map (fault_of c.args.strict)) (take_all c.loop-need.need-index c.args.needs.now (omega arith))
