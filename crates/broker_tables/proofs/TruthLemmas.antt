@@ -1,5 +1,6 @@
 -- A column that CHECK makes a truth value.
-use Rattle.std.proofs.Common.{◌≡◌, ◌≤◌, ℕ, ℤ, pos, [], ◌∷◌, Bool, true, false, not, refl, sym, ap, subst, ◌∙◌, arith, Some}
+use Rattle.std.proofs.Common.{◌≡◌, ◌≤◌, ℕ, ℤ, pos, [], ◌∷◌, Bool, true, false, not, refl, sym, ap, subst, ◌∙◌, arith, Option, Some, None}
+use Rattle.std.specs.Prelude.{option_map}
 use Rattle.std.specs.Ordering.{is_eq, int_cmp}
 use Rattle.std.specs.Cmp.{Equal-is}
 use Rattle.std.specs.FinMap.{int_cmp-IsAntisymmetric}
@@ -12,6 +13,7 @@ use Rattle.sqlite_sql.specs.declared.ops.CompareOp.TheVariants.{Eq}
 use Rattle.sqlite.specs.Collation.TheVariants.{Binary}
 use Rattle.sqlite_value.proofs.OrderLemmas.{value_cmp-Int}
 use Rattle.broker_tables.specs.Schema.{is_truth}
+use Rattle.broker_tables.specs.Rows.{mark_of}
 
 equal : (a b : ℤ) → binary (Compare Eq Binary) (Int a) (Int b) ≡ from_truth (Some (is_eq (int_cmp a b)))
 unfolding binary
@@ -35,3 +37,8 @@ is_low row place z is t = go (is_eq (int_cmp z (pos 0))) refl
     go : (b : Bool) → is_eq (int_cmp z (pos 0)) ≡ b → (n : ℕ) × (z ≡ pos n) × (n ≤ 1)
     go true e = (0, int_cmp-IsAntisymmetric z (pos 0) ((Equal-is (int_cmp z (pos 0))).0 e), omega arith)
     go false e = (1, int_cmp-IsAntisymmetric z (pos 1) ((Equal-is (int_cmp z (pos 1))).0 (either (is_eq (int_cmp z (pos 0))) (is_eq (int_cmp z (pos 1))) tested e)), omega arith)
+
+-- the mark of a truth value, as a column has it
+pub mark_in_column : (o : Option Bool) → option_map (λ t. Int (pos (mark_of t))) o ≡ option_map (λ n. Int (pos n)) (option_map mark_of o)
+mark_in_column None = refl
+mark_in_column (Some t) = refl

@@ -1,5 +1,5 @@
 -- How the rows of a table are read.
-use Rattle.std.specs.Prelude.{◌≡◌, ◌<◌, ◌≤◌, length, ◌==◌, ℕ, pos, negsuc, List, [], map, Bool, false, Option, Some, None, option_map}
+use Rattle.std.specs.Prelude.{◌≡◌, ◌<◌, ◌≤◌, length, ◌==◌, ℕ, pos, negsuc, List, [], map, Bool, true, false, Option, Some, None, option_map}
 use Rattle.std.specs.Option.{option_map_or}
 use Rattle.std.specs.List.{list_any, find as first}
 use Rattle.std.specs.declared.cmp.Ordering.{Ordering}
@@ -31,6 +31,11 @@ truth_in (value.Blob b) = false
 -- the truth value in a column: 1 is true
 abbrev pub truth : ℕ → Row → Bool
 truth place row = truth_in (column row place)
+
+-- the number by which the tables keep a truth value
+abbrev pub mark_of : Bool → ℕ
+mark_of true = 1
+mark_of false = 0
 
 -- there is such a column, and it is 0 or 1
 abbrev pub IsTruthAt : ℕ → Row → Type 0

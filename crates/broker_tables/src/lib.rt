@@ -12,6 +12,6 @@ mod numbers;
 mod truths;
 
 pub use making::make_each;
-pub use names::{name_in, text_in};
+pub use names::{has_name, name_in, text_in};
 pub use numbers::next_number;
 pub use truths::{truth_at, truth_of};

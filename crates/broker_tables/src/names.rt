@@ -1,5 +1,5 @@
 //! Texts and names in a row of an answer.
-ghost use Rattle.std.specs.Prelude.{◌≡◌, ◌↔◌, IfOk, IfErr, string_bytes};
+ghost use Rattle.std.specs.Prelude.{◌≡◌, ◌↔◌, IfOk, IfErr, IsTrue, string_bytes};
 ghost use Rattle.sqlite.specs.Order.{column};
 ghost use Rattle.sqlite.specs.declared.types.Value.TheVariants.{Text as SqlText};
 ghost use Rattle.table_access.specs.Reading.{IsTextAt};
@@ -25,6 +25,16 @@ pub fn text_in(alloc: Global, row: &Row, at: usize) -> Result<String, StoreFault
             Err(_) => Err(StoreFault::Memory),
         },
         None => Err(StoreFault::Store),
+    }
+}
+
+/// Whether a column of an answer, counted from 0, holds a name. No memory is taken.
+pub fn has_name(row: &Row, at: usize) -> bool
+    ensures { IsTrue result ↔ IsNameAt at row.now }
+{
+    match text_at(row, at) {
+        Some(text) => Name::is_valid(text),
+        None => false,
     }
 }
 
