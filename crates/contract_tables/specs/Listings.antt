@@ -56,13 +56,15 @@ ReadsAsNames row = IsNameAt 0 row × IsNameAt 1 row
 abbrev pub ReadsAsNumbers : Row → Type 0
 ReadsAsNumbers row = IsNumberRow row × IsNumberAt 1 row
 
--- Store comes only where the row doesn't read, and wherever its first column is no number
+-- Store comes only where the row doesn't read, and wherever one of its columns doesn't
 abbrev pub FailsAsMarked : Row → StoreFault → Type 0
-FailsAsMarked row fault = (fault ≡ Store → ¬ ReadsAsMarked row) × ((¬ IsNumberRow row) → fault ≡ Store)
+FailsAsMarked row fault =
+    (fault ≡ Store → ¬ ReadsAsMarked row) × ((¬ IsNumberRow row) → fault ≡ Store)
+    × ((¬ IsNameAt 1 row) → fault ≡ Store)
 
--- Store comes only where the row doesn't read, and wherever its first column is no name
 abbrev pub FailsAsNames : Row → StoreFault → Type 0
-FailsAsNames row fault = (fault ≡ Store → ¬ ReadsAsNames row) × ((¬ IsNameAt 0 row) → fault ≡ Store)
+FailsAsNames row fault =
+    (fault ≡ Store → ¬ ReadsAsNames row) × ((¬ IsNameAt 0 row) → fault ≡ Store) × ((¬ IsNameAt 1 row) → fault ≡ Store)
 
 -- Store comes exactly, since reading takes no memory
 abbrev pub FailsAsNumbers : Row → StoreFault → Type 0

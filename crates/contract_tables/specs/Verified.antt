@@ -1,18 +1,18 @@
 -- What a contract and a result change of the state, and what is told of a result; and, for private clauses, what the
 -- columns of a row tell of one, and what the three statements that record a result make of the rows.
-use Rattle.std.specs.Prelude.{◌≡◌, ◌==◌, ◌+◌, ◌-◌, ◌≤◌, ℕ, ℤ, pos, Bool, ◌&&◌, ◌||◌, IsTrue, List, [], ◌∷◌, ◌++◌, length, Option, Some, None, is_some, cond, if◌then◌else◌, slice_get}
+use Rattle.std.specs.Prelude.{◌≡◌, ◌==◌, ◌+◌, ◌-◌, ◌≤◌, ℕ, ℤ, pos, Bool, ◌&&◌, ◌||◌, IsTrue, List, [], ◌∷◌, ◌++◌, length, Option, Some, None, is_some, cond, if◌then◌else◌, slice_get, codes, option_map}
 use Rattle.std.specs.Ordering.{eq_by_cmp, int_cmp}
 use Rattle.sqlite.specs.declared.types.Value.{Value}
 use Rattle.sqlite.specs.declared.types.Value.TheVariants as value
 use Rattle.sqlite.specs.Order.{Row, column}
-use Rattle.sqlite.specs.State.{State}
+use Rattle.sqlite.specs.State.{State, Shown}
 use Rattle.table_access.specs.Columns.{whole_at, by_both}
 use Rattle.table_access.specs.Statements.{ChangesOnly, IsAdded}
 use Rattle.broker_core.specs.declared.command.Version.{Version}
 use Rattle.broker_core.specs.Text.{Text, put_at, same_pair, same_text, same_version}
 use Rattle.broker_core.specs.State.{State as Broker, Verification}
 use Rattle.table_access.specs.Reading.{IsNumberAt}
-use Rattle.broker_tables.specs.Rows.{value_at, stands_at, truth, IsTruthAt}
+use Rattle.broker_tables.specs.Rows.{value_at, stands_at, truth, IsTruthAt, mark_of}
 use Rattle.broker_tables.specs.Numbers.{number_of}
 
 -- the version of this number has no contract with the provider, which is there, as the content is; now the
@@ -40,6 +40,14 @@ abbrev pub result_with : Broker → ℕ → Option Verification
 result_with s number = if number == 0 then None else slice_get s.results (number - 1)
 
 -- ---- for private clauses: a result as the look-ups read it from a row, column by column
+
+-- this is the mark in the row of the result, as it is there, in any database: 1 is a pass, 0 isn't, and there is no
+-- third; none if there is no such row
+abbrev pub IsPassShown : ℕ → State → State → Option Bool → Type 0
+IsPassShown number old new pass =
+    (rows : List Row)
+    × Shown (codes "SELECT pass FROM results WHERE number = ?1") (value.Int (pos number) ∷ []) old new rows
+    × (option_map (λ p. value.Int (pos (mark_of p))) pass ≡ option_map (λ row. column row 0) (slice_get rows 0))
 
 -- the columns that tell of a result: its number, its content, the number of its version, and whether it is a pass
 abbrev pub Cells : Type 0

@@ -19,9 +19,9 @@ pass_cmp x y = nat_cmp x.content y.content
 abbrev pub latest_cmp : LatestResult → LatestResult → Ordering
 latest_cmp x y = nat_cmp x.content y.content
 
--- the columns are the content, and whether the result is a pass
+-- the columns are the content, and whether the result is a pass, which is 0 or 1
 abbrev pub IsPassRow : Row → ContentPass → Type 0
-IsPassRow row x = (column row 0 ≡ Int (pos x.content)) × (truth 1 row ≡ x.pass)
+IsPassRow row x = (column row 0 ≡ Int (pos x.content)) × (truth 1 row ≡ x.pass) × IsTruthAt 1 row
 
 -- the row reads as a number and a truth value
 abbrev pub ReadsAsPass : Row → Type 0

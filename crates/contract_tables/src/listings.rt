@@ -11,7 +11,7 @@ ghost use Rattle.contract_tables.specs.Listings.{contract_cmp, verified_cmp, con
 
 use broker_core::command::Version;
 use broker_core::name::Name;
-use broker_tables::name_in;
+use broker_tables::{has_name, name_in};
 use sqlite::{Alter, Connection, Row, params};
 use std::alloc::Global;
 use table_access::{ReadRow, StoreFault, list_of, number_at, number_in};
@@ -54,7 +54,7 @@ impl ReadRow for ContractRow {
     }
 }
 
-/// A pacticipant and a version.
+/// A pacticipant and a version. Both are looked at before memory is taken.
 struct ConsumerRow;
 
 impl ReadRow for ConsumerRow {
@@ -65,6 +65,9 @@ impl ReadRow for ConsumerRow {
     ghost fails_as = { FailsAsNames };
 
     fn read(alloc: Global, row: &Row) -> Result<Version, StoreFault> {
+        if !has_name(row, 1) {
+            return Err(StoreFault::Store);
+        }
         let pacticipant = name_in(alloc, row, 0)?;
         let name = name_in(alloc, row, 1)?;
         Ok(Version { pacticipant, name })

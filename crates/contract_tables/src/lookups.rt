@@ -5,8 +5,11 @@ ghost use Rattle.broker_core.specs.State.{Verification, said_by, latest_result, 
 ghost use Rattle.broker_core.specs.Change.{result_of_run as run_result};
 ghost use Rattle.broker_tables.specs.Numbers.{number_of as number_in};
 ghost use Rattle.broker_tables.specs.Calm.{CalmQueriesInPlace, IfNoVersion};
+ghost use Rattle.broker_tables.specs.Rows.{IsTruthAt};
+ghost use Rattle.sqlite.specs.Held.{state};
+ghost use Rattle.sqlite.specs.State.{HasCleanDisk};
 ghost use Rattle.sqlite.specs.Order.{Row as SqlRow};
-ghost use Rattle.contract_tables.specs.Verified.{result_with, cells, cells_of, ReadsAsResult, pass_cells, pass_of, passed_of, passed_as, by_numbers, numbers_are, told_of, told};
+ghost use Rattle.contract_tables.specs.Verified.{result_with, IsPassShown, cells, cells_of, ReadsAsResult, pass_cells, pass_of, passed_of, passed_as, by_numbers, numbers_are, told_of, told};
 ghost use Rattle.contract_tables.specs.VersionResults.{ReadsAsPass};
 
 use broker_core::need::Latest;
@@ -54,8 +57,10 @@ pub fn latest_number<S: Alter>(
 
 /// Whether the result with this number is a pass, or `None` if there is no such result.
 fn passed<S: Alter>(conn: &mut Connection<S>, number: u32) -> Result<Option<bool>, StoreFault>
-    ensures { CalmQueriesInPlace S.Store conn.old conn.new result
+    ensures answers { CalmQueriesInPlace S.Store conn.old conn.new result
         (λ found s. found ≡ option_map (λ r. r.pass) (result_with s number)) }
+    ensures shown { HasCleanDisk (state S.Store conn.new) →
+        IfOk result (IsPassShown number (state S.Store conn.old) (state S.Store conn.new)) }
 {
     let found = done!(number_of(
         conn,
@@ -108,6 +113,7 @@ struct NumberedPass {
 /// The number and the truth value in a row. `StoreFault::Store` if one of them isn't there.
 fn read_pass(row: &Row) -> Result<NumberedPass, StoreFault>
     ensures ok { IfOk result (λ r. pass_of r.number r.pass ≡ pass_cells row.now) }
+    ensures reads { IfOk result (λ _. IsTruthAt 1 row.now) }
     ensures cause { IfErr result (λ f. (f ≡ StoreFault.Store) × (¬ ReadsAsPass row.now)) }
 {
     let number = number_at(row, 0)?;
@@ -119,6 +125,7 @@ fn read_pass(row: &Row) -> Result<NumberedPass, StoreFault>
 fn first_pass(rows: &[Row]) -> Result<Option<NumberedPass>, StoreFault>
     ensures ok { IfOk result
         (λ found. option_map (λ r. pass_of r.number r.pass) found ≡ option_map pass_cells (slice_get rows.now 0)) }
+    ensures reads { IfOk result (λ _. (row : SqlRow) → slice_get rows.now 0 ≡ Some row → IsTruthAt 1 row) }
     ensures cause { IfErr result (λ f. (f ≡ StoreFault.Store)
         × (row : SqlRow) × (slice_get rows.now 0 ≡ Some row) × (¬ ReadsAsPass row)) }
 {
@@ -199,6 +206,7 @@ struct StoredResult {
 /// `StoreFault::Store` if one of them isn't there.
 fn read_result(row: &Row) -> Result<StoredResult, StoreFault>
     ensures ok { IfOk result (λ r. cells_of r.number r.content r.provider_version r.pass ≡ cells row.now) }
+    ensures reads { IfOk result (λ _. IsTruthAt 3 row.now) }
     ensures cause { IfErr result (λ f. (f ≡ StoreFault.Store) × (¬ ReadsAsResult row.now)) }
 {
     let number = number_at(row, 0)?;
@@ -218,6 +226,7 @@ fn first_result(rows: &[Row]) -> Result<Option<StoredResult>, StoreFault>
     ensures ok { IfOk result
         (λ found. option_map (λ r. cells_of r.number r.content r.provider_version r.pass) found
         ≡ option_map cells (slice_get rows.now 0)) }
+    ensures reads { IfOk result (λ _. (row : SqlRow) → slice_get rows.now 0 ≡ Some row → IsTruthAt 3 row) }
     ensures cause { IfErr result (λ f. (f ≡ StoreFault.Store)
         × (row : SqlRow) × (slice_get rows.now 0 ≡ Some row) × (¬ ReadsAsResult row)) }
 {

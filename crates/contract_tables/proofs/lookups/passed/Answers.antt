@@ -1,15 +1,18 @@
-use Rattle.std.proofs.Common.{◌∙◌}
+use Rattle.std.proofs.Common.{◌∙◌, ap, pos}
+use Rattle.std.specs.Prelude.{option_map}
 use Rattle.std.proofs.lemmas.Result.{IfOk-weaker, IfErr-weaker}
 use Rattle.sqlite.specs.Held.{state}
+use Rattle.sqlite.specs.declared.types.Value.TheVariants.{Int}
 use Rattle.table_access.proofs.Answered.{number_ends}
 use Rattle.broker_tables.proofs.QueryLemmas.{looked_result, looked_err}
 use Rattle.broker_tables.proofs.Frames.{held_still}
+use Rattle.broker_tables.proofs.TruthLemmas.{mark_in_column}
 use Rattle.contract_tables.proofs.ResultLookups.{pass_means, pass_found}
 use Rattle.contract_tables.proofs.ReadableRows.{pass_runs, pass_stands, pass_true}
 use Rattle.contract_tables.proofs.lookups.passed.Goals as goal
 
-pub returns : goal.returns
-returns g c =
+pub returns-clause-answers : goal.returns-clause-answers
+returns-clause-answers g c =
     let old = state g.S.Store c.args.conn.now in
     let new = state g.S.Store c.number_of.new.conn in
     looked_result old new c.in-Ok.value c.truth_of.result _ _
@@ -18,11 +21,16 @@ returns g c =
     (λ s here h. IfErr-weaker c.truth_of.result _ _ (λ fault why. pass_true c.args.number old new h.0 s c.in-Ok.value here.held here.readable h.1 h.2 why.1) c.truth_of.ensures.cause)
     (rw c.params-to_sql.ensures at c.in-Ok.ensures.leaves)
 
-pub returns-in-Err : goal.returns-in-Err
-returns-in-Err g c =
+pub returns-in-Err-clause-answers : goal.returns-in-Err-clause-answers
+returns-in-Err-clause-answers g c =
     let old = state g.S.Store c.args.conn.now in
     let new = state g.S.Store c.number_of.new.conn in
     let said = rw c.params-to_sql.ensures at c.in-Err.ensures in
     looked_err old new c.in-Err.fault _ _ _
     (λ s here. number_ends _ _ old new _ _ (pass_means old.now here.held.broker) (pass_runs old.now here.held.broker c.args.number) here.unlimited (λ rows row h head. pass_stands c.args.number old new rows row s here.held here.readable h head))
     said.leaves said.cause
+
+pub returns-clause-shown : goal.returns-clause-shown
+returns-clause-shown g c clean =
+    let shown = (rw c.params-to_sql.ensures at c.in-Ok.ensures.leaves).call.ok clean in
+    IfOk-weaker c.truth_of.result _ _ (λ truth exact. (shown.0, shown.1, mark_in_column truth ∙ ap (option_map (λ n. Int (pos n))) exact ∙ shown.2)) c.truth_of.ensures.exact
