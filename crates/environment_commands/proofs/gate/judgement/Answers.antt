@@ -5,4 +5,4 @@ use Rattle.environment_commands.proofs.gate.judgement.Goals as goal
 
 pub returns-in-Ok-clause-ok : goal.returns-in-Ok-clause-ok
 returns-in-Ok-clause-ok c = λ s v e marks needs.
-    subst (λ (b : Bool). Judges s v e b c.in-Ok.faults.items) (sym (rw c.deref.ensures.value at c.permits.ensures)) (judged s v e c.args.marks c.args.needs.now c.in-Ok.faults.items marks needs c.in-Ok.ensures)
+    subst (λ (b : Bool). Judges s v e b c.in-Ok.faults.items) (sym (rw c.deref.ensures.value at c.permits.ensures)) (judged s v e c.args.marks c.args.needs.now c.in-Ok.faults.items marks needs c.in-Ok.ensures.faults)
