@@ -251,7 +251,6 @@ pub migrated : (old new : State) (found : Option ℕ) → (HasCleanDisk new → 
     → LeavesNoTransaction old new → CommitsAtMostOnce old new → (HasCleanDisk new → ¬ (IsFormer old.now) → AddsNoCrashState old new) → Migrated old new (judgement former_format found)
 migrated old new found is_found ends unchanged over survives spares = record {
   migrates = λ clean s keeps. always (judgement former_format found) (HoldsState s new) (ends clean s keeps).1;
-  permits = λ clean s keeps. always (judgement former_format found) (JudgesAsBefore s) (judges_former old.now s (held_now (λ db. StoresFormer db s) old keeps (is_found clean).0).tables);
   refuses = λ clean s keeps.
       let is : Ok tt ≡ judgement former_format found = sym (ap (judgement former_format) (ends clean s keeps).0) in
       subst (λ (r : Result (Unit {0}) OpenFault). IfErr r (Refuses (λ db. StoresFormer db s) (λ db. Stores db s) new)) is tt;
@@ -275,7 +274,6 @@ pub unmigrated : (old new : State) (fault : StoreFault)
     → LeavesNoTransaction old new → CommitsAtMostOnce old new → (HasCleanDisk new → ¬ (IsFormer old.now) → AddsNoCrashState old new) → Migrated old new (Err (open_fault fault))
 unmigrated old new store_fault.Memory ends unchanged over survives spares = record {
   migrates = λ _ _ _. tt;
-  permits = λ _ _ _. tt;
   refuses = ends;
   judges = λ _. tt;
   blank = λ _ _. inr (inl refl);
@@ -287,7 +285,6 @@ unmigrated old new store_fault.Memory ends unchanged over survives spares = reco
 }
 unmigrated old new store_fault.Store ends unchanged over survives spares = record {
   migrates = λ _ _ _. tt;
-  permits = λ _ _ _. tt;
   refuses = ends;
   judges = λ _. tt;
   blank = λ _ _. inr (inr refl);

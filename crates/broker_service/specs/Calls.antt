@@ -24,7 +24,7 @@ use Rattle.broker_service.specs.Causes.{HasReason, answer_of}
 use Rattle.broker_service.specs.Ends.{Applies, IsAsBefore, AddsNoCrashState, CommitsAtMostOnce, LeavesNoTransaction}
 use Rattle.broker_service.specs.Handed.{left_by, verdict}
 use Rattle.broker_service.specs.Headline.{RecordsExactly}
-use Rattle.broker_service.specs.Migration.{StoresFormer, HoldsFormerState, JudgesAsBefore, MigratesOrRefuses, IsFormer}
+use Rattle.broker_service.specs.Migration.{StoresFormer, HoldsFormerState, MigratesOrRefuses, IsFormer}
 use Rattle.broker_service.specs.Opening.{Refuses, MakesNew, RefusesNew, IsUnchangedUnlessStore, OpensOrRefuses, Judged}
 use Rattle.broker_service.specs.Sessions.{CommandLeaves, MakingLeaves, OpeningLeaves}
 use Rattle.broker_service.specs.Stored.{Stores, HoldsState}
@@ -55,7 +55,7 @@ module _ {X : Type 0} (shown : Held X → State) where
     -- whatever the database is: Done and Store aside, it is as it was
     pub unchanged : HasCleanDisk (shown new.connection) → old.is_stopped ≡ false
         → answer ≢ answers.Store → ¬ (IsDone answer) → IsAsBefore (shown old.connection) (shown new.connection)
-    -- Store: the last commit is the old one
+    -- Store: the last commit is the old one, while its connection is open
     pub fails : HasCleanDisk (shown new.connection) → answer ≡ answers.Store
         → KeepsLastCommit (shown old.connection) (shown new.connection)
     -- whatever the database is: Memory and Store are answered only for the fault of BEGIN, of the command's work or of
@@ -125,10 +125,9 @@ module _ {X : Type 0} (shown : Held X → State) where
 
 -- What a migration leaves of a connection, and what it answers.
 pub record Migrated (old new : State) (given : Result (Unit {0}) OpenFault) : Type 0 where
-  -- of a broker's database of format 1: it is one of today's with the same state
+  -- of a broker's database of format 1: it is one of today's with the same state, of which the gate says what it said
+  -- (the law `former_gate`)
   pub migrates : HasCleanDisk new → (s : Broker) → HoldsFormerState s old → OnOk given (HoldsState s new)
-  -- and what each version is permitted, its faults, and what can-i-deploy shows are what they were
-  pub permits : HasCleanDisk new → (s : Broker) → HoldsFormerState s old → OnOk given (JudgesAsBefore s)
   -- or a failure: it is of format 1 with that state, and after Store a crash may leave today's
   pub refuses : HasCleanDisk new → (s : Broker) → HoldsFormerState s old
       → IfErr given (Refuses (λ db. StoresFormer db s) (λ db. Stores db s) new)

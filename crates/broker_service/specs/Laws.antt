@@ -13,6 +13,8 @@ use Rattle.broker_core.specs.RunHeadline.{IsTaken}
 use Rattle.broker_core.specs.State.{State as Broker}
 use Rattle.broker_core.specs.Text.{Text}
 use Rattle.command_facts.specs.Primitives.{broker_primitives}
+use Rattle.broker_tables.specs.Former.{HoldsFormer}
+use Rattle.broker_service.specs.Migration.{JudgesAsBefore}
 use Rattle.broker_service.specs.Stored.{Stores}
 
 -- in each run from a state that a database holds each deployment is recorded exactly when it may be
@@ -36,7 +38,11 @@ StoredRunsReleaseExactly =
 abbrev pub StoredTeamsDiffer : Type 0
 StoredTeamsDiffer = (db : Database) (s : Broker) → Stores db s → TeamsDiffer s
 
--- in such a state every command has a step that is read in some way and whose replies can be compared
+-- of a state that a database of format 1 holds the gate says what it said in format 1
+abbrev pub FormerGateStays : Type 0
+FormerGateStays = (db : Database) (s : Broker) → HoldsFormer db s → JudgesAsBefore s
+
+-- in a state that a database holds every command has a step that is read in some way and whose replies can be compared
 abbrev pub StoredStepExists : Type 0
 StoredStepExists =
     (db : Database) (s : Broker) (token : Option Text) (command : Command) → Stores db s

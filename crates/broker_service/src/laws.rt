@@ -5,7 +5,7 @@ ghost use Rattle.broker_core.specs.declared.command.Command.{Command};
 ghost use Rattle.pact_reading.specs.Readings.{is_refusal};
 ghost use Rattle.sqlite.specs.Held.{state};
 ghost use Rattle.command_facts.specs.Primitives.{broker_primitives};
-ghost use Rattle.broker_service.specs.Laws.{StoredRunsDeployExactly, StoredRunsReleaseExactly, StoredTeamsDiffer, StoredStepExists};
+ghost use Rattle.broker_service.specs.Laws.{FormerGateStays, StoredRunsDeployExactly, StoredRunsReleaseExactly, StoredTeamsDiffer, StoredStepExists};
 ghost use Rattle.broker_service.specs.Life.{LivesLead, OpeningSpares};
 ghost use Rattle.broker_service.specs.SessionFiles.{ClosedFilesHold, FilesFromFound, FilesFromNew, OpenedFilesHold};
 ghost use Rattle.broker_service.specs.Sessions.{OpenedHoldsFound, SessionsFromFound, SessionsFromNew, SessionsKeepLatest, SessionsRetried};
@@ -110,6 +110,12 @@ pub fn sessions_on_files<D: Disk>()
 pub fn life_on_files<D: Disk>()
     ensures files { LivesLead D.Disk }
     ensures unopened { OpeningSpares D.Disk }
+{}
+
+/// Of each state that a database of format 1 holds, the gate says today what it said in format 1: what each version is
+/// permitted in each environment, its faults, and what can-i-deploy shows. A migration keeps that state.
+pub fn former_gate()
+    ensures { FormerGateStays }
 {}
 
 /// Every command has a step in each state that a database holds, if its file is read and its replies
