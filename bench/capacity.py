@@ -13,9 +13,11 @@ which needs SQLite 3.37 or later, in the form that the broker itself writes. The
 - requests: each kind 200 times by one connection to `serve` over the file, the middle time of a request, and the most
   memory of `serve`.
 
+A file that `init` makes with the page sums of SQLite's cksumvfs is measured with them and without them.
+
 Last come requests in memory, by `replay`. The files are in the folder that TMPDIR names: take one on a disk. How long
 that takes to sync 4 KiB is printed, and how busy the machine is."""
-import hashlib, http.client, json, os, shutil, socket, sqlite3, statistics, subprocess, sys, tempfile, time
+import hashlib, http.client, json, os, shutil, socket, sqlite3, statistics, struct, subprocess, sys, tempfile, time
 
 PROGRAM = os.path.abspath(sys.argv[1])
 SIZES = [int(it) for it in sys.argv[2:]] or [1000, 10000]
@@ -39,9 +41,44 @@ def normal_text():
     return subprocess.run([PROGRAM, "normalise"], input=file, capture_output=True, text=True, check=True).stdout[:-1]
 
 
-def fill(file, count):
-    """Makes a broker's file of so many contracts, a result for each, and one deployment of the first provider."""
+def has_sums(file):
+    """Whether each page ends in a sum: then eight bytes of it are reserved, by the file's header."""
+    with open(file, "rb") as it:
+        return it.read(21)[20] == 8
+
+
+def without_sums(file):
+    """Makes the file of a new broker again, without sums."""
+    base = sqlite3.connect(file)
+    made = [text for text, in base.execute("SELECT sql FROM sqlite_schema WHERE sql IS NOT NULL ORDER BY rowid")]
+    meta = base.execute("SELECT * FROM meta").fetchone()
+    base.close()
+    os.remove(file)
+    base = sqlite3.connect(file)
+    base.executescript(";".join(made))
+    base.execute("INSERT INTO meta VALUES (?, ?, ?)", meta)
+    base.commit()
+    base.close()
+
+
+def seal(file):
+    """Gives each page its sum, as Python's SQLite writes none."""
+    with open(file, "r+b") as it:
+        while page := it.read(4096):
+            first = second = 0
+            for one, two in struct.iter_unpack("<2I", page[:-8]):
+                first = first + one + second & 0xFFFFFFFF
+                second = second + two + first & 0xFFFFFFFF
+            it.seek(-8, os.SEEK_CUR)
+            it.write(struct.pack("<2I", first, second))
+
+
+def fill(file, count, is_plain):
+    """Makes a broker's file of so many contracts, a result for each, and one deployment of the first provider. Tells
+    whether it has sums: none if it is to be plain, else if `init` makes them."""
     subprocess.run([PROGRAM, "init", "--file", file, "--office-token", OFFICE], check=True)
+    if is_plain:
+        without_sums(file)
     template = normal_text()
     base = sqlite3.connect(file, isolation_level=None)
     base.execute("PRAGMA foreign_keys = ON")
@@ -56,6 +93,9 @@ def fill(file, count):
     base.execute("INSERT INTO deployed VALUES ('live', 'provider0000000000', '', 2)")
     base.execute("COMMIT")
     base.close()
+    if has_sums(file):
+        seal(file)
+    return has_sums(file)
 
 
 def add(base, at, template):
@@ -193,21 +233,30 @@ def run_replay(stream):
     return took
 
 
+def row(folder, count, is_plain):
+    """Prints the row of a file of so many contracts; none if it was to have sums and `init` makes none."""
+    file = f"{folder}/broker{count}.db"
+    is_summed = fill(file, count, is_plain)
+    if is_summed or is_plain:
+        took, serving = requests(file, count)
+        sizes = [os.path.getsize(it) / 1e6 if os.path.exists(it) else 0 for it in (file, file + "-wal")]
+        seconds, most = opening(file)
+        cells = [f"{count:,}", "yes" if is_summed else "no", *(f"{it:.1f}" for it in sizes), f"{seconds:.2f}", f"{most:.0f}", f"{serving:.0f}"]
+        print("| " + " | ".join(cells + [f"{it:.2f}" for it in took.values()]) + " |", flush=True)
+    for end in "", "-wal":
+        if os.path.exists(file + end):
+            os.remove(file + end)
+
+
 def main():
     folder = tempfile.mkdtemp()
     try:
         print(f"load {os.getloadavg()[0]:.1f} on {os.cpu_count()} processors; a sync of 4 KiB takes {syncing(folder):.2f} ms\n")
-        print("| contracts | the file, MB | its log, MB | opening, s | memory of it, MB | memory of `serve`, MB | " + " | ".join(f"{it}, ms" for it in kinds(0)) + " |")
-        print("|" + "---:|" * (6 + len(kinds(0))))
+        print("| contracts | sums | the file, MB | its log, MB | opening, s | memory of it, MB | memory of `serve`, MB | " + " | ".join(f"{it}, ms" for it in kinds(0)) + " |")
+        print("|---:|---|" + "---:|" * (5 + len(kinds(0))))
         for count in SIZES:
-            file = f"{folder}/broker{count}.db"
-            fill(file, count)
-            took, serving = requests(file, count)
-            sizes = [os.path.getsize(it) / 1e6 if os.path.exists(it) else 0 for it in (file, file + "-wal")]
-            seconds, most = opening(file)
-            cells = [f"{count:,}", *(f"{it:.1f}" for it in sizes), f"{seconds:.2f}", f"{most:.0f}", f"{serving:.0f}"]
-            print("| " + " | ".join(cells + [f"{it:.2f}" for it in took.values()]) + " |", flush=True)
-            os.remove(file)
+            row(folder, count, True)
+            row(folder, count, False)
         print("\n| in memory | requests a second |\n|---|---:|")
         for name, rate in in_memory().items():
             print(f"| {name} | {rate:,.0f} |" if rate else f"| {name} | lost in the noise of this machine |")

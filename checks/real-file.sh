@@ -102,7 +102,7 @@ same deployed "$(sqlite3 "$work/a.db" "SELECT d.environment || ' ' || v.pacticip
 same contents "$(sqlite3 "$work/a.db" 'SELECT count(*) FROM contents')" 1
 
 echo "4. A copy"
-sqlite3 "$work/a.db" ".backup '$work/copy.db'" || fail "no copy"
+"$(dirname "$0")/../examples/backup.sh" "$program" "$work/a.db" "$work/copy.db" > "$work/said" || fail "no copy"
 "$program" can-i-deploy --file "$work/copy.db" --token $red --pacticipant shop --version 1 --to-environment live > "$work/said"
 same "status of can-i-deploy" $? 1
 same "can-i-deploy" "$(cat "$work/said")" "$answer"
