@@ -3,17 +3,16 @@
 # Usage: backup.sh PROGRAM FILE COPY [BROKER]
 #   BROKER is the process that serves the file, by its number or by the name of its service (systemctl); run this as its
 #   user or as root. Without BROKER nobody may have the file open, so stop the service first.
-# Needs sqlite3 (the Debian package sqlite3), Linux, and beside the copy as much room again as it takes. The copy is COPY
-# and, if there is a log, COPY-wal; the two belong together. Ends with 0 if both are there and tested; else with 1 and
-# without them.
+# Needs sqlite3 (the Debian package sqlite3), Linux, and beside the copy as much room again as it takes. The copy is
+# COPY and, if there is a log, COPY-wal; the two belong together. Ends with 0 if both are there and tested; else with 1
+# and without them.
 #
 # Why a copy of a broker that serves is right: it is paused (signal STOP) while its two files are copied byte for byte.
 # They are then what is there if the program is killed at that moment, and this is a sound file with all that was
-# acknowledged, at any moment. Nobody is served for as long as the copying takes, some hundredths of a second for a file
+# acknowledged, at any moment. Nobody is served for as long as the copying takes, under a quarter of a second for a file
 # of 50 MB on a local disk; who asks meanwhile waits. The pause ends before the copy is tested, and however this script
-# ends; only if it is killed by signal 9 while it copies, or the machine hangs there, end the pause yourself:
-# `kill -CONT NUMBER`. sqlite3's own .backup and VACUUM are no way: they can't read a file in use, and the copies have no
-# sums.
+# ends; only if it is killed by signal 9 while it copies, end the pause yourself: `kill -CONT NUMBER`. sqlite3's own
+# .backup and VACUUM are no way: they can't read a file in use, and what they make has wrong sums.
 set -eu
 program=${1:?the path of the program broker}
 file=${2:?the file of the broker}
@@ -59,7 +58,8 @@ paused= room= copying=
 trap 'exit 1' HUP INT TERM
 trap 'go_on || true; kill ${copying:-} 2> /dev/null || true; rm -rf "$copy.part" "$copy.part-wal" ${room:+"$room"}' EXIT
 
-# copy_pair FROM TO: both files, as they are. The copying is waited for, so that a signal ends this script also if it hangs.
+# copy_pair FROM TO: both files, as they are. The copying is waited for, so that a signal ends this script also if it
+# hangs.
 copy_pair() {
   for end in "" -wal; do
     [ -e "$1$end" ] || continue
@@ -94,6 +94,7 @@ case $said in
   '{"answer":'* | 'open 3.'*) ;;
   *) fail "the broker doesn't open the copy: $said" ;;
 esac
+rm -f "$room/a.db"*
 copy_pair "$copy.part" "$room/b.db"
 said=$(sqlite3 -bail "$room/b.db" 'PRAGMA integrity_check; PRAGMA foreign_key_check' 2>&1) || true
 [ "$said" = ok ] || fail "the copy isn't sound: $said"
