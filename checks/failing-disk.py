@@ -13,7 +13,7 @@ there. What is right, by docs/API.md and docs/OPERATING.md: a command that was a
 answered `stopped` or `memory` isn't; one that was answered `store`, or had no answer, is there as a whole or not at all.
 And SQLite's own integrity_check and foreign_key_check find a copy of the files sound. Prints a line for each part, and
 ends with 1 if one is wrong."""
-import contextlib, os, random, resource, shutil, signal, socket, sqlite3, subprocess, sys, tempfile, time
+import contextlib, os, resource, shutil, signal, socket, sqlite3, subprocess, sys, tempfile, time
 
 PROGRAM = os.path.abspath(sys.argv[1])
 IS_SHORT = "short" in sys.argv[2:]
@@ -281,6 +281,8 @@ def full_disks():
 
 # Failures at random
 
+# An opening makes about a hundred calls, and a command five.
+PROBABILITIES = [0.01, 0.03, 0.003]
 POINTS = ["posix/io/oc/open", "posix/io/rw/pread*", "posix/io/rw/pwrite*", "posix/io/rw/ftruncate", "posix/io/sync/*"]
 
 
@@ -323,9 +325,10 @@ def at_random(probability, commands):
 def random_failures():
     if not shutil.which("fiu-run"):
         raise NotRun("fiu-run isn't installed (the Debian package fiu-utils)")
-    dice, runs, end = random.Random(), [], time.monotonic() + (4 if IS_SHORT else 45)
-    while len(runs) < (6 if IS_SHORT else 130) and time.monotonic() < end:
-        runs.append(at_random(dice.choice([0.002, 0.01, 0.03, 0.1]), 60 if IS_SHORT else 150))
+    least, most, seconds = (3, 6, 4) if IS_SHORT else (9, 130, 45)
+    runs, end = [], time.monotonic() + seconds
+    while len(runs) < least or (len(runs) < most and time.monotonic() < end):
+        runs.append(at_random(PROBABILITIES[len(runs) % len(PROBABILITIES)], 60 if IS_SHORT else 150))
     if not any(EITHER in told for told in runs):
         raise Wrong("no call has failed")
     return f"{len(runs)} brokers whose calls of the system fail at random", runs
