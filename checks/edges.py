@@ -6,9 +6,13 @@ minutes with a program of `rt try` beside other work, and much less with the gat
 
 Prints a line for each, `ok`, `WRONG` or `not run`, and ends with 1 if one is wrong. What is expected is from docs/OPERATING.md and
 docs/API.md. A file without leave is tried as the user nobody if this runs as root, whom nothing is refused to."""
-import json, os, resource, shutil, signal, socket, sqlite3, stat, struct, subprocess, sys, tempfile, time
+import sys
+
+sys.dont_write_bytecode = True
+import json, os, resource, shutil, signal, socket, sqlite3, stat, struct, subprocess, tempfile, time
 from concurrent.futures import ProcessPoolExecutor
 from multiprocessing import get_context
+from sums import seal
 
 TOP = os.path.dirname(os.path.dirname(os.path.abspath(__file__)))
 PATIENCE = 60
@@ -92,21 +96,6 @@ def statements(file, text):
     it.executescript(text)
     it.close()
     seal(file)
-
-
-def seal(file):
-    """Gives the pages their sums again, if the file has them: Python's SQLite writes none. They are those of cksumvfs."""
-    with open(file, "r+b") as it:
-        content = it.read()
-        if content[20:21] != b"\x08":
-            return
-        it.seek(0)
-        for at in range(0, len(content), 4096):
-            first = second = 0
-            for one, two in struct.iter_unpack("<2I", content[at : at + 4088]):
-                first = first + one + second & 0xFFFFFFFF
-                second = second + two + first & 0xFFFFFFFF
-            it.write(content[at : at + 4088] + struct.pack("<2I", first, second))
 
 
 def former_file(room):

@@ -1,6 +1,7 @@
 """What checks/lines.py and checks/stories.py share: pipes and sockets that tell what is taken, addresses, statements of
 SQL, and the counts beside the data."""
 import array, fcntl, os, re, select, socket, sqlite3, struct, termios, time
+from sums import seal
 
 # How long anything is waited for, in seconds.
 PATIENCE = 120
@@ -172,6 +173,7 @@ def statements(file, text):
         it.executescript(text)
     finally:
         it.close()
+    seal(file)
 
 
 def lacks_strict_tables():
