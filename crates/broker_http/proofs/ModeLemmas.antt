@@ -53,7 +53,7 @@ module _ {X : Type 0} (shown : Held X → State) where
       → (IsTrue new.is_stopped ↔ (answer ≡ answers.Store)) → Applies s token command (shown new.connection) answer
       → (next : Mode) × ModeStep (Running s) token command answer next × IsInMode shown next new
   applied s token command answer new stops (inl p) =
-      (Running p.next, inl (p.is_machines, p.step), (not_true new.is_stopped (λ yes. no_step answer p.is_machines (stops.0 yes)), p.keeps))
+      (Running p.next, inl (p.is_machines, p.step, p.teams_differ), (not_true new.is_stopped (λ yes. no_step answer p.is_machines (stops.0 yes)), p.keeps))
   applied s token command answer new stops (inr (inl p)) =
       (Running s, inr (inr (p.0, p.1, refl)), (not_true new.is_stopped (λ yes. let wrong = sym p.0 ∙ stops.0 yes in cc), p.2))
   applied s token command answer new stops (inr (inr (inl p))) =

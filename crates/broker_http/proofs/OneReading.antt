@@ -1,7 +1,14 @@
--- A stream has one reading, where a message has one response: so it doesn't matter how the stream is cut.
-use Rattle.std.proofs.Common.{◌≡◌, ◌⊎◌, inl, inr, ℕ, true, false, List, [], ◌∷◌, ◌++◌, length, refl, sym, ap, ap₂, ◌∙◌, subst, arith, length-append}
+-- A stream has one reading, whatever answers its messages: so it doesn't matter how the stream is cut.
+use Rattle.std.proofs.Common.{◌≡◌, ◌⊎◌, inl, inr, ℕ, suc, true, false, List, [], ◌∷◌, ◌++◌, length, Option, refl, sym, ap, ap₂, ◌∙◌, subst, arith, length-append}
+use Rattle.broker_core.specs.declared.answer.Answer.{Answer}
+use Rattle.broker_core.specs.declared.command.Command.{Command}
 use Rattle.http_messages.specs.Message.{Message}
+use Rattle.http_requests.proofs.OneRequest.{request_one}
+use Rattle.http_requests.specs.declared.requests.Request.{Request}
+use Rattle.http_requests.specs.declared.requests.Request.TheVariants.{Refused, NoRoute, NoMethod, Asks}
 use Rattle.http_responses.specs.Responses.{Response}
+use Rattle.broker_http.specs.Exchange.{Exchange, Responds}
+use Rattle.broker_http.specs.Laws.{IsOneReading, closes_at}
 use Rattle.broker_http.specs.Stream.{Responses, StreamEnds, AllOpen}
 use Rattle.broker_http.specs.declared.served.Ended.{Ended}
 use Rattle.broker_http.specs.declared.served.Ended.TheVariants.{AtEnd, Rest, Closed}
@@ -57,40 +64,73 @@ goes_on AtEnd response responses rest p = inl (p.0.0, (p.0.1, p.1))
 goes_on Rest response responses rest p = inl (p.0.0, (p.0.1, p.1, p.2))
 goes_on Closed response responses rest p = closed_on response responses p.0 rest p.1 p.2 p.3 p.4
 
-module _ {S : Type 0} (Exchange : S → Message → Response → S → Type 0)
-    (same : (s : S) (m : Message) (a b : Response) (t u : S) → Exchange s m a t → Exchange s m b u → (a ≡ b) × (t ≡ u)) where
-  pub one_reading : (s : S) (stream : List ℕ) (responses others : List Response) (t u : S) (rest left : List ℕ) (ended second : Ended)
-      → Responses Exchange s stream responses t rest → StreamEnds ended responses rest
-      → Responses Exchange s stream others u left → StreamEnds second others left
-      → (responses ≡ others) × (t ≡ u) × (ended ≡ second)
-  one_reading s stream [] [] t u rest left ended second p ends q over =
-      (refl, p.0 ∙ sym q.0, one_end ended second stream (subst (StreamEnds ended []) p.1 ends) (subst (StreamEnds second []) q.1 over))
-  one_reading s stream [] (other ∷ others) t u rest left ended second p ends q over =
+-- what a response closes by, whatever answers commands
+pub closes_by_request : {S : Type 0} (Applies : S → Option (List ℕ) → Command → Answer → S → Type 0) (s t : S) (asked : Request) (response : Response)
+    → Responds Applies s asked response t → response.closes ≡ closes_at asked
+closes_by_request Applies s t (Refused refusal is_bodiless) response p = ap (λ (r : Response). r.closes) p.0
+closes_by_request Applies s t (NoRoute closes) response p = ap (λ (r : Response). r.closes) p.0
+closes_by_request Applies s t (NoMethod resource closes) response p = ap (λ (r : Response). r.closes) p.0
+closes_by_request Applies s t (Asks token command closes) response p = ap (λ (r : Response). r.closes) p.2
+
+module _ {S U : Type 0} (First : S → Option (List ℕ) → Command → Answer → S → Type 0)
+    (Second : U → Option (List ℕ) → Command → Answer → U → Type 0) where
+  -- the responses to one message close both, or neither
+  same_close : (m : Message) (a b : Response) (s t : S) (u v : U) → Exchange First s m a t → Exchange Second u m b v → a.closes ≡ b.closes
+  same_close m a b s t u v p q =
+      closes_by_request First s t p.0 a p.2 ∙ ap closes_at (request_one m p.0 q.0 p.1 q.1) ∙ sym (closes_by_request Second u v q.0 b q.2)
+
+  pub one_reading : (s t : S) (u v : U) (stream : List ℕ) (responses others : List Response) (rest left : List ℕ) (ended second : Ended)
+      → Responses (Exchange First) s stream responses t rest → StreamEnds ended responses rest
+      → Responses (Exchange Second) u stream others v left → StreamEnds second others left
+      → IsOneReading stream responses others rest left ended second
+  one_reading s t u v stream [] [] rest left ended second p ends q over = record {
+    messages = [];
+    cut = p.1;
+    each = refl;
+    as_many = refl;
+    same_rest = q.1 ∙ sym p.1;
+    same_end = one_end second ended stream (subst (StreamEnds second []) q.1 over) (subst (StreamEnds ended []) p.1 ends);
+  }
+  one_reading s t u v stream [] (other ∷ others) rest left ended second p ends q over =
       absurd (none_left ended stream q.0 q.2 (subst (StreamEnds ended []) p.1 ends) q.3)
-  one_reading s stream (response ∷ responses) [] t u rest left ended second p ends q over =
+  one_reading s t u v stream (response ∷ responses) [] rest left ended second p ends q over =
       absurd (none_left second stream p.0 p.2 (subst (StreamEnds second []) q.1 over) p.3)
-  one_reading s stream (response ∷ responses) (other ∷ others) t u rest left ended second p ends q over =
+  one_reading s t u v stream (response ∷ responses) (other ∷ others) rest left ended second p ends q over =
       let unique = BeginsWithMessage-unique stream p.2 q.2 p.0 q.0 p.3 q.3 in
       let message = same_message p.0 q.0 unique.0 unique.1 in
-      let exchange = same s q.0 response other p.1 q.1 (subst (λ m. Exchange s m response p.1) message p.4) q.4 in
-      let tail = subst (λ v. Responses Exchange v q.2 responses t rest) exchange.1 (subst (λ l. Responses Exchange p.1 l responses t rest) unique.2 p.5) in
-      let more = one_reading q.1 q.2 responses others t u rest left ended second in
-      let both = after response other responses others t u rest left ended second q.1 q.2 exchange.0 (λ a b. more tail a q.5 b) tail q.5
+      let closes = same_close q.0 response other s p.1 u q.1 (subst (λ m. Exchange First s m response p.1) message p.4) q.4 in
+      let second_tail = subst (λ l. Responses (Exchange Second) q.1 l others v left) (sym unique.2) q.5 in
+      let more = one_reading p.1 t q.1 v p.2 responses others rest left ended second p.5 in
+      let behind = after response other responses others t v rest left ended second p.1 q.1 p.2 closes (λ a b. more a second_tail b) p.5 second_tail
       (goes_on ended response responses rest ends) (goes_on second other others left over) in
-      (ap₂ (λ (r : Response) (rs : List Response). r ∷ rs) exchange.0 both.0, both.1, both.2)
+      record {
+        messages = p.0 ∷ behind.messages;
+        cut = (p.2, p.3, behind.cut);
+        each = ap suc behind.each;
+        as_many = ap suc behind.as_many;
+        same_rest = behind.same_rest;
+        same_end = behind.same_end;
+      }
     where
-      after : (response other : Response) (responses others : List Response) (t u : S) (rest left : List ℕ) (ended second : Ended) (s : S) (stream : List ℕ)
-          → response ≡ other
-          → (StreamEnds ended responses rest → StreamEnds second others left → (responses ≡ others) × (t ≡ u) × (ended ≡ second))
-          → Responses Exchange s stream responses t rest → Responses Exchange s stream others u left
+      after : (response other : Response) (responses others : List Response) (t : S) (v : U) (rest left : List ℕ) (ended second : Ended) (s : S) (u : U) (stream : List ℕ)
+          → response.closes ≡ other.closes
+          → (StreamEnds ended responses rest → StreamEnds second others left → IsOneReading stream responses others rest left ended second)
+          → Responses (Exchange First) s stream responses t rest → Responses (Exchange Second) u stream others v left
           → GoesOn ended response responses rest → GoesOn second other others left
-          → (responses ≡ others) × (t ≡ u) × (ended ≡ second)
-      after response other responses others t u rest left ended second s stream e more p q (inl a) (inl b) = more a.1 b.1
-      after response other responses others t u rest left ended second s stream e more p q (inl a) (inr b) =
-          let wrong = sym a.0 ∙ ap (λ (r : Response). r.closes) e ∙ b.0 in cc
-      after response other responses others t u rest left ended second s stream e more p q (inr a) (inl b) =
-          let wrong = sym a.0 ∙ ap (λ (r : Response). r.closes) e ∙ b.0 in cc
-      after response other responses others t u rest left ended second s stream e more p q (inr a) (inr b) =
-          let here = subst (λ l. Responses Exchange s stream l t rest) a.1 p in
-          let there = subst (λ l. Responses Exchange s stream l u left) b.1 q in
-          (a.1 ∙ sym b.1, here.0 ∙ sym there.0, a.2 ∙ sym b.2)
+          → IsOneReading stream responses others rest left ended second
+      after response other responses others t v rest left ended second s u stream e more p q (inl a) (inl b) = more a.1 b.1
+      after response other responses others t v rest left ended second s u stream e more p q (inl a) (inr b) =
+          let wrong = sym a.0 ∙ e ∙ b.0 in cc
+      after response other responses others t v rest left ended second s u stream e more p q (inr a) (inl b) =
+          let wrong = sym a.0 ∙ e ∙ b.0 in cc
+      after response other responses others t v rest left ended second s u stream e more p q (inr a) (inr b) =
+          let here = subst (λ l. Responses (Exchange First) s stream l t rest) a.1 p in
+          let there = subst (λ l. Responses (Exchange Second) u stream l v left) b.1 q in
+          record {
+            messages = [];
+            cut = here.1;
+            each = ap length a.1;
+            as_many = ap length b.1;
+            same_rest = there.1 ∙ sym here.1;
+            same_end = b.2 ∙ sym a.2;
+          }

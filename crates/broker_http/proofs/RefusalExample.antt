@@ -104,6 +104,17 @@ with_head = refl
 the_response : refusal ≡ answer_response refused_for_a_claim false
 the_response = with_head ∙ ap (response_of 409 [] false false) (sym the_body_of_a_refusal)
 
+-- one team has a token, so no two have one
+one_team : (digest team : Text) → put_at same_text (λ _. None) red (Some (broker_primitives.digest_of red_token)) team ≡ Some digest → team ≡ red
+one_team digest team has = by (same_text team red) refl has
+  where
+    by : (b : Bool) → same_text team red ≡ b → (if b then Some (broker_primitives.digest_of red_token) else None) ≡ Some digest → team ≡ red
+    by true same is = text_is team red same
+    by false same is = absurd (cc)
+
+teams_differ : (office : Text) → TeamsDiffer (claims_only office)
+teams_differ office digest a b is also = one_team digest a is ∙ sym (one_team digest b also)
+
 -- ---- the stream
 
 abbrev ending : Text → Journal
@@ -122,7 +133,7 @@ a_deployment_is_refused office other = (
     ending office,
     [],
     the_stream_begins_with_the_message,
-    (_, the_message_asks_a_deployment, (refused_for_a_claim, (inl (refl, a_claim_is_no_evidence office other), refl), the_response)),
+    (_, the_message_asks_a_deployment, (refused_for_a_claim, (inl (refl, a_claim_is_no_evidence office other, teams_differ office), refl), the_response)),
     (refl, refl),
   ),
   ((refl, tt), refl),
@@ -131,17 +142,6 @@ a_deployment_is_refused office other = (
 )
 
 -- ---- and no other answer is a step
-
--- one team has a token, so no two have one
-one_team : (digest team : Text) → put_at same_text (λ _. None) red (Some (broker_primitives.digest_of red_token)) team ≡ Some digest → team ≡ red
-one_team digest team has = by (same_text team red) refl has
-  where
-    by : (b : Bool) → same_text team red ≡ b → (if b then Some (broker_primitives.digest_of red_token) else None) ≡ Some digest → team ≡ red
-    by true same is = text_is team red same
-    by false same is = absurd (cc)
-
-teams_differ : (office : Text) → TeamsDiffer (claims_only office)
-teams_differ office digest a b is also = one_team digest a is ∙ sym (one_team digest b also)
 
 module _ (office : Text) (other : ¬ (office ≡ broker_primitives.digest_of red_token)) where
   abbrev IsRefused : Answer → Mode → List (Request × Answer) → Type 0

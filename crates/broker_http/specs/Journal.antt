@@ -1,5 +1,6 @@
 -- A stream's commands as a run of the machine.
-use Rattle.std.specs.Prelude.{◌≡◌, List, [], ◌∷◌, ◌++◌, map, Option, if◌then◌else◌}
+use Rattle.std.specs.Prelude.{◌≡◌, ◌⊎◌, List, [], ◌∷◌, ◌++◌, map, Option, if◌then◌else◌}
+use Rattle.broker_core.specs.Laws.{TeamsDiffer}
 use Rattle.broker_core.specs.Machine.{Request, Run, is_step}
 use Rattle.broker_core.specs.State.{State as Broker}
 use Rattle.broker_core.specs.Text.{Text}
@@ -33,8 +34,9 @@ abbrev pub state_of : Mode → Broker
 state_of (Running s) = s
 state_of (IsStopped s token command) = s
 
--- the steps, in order and with their answers, run the machine from the first state to the last
-abbrev pub IsRunFrom : Mode → Journal → Type 0
-IsRunFrom mode journal =
-    Run broker_primitives (state_of mode) (map (λ x. x.0) journal.steps) (map (λ x. x.1) journal.steps)
-    (state_of journal.mode)
+pub record IsRunFrom (mode : Mode) (journal : Journal) : Type 0 where
+  -- the steps, in order and with their answers, run the machine from the first state to the last
+  pub runs : Run broker_primitives (state_of mode) (map (λ x. x.0) journal.steps) (map (λ x. x.1) journal.steps)
+      (state_of journal.mode)
+  -- if there is a step, no two teams of the first state have tokens with one digest
+  pub teams_differ : (journal.steps ≡ []) ⊎ TeamsDiffer (state_of mode)

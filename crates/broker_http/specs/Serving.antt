@@ -4,6 +4,7 @@ use Rattle.std.specs.Io.KnownBytes.{Appends, Consumes, IsAtEnd}
 use Rattle.sqlite.specs.Held.{Held}
 use Rattle.sqlite.specs.State.{State}
 use Rattle.table_access.specs.Durability.{HoldsEither}
+use Rattle.broker_core.specs.Laws.{TeamsDiffer}
 use Rattle.broker_core.specs.Machine.{Step, is_step}
 use Rattle.broker_core.specs.State.{State as Broker}
 use Rattle.broker_core.specs.Text.{Text}
@@ -27,11 +28,13 @@ pub data Mode : Type 0 where
   Running : Broker → Mode
   IsStopped : (s : Broker) (token : Option Text) (command : Command) → Mode
 
--- An answer and the next mode: a step of the machine; or no memory, or a pattern that was refused as replies were
--- compared with a stored pact, and no step; or a failure of the database, after which each answer is Stopped.
+-- An answer and the next mode: a step of the machine, from a state in which no two teams have tokens with one digest;
+-- or no memory, or a pattern that was refused as replies were compared with a stored pact, and no step; or a failure of
+-- the database, after which each answer is Stopped.
 abbrev pub ModeStep : Mode → Option Text → Command → Answer → Mode → Type 0
 ModeStep (Running s) token command answer (Running t) =
-    ((is_step answer ≡ true) × Step broker_primitives s token command (record { answer = answer; state = t }))
+    ((is_step answer ≡ true) × Step broker_primitives s token command (record { answer = answer; state = t })
+    × TeamsDiffer s)
     ⊎ (((answer ≡ answers.Memory) × (t ≡ s))
     ⊎ ((answer ≡ answers.Pattern) × AsksPattern s token command × (t ≡ s)))
 ModeStep (Running s) token command answer (IsStopped u of failed) =

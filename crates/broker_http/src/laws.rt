@@ -1,6 +1,6 @@
 //! The laws of streams. The program calls none of these.
 ghost use Rattle.sqlite.specs.Held.{state};
-ghost use Rattle.broker_http.specs.Laws.{OneReading, StreamsDeployExactly, StreamsReleaseExactly};
+ghost use Rattle.broker_http.specs.Laws.{ClosesByRequest, OneReading, StreamsDeployExactly, StreamsReleaseExactly};
 
 use sqlite::Alter;
 
@@ -10,13 +10,14 @@ use sqlite::Alter;
 /// partners there has a successful latest verification, no required provider is absent and the caller's team is
 /// granted, all in the state to which the steps before it lead; otherwise its answer names every failing or missing
 /// pair, or the denying rule, and nothing changes. So is each release.
-pub fn headline_of_stream<S: Alter>()
-    ensures deployments { StreamsDeployExactly (state S.Store) }
-    ensures releases { StreamsReleaseExactly (state S.Store) }
+pub fn headline_of_stream()
+    ensures deployments { StreamsDeployExactly }
+    ensures releases { StreamsReleaseExactly }
 {}
 
-/// However a stream is cut into reads, it has one reading: the same messages, the same responses if each message is
-/// answered by what came before it, and the same end.
-pub fn one_reading()
-    ensures { OneReading }
+/// A stream has one reading, however it is cut into reads and whatever a broker answers: the same messages, a response
+/// to each, the same rest and the same end. For whether a response closes its stream depends on its message alone.
+pub fn one_reading<S: Alter, U: Alter>()
+    ensures closes { ClosesByRequest (state S.Store) }
+    ensures reading { OneReading (state S.Store) (state U.Store) }
 {}
