@@ -62,7 +62,7 @@ module _ {X : Type 0} (shown : Held X → State) where
   pub ran : (old : BrokerView X) (token : Option Text) (command : Command) (r : Result Answer StoreFault) (answer : Answer) (new : BrokerView X) → answer ≡ told r
       → (HasCleanDisk (shown new.connection) → (s : Broker) → HoldsState s (shown old.connection) → AppliesOrFails s token command (shown new.connection) r)
       → (HasCleanDisk (shown new.connection) → IsUnchangedUnlessDone (shown old.connection) (shown new.connection) r)
-      → (HasCleanDisk (shown new.connection) → IfErr r (HasReason shown token command old.connection new.connection))
+      → (HasCleanDisk (shown new.connection) → IfErr r (HasReason shown old.connection new.connection))
       → LeavesNoTransaction (shown old.connection) (shown new.connection) → CommitsAtMostOnce (shown old.connection) (shown new.connection)
       → IfOk r IsNoFailure → (IsTrue new.is_stopped ↔ (answer ≡ answers.Store)) → old.is_stopped ≡ false → Applied shown old token command answer new
   ran old token command r answer new is ends unchanged cause over survives answered stops running = record {
@@ -71,7 +71,7 @@ module _ {X : Type 0} (shown : Held X → State) where
     releases = λ clean _ step s holds. released_exactly s token command _ answer (applies clean s holds) step;
     unchanged = λ clean _ other undone. unchanged_told _ _ r (unchanged clean) (subst (λ (a : Answer). a ≢ answers.Store) is other) (subst (λ (a : Answer). ¬ (IsDone a)) is undone);
     fails = λ clean store. fails_told _ _ r (unchanged clean) (sym is ∙ store);
-    cause = λ clean _ failure told_as. cause_told (HasReason shown token command old.connection new.connection) r failure answered (cause clean) (sym is ∙ told_as);
+    cause = λ clean _ failure told_as. cause_told (HasReason shown old.connection new.connection) r failure answered (cause clean) (sym is ∙ told_as);
     over = over;
     stops = λ _. stops;
     stopped = λ stopped. absurd (cc);

@@ -14,7 +14,7 @@ use Rattle.broker_core.specs.declared.answer.Answer.{Answer}
 use Rattle.broker_core.specs.declared.command.Command.{Command}
 use Rattle.broker_tables.specs.Holds.{Holds}
 use Rattle.command_facts.specs.Performs.{PerformsBetween, TokensStep}
-use Rattle.broker_service.specs.Causes.{Concludes, Works, HasReason}
+use Rattle.broker_service.specs.Causes.{Concludes, HasReason}
 use Rattle.broker_service.specs.Ends.{AppliesOrFails, HoldsNext, IsAsBefore, IsUnchangedUnlessDone, CommitsAtMostOnce}
 use Rattle.broker_service.specs.Stored.{Stores, HoldsState}
 use Rattle.broker_service.specs.Transaction.{Finishes}
@@ -88,16 +88,6 @@ module _ (token : Option Text) (command : Command) where
     concluded_over clean = finished_over done new it.keeps it.did it.ends clean
 
 -- why it failed
-module _ {X : Type 0} (shown : Held X → State) (token : Option Text) (command : Command) (old mid done new : Held X) where
-  reason_of : (worked : Result Answer StoreFault) (keeps did : Bool) → Begins (shown old) (shown mid) → Works shown token command mid done worked → (IsTrue keeps ↔ IsOkAnd worked IsDone)
-      → Finishes (shown done) (shown new) keeps did → HasCleanDisk (shown new) → IfErr (if did then worked else Err Store) (HasReason shown token command old new)
-  reason_of (Ok answer) keeps true begun works kept ends clean = tt
-  reason_of (Err fault) false true begun works kept ends clean = inr (mid, done, begun, inl (works, ends))
-  reason_of (Err fault) true did begun works kept ends clean = absurd (kept.0 refl)
-  reason_of (Ok answer) true false begun works kept ends clean = inr (mid, done, begun, inr (refl, inr (answer, kept.0 refl, works, ends)))
-  reason_of worked false false begun works kept ends clean = inr (mid, done, begun, inr (refl, inl (worked, works, (λ is. let kept_is = kept.1 is in cc), ends.refused clean refl refl)))
-
-  pub has_reason : (worked result : Result Answer StoreFault) → Begins (shown old) (shown mid) → Works shown token command mid done worked → Concludes (shown done) (shown new) worked result
-      → HasCleanDisk (shown new) → IfErr result (HasReason shown token command old new)
-  has_reason worked result begun works it clean =
-      subst (λ (r : Result Answer StoreFault). IfErr r (HasReason shown token command old new)) (sym it.answer) (reason_of worked it.keeps it.did begun works it.kept it.ends clean)
+pub reason_of : {X : Type 0} (shown : Held X → State) (old mid new : Held X) (r : Result Answer StoreFault) → Begins (shown old) (shown mid) → IfErr r (HasReason shown old new)
+reason_of shown old mid new (Ok answer) begun = tt
+reason_of shown old mid new (Err fault) begun = inr (mid, begun)

@@ -58,10 +58,10 @@ module _ {X : Type 0} (shown : Held X → State) where
     -- Store: the last commit is the old one, while its connection is open
     pub fails : HasCleanDisk (shown new.connection) → answer ≡ answers.Store
         → KeepsLastCommit (shown old.connection) (shown new.connection)
-    -- whatever the database is: Memory and Store are answered only for the fault of BEGIN, of the command's work or of
-    -- the transaction's end
+    -- whatever the database is: Memory and Store are answered only if a transaction was begun, or if BEGIN was refused,
+    -- as what it was refused by
     pub cause : HasCleanDisk (shown new.connection) → old.is_stopped ≡ false → (failure : StoreFault)
-        → answer ≡ answer_of failure → HasReason shown token command old.connection new.connection failure
+        → answer ≡ answer_of failure → HasReason shown old.connection new.connection failure
     -- whatever the answer is, no transaction is left open
     pub over : LeavesNoTransaction (shown old.connection) (shown new.connection)
     -- Store alone stops the broker

@@ -222,7 +222,7 @@ pub(crate) fn transact<S: Alter>(
     ensures unchanged { HasCleanDisk (state S.Store conn.new)
         → IsUnchangedUnlessDone (state S.Store conn.old) (state S.Store conn.new) result }
     ensures cause { HasCleanDisk (state S.Store conn.new)
-        → IfErr result (HasReason (state S.Store) (token_of token.entry) command.now conn.old conn.new) }
+        → IfErr result (HasReason (state S.Store) conn.old conn.new) }
     ensures over { LeavesNoTransaction (state S.Store conn.old) (state S.Store conn.new) }
     ensures survives { CommitsAtMostOnce (state S.Store conn.old) (state S.Store conn.new) }
     ensures answers { IfOk result IsNoFailure }

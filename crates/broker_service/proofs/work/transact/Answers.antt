@@ -3,7 +3,7 @@ use Rattle.sqlite.specs.Held.{state}
 use Rattle.sqlite.specs.State.{HasCleanDisk}
 use Rattle.command_facts.specs.Callers.{token_of}
 use Rattle.broker_service.proofs.Transaction.{once_at_most, not_begun, left_over}
-use Rattle.broker_service.proofs.TransactLemmas.{concluded_ends, concluded_unchanged, concluded_once, concluded_over, has_reason, fails_as_before}
+use Rattle.broker_service.proofs.TransactLemmas.{concluded_ends, concluded_unchanged, concluded_once, concluded_over, reason_of, fails_as_before}
 use Rattle.broker_service.proofs.work.transact.Goals as goal
 
 pub returns-clause-ends : goal.returns-clause-ends
@@ -18,7 +18,7 @@ pub returns-clause-cause : goal.returns-clause-cause
 returns-clause-cause g c clean =
     let done_clean : HasCleanDisk (state g.S.Store c.work-worked.new.conn) = omega (arith, c.conclude.ensures.ends.survives.clean, clean) in
     let mid_clean : HasCleanDisk (state g.S.Store c.begin.new.conn) = omega (arith, c.work-worked.ensures.performs.survives.clean, done_clean) in
-    has_reason (state g.S.Store) (token_of c.args.token) c.args.command.now c.args.conn.now c.begin.new.conn c.work-worked.new.conn c.conclude.new.conn c.work-worked.result c.conclude.result (c.in-Ok.ensures.begun mid_clean) c.work-worked.ensures.performs c.conclude.ensures clean
+    reason_of (state g.S.Store) c.args.conn.now c.begin.new.conn c.conclude.new.conn c.conclude.result (c.in-Ok.ensures.begun mid_clean)
 
 pub returns-clause-over : goal.returns-clause-over
 returns-clause-over g c clean was =
