@@ -152,15 +152,28 @@ def send_by_socket(connection, pieces, process):
         pass
 
 
-def receive_all(connection):
-    """All that comes until the peer closes the connection."""
-    parts = []
+def receive(connection, count):
+    """The next so many bytes at least, or what comes until the peer closes the connection."""
+    parts, length = [], 0
     try:
-        while part := connection.recv(1 << 16):
+        while length < count and (part := connection.recv(1 << 16)):
             parts.append(part)
+            length += len(part)
     except ConnectionResetError:
         pass
     return b"".join(parts)
+
+
+def receive_all(connection):
+    """All that comes until the peer closes the connection."""
+    return receive(connection, float("inf"))
+
+
+def is_closed(connection):
+    """Whether the peer has closed the connection."""
+    closed = select.poll()
+    closed.register(connection, select.POLLRDHUP)
+    return bool(closed.poll(0))
 
 
 # Files

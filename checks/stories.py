@@ -39,8 +39,8 @@ sys.dont_write_bytecode = True
 import os, re, shutil, socket, sqlite3, subprocess, tempfile, time
 from concurrent.futures import ProcessPoolExecutor, as_completed
 from multiprocessing import get_context
-from plays import Wrong, connected, finish, free_address, kept_bytes, lacks_strict_tables, receive_all, release
-from plays import send_by_pipe, send_by_socket, shown, statements, watched, written_counts
+from plays import Wrong, connected, finish, free_address, is_closed, kept_bytes, lacks_strict_tables, receive, receive_all
+from plays import release, send_by_pipe, send_by_socket, shown, statements, watched, written_counts
 
 TOP = os.path.dirname(os.path.dirname(os.path.abspath(__file__)))
 FOLDERS = [f"{TOP}/checks/stories", f"{TOP}/crates/store_stops/data"]
@@ -284,15 +284,19 @@ def play_replay(story, cut):
 
 
 def play_connection(connection, stream, cut, where, process):
-    """Plays a stream on a connection. If it is to be closed by an answer, this end isn't."""
+    """Plays a stream on a connection. This end of it is closed after the answers, unless one of them is to close it."""
     send_by_socket(connection, pieces_of(stream, cut), process)
-    if stream.ended != "closed":
+    got = receive(connection, sum(len(text) for _, text in stream.answers))
+    was_closed = is_closed(connection)
+    if stream.ended != "closed" and not was_closed:
         connection.shutdown(socket.SHUT_WR)
     try:
-        got = receive_all(connection)
+        got += receive_all(connection)
     except TimeoutError:
         raise Wrong(f"{where}: wanted the connection closed by the answer, and it stays open") from None
     compare(stream.answers, got, where)
+    if stream.ended != "closed" and was_closed:
+        raise Wrong(f"{where}: wanted the connection open after the answers, and it is closed")
 
 
 def play_served(file, streams, number, cut):
