@@ -24,11 +24,14 @@
 < 503 {"answer":"stopped"}
 > R GET /nothing
 < 404 {"answer":"no route"}
-= end
-# Another stream to the same broker.
 > R GET /environments/live
 < 503 {"answer":"stopped"}
-# Opened again, it is as before.
+= end
+# Before the next connection the file is opened again.
+> R GET /environments/live
+< 200 {"answer":"shown","deployed":[{"instance":"","pacticipant":"shop","version":"1"},{"instance":"",
+  "pacticipant":"stock","version":"1"}],"environment":"live","gated":true,"released":[]}
+# And without the number it is as before.
 ! DELETE FROM versions WHERE number = 4294967296
 > R GET /environments/live
 < 200 {"answer":"shown","deployed":[{"instance":"","pacticipant":"shop","version":"1"},{"instance":"",
