@@ -18,7 +18,7 @@ import contextlib, os, resource, shutil, signal, socket, sqlite3, subprocess, sy
 PROGRAM = os.path.abspath(sys.argv[1])
 IS_SHORT = "short" in sys.argv[2:]
 PARTS = [it for it in sys.argv[2:] if it != "short"] or ["full", "random"]
-PATIENCE = 60
+PATIENCE = 600
 OFFICE, RED, BLUE = "office-token-0001", "red-team-token-01", "blue-team-token-1"
 PLACE = "/pacts/provider/stock/consumer/shop/version"
 DONE = '"answer":"done"'
