@@ -3,8 +3,9 @@
 //! A broker serves one peer at a time, so each may keep it only so long. A message that has begun has to be whole, and
 //! an answer to be taken, within a limit. A peer that has sent nothing of its next message has to go if another waits;
 //! by itself it may stay. Only the time that is spent waiting counts, not that of the broker's own work.
-ghost use Rattle.std.specs.Prelude.{ℕ, None};
+ghost use Rattle.std.specs.Prelude.{ℕ, List, Option, None};
 ghost use Rattle.std.specs.Io.{ReadsAtMost, WritesAtMost};
+ghost use Rattle.std.specs.Io.KnownBytes.{ReadConsumes, WriteAppends};
 ghost use Rattle.sqlite.specs.Held.{state};
 ghost use Rattle.broker_http.specs.Calls.{IsServed};
 
@@ -31,7 +32,7 @@ pub struct Limits {
     pub first: u64,
     /// For those of a later message, if another peer waits.
     pub next: u64,
-    /// For either, before it is looked again whether another peer waits.
+    /// At once, before it is looked again whether another peer waits, or whether a limit is over.
     pub look: u64,
 }
 
@@ -44,28 +45,39 @@ pub const LIMITS: Limits = Limits {
     look: 20,
 };
 
-/// The other end of a connection.
-pub trait Peer {
-    /// Reads once, and waits for the first byte no longer than that: it fails with `WouldBlock` then.
-    fn receive(&self, buf: &mut [u8], within: Duration) -> io::Result<usize>
-        ensures { ReadsAtMost result buf.new };
+/// What the other end of a connection sends.
+pub trait PeerReader {
+    /// The bytes that are still to come, where they are known.
+    ghost remaining: { Self → Option (List ℕ) } = { λ _. None };
 
-    /// Writes once, and waits for room no longer than that: it fails with `WouldBlock` then.
-    fn send(&self, buf: &[u8], within: Duration) -> io::Result<usize>
-        ensures { WritesAtMost result buf.now };
+    /// Reads once, and waits for the first byte no longer than that: it fails with `WouldBlock` then.
+    fn receive(&mut self, buf: &mut [u8], within: Duration) -> io::Result<usize>
+        ensures bound { ReadsAtMost result buf.new }
+        ensures bytes { ReadConsumes (remaining self.old) (remaining self.new) result buf.new };
 }
 
-impl Peer for TcpStream {
-    fn receive(&self, buf: &mut [u8], within: Duration) -> io::Result<usize> {
-        self.set_read_timeout(Some(within))?;
-        let mut stream = self;
-        stream.read(buf)
-    }
+/// What the other end of a connection takes.
+pub trait PeerWriter {
+    /// The bytes that it has taken, where they are known.
+    ghost contents: { Self → Option (List ℕ) } = { λ _. None };
 
-    fn send(&self, buf: &[u8], within: Duration) -> io::Result<usize> {
+    /// Writes once, and waits for room no longer than that: it fails with `WouldBlock` then.
+    fn send(&mut self, buf: &[u8], within: Duration) -> io::Result<usize>
+        ensures bound { WritesAtMost result buf.now }
+        ensures bytes { WriteAppends (contents self.old) (contents self.new) result buf.now };
+}
+
+impl PeerReader for &TcpStream {
+    fn receive(&mut self, buf: &mut [u8], within: Duration) -> io::Result<usize> {
+        self.set_read_timeout(Some(within))?;
+        self.read(buf)
+    }
+}
+
+impl PeerWriter for &TcpStream {
+    fn send(&mut self, buf: &[u8], within: Duration) -> io::Result<usize> {
         self.set_write_timeout(Some(within))?;
-        let mut stream = self;
-        stream.write(buf)
+        self.write(buf)
     }
 }
 
@@ -86,65 +98,94 @@ enum Wait {
     Answer(Duration),
 }
 
-/// What is left of a limit. `TimedOut` if nothing is.
-fn left_of(limit: u64, spent: Duration) -> io::Result<Duration> {
+/// How long to wait at once: what is left of a limit, but no longer than a look. `TimedOut` if nothing is left.
+fn next_look(limit: u64, look: u64, spent: Duration) -> io::Result<Duration> {
     let left = Duration::from_millis(limit).saturating_sub(spent);
     if left.is_zero() {
         Err(io::Error::from(ErrorKind::TimedOut))
     } else {
-        Ok(left)
+        Ok(left.min(Duration::from_millis(look)))
     }
 }
 
-/// Whether nothing came in time.
-fn is_late(received: &io::Result<usize>) -> bool {
-    match received {
-        Ok(_) => false,
-        Err(error) => error.kind() == ErrorKind::WouldBlock,
+/// How long a wait that began then counts: no longer than it was to last, also if the process was stopped meanwhile, as
+/// the clock goes on then. If the clock fails, so long.
+fn waited_since<C: Clock>(clock: &C, asked: Instant, within: Duration) -> Duration {
+    match asked.elapsed(clock) {
+        Ok(waited) => waited.min(within),
+        Err(_) => within,
     }
 }
 
-/// What a peer sends, as far as it is waited for.
+/// Whether a wait that failed so may go on: it came to its end, or a signal cut it short.
+fn is_unfinished(kind: ErrorKind) -> bool {
+    kind == ErrorKind::WouldBlock || kind == ErrorKind::Interrupted
+}
+
+/// What a peer sends, as far as it is waited for. Where the wait is cut short by a signal, it goes on.
 #[derive(Drop)]
-struct Incoming<'a, 'w, P: Peer, D: Door, C: Clock> {
-    peer: &'a P,
+struct Incoming<'a, 'w, R: PeerReader, D: Door, C: Clock> {
+    peer: R,
     door: &'a mut D,
     clock: &'a C,
     limits: Limits,
     wait: &'w Cell<Wait>,
 }
 
-impl<P: Peer, D: Door, C: Clock> Incoming<'_, '_, P, D, C> {
+impl<R: PeerReader, D: Door, C: Clock> Incoming<'_, '_, R, D, C> {
     /// Waits for more of a message.
     fn read_on(&mut self, buf: &mut [u8], spent: Duration) -> io::Result<usize>
-        ensures { ReadsAtMost result buf.new }
+        ensures bound { ReadsAtMost result buf.new }
+        ensures bytes { ReadConsumes (R.remaining self.old.peer) (R.remaining self.new.peer) result buf.new }
     {
-        let left = left_of(self.limits.message, spent)?;
-        let asked = Instant::now(self.clock)?;
-        let count = self.peer.receive(buf, left)?;
-        let waited = asked.elapsed(self.clock)?;
-        self.wait.set(Wait::Message(spent.saturating_add(waited)));
-        Ok(count)
+        let mut spent = spent;
+        for _ in 0..u64::MAX {
+            let within = next_look(self.limits.message, self.limits.look, spent)?;
+            let asked = Instant::now(self.clock)?;
+            let received = self.peer.receive(buf, within);
+            spent = spent.saturating_add(waited_since(self.clock, asked, within));
+            match received {
+                Ok(count) => {
+                    self.wait.set(Wait::Message(spent));
+                    return Ok(count);
+                }
+                Err(error) => {
+                    if !is_unfinished(error.kind()) {
+                        return Err(error);
+                    }
+                }
+            }
+        }
+        Err(io::Error::from(ErrorKind::TimedOut))
     }
 
     /// Waits for the first bytes of a message: as long as no other peer waits, and then for the grace.
     fn begin(&mut self, buf: &mut [u8], grace: u64) -> io::Result<usize>
-        ensures { ReadsAtMost result buf.new }
+        ensures bound { ReadsAtMost result buf.new }
+        ensures bytes { ReadConsumes (R.remaining self.old.peer) (R.remaining self.new.peer) result buf.new }
     {
         for _ in 0..u64::MAX {
             let is_wanted = self.door.has_another();
             let within = if is_wanted { grace } else { self.limits.look };
-            let received = self.peer.receive(buf, Duration::from_millis(within));
-            if is_wanted || !is_late(&received) {
-                self.wait.set(Wait::Message(Duration::ZERO));
-                return received;
+            match self.peer.receive(buf, Duration::from_millis(within)) {
+                Ok(count) => {
+                    self.wait.set(Wait::Message(Duration::ZERO));
+                    return Ok(count);
+                }
+                Err(error) => match error.kind() {
+                    ErrorKind::Interrupted => {}
+                    ErrorKind::WouldBlock if !is_wanted => {}
+                    _ => return Err(error),
+                },
             }
         }
         Err(io::Error::from(ErrorKind::TimedOut))
     }
 }
 
-impl<P: Peer, D: Door, C: Clock> Read for Incoming<'_, '_, P, D, C> {
+impl<R: PeerReader, D: Door, C: Clock> Read for Incoming<'_, '_, R, D, C> {
+    ghost remaining = { λ incoming. R.remaining incoming.peer };
+
     /// After an answer, a read that asks for as many bytes as a head may have asks for the first bytes of a message: if
     /// some of it is there already, fewer are asked for. (A body that lacks as many, whose head came with the request
     /// before, is taken for the same, and has to go on within `next` if another peer waits.)
@@ -158,27 +199,42 @@ impl<P: Peer, D: Door, C: Clock> Read for Incoming<'_, '_, P, D, C> {
     }
 }
 
-/// What a peer takes, as far as it is waited for.
+/// What a peer takes, as far as it is waited for. Where the wait is cut short by a signal, it goes on.
 #[derive(Drop)]
-struct Outgoing<'a, 'w, P: Peer, C: Clock> {
-    peer: &'a P,
+struct Outgoing<'a, 'w, W: PeerWriter, C: Clock> {
+    peer: W,
     clock: &'a C,
     limit: u64,
+    look: u64,
     wait: &'w Cell<Wait>,
 }
 
-impl<P: Peer, C: Clock> Write for Outgoing<'_, '_, P, C> {
+impl<W: PeerWriter, C: Clock> Write for Outgoing<'_, '_, W, C> {
+    ghost contents = { λ outgoing. W.contents outgoing.peer };
+
     fn write(&mut self, buf: &[u8]) -> io::Result<usize> {
-        let spent = match self.wait.get() {
+        let mut spent = match self.wait.get() {
             Wait::Answer(spent) => spent,
             Wait::First | Wait::Message(_) => Duration::ZERO,
         };
-        let left = left_of(self.limit, spent)?;
-        let asked = Instant::now(self.clock)?;
-        let count = self.peer.send(buf, left)?;
-        let waited = asked.elapsed(self.clock)?;
-        self.wait.set(Wait::Answer(spent.saturating_add(waited)));
-        Ok(count)
+        for _ in 0..u64::MAX {
+            let within = next_look(self.limit, self.look, spent)?;
+            let asked = Instant::now(self.clock)?;
+            let sent = self.peer.send(buf, within);
+            spent = spent.saturating_add(waited_since(self.clock, asked, within));
+            match sent {
+                Ok(count) => {
+                    self.wait.set(Wait::Answer(spent));
+                    return Ok(count);
+                }
+                Err(error) => {
+                    if !is_unfinished(error.kind()) {
+                        return Err(error);
+                    }
+                }
+            }
+        }
+        Err(io::Error::from(ErrorKind::TimedOut))
     }
 
     fn flush(&mut self) -> io::Result<()> {
@@ -187,31 +243,36 @@ impl<P: Peer, C: Clock> Write for Outgoing<'_, '_, P, C> {
 }
 
 /// Answers what the peer asks, as `serve` does, and waits for it as the limits say. If one is over, the reader or the
-/// writer has failed to `serve`.
-pub fn serve_peer<'a, S: Alter, P: Peer, D: Door, C: Clock>(
+/// writer has failed to `serve`. It gives the peer's two sides back.
+pub fn serve_peer<'a, S: Alter, R: PeerReader + Drop, W: PeerWriter + Drop, D: Door, C: Clock>(
     alloc: Global,
     routes: &RouteTable,
     broker: &mut Broker<S>,
-    peer: &'a P,
+    reader: R,
+    writer: W,
     door: &'a mut D,
     clock: &'a C,
     limits: Limits,
-) -> Result<Served, ServeFault>
-    ensures { IsServed (state S.Store) broker.old broker.new None None None None result }
+) -> (Result<Served, ServeFault>, R, W)
+    ensures { IsServed (state S.Store) broker.old broker.new
+        (R.remaining reader) (R.remaining result.1)
+        (W.contents writer) (W.contents result.2) result.0 }
 {
     let wait = Cell::new(Wait::First);
     let mut incoming = Incoming {
-        peer,
+        peer: reader,
         door,
         clock,
         limits,
         wait: &wait,
     };
     let mut outgoing = Outgoing {
-        peer,
+        peer: writer,
         clock,
         limit: limits.answer,
+        look: limits.look,
         wait: &wait,
     };
-    serve(alloc, routes, broker, &mut incoming, &mut outgoing)
+    let served = serve(alloc, routes, broker, &mut incoming, &mut outgoing);
+    (served, incoming.peer, outgoing.peer)
 }

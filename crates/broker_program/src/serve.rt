@@ -113,7 +113,16 @@ fn serve_next(
         // Else an answer in two parts would wait for the peer to acknowledge the first.
         let _ = stream.set_nodelay(true);
         let door = &mut connections.entrance;
-        let _ = serve_peer(rt.alloc(), routes, broker, &stream, door, rt, LIMITS);
+        let _ = serve_peer(
+            rt.alloc(),
+            routes,
+            broker,
+            &stream,
+            &stream,
+            door,
+            rt,
+            LIMITS,
+        );
     }
 }
 
