@@ -1,5 +1,8 @@
 //! A broker in a file.
-ghost use Rattle.std.specs.Prelude.{◌≡◌, false, IfOk};
+ghost use Rattle.std.specs.Prelude.{◌≡◌, false, true, IfOk};
+ghost use Rattle.sqlite.specs.Files.{file_state};
+ghost use Rattle.sqlite.specs.FileStore.{view};
+ghost use Rattle.sqlite.specs.State.{HasCleanDisk};
 
 use crate::fault::RunFault;
 use broker_service::{Broker, Refused};
@@ -17,10 +20,12 @@ pub(crate) type FileBroker = Broker<FileStore<File>>;
 #[derive(Drop)]
 pub(crate) struct Closed(());
 
-/// A connection over the file of this path, which is made if it isn't there. `File`: it can't be read or written,
-/// another program has it open, or it is no database.
-pub(crate) fn connect(rt: &HostRuntime, path: &str) -> Result<FileConnection, RunFault> {
-    match Connection::open(rt, path) {
+/// A connection over the file of this path, which is made with page sums if it isn't there. `File`: it can't be read or
+/// written, another program has it open, or it is no database.
+pub(crate) fn connect(rt: &HostRuntime, path: &str) -> Result<FileConnection, RunFault>
+    ensures { IfOk result (λ c. HasCleanDisk (file_state c) → (view c.store).has_sums ≡ true) }
+{
+    match Connection::open_with_sums(rt, path) {
         Ok(connection) => Ok(connection),
         Err(Error::SqliteFailure(ErrorCode::OutOfMemory)) => Err(RunFault::Memory),
         Err(_) => Err(RunFault::File),
