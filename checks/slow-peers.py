@@ -129,16 +129,15 @@ def partly(slow, stop):
 
 
 def sip(slow, stop):
-    """Takes ten bytes now and then."""
-    slow.settimeout(0.5)
-    sent = 0
-    while not stop.is_set():
+    """Takes ten bytes whenever there is no room to send more: once a second, as soon as the broker waits for it."""
+    slow.settimeout(1)
+    sent, is_open = 0, True
+    while is_open and not stop.is_set():
         sent = push(slow, sent)
         try:
-            slow.recv(10)
+            is_open = bool(slow.recv(10))
         except OSError:
             return
-        time.sleep(0.1)
 
 
 def kept(broker):

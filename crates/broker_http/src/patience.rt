@@ -108,11 +108,12 @@ fn next_look(limit: u64, look: u64, spent: Duration) -> io::Result<Duration> {
     }
 }
 
-/// How long a wait that began then counts: no longer than it was to last, also if the process was stopped meanwhile, as
-/// the clock goes on then. If the clock fails, so long.
+/// How long a wait that began then counts: as long as it took, but no longer than twice what it was to last. A wait
+/// takes some milliseconds more than that, by the ticks of the system's clock; a process that is stopped meanwhile finds
+/// that the clock went on. If the clock fails, it counts what it was to last.
 fn waited_since<C: Clock>(clock: &C, asked: Instant, within: Duration) -> Duration {
     match asked.elapsed(clock) {
-        Ok(waited) => waited.min(within),
+        Ok(waited) => waited.min(within.saturating_add(within)),
         Err(_) => within,
     }
 }
