@@ -1,6 +1,6 @@
 //! Statements, transactions and rows, over a table of the tests' own.
 use crate::tables::{fail_of, is_text};
-use sqlite::{Alter, Connection, Row, params};
+use sqlite::{Alter, Connection, MemStore, Row, params};
 use std::alloc::Global;
 use std::test::Fail;
 use table_access::{
@@ -55,7 +55,34 @@ fn texts<S: Alter>(alloc: Global, conn: &mut Connection<S>) -> Result<String, Fa
     Ok(all)
 }
 
-/// What a transaction reads and writes, one that is left, and one that is committed.
+/// The text of the word of this number.
+fn text_by(conn: &mut Connection<MemStore>, number: u32) -> Result<Option<String>, StoreFault> {
+    text_of(
+        conn,
+        "SELECT text FROM word WHERE number = ?1",
+        params![number],
+    )
+}
+
+/// The number of the word of this text.
+fn number_by(conn: &mut Connection<MemStore>, text: &str) -> Result<Option<u32>, StoreFault> {
+    number_of(
+        conn,
+        "SELECT number FROM word WHERE text = ?1",
+        params![text],
+    )
+}
+
+/// Whether there is a word of this number.
+fn is_there(conn: &mut Connection<MemStore>, number: u32) -> Result<bool, StoreFault> {
+    has_row(
+        conn,
+        "SELECT text FROM word WHERE number = ?1",
+        params![number],
+    )
+}
+
+/// What a transaction writes is read in it, one that is left and one that is committed.
 #[test]
 fn reads_and_writes(rt: HostRuntime) -> Result<(), Fail> {
     let alloc = rt.alloc();
@@ -64,50 +91,17 @@ fn reads_and_writes(rt: HostRuntime) -> Result<(), Fail> {
     make(&mut conn).map_err(fail_of)?;
     put(&mut conn, 4294967295, "it's \"x\" é").map_err(fail_of)?;
     put(&mut conn, 1, "").map_err(fail_of)?;
-    assert!(rt;
-        is_text(
-            text_of(
-                &mut conn,
-                "SELECT text FROM word WHERE number = ?1",
-                params![4294967295u32]
-            ),
-            Some("it's \"x\" é")
-        )
-    );
-    assert!(rt;
-        number_of(
-            &mut conn,
-            "SELECT number FROM word WHERE text = ?1",
-            params!["it's \"x\" é"]
-        )
-        .map_err(fail_of)?
-            == Some(4294967295)
-    );
+    assert!(rt; is_text(text_by(&mut conn, 4294967295), Some("it's \"x\" é")));
+    assert!(rt; number_by(&mut conn, "it's \"x\" é") == Ok(Some(4294967295)));
     assert!(rt;
         number_of(
             &mut conn,
             "SELECT number FROM word WHERE text = 'none'",
             &[]
-        )
-        .map_err(fail_of)?
-            == None
+        ) == Ok(None)
     );
-    assert!(rt;
-        has_row(
-            &mut conn,
-            "SELECT text FROM word WHERE number = ?1",
-            params![1u32]
-        )
-        .map_err(fail_of)?
-    );
-    assert!(rt;
-        !has_row(
-            &mut conn,
-            "SELECT text FROM word WHERE number = ?1",
-            params![2u32]
-        )
-        .map_err(fail_of)?
-    );
+    assert!(rt; is_there(&mut conn, 1) == Ok(true));
+    assert!(rt; is_there(&mut conn, 2) == Ok(false));
     assert!(rt; commit(&mut conn));
     assert!(rt; !commit(&mut conn));
     begin(&mut conn).map_err(fail_of)?;
