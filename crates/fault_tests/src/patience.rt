@@ -5,6 +5,7 @@ use broker_http::{RouteTable, ServeFault};
 use std::alloc::Global;
 use std::cell::Cell;
 use std::io::{self, ErrorKind};
+use std::process::Abort;
 use std::test::Fail;
 use std::time::{Clock, Duration};
 
@@ -196,9 +197,9 @@ fn played(alloc: Global, case: &Case<'_>) -> Result<(usize, Option<ServeFault>, 
 }
 
 /// Plays the cases, and compares what came of each.
-fn play(rt: &HostRuntime, cases: &[Case<'_>]) -> Result<(), Fail> {
+fn play(rt: &impl Abort, alloc: Global, cases: &[Case<'_>]) -> Result<(), Fail> {
     for case in cases {
-        assert_eq!(rt; played(rt.alloc(), case)?, (case.out, case.ends, case.at));
+        assert_eq!(rt; played(alloc, case)?, (case.out, case.ends, case.at));
     }
     Ok(())
 }
@@ -222,7 +223,7 @@ fn a_message_has_so_long(rt: HostRuntime) -> Result<(), Fail> {
         plain(half_a_body.as_slice()),
         plain(a_byte_now_and_then.as_slice()),
     ];
-    play(&rt, cases.as_slice())
+    play(&rt, rt.alloc(), cases.as_slice())
 }
 
 #[test]
@@ -249,7 +250,7 @@ fn an_idle_peer_goes_where_another_waits(rt: HostRuntime) -> Result<(), Fail> {
             ..plain(idle_after_an_answer.as_slice())
         },
     ];
-    play(&rt, cases.as_slice())
+    play(&rt, rt.alloc(), cases.as_slice())
 }
 
 #[test]
@@ -265,7 +266,7 @@ fn a_message_that_has_begun_has_its_time(rt: HostRuntime) -> Result<(), Fail> {
         at: 9_005,
         ..plain(in_parts.as_slice())
     };
-    play(&rt, &[case])
+    play(&rt, rt.alloc(), &[case])
 }
 
 #[test]
@@ -303,7 +304,7 @@ fn an_answer_has_so_long(rt: HostRuntime) -> Result<(), Fail> {
             ..untold
         },
     ];
-    play(&rt, cases.as_slice())
+    play(&rt, rt.alloc(), cases.as_slice())
 }
 
 #[test]
@@ -329,5 +330,5 @@ fn a_stop_of_the_program_takes_no_time(rt: HostRuntime) -> Result<(), Fail> {
             ..told
         },
     ];
-    play(&rt, cases.as_slice())
+    play(&rt, rt.alloc(), cases.as_slice())
 }
