@@ -1,11 +1,12 @@
 #!/usr/bin/env python3
-"""The edges of the program: sockets, files, statuses, streams that fail. `.ci/program` runs it. It takes four
-minutes with a program of `rt try` beside other work, and much less with the gate's, which is optimised.
+"""The edges of the program: sockets, files, statuses, streams that fail. `.ci/program` runs it. It takes a quarter of a
+minute.
 
     checks/edges.py PROGRAM [WORD]     PROGRAM is the path of `broker`; with a WORD only the lines that hold it
 
-Prints a line for each, `ok`, `WRONG` or `not run`, and ends with 1 if one is wrong. What is expected is from docs/OPERATING.md and
-docs/API.md. A file without leave is tried as the user nobody if this runs as root, whom nothing is refused to."""
+Prints a line for each, `ok`, `WRONG` or `not run`, and ends with 1 if one is wrong. What is expected is from
+docs/OPERATING.md and docs/API.md. A file without leave is tried as the user nobody if this runs as root, whom nothing
+is refused to."""
 import sys
 
 sys.dont_write_bytecode = True

@@ -20,9 +20,9 @@ all files of checks/lines, so that one finds the files that an earlier one made.
     %< DATABASE FILE        the same, with the statements that the file holds
 
 Standard input that fails is a socket whose peer resets it after the bytes are read. Standard output that takes so many
-bytes is a file that is so many bytes short of the longest that a file may be, and /dev/full if it takes none. Prints a line for each file, and compares
-how many command lines it has with checks/lines/counts. The first command line that is otherwise than written is shown,
-with what was wanted, and nothing of its file is run after it. Ends with 1 if one is otherwise, and with 77 if Python's
+bytes is a file that is so many bytes short of the longest that a file may be, and /dev/full if it takes none. Prints a
+line for each file, and compares how many command lines it has with checks/lines/counts. The first command line that is
+otherwise than written is shown, with what was wanted, and nothing of its file is run after it. Ends with 1 if one is otherwise, and with 77 if Python's
 SQLite has no strict tables."""
 import sys
 
