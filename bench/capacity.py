@@ -17,7 +17,11 @@ A file that `init` makes with the page sums of SQLite's cksumvfs is measured wit
 
 Last come requests in memory, by `replay`. The files are in the folder that TMPDIR names: take one on a disk. How long
 that takes to sync 4 KiB is printed, and how busy the machine is."""
-import hashlib, http.client, json, os, shutil, socket, sqlite3, statistics, struct, subprocess, sys, tempfile, time
+import hashlib, http.client, json, os, shutil, socket, sqlite3, statistics, subprocess, sys, tempfile, time
+
+sys.dont_write_bytecode = True
+sys.path.insert(0, f"{os.path.dirname(os.path.dirname(os.path.abspath(__file__)))}/checks")
+from sums import has_sums, seal
 
 PROGRAM = os.path.abspath(sys.argv[1])
 SIZES = [int(it) for it in sys.argv[2:]] or [1000, 10000]
@@ -41,12 +45,6 @@ def normal_text():
     return subprocess.run([PROGRAM, "normalise"], input=file, capture_output=True, text=True, check=True).stdout[:-1]
 
 
-def has_sums(file):
-    """Whether each page ends in a sum: then eight bytes of it are reserved, by the file's header."""
-    with open(file, "rb") as it:
-        return it.read(21)[20] == 8
-
-
 def without_sums(file):
     """Makes the file of a new broker again, without sums."""
     base = sqlite3.connect(file)
@@ -59,18 +57,6 @@ def without_sums(file):
     base.execute("INSERT INTO meta VALUES (?, ?, ?)", meta)
     base.commit()
     base.close()
-
-
-def seal(file):
-    """Gives each page its sum, as Python's SQLite writes none."""
-    with open(file, "r+b") as it:
-        while page := it.read(4096):
-            first = second = 0
-            for one, two in struct.iter_unpack("<2I", page[:-8]):
-                first = first + one + second & 0xFFFFFFFF
-                second = second + two + first & 0xFFFFFFFF
-            it.seek(-8, os.SEEK_CUR)
-            it.write(struct.pack("<2I", first, second))
 
 
 def fill(file, count, is_plain):
@@ -93,8 +79,7 @@ def fill(file, count, is_plain):
     base.execute("INSERT INTO deployed VALUES ('live', 'provider0000000000', '', 2)")
     base.execute("COMMIT")
     base.close()
-    if has_sums(file):
-        seal(file)
+    seal(file)
     return has_sums(file)
 
 

@@ -1,17 +1,24 @@
-"""The page sums of a broker's file, which SQLite itself doesn't write."""
-import struct
+"""The page sums of a broker's file, as SQLite's cksumvfs has them, which Python's SQLite doesn't write."""
+import os, struct
+
+PAGE, SUM = 4096, 8
+
+
+def has_sums(file):
+    """Whether each page ends in a sum: then eight bytes of it are reserved, by the file's header."""
+    with open(file, "rb") as it:
+        return it.read(21)[20:] == bytes([SUM])
 
 
 def seal(file):
-    """Gives the pages their sums again, if the file has them: Python's SQLite writes none. They are those of cksumvfs."""
+    """Gives the pages their sums again, if the file has them."""
+    if not has_sums(file):
+        return
     with open(file, "r+b") as it:
-        content = it.read()
-        if content[20:21] != b"\x08":
-            return
-        it.seek(0)
-        for at in range(0, len(content), 4096):
+        while page := it.read(PAGE):
             first = second = 0
-            for one, two in struct.iter_unpack("<2I", content[at : at + 4088]):
+            for one, two in struct.iter_unpack("<2I", page[:-SUM]):
                 first = first + one + second & 0xFFFFFFFF
                 second = second + two + first & 0xFFFFFFFF
-            it.write(content[at : at + 4088] + struct.pack("<2I", first, second))
+            it.seek(-SUM, os.SEEK_CUR)
+            it.write(struct.pack("<2I", first, second))
