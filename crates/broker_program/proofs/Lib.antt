@@ -1,4 +1,2 @@
-pub mod NumberLemmas
-pub mod LineLemmas
 pub mod VerdictLemmas
 pub mod ResultLemmas

@@ -1,5 +1,4 @@
 pub mod Listening
-pub mod Lines
 pub mod Replays
 pub mod Told
 pub mod Making

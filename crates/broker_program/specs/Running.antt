@@ -5,14 +5,14 @@ use Rattle.sqlite.specs.Held.{Held}
 use Rattle.sqlite.specs.State.{State}
 use Rattle.broker_core.specs.Name.{IsToken}
 use Rattle.clap.specs.Words.{Text}
-use Rattle.broker_program.specs.Lines.{Says, is_line}
+use Rattle.command_line.specs.Lines.{Says, is_line}
 use Rattle.broker_program.specs.Replays.{Replays, ReplaysUntil}
 use Rattle.broker_program.specs.Making.{BrokerIsMade}
 use Rattle.broker_program.specs.Told.{Asks, AsksUntil, Checks, ChecksUntil, Normalises, NormalisesUntil}
 use Rattle.broker_program.specs.declared.can_i_deploy.Question.{Question}
-use Rattle.broker_program.specs.declared.line.Line.{Line}
-use Rattle.broker_program.specs.declared.line.Line.TheVariants.{CanIDeploy, Check, Init, Migrate, Normalise}
-use Rattle.broker_program.specs.declared.line.Line.TheVariants.{Replay, Serve}
+use Rattle.command_line.specs.declared.line.Line.{Line}
+use Rattle.command_line.specs.declared.line.Line.TheVariants.{CanIDeploy, Check, Init, Migrate, Normalise}
+use Rattle.command_line.specs.declared.line.Line.TheVariants.{Replay, Serve}
 
 abbrev pub question : Bor Text → Bor Text → Bor Text → Bor Text → Question
 question token pacticipant version environment =

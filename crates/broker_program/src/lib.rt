@@ -3,17 +3,12 @@
 
 mod can_i_deploy;
 mod check;
-mod commands;
 mod fault;
 mod files;
 mod forms;
-mod help;
 mod init;
-mod line;
 mod migrate;
-mod names;
 mod normalise;
-mod options;
 mod output;
 mod process;
 mod replay;
@@ -21,6 +16,5 @@ mod routes;
 mod running;
 mod serve;
 
-pub use line::{Line, read_line};
 pub use process::run_process;
 pub use running::run;

@@ -5,14 +5,14 @@ ghost use Rattle.broker_program.specs.Faults.{fault_text};
 ghost use Rattle.broker_program.specs.Told.{newline};
 ghost use Rattle.sqlite.specs.Held.{state};
 ghost use Rattle.clap.specs.Values.{kind_of};
-ghost use Rattle.broker_program.specs.Lines.{texts_of};
+ghost use Rattle.command_line.specs.Lines.{texts_of};
 ghost use Rattle.broker_program.specs.Running.{CommandEndsOn, CommandFailsOn, Ran};
 
 use crate::can_i_deploy::{Question, ask};
 use crate::check::check;
 use crate::fault::RunFault;
 use crate::init::init;
-use crate::line::{Line, read_line};
+use command_line::{Line, read_line};
 use crate::migrate::migrate;
 use crate::normalise::normalise;
 use crate::replay::replay;

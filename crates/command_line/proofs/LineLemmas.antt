@@ -7,10 +7,10 @@ use Rattle.clap.specs.Words.{App, HasKind, HasMatchesOf, Kinds, Row, Text, fault
 use Rattle.clap.specs.declared.error.Error.{Error}
 use Rattle.clap.specs.declared.error.kind.ErrorKind.TheVariants.{OutOfMemory}
 use Rattle.clap.specs.declared.parser.matches.ArgMatches.{ArgMatches}
-use Rattle.broker_program.specs.Lines.{BeginsWithName, HasOptions, HasValues, command_at, command_named, command_of, commands, has_none, is_command, is_line, is_taken}
-use Rattle.broker_program.specs.declared.line.Line.{Line}
-use Rattle.broker_program.specs.declared.names.CommandName.{CommandName}
-use Rattle.broker_program.specs.declared.names.CommandName.TheVariants as names
+use Rattle.command_line.specs.Lines.{BeginsWithName, HasOptions, HasValues, command_at, command_named, command_of, commands, has_none, is_command, is_line, is_taken}
+use Rattle.command_line.specs.declared.line.Line.{Line}
+use Rattle.command_line.specs.declared.names.CommandName.{CommandName}
+use Rattle.command_line.specs.declared.names.CommandName.TheVariants as names
 
 pub has_options : (a c : App) (words : List Text) (m : ArgMatches) (line : Line) → c ≡ a → is_simple a ≡ true → HasMatchesOf c words m → fault_of c words ≡ []
     → (command_of line ≡ a) × HasValues (rows_of (found_of m)) line → (command_of line ≡ a) × HasOptions words line

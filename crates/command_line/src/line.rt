@@ -1,7 +1,7 @@
 //! Reading the words of the command line.
 ghost use Rattle.std.specs.Prelude.{◌≡◌, IfErr, IfOk, true};
 ghost use Rattle.clap.specs.Words.{kind_of};
-ghost use Rattle.broker_program.specs.Lines.{HasOptions, Says, command_named, command_of, is_line, is_taken, texts_of};
+ghost use Rattle.command_line.specs.Lines.{HasOptions, Says, command_named, command_of, is_line, is_taken, texts_of};
 
 use crate::commands::{command_named, program};
 use crate::names::{CommandName, named};

@@ -1,11 +1,11 @@
 //! The commands of the program, as `clap` reads them.
 ghost use Rattle.std.specs.Prelude.{◌≡◌, IfOk};
 ghost use Rattle.clap.specs.Words.{app_of, new_app, with_rule};
-ghost use Rattle.broker_program.specs.Lines.{asking as asking_of, can_i_deploy as can_i_deploy_of, check as check_of};
-ghost use Rattle.broker_program.specs.Lines.{command_named, init as init_of};
-ghost use Rattle.broker_program.specs.Lines.{migrate as migrate_of, normalise as normalise_of};
-ghost use Rattle.broker_program.specs.Lines.{replay as replay_of, serve as serve_of};
-ghost use Rattle.broker_program.specs.Lines.{number_option, option as option_of};
+ghost use Rattle.command_line.specs.Lines.{asking as asking_of, can_i_deploy as can_i_deploy_of, check as check_of};
+ghost use Rattle.command_line.specs.Lines.{command_named, init as init_of};
+ghost use Rattle.command_line.specs.Lines.{migrate as migrate_of, normalise as normalise_of};
+ghost use Rattle.command_line.specs.Lines.{replay as replay_of, serve as serve_of};
+ghost use Rattle.command_line.specs.Lines.{number_option, option as option_of};
 
 use crate::help;
 use crate::names::CommandName;

@@ -7,11 +7,11 @@ use Rattle.std.specs.Option.{option_map_or}
 use Rattle.std.specs.Str.Parse.{digits_value, without_leading_plus}
 use Rattle.clap.specs.Words.{App, Kinds, Row, Rule, Text, fault_of, first_of, matches_of, new_app, new_rule, one_of, with_rule}
 use Rattle.clap.specs.declared.builder.value_parser.ValueParser.TheVariants.{Signed}
-use Rattle.broker_program.specs.declared.line.Line.{Line}
-use Rattle.broker_program.specs.declared.names.CommandName.{CommandName}
-use Rattle.broker_program.specs.declared.names.CommandName.TheVariants as names
-use Rattle.broker_program.specs.declared.line.Line.TheVariants.{CanIDeploy, Check, Init, Migrate, Normalise}
-use Rattle.broker_program.specs.declared.line.Line.TheVariants.{Replay, Serve}
+use Rattle.command_line.specs.declared.line.Line.{Line}
+use Rattle.command_line.specs.declared.names.CommandName.{CommandName}
+use Rattle.command_line.specs.declared.names.CommandName.TheVariants as names
+use Rattle.command_line.specs.declared.line.Line.TheVariants.{CanIDeploy, Check, Init, Migrate, Normalise}
+use Rattle.command_line.specs.declared.line.Line.TheVariants.{Replay, Serve}
 
 -- the texts of the words
 abbrev pub texts_of : List (Bor Text) → List Text

@@ -1,6 +1,6 @@
 //! The names of the commands.
 ghost use Rattle.std.specs.Prelude.{◌≡◌, MatchOption, false, option_map};
-ghost use Rattle.broker_program.specs.Lines.{BeginsWithName, command_at, command_named, is_command, texts_of};
+ghost use Rattle.command_line.specs.Lines.{BeginsWithName, command_at, command_named, is_command, texts_of};
 
 /// A command of the program, without its options.
 #[derive(Clone, Copy, Debug)]

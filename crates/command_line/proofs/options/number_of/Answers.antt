@@ -1,7 +1,7 @@
 use Rattle.std.proofs.Common.{arith}
 use Rattle.clap.specs.Words.{found_of}
-use Rattle.broker_program.proofs.NumberLemmas.{number_read}
-use Rattle.broker_program.proofs.options.number_of.Goals as goal
+use Rattle.command_line.proofs.NumberLemmas.{number_read}
+use Rattle.command_line.proofs.options.number_of.Goals as goal
 
 pub returns-in-Some : goal.returns-in-Some
 returns-in-Some c =

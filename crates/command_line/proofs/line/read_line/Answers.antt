@@ -1,8 +1,8 @@
 use Rattle.std.proofs.Common.{ap, map}
 use Rattle.std.proofs.lemmas.Result.{IfErr-weaker, IfOk-weaker}
 use Rattle.std.proofs.lemmas.List.{nil_from_length}
-use Rattle.broker_program.proofs.LineLemmas.{line_taken, taken, unnamed, wordless}
-use Rattle.broker_program.proofs.line.read_line.Goals as goal
+use Rattle.command_line.proofs.LineLemmas.{line_taken, taken, unnamed, wordless}
+use Rattle.command_line.proofs.line.read_line.Goals as goal
 
 pub returns-in-Some-named-clause-only : goal.returns-in-Some-named-clause-only
 returns-in-Some-named-clause-only c =

@@ -1,8 +1,8 @@
 //! The values of a command's options, as `clap` found them.
 ghost use Rattle.std.specs.Prelude.{◌≡◌, IfErr, IfOk, IfSome, codes, option_map};
 ghost use Rattle.clap.specs.Words.{first_of, found_of, kind_of, rows_of};
-ghost use Rattle.broker_program.specs.Lines.{HasNumberOption, HasValues, command_named, command_of};
-ghost use Rattle.broker_program.specs.Lines.{can_i_deploy, check, init, migrate, normalise, replay, serve};
+ghost use Rattle.command_line.specs.Lines.{HasNumberOption, HasValues, command_named, command_of};
+ghost use Rattle.command_line.specs.Lines.{can_i_deploy, check, init, migrate, normalise, replay, serve};
 
 use crate::line::Line;
 use crate::names::CommandName;

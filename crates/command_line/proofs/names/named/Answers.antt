@@ -1,7 +1,7 @@
 use Rattle.std.proofs.Common.{◌≡◌, ap, map, sym, subst, false, MatchOption}
-use Rattle.broker_program.specs.Lines.{BeginsWithName, is_command}
-use Rattle.broker_program.proofs.LineLemmas.{begins}
-use Rattle.broker_program.proofs.names.named.Goals as goal
+use Rattle.command_line.specs.Lines.{BeginsWithName, is_command}
+use Rattle.command_line.proofs.LineLemmas.{begins}
+use Rattle.command_line.proofs.names.named.Goals as goal
 
 pub returns-in-Some : goal.returns-in-Some
 returns-in-Some c =

@@ -1,0 +1,10 @@
+//! The command line of the broker: a command and its options, as `clap` reads them.
+#![tactic(auto)]
+
+mod commands;
+mod help;
+mod line;
+mod names;
+mod options;
+
+pub use line::{Line, read_line};
