@@ -2,8 +2,9 @@
 #![tactic(auto)]
 
 use broker_program::run_process;
+use sqlite::Unknown;
 use std::process::ExitCode;
 
 fn main(rt: HostRuntime) -> ExitCode {
-    run_process(&rt)
+    run_process(&rt, Unknown)
 }

@@ -5,6 +5,10 @@ use Rattle.std.specs.Net.Socket.{socket_ip}
 use Rattle.std.specs.Net.Grammar.{IsSocketText}
 use Rattle.std.specs.declared.net.socket_addr.SocketAddr.{SocketAddr}
 
--- an address with its port, in the text's words, of 127.0.0.0/8 or ::1
+-- an address of 127.0.0.0/8 or ::1
+abbrev pub IsOfLoopback : SocketAddr → Type 0
+IsOfLoopback address = MatchIp (socket_ip address) IsLoopbackV4 IsLoopbackV6
+
+-- such an address with its port, in the text's words
 abbrev pub IsLoopback : List ℕ → SocketAddr → Type 0
-IsLoopback text address = IsSocketText text address × MatchIp (socket_ip address) IsLoopbackV4 IsLoopbackV6
+IsLoopback text address = IsSocketText text address × IsOfLoopback address

@@ -1,14 +1,43 @@
--- a new broker was made (this project's own choice)
+-- what a command made of the database in a file: a new broker's, or today's of one of format 1 (this project's own
+-- choice)
 use Rattle.std.specs.Prelude.{Ok}
+use Rattle.sqlite_disk.specs.declared.Disk.{Ghosts}
+use Rattle.sqlite_disk.specs.declared.Files.{Files}
+use Rattle.sqlite.specs.Closing.{IsCopied}
+use Rattle.sqlite.specs.Files.{file_state}
 use Rattle.sqlite.specs.Held.{Held}
-use Rattle.sqlite.specs.State.{State}
+use Rattle.sqlite.specs.Recovery.{Image}
+use Rattle.sqlite.specs.WalReads.{AreClean}
+use Rattle.sqlite.specs.declared.FileStore.{FileStore}
 use Rattle.broker_core.specs.Text.{Text}
 use Rattle.command_facts.specs.Primitives.{broker_primitives}
 use Rattle.broker_service.specs.BrokerView.{BrokerView}
-use Rattle.broker_service.specs.Calls.{Created}
+use Rattle.broker_service.specs.Calls.{Created, Migrated}
+use Rattle.broker_program.specs.Files.{StartsFrom}
 
--- over some connection, of an office with this token
-abbrev pub BrokerIsMade : {X : Type 0} → (Held X → State) → Text → Type 0
-BrokerIsMade {X} shown office =
-    (connection : Held X) × (broker : BrokerView X)
-    × Created shown connection (broker_primitives.digest_of office) (Ok broker)
+-- Held is what the log and the database file held at first; the files are what is left of them.
+module _ {D : Type 0} (g : Ghosts D) (held : Image) where
+  -- a new broker was made there, whose office has this token
+  pub record MakesBroker (office : Text) (files : Files D) : Type 0 where
+    pub connection : Held (FileStore D g)
+    pub broker : BrokerView (FileStore D g)
+    pub starts : StartsFrom held connection
+    pub made : Created file_state connection (broker_primitives.digest_of office) (Ok broker)
+    -- and its database is in the file that was closed
+    pub closed : IsCopied broker.connection files
+
+  -- today's database was made of it
+  pub record MigratesFile (files : Files D) : Type 0 where
+    pub old : Held (FileStore D g)
+    pub new : Held (FileStore D g)
+    pub starts : StartsFrom held old
+    pub migrated : Migrated (file_state old) (file_state new) (Ok tt)
+    -- and it is in the file that was closed
+    pub closed : IsCopied new files
+
+  -- the same, if the disk is clean to the end
+  abbrev pub BrokerIsMade : Text → Files D → Type 0
+  BrokerIsMade office files = AreClean g files.log files.db → MakesBroker office files
+
+  abbrev pub FileIsMigrated : Files D → Type 0
+  FileIsMigrated files = AreClean g files.log files.db → MigratesFile files

@@ -1,15 +1,17 @@
 -- what a command line has read and written when the program ends (this project's own choice)
 use Rattle.std.specs.Prelude.{◌≡◌, ◌≢◌, ◌⊎◌, ℕ, List, Bool, true, false, Option}
 use Rattle.std.specs.Borrow.{Bor}
-use Rattle.sqlite.specs.Held.{Held}
-use Rattle.sqlite.specs.State.{State}
+use Rattle.sqlite_disk.specs.declared.Disk.{Ghosts}
+use Rattle.sqlite.specs.Recovery.{Image}
 use Rattle.broker_core.specs.Name.{IsToken}
 use Rattle.clap.specs.Words.{Text}
 use Rattle.command_line.specs.Lines.{Says, is_line}
 use Rattle.broker_program.specs.Replays.{Replays, ReplaysUntil}
-use Rattle.broker_program.specs.Making.{BrokerIsMade}
+use Rattle.broker_program.specs.Files.{LeavesClosed}
+use Rattle.broker_program.specs.Making.{BrokerIsMade, FileIsMigrated}
 use Rattle.broker_program.specs.Told.{Asks, AsksUntil, Checks, ChecksUntil, Normalises, NormalisesUntil}
 use Rattle.broker_program.specs.declared.can_i_deploy.Question.{Question}
+use Rattle.broker_program.specs.declared.left.Left.{Left}
 use Rattle.command_line.specs.declared.line.Line.{Line}
 use Rattle.command_line.specs.declared.line.Line.TheVariants.{CanIDeploy, Check, Init, Migrate, Normalise}
 use Rattle.command_line.specs.declared.line.Line.TheVariants.{Replay, Serve}
@@ -18,8 +20,8 @@ abbrev pub question : Bor Text → Bor Text → Bor Text → Bor Text → Questi
 question token pacticipant version environment =
     record { token = token; pacticipant = pacticipant; version = version; environment = environment }
 
--- Shown is what a connection over a file shows of its store.
-module _ {X : Type 0} (shown : Held X → State) (before after old new : Option (List ℕ)) where
+-- Held is what the files of a command held at first, and rest what the command left of them.
+module _ {D : Type 0} {g : Ghosts D} (held : Image) (before after old new : Option (List ℕ)) (rest : Left D g) where
   -- nothing was read or written
   abbrev pub IsSilent : Type 0
   IsSilent = (after ≡ before) × (new ≡ old)
@@ -27,13 +29,14 @@ module _ {X : Type 0} (shown : Held X → State) (before after old new : Option 
   -- The command came to an end: it is done, its check passed or its version is permitted; or not so.
   abbrev pub CommandEnds : Line → Bool → Type 0
   CommandEnds (Replay token) passes = (passes ≡ true) × IsToken token.now × Replays token.now before after old new
-  CommandEnds (Init file token) passes = (passes ≡ true) × IsToken token.now × BrokerIsMade shown token.now × IsSilent
-  CommandEnds (Migrate file) passes = (passes ≡ true) × IsSilent
+  CommandEnds (Init file token) passes =
+      (passes ≡ true) × IsToken token.now × IsSilent × LeavesClosed (BrokerIsMade g held token.now) rest
+  CommandEnds (Migrate file) passes = (passes ≡ true) × IsSilent × LeavesClosed (FileIsMigrated g held) rest
   CommandEnds (Serve file listen connections) passes = (passes ≡ true) × IsSilent
   CommandEnds Normalise passes = (passes ≡ true) × Normalises before after old new
   CommandEnds (Check pact replies) passes = (after ≡ before) × Checks old new passes
   CommandEnds (CanIDeploy file token pacticipant version environment) passes =
-      (after ≡ before) × Asks shown (question token pacticipant version environment) old new passes
+      (after ≡ before) × Asks held (question token pacticipant version environment) old new rest passes
 
   -- The command failed: what it wrote is a beginning of what it would have told.
   abbrev pub CommandFails : Line → Type 0
@@ -45,30 +48,30 @@ module _ {X : Type 0} (shown : Held X → State) (before after old new : Option 
   CommandFails (Check pact replies) = (after ≡ before) × ((new ≡ old) ⊎ ChecksUntil old new)
   CommandFails (CanIDeploy file token pacticipant version environment) =
       (after ≡ before)
-      × ((new ≡ old) ⊎ AsksUntil shown (question token pacticipant version environment) old new)
+      × ((new ≡ old) ⊎ AsksUntil held (question token pacticipant version environment) old new rest)
 
 -- Remaining is what a reader still gives, contents what a writer has taken.
-module _ {X I O : Type 0} (shown : Held X → State) (remaining : I → Option (List ℕ)) (contents : O → Option (List ℕ)) (before after : I) (old new : O) where
+module _ {D I O : Type 0} {g : Ghosts D} (held : Image) (remaining : I → Option (List ℕ)) (contents : O → Option (List ℕ)) (before after : I) (old new : O) (rest : Left D g) where
   abbrev pub CommandEndsOn : Line → Bool → Type 0
-  CommandEndsOn = CommandEnds shown (remaining before) (remaining after) (contents old) (contents new)
+  CommandEndsOn = CommandEnds held (remaining before) (remaining after) (contents old) (contents new) rest
 
   abbrev pub CommandFailsOn : Line → Type 0
-  CommandFailsOn = CommandFails shown (remaining before) (remaining after) (contents old) (contents new)
+  CommandFailsOn = CommandFails held (remaining before) (remaining after) (contents old) (contents new) rest
 
 -- The texts are the words; the reader was before and is after, standard output was old and is new, standard error was
 -- untold and is told.
-module _ {X I O E : Type 0} (shown : Held X → State) (remaining : I → Option (List ℕ)) (contents : O → Option (List ℕ)) where
+module _ {D I O E : Type 0} {g : Ghosts D} (held : Image) (remaining : I → Option (List ℕ)) (contents : O → Option (List ℕ)) where
   -- what running the words promises of the status that the program ends with
-  pub record Ran (words : List Text) (before after : I) (old new : O) (untold told : E) (status : ℕ) : Type 0 where
+  pub record Ran (words : List Text) (before after : I) (old new : O) (untold told : E) (status : ℕ) (rest : Left D g) : Type 0 where
     pub statuses : (status ≡ 0) ⊎ ((status ≡ 1) ⊎ ((status ≡ 2) ⊎ (status ≡ 3)))
     -- what the command was to do is done, and standard output has what it tells
     pub done : status ≡ 0 → is_line words ≡ true
         → (line : Line) × Says words line
-        × CommandEndsOn shown remaining contents before after old new line true
+        × CommandEndsOn held remaining contents before after old new rest line true
     -- the check failed or the version isn't permitted, and standard output says so
     pub refused : status ≡ 1
         → (line : Line) × Says words line
-        × CommandEndsOn shown remaining contents before after old new line false
+        × CommandEndsOn held remaining contents before after old new rest line false
     -- in both nothing is on standard error
     pub quiet : status ≡ 0 → is_line words ≡ true → told ≡ untold
     pub quiet_refused : status ≡ 1 → told ≡ untold
@@ -80,4 +83,4 @@ module _ {X I O E : Type 0} (shown : Held X → State) (remaining : I → Option
     pub fails : status ≡ 3 → is_line words ≡ true
         → ((after ≡ before) × (new ≡ old))
         ⊎ ((line : Line) × Says words line
-        × CommandFailsOn shown remaining contents before after old new line)
+        × CommandFailsOn held remaining contents before after old new rest line)

@@ -1,21 +1,32 @@
 -- what the commands on pact files and the question of can-i-deploy write: one line on standard output (this project's
 -- own choice)
-use Rattle.std.specs.Prelude.{◌≡◌, ◌<◌, ℕ, List, [], ◌∷◌, ◌++◌, length, Bool, true, false, Option, Some, Ok}
+use Rattle.std.specs.Prelude.{◌≡◌, ◌≢◌, ◌<◌, ℕ, List, [], ◌∷◌, ◌++◌, length, Bool, true, false, Option, Some, Ok}
 use Rattle.std.specs.Prelude.{codes, decimal, take}
 use Rattle.std.specs.List.{flat_map}
 use Rattle.std.specs.Io.KnownBytes.{Appends, Consumes, IsAtEnd}
+use Rattle.sqlite_disk.specs.declared.Disk.{Ghosts}
+use Rattle.sqlite.specs.FileStore.{view}
+use Rattle.sqlite.specs.Files.{file_state}
 use Rattle.sqlite.specs.Held.{Held}
-use Rattle.sqlite.specs.State.{State}
+use Rattle.sqlite.specs.Recovery.{Image}
+use Rattle.sqlite.specs.State.{HasCleanDisk}
+use Rattle.sqlite.specs.View.{IsClean}
+use Rattle.sqlite.specs.declared.FileStore.{FileStore}
 use Rattle.answer_texts.specs.AnswerText.{answer_text}
 use Rattle.broker_core.specs.declared.answer.Answer.{Answer}
 use Rattle.broker_core.specs.declared.answer.Answer.TheVariants as answers
 use Rattle.broker_core.specs.declared.answer.Shown.TheVariants as shows
 use Rattle.broker_core.specs.declared.command.Command.{Command}
 use Rattle.broker_core.specs.declared.command.Command.TheVariants.{CanIDeploy}
+use Rattle.broker_core.specs.Laws.{IsDone}
 use Rattle.broker_core.specs.Text.{Text}
 use Rattle.broker_service.specs.BrokerView.{BrokerView}
-use Rattle.broker_service.specs.Calls.{Applied}
+use Rattle.broker_service.specs.Calls.{Applied, Opened}
+use Rattle.broker_service.specs.Ends.{IsAsBefore}
+use Rattle.broker_service.specs.SessionFiles.{IsGivenBack}
+use Rattle.broker_program.specs.Files.{LeavesStore, StartsFrom}
 use Rattle.broker_program.specs.declared.can_i_deploy.Question.{Question}
+use Rattle.broker_program.specs.declared.left.Left.{Left}
 use Rattle.pact_file.specs.Normal.{Normal}
 use Rattle.pact_file.specs.Pact.{Pact, normal_text}
 use Rattle.reply_check.specs.Replies.{RepliesRead}
@@ -87,20 +98,45 @@ abbrev pub asked : Question → Command
 asked question =
     CanIDeploy (record { pacticipant = question.pacticipant.now; name = question.version.now }) question.environment.now
 
-module _ {X : Type 0} (shown : Held X → State) where
-  -- a broker that isn't stopped answers so, to a caller with this token
-  abbrev pub BrokerAnswers : Text → Command → Answer → Type 0
-  BrokerAnswers token command answer =
-      (old : BrokerView X) × (new : BrokerView X)
-      × (old.is_stopped ≡ false) × Applied shown old (Some token) command answer new
+module _ (answer : Answer) (old new : Option (List ℕ)) where
+  -- the answer says whether the version is permitted, and is written
+  abbrev pub TellsGate : Bool → Type 0
+  TellsGate permitted = IsGate permitted answer × Appends old new (answer_text answer ++ newline)
 
-  module _ (question : Question) (old new : Option (List ℕ)) where
+  abbrev pub TellsGateUntil : Type 0
+  TellsGateUntil = (permitted : Bool) × IsGate permitted answer × IsBegun (answer_text answer ++ newline) old new
+
+-- Held is what the log and the database file held at first.
+module _ {D : Type 0} {g : Ghosts D} (held : Image) where
+  -- The broker there, to a caller with this token, answers so, and the store is what is left of its file.
+  pub record BrokerAnswers (token : Text) (command : Command) (answer : Answer) (store : FileStore D g) : Type 0 where
+    pub connection : Held (FileStore D g)
+    pub broker : BrokerView (FileStore D g)
+    pub end : BrokerView (FileStore D g)
+    pub starts : StartsFrom held connection
+    pub opened : Opened file_state connection (Ok broker)
+    pub applied : Applied file_state broker (Some token) command answer end
+    -- if the command isn't done, its database shows what it showed when it was opened
+    pub unchanged : answer ≢ answers.Store → ¬ (IsDone answer)
+        → IsAsBefore (file_state connection) (file_state end.connection)
+    -- the file was given up as it was
+    pub clean : HasCleanDisk (file_state end.connection)
+    pub left : IsGivenBack g end.connection store
+
+  -- the same, if the disk is clean to the end
+  abbrev pub AnswersFrom : Text → Command → Answer → FileStore D g → Type 0
+  AnswersFrom token command answer store = IsClean (view store) → BrokerAnswers token command answer store
+
+  abbrev pub AnswersQuestion : Question → Answer → FileStore D g → Type 0
+  AnswersQuestion question = AnswersFrom question.token.now (asked question)
+
+  module _ (question : Question) (old new : Option (List ℕ)) (rest : Left D g) where
     abbrev pub Asks : Bool → Type 0
     Asks permitted =
-        (answer : Answer) × BrokerAnswers question.token.now (asked question) answer × IsGate permitted answer
-        × Appends old new (answer_text answer ++ newline)
+        (answer : Answer) × LeavesStore (AnswersQuestion question answer) rest
+        × TellsGate answer old new permitted
 
     abbrev pub AsksUntil : Type 0
     AsksUntil =
-        (permitted : Bool) × (answer : Answer) × BrokerAnswers question.token.now (asked question) answer
-        × IsGate permitted answer × IsBegun (answer_text answer ++ newline) old new
+        (answer : Answer) × LeavesStore (AnswersQuestion question answer) rest
+        × TellsGateUntil answer old new

@@ -1,18 +1,19 @@
 //! Asking the broker in a file whether a version may be deployed.
 ghost use Rattle.std.specs.Prelude.{◌≡◌, ◌⊎◌, IfOk, IfSome, OnErr};
-ghost use Rattle.sqlite.specs.Held.{state};
-ghost use Rattle.broker_program.specs.Told.{Asks, AsksUntil, BrokerAnswers, IsGate, asked};
+ghost use Rattle.sqlite.specs.WalFiles.{image_at};
+ghost use Rattle.broker_program.specs.Told.{AnswersFrom, AnswersQuestion, Asks, AsksUntil, IsGate, asked};
+ghost use Rattle.broker_program.specs.Told.{TellsGate, TellsGateUntil};
 
 use crate::fault::RunFault;
 use crate::files::{open_broker, release};
 use crate::forms::{name_of, token_of};
+use crate::left::Left;
 use crate::output::write_line;
 use broker_core::answer::{Answer as Outcome, Shown};
 use broker_core::command::{Command, Version};
 use broker_core::name::Token;
 use broker_service::Answer;
-use sqlite::{File, FileStore};
-use sqlite_trees::store::Store;
+use sqlite::{FileFrom, FileStore, Start};
 use std::alloc::Global;
 use std::io::Write;
 
@@ -41,19 +42,33 @@ fn command_of(alloc: Global, question: Question<'_>) -> Result<Command, RunFault
     })
 }
 
-/// What the broker in the file answers the caller with the token.
-fn answer_at(
+/// What the broker in the file answers the caller with the token, and the store of the file, which is given up as it is.
+fn answer_at<S: Start>(
     rt: &HostRuntime,
     file: &str,
     token: &Token,
     command: &Command,
-) -> Result<Answer, RunFault>
-    ensures { IfOk result (BrokerAnswers (state ⟦<FileStore<File> as Store>⟧) token.now command.now) }
+    start: S,
+) -> Result<(Answer, FileStore<FileFrom<S>>), RunFault>
+    ensures { IfOk result (λ r. AnswersFrom (image_at S.Start) token.now command.now r.0 r.1) }
 {
-    let mut broker = open_broker(rt, file)?;
+    let mut broker = open_broker(rt, file, start)?;
     let answer = broker.apply(rt.alloc(), Some(token.as_str()), command);
-    release(broker);
-    Ok(answer)
+    Ok((answer, release(broker)))
+}
+
+/// The same of a question.
+fn answer_to<S: Start>(
+    rt: &HostRuntime,
+    file: &str,
+    question: Question<'_>,
+    start: S,
+) -> Result<(Answer, FileStore<FileFrom<S>>), RunFault>
+    ensures { IfOk result (λ r. AnswersQuestion (image_at S.Start) question.entry r.0 r.1) }
+{
+    let token = token_of(rt.alloc(), question.token)?;
+    let command = command_of(rt.alloc(), question)?;
+    answer_at(rt, file, &token, &command, start)
 }
 
 /// Whether the answer permits the deployment, if it says so.
@@ -66,29 +81,41 @@ fn permits(answer: &Answer) -> Option<bool>
     }
 }
 
-/// Writes what the broker in the file answers, and a newline, and says whether the version is permitted. An answer that
-/// doesn't say so is a fault.
-pub(crate) fn ask<W: Write>(
-    rt: &HostRuntime,
-    file: &str,
-    question: Question<'_>,
-    output: &mut W,
-) -> Result<bool, RunFault>
-    ensures ok { IfOk result (Asks (state ⟦<FileStore<File> as Store>⟧) question.entry
-        (W.contents output.old) (W.contents output.new)) }
+/// Writes the answer and a newline, and says whether the version is permitted. An answer that doesn't say so is a
+/// fault.
+fn tell_answer<W: Write>(answer: Answer, output: &mut W) -> Result<bool, RunFault>
+    ensures ok { IfOk result (TellsGate answer (W.contents output.old) (W.contents output.new)) }
     // Nothing was written, or a beginning of the answer.
     ensures err { OnErr result ((output.new ≡ output.old)
-        ⊎ AsksUntil (state ⟦<FileStore<File> as Store>⟧) question.entry
-        (W.contents output.old) (W.contents output.new)) }
+        ⊎ TellsGateUntil answer (W.contents output.old) (W.contents output.new)) }
 {
-    let token = token_of(rt.alloc(), question.token)?;
-    let command = command_of(rt.alloc(), question)?;
-    let answer = answer_at(rt, file, &token, &command)?;
     match permits(&answer) {
         Some(permitted) => {
             write_line(output, answer.body())?;
             Ok(permitted)
         }
         None => Err(RunFault::Answer(answer)),
+    }
+}
+
+/// Writes what the broker in the file answers, and a newline, and says whether the version is permitted. An answer that
+/// doesn't say so is a fault. What is left of the file comes with it, if it was opened.
+pub(crate) fn ask<S: Start, W: Write>(
+    rt: &HostRuntime,
+    file: &str,
+    question: Question<'_>,
+    start: S,
+    output: &mut W,
+) -> (Result<bool, RunFault>, Left<FileFrom<S>>)
+    ensures ok { IfOk result.0 (Asks (image_at S.Start) question.entry
+        (W.contents output.old) (W.contents output.new) result.1) }
+    // Nothing was written, or a beginning of the answer.
+    ensures err { OnErr result.0 ((output.new ≡ output.old)
+        ⊎ AsksUntil (image_at S.Start) question.entry
+        (W.contents output.old) (W.contents output.new) result.1) }
+{
+    match answer_to(rt, file, question, start) {
+        Ok((answer, store)) => (tell_answer(answer, output), Left::GivenUp(store)),
+        Err(fault) => (Err(fault), Left::Nothing),
     }
 }

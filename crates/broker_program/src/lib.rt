@@ -7,6 +7,7 @@ mod fault;
 mod files;
 mod forms;
 mod init;
+mod left;
 mod migrate;
 mod normalise;
 mod output;
@@ -16,5 +17,6 @@ mod routes;
 mod running;
 mod serve;
 
+pub use left::Left;
 pub use process::run_process;
 pub use running::run;

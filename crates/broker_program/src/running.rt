@@ -3,7 +3,7 @@ ghost use Rattle.std.specs.Prelude.{◌≡◌, ◌≢◌, ◌⊎◌, ◌++◌, I
 ghost use Rattle.std.specs.Io.KnownBytes.{Appends};
 ghost use Rattle.broker_program.specs.Faults.{fault_text};
 ghost use Rattle.broker_program.specs.Told.{newline};
-ghost use Rattle.sqlite.specs.Held.{state};
+ghost use Rattle.sqlite.specs.WalFiles.{image_at};
 ghost use Rattle.clap.specs.Values.{kind_of};
 ghost use Rattle.command_line.specs.Lines.{texts_of};
 ghost use Rattle.broker_program.specs.Running.{CommandEndsOn, CommandFailsOn, Ran};
@@ -12,15 +12,15 @@ use crate::can_i_deploy::{Question, ask};
 use crate::check::check;
 use crate::fault::RunFault;
 use crate::init::init;
-use command_line::{Line, read_line};
+use crate::left::Left;
 use crate::migrate::migrate;
 use crate::normalise::normalise;
 use crate::replay::replay;
 use crate::serve::serve_file;
 use clap::Error;
 use clap::error::ErrorKind;
-use sqlite::{File, FileStore};
-use sqlite_trees::store::Store;
+use command_line::{Line, read_line};
+use sqlite::{FileFrom, Start};
 use std::io::{Read, Write};
 
 /// Reports the fault as one line on standard error, and whether that took it.
@@ -62,44 +62,49 @@ fn tell<W: Write, E: Write>(error: &Error, output: &mut W, errors: &mut E) -> u8
     }
 }
 
-/// Runs the command, and says whether it is done, its check passed or its version is permitted.
-fn carry_out<R: Read, W: Write>(
+/// A command that ended or failed, and what it left of the file that it worked on.
+type Carried<S> = (Result<bool, RunFault>, Left<FileFrom<S>>);
+
+/// Runs the command, and says whether it is done, its check passed or its version is permitted, and what it left of the
+/// file that it worked on.
+fn carry_out<S: Start, R: Read, W: Write>(
     rt: &HostRuntime,
     line: Line<'_>,
+    start: S,
     input: &mut R,
     output: &mut W,
-) -> Result<bool, RunFault>
-    ensures ends { IfOk result (CommandEndsOn (state ⟦<FileStore<File> as Store>⟧) R.remaining W.contents
-        input.old input.new output.old output.new line.entry) }
-    ensures fails { OnErr result (CommandFailsOn (state ⟦<FileStore<File> as Store>⟧) R.remaining W.contents
-        input.old input.new output.old output.new line.entry) }
+) -> Carried<S>
+    ensures ends { IfOk result.0 (CommandEndsOn (image_at S.Start) R.remaining W.contents
+        input.old input.new output.old output.new result.1 line.entry) }
+    ensures fails { OnErr result.0 (CommandFailsOn (image_at S.Start) R.remaining W.contents
+        input.old input.new output.old output.new result.1 line.entry) }
 {
     match line {
-        Line::Replay { office_token } => {
-            replay(rt.alloc(), office_token, input, output)?;
-            Ok(true)
-        }
-        Line::Init { file, office_token } => {
-            init(rt, file, office_token)?;
-            Ok(true)
-        }
-        Line::Migrate { file } => {
-            migrate(rt, file)?;
-            Ok(true)
-        }
+        Line::Replay { office_token } => match replay(rt.alloc(), office_token, input, output) {
+            Ok(()) => (Ok(true), Left::Nothing),
+            Err(fault) => (Err(fault), Left::Nothing),
+        },
+        Line::Init { file, office_token } => match init(rt, file, office_token, start) {
+            Ok(files) => (Ok(true), Left::Closed(files)),
+            Err(fault) => (Err(fault), Left::Nothing),
+        },
+        Line::Migrate { file } => match migrate(rt, file, start) {
+            Ok(files) => (Ok(true), Left::Closed(files)),
+            Err(fault) => (Err(fault), Left::Nothing),
+        },
         Line::Serve {
             file,
             listen,
             connections,
-        } => {
-            serve_file(rt, file, listen, connections)?;
-            Ok(true)
-        }
-        Line::Normalise => {
-            normalise(rt.alloc(), input, output)?;
-            Ok(true)
-        }
-        Line::Check { pact, replies } => check(rt, pact, replies, output),
+        } => match serve_file(rt, file, listen, connections, start) {
+            Ok(()) => (Ok(true), Left::Nothing),
+            Err(fault) => (Err(fault), Left::Nothing),
+        },
+        Line::Normalise => match normalise(rt.alloc(), input, output) {
+            Ok(()) => (Ok(true), Left::Nothing),
+            Err(fault) => (Err(fault), Left::Nothing),
+        },
+        Line::Check { pact, replies } => (check(rt, pact, replies, output), Left::Nothing),
         Line::CanIDeploy {
             file,
             token,
@@ -113,7 +118,7 @@ fn carry_out<R: Read, W: Write>(
                 version,
                 environment,
             };
-            ask(rt, file, question, output)
+            ask(rt, file, question, start, output)
         }
     }
 }
@@ -137,22 +142,29 @@ fn carry_out<R: Read, W: Write>(
 /// An answer's body: what the broker answered `can-i-deploy` otherwise. `memory`: there was no memory
 /// for anything else.
 /// If `errors` fails too, its text is lost. Neither `output` nor `errors` is flushed.
-pub fn run<R: Read, W: Write, E: Write>(
+///
+/// `S` stands for what the file of the command held, if it has one. What is left of it comes with the status: it was
+/// closed, or given up as it was.
+pub fn run<S: Start, R: Read, W: Write, E: Write>(
     rt: &HostRuntime,
     words: &[&str],
+    start: S,
     input: &mut R,
     output: &mut W,
     errors: &mut E,
-) -> u8
-    ensures { Ran (state ⟦<FileStore<File> as Store>⟧) R.remaining W.contents (texts_of words.now) input.old input.new
-        output.old output.new errors.old errors.new result }
+) -> (u8, Left<FileFrom<S>>)
+    ensures { Ran (image_at S.Start) R.remaining W.contents (texts_of words.now) input.old input.new
+        output.old output.new errors.old errors.new result.0 result.1 }
 {
-    match read_line(rt.alloc(), words) {
-        Ok(line) => match carry_out(rt, line, input, output) {
-            Ok(true) => 0,
-            Ok(false) => 1,
-            Err(fault) => fail(&fault, errors),
-        },
-        Err(error) => tell(&error, output, errors),
+    match read_line(rt.alloc(), &*words) {
+        Ok(line) => {
+            let (done, left) = carry_out(rt, line, start, input, output);
+            match done {
+                Ok(true) => (0, left),
+                Ok(false) => (1, left),
+                Err(fault) => (fail(&fault, errors), left),
+            }
+        }
+        Err(error) => (tell(&error, output, errors), Left::Nothing),
     }
 }

@@ -1,12 +1,13 @@
 //! Serving connections over the broker in a file.
 ghost use Rattle.std.specs.Prelude.{◌≡◌, ◌≢◌, ◌+◌, false, IfOk, IfSome, OnOk};
-ghost use Rattle.broker_program.specs.Listening.{IsLoopback};
+ghost use Rattle.broker_program.specs.Listening.{IsLoopback, IsOfLoopback};
 
 use crate::fault::RunFault;
-use crate::files::{Closed, FileBroker, close, open_broker, release};
+use crate::files::{FileBroker, close, open_broker, release};
 use crate::routes::route_table;
 use broker_http::RouteTable;
 use broker_http::patience::{Door, LIMITS, serve_peer};
+use sqlite::{Start, Unknown};
 use std::net::{SocketAddr, TcpListener, TcpStream};
 
 /// Where connections come in.
@@ -51,6 +52,8 @@ impl Door for Entrance {
 #[derive(Drop)]
 struct Connections {
     entrance: Entrance,
+    /// Where they come in, as the system says it.
+    address: SocketAddr,
     left: u32,
 }
 
@@ -78,31 +81,56 @@ fn loopback_of(listen: &str) -> Option<SocketAddr>
     }
 }
 
-/// So many connections to an address of loopback.
-fn listen_on(rt: &HostRuntime, listen: &str, connections: u32) -> Result<Connections, RunFault>
-    ensures { IfOk result (λ found. found.left ≡ connections) }
+/// The address on which the system says that this listens, if it is one of loopback.
+fn bound_to(listener: &TcpListener) -> Option<SocketAddr>
+    ensures { IfSome result IsOfLoopback }
+{
+    let bound = listener.local_addr().ok()?;
+    if bound.ip().is_loopback() {
+        Some(bound)
+    } else {
+        None
+    }
+}
+
+/// A listener on an address of loopback, and that address as the system says it.
+fn listener_on(rt: &HostRuntime, listen: &str) -> Result<(TcpListener, SocketAddr), RunFault>
+    ensures { IfOk result (λ found. IsOfLoopback found.1) }
 {
     let Some(address) = loopback_of(listen) else {
         return Err(RunFault::Listen);
     };
-    match TcpListener::bind(rt, address) {
-        Ok(listener) => Ok(Connections {
-            entrance: Entrance {
-                listener,
-                waiting: None,
-                is_open: true,
-            },
-            left: connections,
-        }),
-        Err(_) => Err(RunFault::Listen),
+    let Ok(listener) = TcpListener::bind(rt, address) else {
+        return Err(RunFault::Listen);
+    };
+    match bound_to(&listener) {
+        Some(bound) => Ok((listener, bound)),
+        None => Err(RunFault::Listen),
     }
 }
 
+/// So many connections to an address of loopback.
+fn listen_on(rt: &HostRuntime, listen: &str, connections: u32) -> Result<Connections, RunFault>
+    ensures count { IfOk result (λ found. found.left ≡ connections) }
+    ensures bound { IfOk result (λ found. IsOfLoopback found.address) }
+{
+    let (listener, address) = listener_on(rt, listen)?;
+    Ok(Connections {
+        entrance: Entrance {
+            listener,
+            waiting: None,
+            is_open: true,
+        },
+        address,
+        left: connections,
+    })
+}
+
 /// Serves the next connection. If it fails it ends, and nothing is reported.
-fn serve_next(
+fn serve_next<S: Start>(
     rt: &HostRuntime,
     routes: &RouteTable,
-    broker: &mut FileBroker,
+    broker: &mut FileBroker<S>,
     connections: &mut Connections,
 )
     requires runs { broker.old.is_stopped ≡ false }
@@ -126,48 +154,93 @@ fn serve_next(
     }
 }
 
+/// Serves the connections, one after the other, until the broker is stopped.
+fn serve_while_running<S: Start>(
+    rt: &HostRuntime,
+    routes: &RouteTable,
+    broker: &mut FileBroker<S>,
+    connections: &mut Connections,
+)
+    ensures { broker.new.is_stopped ≡ false → connections.new.left ≡ 0 }
+{
+    while connections.left > 0 && !broker.is_stopped() {
+        serve_next(rt, routes, broker, connections);
+    }
+}
+
+/// Closes the broker's file, and keeps nothing of it.
+fn end<S: Start>(broker: FileBroker<S>) -> Result<(), RunFault> {
+    match close(broker) {
+        Ok(_) => Ok(()),
+        Err(fault) => Err(fault),
+    }
+}
+
 /// The broker, or if it is stopped the one of its file, opened again.
-fn running(rt: &HostRuntime, broker: FileBroker, file: &str) -> Result<FileBroker, RunFault>
+fn running(
+    rt: &HostRuntime,
+    broker: FileBroker<Unknown>,
+    file: &str,
+) -> Result<FileBroker<Unknown>, RunFault>
     ensures { IfOk result (λ b. b.is_stopped ≡ false) }
 {
     if !broker.is_stopped() {
         return Ok(broker);
     }
-    let _ = close(broker);
-    open_broker(rt, file)
+    let _ = end(broker);
+    open_broker(rt, file, Unknown)
 }
 
-/// Serves the connections, one after the other, over the broker of the file.
-fn serve_each(
+/// Serves the connections that are left, one after the other, over the broker of the file, which was opened again.
+fn serve_again(
     rt: &HostRuntime,
     routes: &RouteTable,
-    broker: FileBroker,
     file: &str,
     connections: &mut Connections,
-) -> Result<Closed, RunFault>
+) -> Result<(), RunFault>
     ensures { OnOk result (connections.new.left ≡ 0) }
 {
-    let mut broker = broker;
+    let mut broker = open_broker(rt, file, Unknown)?;
     while connections.left > 0 {
         broker = running(rt, broker, file)?;
         serve_next(rt, routes, &mut broker, connections);
     }
-    close(broker)
+    end(broker)
+}
+
+/// Serves the connections, one after the other, over the broker of the file. If it stops, the file is opened again.
+fn serve_each<S: Start>(
+    rt: &HostRuntime,
+    routes: &RouteTable,
+    broker: FileBroker<S>,
+    file: &str,
+    connections: &mut Connections,
+) -> Result<(), RunFault>
+    ensures { OnOk result (connections.new.left ≡ 0) }
+{
+    let mut broker = broker;
+    serve_while_running(rt, routes, &mut broker, connections);
+    let ended = end(broker);
+    if connections.left == 0 {
+        return ended;
+    }
+    serve_again(rt, routes, file, connections)
 }
 
 /// Serves so many connections over the broker in the file.
-pub(crate) fn serve_file(
+pub(crate) fn serve_file<S: Start>(
     rt: &HostRuntime,
     file: &str,
     listen: &str,
     connections: u32,
-) -> Result<Closed, RunFault> {
+    start: S,
+) -> Result<(), RunFault> {
     let routes = route_table(rt.alloc())?;
-    let broker = open_broker(rt, file)?;
+    let broker = open_broker(rt, file, start)?;
     match listen_on(rt, listen, connections) {
         Ok(mut connections) => serve_each(rt, &routes, broker, file, &mut connections),
         Err(fault) => {
-            release(broker);
+            let _ = release(broker).close();
             Err(fault)
         }
     }

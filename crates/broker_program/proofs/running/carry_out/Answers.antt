@@ -2,18 +2,18 @@ use Rattle.std.proofs.Common.{◌≡◌, ◌⊎◌, refl, ap, inl, inr}
 use Rattle.std.proofs.lemmas.Result.{IfOk-weaker, on_err_weaker}
 use Rattle.broker_program.proofs.running.carry_out.Goals as goal
 
-pub returns-in_ok-init-in-Init-clause-ends : goal.returns-in_ok-init-in-Init-clause-ends
-returns-in_ok-init-in-Init-clause-ends g c =
-    rw c.in-Init.is (refl, c.in_ok-init-in-Init.ensures.0, c.in_ok-init-in-Init.ensures.1, (refl, refl))
+pub returns-in-Ok-init-clause-ends : goal.returns-in-Ok-init-clause-ends
+returns-in-Ok-init-clause-ends g c =
+    rw c.in-Init.is (refl, c.in-Ok-init.ensures.token, (refl, refl), c.in-Ok-init.ensures.made)
 
-pub returns-in-CanIDeploy-clause-ends : goal.returns-in-CanIDeploy-clause-ends
-returns-in-CanIDeploy-clause-ends g c = IfOk-weaker c.ask.result _ _ (λ permitted asks. rw c.in-CanIDeploy.is (refl, asks)) c.ask.ensures.ok
+pub returns-clause-ends : goal.returns-clause-ends
+returns-clause-ends g c = IfOk-weaker c.ask.result.0 _ _ (λ permitted asks. rw c.in-CanIDeploy.is (refl, asks)) c.ask.ensures.ok
 
 -- nothing was written, by what the writer has taken
 taken : {X Y P : Type 0} (f : X → Y) (x y : X) → (x ≡ y) ⊎ P → (f x ≡ f y) ⊎ P
 taken f x y (inl e) = inl (ap f e)
 taken f x y (inr p) = inr p
 
-pub returns-in-CanIDeploy-clause-fails : goal.returns-in-CanIDeploy-clause-fails
-returns-in-CanIDeploy-clause-fails g c =
-    on_err_weaker c.ask.result (λ fails. rw c.in-CanIDeploy.is (refl, taken g.W.Write.contents _ _ fails)) c.ask.ensures.err
+pub returns-clause-fails : goal.returns-clause-fails
+returns-clause-fails g c =
+    on_err_weaker c.ask.result.0 (λ fails. rw c.in-CanIDeploy.is (refl, taken g.W.Write.contents _ _ fails)) c.ask.ensures.err

@@ -1,4 +1,4 @@
-use Rattle.broker_program.proofs.serve.serve_each.Given as goal
+use Rattle.broker_program.proofs.serve.serve_again.Given as goal
 
 -- each turn takes one of those that are left
 abbrev pub decreases-loop-connections : goal.decreases-loop-connections
