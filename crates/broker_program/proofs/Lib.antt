@@ -1,3 +1,4 @@
 pub mod VerdictLemmas
 pub mod ResultLemmas
 pub mod UnchangedLemmas
+pub mod LifeLemmas

@@ -5,3 +5,4 @@ pub mod Files
 pub mod Making
 pub mod Running
 pub mod Faults
+pub mod Life

@@ -7,6 +7,7 @@ mod fault;
 mod files;
 mod forms;
 mod init;
+pub mod laws;
 mod left;
 mod migrate;
 mod normalise;
