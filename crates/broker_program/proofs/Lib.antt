@@ -1,4 +1,5 @@
 pub mod VerdictLemmas
 pub mod ResultLemmas
 pub mod UnchangedLemmas
+pub mod ServingLemmas
 pub mod LifeLemmas

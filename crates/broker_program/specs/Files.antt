@@ -16,7 +16,8 @@ use Rattle.broker_service.specs.BrokerView.{BrokerView}
 use Rattle.broker_service.specs.Calls.{Opened}
 use Rattle.broker_service.specs.SessionFiles.{IsGivenBack}
 use Rattle.broker_program.specs.declared.left.Left.{Left}
-use Rattle.broker_program.specs.declared.left.Left.TheVariants.{Closed, GivenUp}
+use Rattle.broker_program.specs.declared.left.Left.TheVariants.{Closed, GivenUp, Served}
+use Rattle.broker_program.specs.declared.left.Service.{Service}
 
 module _ {D : Type 0} {g : Ghosts D} where
   -- A connection was opened on a log and a database file that held this.
@@ -59,3 +60,8 @@ module _ {D : Type 0} {g : Ghosts D} where
   abbrev pub LeavesStore : (FileStore D g → Type 0) → Left D g → Type 0
   LeavesStore P (GivenUp store) = P store
   LeavesStore P _ = ⊥
+
+  -- it was served, in such a way
+  abbrev pub LeavesServed : (Service D → Type 0) → Left D g → Type 0
+  LeavesServed P (Served service) = P service
+  LeavesServed P _ = ⊥

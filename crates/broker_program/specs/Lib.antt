@@ -2,6 +2,7 @@ pub mod Listening
 pub mod Replays
 pub mod Told
 pub mod Files
+pub mod Serving
 pub mod Making
 pub mod Running
 pub mod Faults

@@ -7,8 +7,9 @@ use Rattle.broker_core.specs.Name.{IsToken}
 use Rattle.clap.specs.Words.{Text}
 use Rattle.command_line.specs.Lines.{Says, is_line}
 use Rattle.broker_program.specs.Replays.{Replays, ReplaysUntil}
-use Rattle.broker_program.specs.Files.{LeavesClosed}
+use Rattle.broker_program.specs.Files.{LeavesClosed, LeavesServed}
 use Rattle.broker_program.specs.Making.{BrokerIsMade, FileIsMigrated}
+use Rattle.broker_program.specs.Serving.{ServesFile}
 use Rattle.broker_program.specs.Told.{Asks, AsksUntil, Checks, ChecksUntil, Normalises, NormalisesUntil}
 use Rattle.broker_program.specs.declared.can_i_deploy.Question.{Question}
 use Rattle.broker_program.specs.declared.left.Left.{Left}
@@ -32,7 +33,8 @@ module _ {D : Type 0} {g : Ghosts D} (held : Image) (before after old new : Opti
   CommandEnds (Init file token) passes =
       (passes ≡ true) × IsToken token.now × IsSilent × LeavesClosed (BrokerIsMade g held token.now) rest
   CommandEnds (Migrate file) passes = (passes ≡ true) × IsSilent × LeavesClosed (FileIsMigrated g held) rest
-  CommandEnds (Serve file listen connections) passes = (passes ≡ true) × IsSilent
+  CommandEnds (Serve file listen connections) passes =
+      (passes ≡ true) × IsSilent × LeavesServed (ServesFile g held connections) rest
   CommandEnds Normalise passes = (passes ≡ true) × Normalises before after old new
   CommandEnds (Check pact replies) passes = (after ≡ before) × Checks old new passes
   CommandEnds (CanIDeploy file token pacticipant version environment) passes =

@@ -18,6 +18,6 @@ mod routes;
 mod running;
 mod serve;
 
-pub use left::Left;
+pub use left::{Left, Service};
 pub use process::run_process;
 pub use running::run;

@@ -97,7 +97,7 @@ fn carry_out<S: Start, R: Read, W: Write>(
             listen,
             connections,
         } => match serve_file(rt, file, listen, connections, start) {
-            Ok(()) => (Ok(true), Left::Nothing),
+            Ok(service) => (Ok(true), Left::Served(service)),
             Err(fault) => (Err(fault), Left::Nothing),
         },
         Line::Normalise => match normalise(rt.alloc(), input, output) {

@@ -1,13 +1,17 @@
 //! Serving connections over the broker in a file.
-ghost use Rattle.std.specs.Prelude.{◌≡◌, ◌≢◌, ◌+◌, false, IfOk, IfSome, OnOk};
+ghost use Rattle.std.specs.Prelude.{◌≡◌, ◌≢◌, ◌+◌, false, IfOk, IfSome, MatchOption, OnOk};
+ghost use Rattle.sqlite.specs.WalFiles.{image_at};
 ghost use Rattle.broker_program.specs.Listening.{IsLoopback, IsOfLoopback};
+ghost use Rattle.broker_program.specs.Serving.{ServesAll, ServesFile, ServesMore, ServesNext};
 
 use crate::fault::RunFault;
 use crate::files::{FileBroker, close, open_broker, release};
+use crate::left::Service;
 use crate::routes::route_table;
 use broker_http::RouteTable;
 use broker_http::patience::{Door, LIMITS, serve_peer};
-use sqlite::{Start, Unknown};
+use sqlite::{FileFrom, Start, Unknown};
+use sqlite_disk::Disk;
 use std::net::{SocketAddr, TcpListener, TcpStream};
 
 /// Where connections come in.
@@ -54,18 +58,37 @@ struct Connections {
     entrance: Entrance,
     /// Where they come in, as the system says it.
     address: SocketAddr,
+    /// How many are still to be taken,
     left: u32,
+    /// how many were handed out to be served,
+    served: u32,
+    /// how many were lost as they came in,
+    lost: u32,
+    /// and how many there are to be.
+    all: u32,
+    ghost counted: { left + served + lost ≡ all },
 }
 
 impl Connections {
     /// The next connection, once one has come in. None if it was lost.
     fn next(&mut self) -> Option<TcpStream>
         requires { self.old.left ≢ 0 }
-        ensures { self.old.left ≡ self.new.left + 1 }
+        ensures left { (self.old.left ≡ self.new.left + 1) × (self.new.all ≡ self.old.all) }
+        ensures taken { MatchOption result (self.new.served ≡ self.old.served)
+            (λ _. self.new.served ≡ self.old.served + 1) }
     {
         self.left -= 1;
         self.entrance.is_open = self.left > 0;
-        self.entrance.next()
+        match self.entrance.next() {
+            Some(stream) => {
+                self.served += 1;
+                Some(stream)
+            }
+            None => {
+                self.lost += 1;
+                None
+            }
+        }
     }
 }
 
@@ -111,7 +134,7 @@ fn listener_on(rt: &HostRuntime, listen: &str) -> Result<(TcpListener, SocketAdd
 
 /// So many connections to an address of loopback.
 fn listen_on(rt: &HostRuntime, listen: &str, connections: u32) -> Result<Connections, RunFault>
-    ensures count { IfOk result (λ found. found.left ≡ connections) }
+    ensures count { IfOk result (λ found. (found.all ≡ connections) × (found.served ≡ 0)) }
     ensures bound { IfOk result (λ found. IsOfLoopback found.address) }
 {
     let (listener, address) = listener_on(rt, listen)?;
@@ -123,6 +146,9 @@ fn listen_on(rt: &HostRuntime, listen: &str, connections: u32) -> Result<Connect
         },
         address,
         left: connections,
+        served: 0,
+        lost: 0,
+        all: connections,
     })
 }
 
@@ -135,7 +161,8 @@ fn serve_next<S: Start>(
 )
     requires runs { broker.old.is_stopped ≡ false }
     requires some { connections.old.left ≢ 0 }
-    ensures { connections.old.left ≡ connections.new.left + 1 }
+    ensures left { (connections.old.left ≡ connections.new.left + 1) × (connections.new.all ≡ connections.old.all) }
+    ensures peer { ServesNext broker.old broker.new connections.old.served connections.new.served }
 {
     if let Some(stream) = connections.next() {
         // Else an answer in two parts would wait for the peer to acknowledge the first.
@@ -161,7 +188,9 @@ fn serve_while_running<S: Start>(
     broker: &mut FileBroker<S>,
     connections: &mut Connections,
 )
-    ensures { broker.new.is_stopped ≡ false → connections.new.left ≡ 0 }
+    ensures left { broker.new.is_stopped ≡ false → connections.new.left ≡ 0 }
+    ensures all { connections.new.all ≡ connections.old.all }
+    ensures peers { ServesMore broker.old broker.new connections.old.served connections.new.served }
 {
     while connections.left > 0 && !broker.is_stopped() {
         serve_next(rt, routes, broker, connections);
@@ -198,7 +227,7 @@ fn serve_again(
     file: &str,
     connections: &mut Connections,
 ) -> Result<(), RunFault>
-    ensures { OnOk result (connections.new.left ≡ 0) }
+    ensures { OnOk result ((connections.new.left ≡ 0) × (connections.new.all ≡ connections.old.all)) }
 {
     let mut broker = open_broker(rt, file, Unknown)?;
     while connections.left > 0 {
@@ -215,16 +244,27 @@ fn serve_each<S: Start>(
     broker: FileBroker<S>,
     file: &str,
     connections: &mut Connections,
-) -> Result<(), RunFault>
-    ensures { OnOk result (connections.new.left ≡ 0) }
+) -> Result<Service<FileFrom<S>>, RunFault>
+    requires fresh { connections.old.served ≡ 0 }
+    ensures { IfOk result (ServesAll ⟦<FileFrom<S> as Disk>⟧ broker connections.old.all) }
 {
     let mut broker = broker;
     serve_while_running(rt, routes, &mut broker, connections);
-    let ended = end(broker);
     if connections.left == 0 {
-        return ended;
+        let files = close(broker)?;
+        return Ok(Service {
+            served: connections.served,
+            lost: connections.lost,
+            files: Some(files),
+        });
     }
-    serve_again(rt, routes, file, connections)
+    let _ = end(broker);
+    serve_again(rt, routes, file, connections)?;
+    Ok(Service {
+        served: connections.served,
+        lost: connections.lost,
+        files: None,
+    })
 }
 
 /// Serves so many connections over the broker in the file.
@@ -234,7 +274,9 @@ pub(crate) fn serve_file<S: Start>(
     listen: &str,
     connections: u32,
     start: S,
-) -> Result<(), RunFault> {
+) -> Result<Service<FileFrom<S>>, RunFault>
+    ensures { IfOk result (ServesFile ⟦<FileFrom<S> as Disk>⟧ (image_at S.Start) connections) }
+{
     let routes = route_table(rt.alloc())?;
     let broker = open_broker(rt, file, start)?;
     match listen_on(rt, listen, connections) {
