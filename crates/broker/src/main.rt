@@ -6,5 +6,5 @@ use sqlite::Unknown;
 use std::process::ExitCode;
 
 fn main(rt: HostRuntime) -> ExitCode {
-    run_process(&rt, Unknown)
+    run_process(&rt, Unknown).0
 }

@@ -7,3 +7,4 @@ pub mod Making
 pub mod Running
 pub mod Faults
 pub mod Life
+pub mod Reasons

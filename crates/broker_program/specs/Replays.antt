@@ -24,12 +24,15 @@ module _ (office : Text) (before after old new : Option (List ℕ)) where
       × IsRunFrom (new_broker office) last
       × ServesStream ByMachine (blank (new_broker office)) last before after old new (Ok served)
 
-  -- The same of the messages before a fault of serving.
-  unfoldable pub ReplaysUntil : Type 0
-  ReplaysUntil =
-      (last : Journal) × (fault : ServeFault)
+  -- The same of the messages before this fault of serving.
+  unfoldable pub ReplaysUpTo : ServeFault → Type 0
+  ReplaysUpTo fault =
+      (last : Journal)
       × IsRunFrom (new_broker office) last
       × ServesStream ByMachine (blank (new_broker office)) last before after old new (Err fault)
+
+  abbrev pub ReplaysUntil : Type 0
+  ReplaysUntil = (fault : ServeFault) × ReplaysUpTo fault
 
 -- nothing was read or written, or some requests were answered before the fault
 abbrev pub FailsToReplay : {I O : Type 0} → (I → Option (List ℕ)) → (O → Option (List ℕ)) → Text

@@ -9,9 +9,12 @@ use Rattle.command_line.specs.Lines.{Says, is_line}
 use Rattle.broker_program.specs.Replays.{Replays, ReplaysUntil}
 use Rattle.broker_program.specs.Files.{LeavesClosed, LeavesServed}
 use Rattle.broker_program.specs.Making.{BrokerIsMade, FileIsMigrated}
+use Rattle.broker_program.specs.Reasons.{IsFaultOf, HasReport, IsReported}
 use Rattle.broker_program.specs.Serving.{ServesFile}
 use Rattle.broker_program.specs.Told.{Asks, AsksUntil, Checks, ChecksUntil, Normalises, NormalisesUntil}
 use Rattle.broker_program.specs.declared.can_i_deploy.Question.{Question}
+use Rattle.broker_program.specs.declared.fault.RunFault.{RunFault}
+use Rattle.broker_program.specs.declared.fault.RunFault.TheVariants as run_fault
 use Rattle.broker_program.specs.declared.left.Left.{Left}
 use Rattle.command_line.specs.declared.line.Line.{Line}
 use Rattle.command_line.specs.declared.line.Line.TheVariants.{CanIDeploy, Check, Init, Migrate, Normalise}
@@ -60,10 +63,28 @@ module _ {D I O : Type 0} {g : Ghosts D} (held : Image) (remaining : I → Optio
   abbrev pub CommandFailsOn : Line → Type 0
   CommandFailsOn = CommandFails held (remaining before) (remaining after) (contents old) (contents new) rest
 
+module _ {I O : Type 0} (remaining : I → Option (List ℕ)) (contents : O → Option (List ℕ)) (before after : I) (old new : O) where
+  abbrev pub IsFaultOn : Line → RunFault → Type 0
+  IsFaultOn = IsFaultOf (remaining before) (remaining after) (contents old) (contents new)
+
 -- The texts are the words; the reader was before and is after, standard output was old and is new, standard error was
--- untold and is told.
-module _ {D I O E : Type 0} {g : Ghosts D} (held : Image) (remaining : I → Option (List ℕ)) (contents : O → Option (List ℕ)) where
-  -- what running the words promises of the status that the program ends with
+-- untold and is told, and shows what it has taken. Rest is what is left of the command's file.
+module _ {D I O E : Type 0} {g : Ghosts D} (held : Image) (remaining : I → Option (List ℕ)) (contents : O → Option (List ℕ)) (shows : E → Option (List ℕ)) where
+  -- what carrying out a command promises of the status that the program ends with
+  pub record LineRan (line : Line) (before after : I) (old new : O) (untold told : E) (status : ℕ) (rest : Left D g) : Type 0 where
+    pub statuses : (status ≡ 0) ⊎ ((status ≡ 1) ⊎ (status ≡ 3))
+    -- it is done, or its check failed or its version isn't permitted; nothing is on standard error
+    pub done : status ≡ 0
+        → CommandEndsOn held remaining contents before after old new rest line true × (told ≡ untold)
+    pub refused : status ≡ 1
+        → CommandEndsOn held remaining contents before after old new rest line false × (told ≡ untold)
+    -- it failed, and standard error says why
+    pub fails : status ≡ 3 → CommandFailsOn held remaining contents before after old new rest line
+    pub reports : status ≡ 3
+        → (fault : RunFault) × IsFaultOn remaining contents before after old new line fault
+        × IsReported fault (shows untold) (shows told)
+
+  -- what running the words promises of it
   pub record Ran (words : List Text) (before after : I) (old new : O) (untold told : E) (status : ℕ) (rest : Left D g) : Type 0 where
     pub statuses : (status ≡ 0) ⊎ ((status ≡ 1) ⊎ ((status ≡ 2) ⊎ (status ≡ 3)))
     -- what the command was to do is done, and standard output has what it tells
@@ -86,3 +107,16 @@ module _ {D I O E : Type 0} {g : Ghosts D} (held : Image) (remaining : I → Opt
         → ((after ≡ before) × (new ≡ old))
         ⊎ ((line : Line) × Says words line
         × CommandFailsOn held remaining contents before after old new rest line)
+    -- one line on standard error says why it failed
+    pub reports : status ≡ 3 → HasReport (shows untold) (shows told)
+    -- and it has its reason: there was no memory for the words, or the command failed for it
+    pub reason : status ≡ 3 → is_line words ≡ true
+        → IsReported run_fault.Memory (shows untold) (shows told)
+        ⊎ ((line : Line) × (fault : RunFault) × Says words line
+        × IsFaultOn remaining contents before after old new line fault × IsReported fault (shows untold) (shows told))
+
+  -- some words were run over some streams, and the program ends with this status
+  abbrev pub SomeRun : ℕ → Left D g → Type 0
+  SomeRun status rest =
+      (words : List Text) × (before : I) × (after : I) × (old : O) × (new : O) × (untold : E) × (told : E)
+      × Ran words before after old new untold told status rest

@@ -42,18 +42,24 @@ IsBegun bytes old new = (n : ℕ) × (n < length bytes) × Appends old new (take
 
 -- ---- normalise
 
--- what was read to the end is a pact file, and the text is its normal text
-abbrev pub IsNormalised : Option (List ℕ) → Option (List ℕ) → List ℕ → Type 0
-IsNormalised before after text =
-    (file : List ℕ) × (pact : Pact)
-    × Consumes before after file × IsAtEnd after × Normal file (Ok pact) × (text ≡ normal_text pact)
+-- the file is a pact file, and this its normal text
+abbrev pub IsNormalText : List ℕ → List ℕ → Type 0
+IsNormalText file text = (pact : Pact) × Normal file (Ok pact) × (text ≡ normal_text pact)
+
+module _ (file : List ℕ) (old new : Option (List ℕ)) where
+  abbrev pub TellsNormalText : Type 0
+  TellsNormalText = (text : List ℕ) × IsNormalText file text × Appends old new (text ++ newline)
+
+  abbrev pub BeginsNormalText : Type 0
+  BeginsNormalText = (text : List ℕ) × IsNormalText file text × IsBegun (text ++ newline) old new
 
 module _ (before after old new : Option (List ℕ)) where
+  -- of what was read to the end
   abbrev pub Normalises : Type 0
-  Normalises = (text : List ℕ) × IsNormalised before after text × Appends old new (text ++ newline)
+  Normalises = (file : List ℕ) × Consumes before after file × IsAtEnd after × TellsNormalText file old new
 
   abbrev pub NormalisesUntil : Type 0
-  NormalisesUntil = (text : List ℕ) × IsNormalised before after text × IsBegun (text ++ newline) old new
+  NormalisesUntil = (file : List ℕ) × Consumes before after file × IsAtEnd after × BeginsNormalText file old new
 
 -- ---- check
 
@@ -70,21 +76,33 @@ abbrev pub verdict_text : List ℕ → List ℕ
 verdict_text [] = codes "pass"
 verdict_text (place ∷ places) = codes "fail" ++ flat_map place_text (place ∷ places)
 
--- these interactions of a pact file fail by recorded replies
-abbrev pub AreFailingBy : List ℕ → Type 0
-AreFailingBy places =
-    (file : List ℕ) × (recorded : List ℕ) × (pact : Pact) × (replies : List Reply)
-    × Normal file (Ok pact) × RepliesRead recorded (Ok replies)
+-- these interactions of a pact fail by the replies that a file has
+abbrev pub AreFailingBy : Pact → List ℕ → List ℕ → Type 0
+AreFailingBy pact recorded places =
+    (replies : List Reply) × RepliesRead recorded (Ok replies)
     × AreKnown pact.interactions replies × AreFailing pact.interactions replies places
 
-module _ (old new : Option (List ℕ)) where
-  abbrev pub Checks : Bool → Type 0
-  Checks passes =
-      (places : List ℕ) × AreFailingBy places × (passes ≡ is_pass places)
+module _ (pact : Pact) (recorded : List ℕ) (old new : Option (List ℕ)) where
+  abbrev pub TellsVerdict : Bool → Type 0
+  TellsVerdict passes =
+      (places : List ℕ) × AreFailingBy pact recorded places × (passes ≡ is_pass places)
       × Appends old new (verdict_text places ++ newline)
 
+  abbrev pub BeginsVerdict : Type 0
+  BeginsVerdict =
+      (places : List ℕ) × AreFailingBy pact recorded places × IsBegun (verdict_text places ++ newline) old new
+
+module _ (old new : Option (List ℕ)) where
+  -- of two files: no contract says what a file has
+  abbrev pub Checks : Bool → Type 0
+  Checks passes =
+      (file : List ℕ) × (recorded : List ℕ) × (pact : Pact)
+      × Normal file (Ok pact) × TellsVerdict pact recorded old new passes
+
   abbrev pub ChecksUntil : Type 0
-  ChecksUntil = (places : List ℕ) × AreFailingBy places × IsBegun (verdict_text places ++ newline) old new
+  ChecksUntil =
+      (file : List ℕ) × (recorded : List ℕ) × (pact : Pact)
+      × Normal file (Ok pact) × BeginsVerdict pact recorded old new
 
 -- ---- can-i-deploy
 

@@ -1,23 +1,24 @@
 //! Recorded replies of a provider against a pact file.
-ghost use Rattle.std.specs.Prelude.{◌≡◌, ◌⊎◌, ◌++◌, List, ℕ, Ok, IfOk, OnErr, OnOk, string_bytes, codes};
+ghost use Rattle.std.specs.Prelude.{◌≡◌, ◌⊎◌, ◌++◌, IfErr, IfOk, OnErr, OnOk, string_bytes, codes};
 ghost use Rattle.std.specs.Io.KnownBytes.{Appends};
 ghost use Rattle.std.specs.List.{flat_map};
-ghost use Rattle.pact_file.specs.Normal.{Normal};
-ghost use Rattle.reply_check.specs.Replies.{RepliesRead};
-ghost use Rattle.broker_program.specs.Told.{AreFailingBy, Checks, ChecksUntil, IsBegun};
+ghost use Rattle.broker_program.specs.Reasons.{FailsToCheck, IsFromOutside, IsRepliesFault};
+ghost use Rattle.broker_program.specs.Told.{AreFailingBy, BeginsVerdict, Checks, ChecksUntil, IsBegun, TellsVerdict};
 ghost use Rattle.broker_program.specs.Told.{newline, place_text, verdict_text};
 
 use crate::fault::RunFault;
 use crate::normalise::pact_of;
 use crate::output::write_line;
 use pact_file::Pact;
-use reply_check::{Replies, Verdict, read_replies};
+use reply_check::{Verdict, read_replies};
 use std::alloc::{AllocError, Global};
 use std::fs;
 use std::io::{ErrorKind, Write};
 
 /// What is in the file of this path.
-fn read_file(rt: &HostRuntime, path: &str) -> Result<Vec<u8>, RunFault> {
+fn read_file(rt: &HostRuntime, path: &str) -> Result<Vec<u8>, RunFault>
+    ensures { IfErr result IsFromOutside }
+{
     match fs::read(rt, path) {
         Ok(bytes) => Ok(bytes),
         Err(error) if error.kind() == ErrorKind::OutOfMemory => Err(RunFault::Memory),
@@ -25,34 +26,17 @@ fn read_file(rt: &HostRuntime, path: &str) -> Result<Vec<u8>, RunFault> {
     }
 }
 
-/// The pact of the file of this path.
-fn read_pact_at(rt: &HostRuntime, path: &str) -> Result<Pact, RunFault>
-    ensures { IfOk result (λ pact. (file : List ℕ) × Normal file (Ok pact)) }
+/// The verdict of the pact on the replies that a file has.
+fn verdict_of(alloc: Global, pact: &Pact, file: &[u8]) -> Result<Verdict, RunFault>
+    ensures ok { IfOk result (AreFailingBy pact.now file.now) }
+    ensures err { IfErr result (IsRepliesFault pact.now file.now) }
 {
-    let file = read_file(rt, path)?;
-    pact_of(rt.alloc(), file.as_slice())
-}
-
-/// The recorded replies in the file of this path.
-fn read_replies_at(rt: &HostRuntime, path: &str) -> Result<Replies, RunFault>
-    ensures { IfOk result (λ replies. (file : List ℕ) × RepliesRead file (Ok replies)) }
-{
-    let file = read_file(rt, path)?;
-    match read_replies(rt.alloc(), file.as_slice()) {
-        Ok(replies) => Ok(replies),
+    match read_replies(alloc, file) {
+        Ok(replies) => match reply_check::check(alloc, pact, &replies) {
+            Ok(verdict) => Ok(verdict),
+            Err(fault) => Err(RunFault::Check(fault)),
+        },
         Err(fault) => Err(RunFault::Replies(fault)),
-    }
-}
-
-/// The verdict on the replies in a file, by the pact in another.
-fn verdict_at(rt: &HostRuntime, pact: &str, replies: &str) -> Result<Verdict, RunFault>
-    ensures { IfOk result AreFailingBy }
-{
-    let pact = read_pact_at(rt, pact)?;
-    let replies = read_replies_at(rt, replies)?;
-    match reply_check::check(rt.alloc(), &pact, &replies) {
-        Ok(verdict) => Ok(verdict),
-        Err(fault) => Err(RunFault::Check(fault)),
     }
 }
 
@@ -92,6 +76,7 @@ fn write_verdict<W: Write>(alloc: Global, verdict: &Verdict, output: &mut W) -> 
         (verdict_text verdict.now ++ newline)) }
     ensures err { OnErr result ((output.new ≡ output.old)
         ⊎ IsBegun (verdict_text verdict.now ++ newline) (W.contents output.old) (W.contents output.new)) }
+    ensures cause { IfErr result IsFromOutside }
 {
     match verdict_text(alloc, verdict) {
         Ok(text) => write_line(output, text.as_str()),
@@ -99,9 +84,27 @@ fn write_verdict<W: Write>(alloc: Global, verdict: &Verdict, output: &mut W) -> 
     }
 }
 
+/// Writes the verdict of the pact on the replies that a file has, and a newline, and says whether it is a pass.
+#[tactic(auto, using(crate::proofs::VerdictLemmas::passes_is))]
+fn tell_verdict<W: Write>(
+    alloc: Global,
+    pact: &Pact,
+    file: &[u8],
+    output: &mut W,
+) -> Result<bool, RunFault>
+    ensures ok { IfOk result (TellsVerdict pact.now file.now (W.contents output.old) (W.contents output.new)) }
+    // Nothing was written, or a beginning of the verdict.
+    ensures err { OnErr result ((output.new ≡ output.old)
+        ⊎ BeginsVerdict pact.now file.now (W.contents output.old) (W.contents output.new)) }
+    ensures cause { IfErr result (λ f. IsFromOutside f ⊎ IsRepliesFault pact.now file.now f) }
+{
+    let verdict = verdict_of(alloc, pact, file)?;
+    write_verdict(alloc, &verdict, output)?;
+    Ok(verdict.passes())
+}
+
 /// Compares the replies in a file with the pact in another, writes the verdict and a newline, and says whether it is a
 /// pass.
-#[tactic(auto, using(crate::proofs::VerdictLemmas::passes_is))]
 pub(crate) fn check<W: Write>(
     rt: &HostRuntime,
     pact: &str,
@@ -112,8 +115,10 @@ pub(crate) fn check<W: Write>(
     // Nothing was written, or a beginning of the verdict.
     ensures err { OnErr result ((output.new ≡ output.old)
         ⊎ ChecksUntil (W.contents output.old) (W.contents output.new)) }
+    ensures cause { IfErr result FailsToCheck }
 {
-    let verdict = verdict_at(rt, pact, replies)?;
-    write_verdict(rt.alloc(), &verdict, output)?;
-    Ok(verdict.passes())
+    let file = read_file(rt, pact)?;
+    let pact = pact_of(rt.alloc(), file.as_slice())?;
+    let recorded = read_file(rt, replies)?;
+    tell_verdict(rt.alloc(), &pact, recorded.as_slice(), output)
 }

@@ -1,14 +1,10 @@
-//! Why a command fails, and what is reported of it.
-ghost use Rattle.std.specs.Prelude.{◌≡◌};
-ghost use Rattle.broker_program.specs.Faults.{serving_text as spec_text};
-
+//! Why a command fails.
 use broker_http::ServeFault;
 use broker_service::{Answer, OpenFault};
 use pact_file::PactFault;
 use reply_check::{CheckFault, RepliesFault};
-use std::fmt;
 
-/// Why a command fails. Its text is what standard error shows.
+/// Why a command fails.
 #[derive(Drop)]
 pub(crate) enum RunFault {
     /// The token isn't one.
@@ -33,59 +29,4 @@ pub(crate) enum RunFault {
     Answer(Answer),
     /// There was no memory.
     Memory,
-}
-
-impl fmt::Display for RunFault {
-    ghost use Rattle.std.specs.Prelude.{Some};
-    ghost use Rattle.broker_program.specs.Faults.{fault_text};
-
-    ghost output = { λ fault. Some (fault_text fault) };
-
-    fn fmt<W: fmt::Write>(&self, f: &mut fmt::Formatter<W>) -> fmt::Result {
-        match self {
-            RunFault::Token => f.write_str("token"),
-            RunFault::Name => f.write_str("name"),
-            RunFault::File => f.write_str("file"),
-            RunFault::Open(fault) => write!(f, "{}", Opening(*fault)),
-            RunFault::Listen => f.write_str("listen"),
-            RunFault::Serve(fault) => f.write_str(serving_text(*fault)),
-            RunFault::Pact(fault) => write!(f, "{}", fault),
-            RunFault::Replies(fault) => write!(f, "{}", *fault),
-            RunFault::Check(fault) => write!(f, "{}", *fault),
-            RunFault::Answer(answer) => f.write_str(answer.body()),
-            RunFault::Memory => f.write_str("memory"),
-        }
-    }
-}
-
-/// The text of a fault of opening.
-#[derive(Drop)]
-struct Opening(OpenFault);
-
-impl fmt::Display for Opening {
-    ghost use Rattle.std.specs.Prelude.{Some};
-    ghost use Rattle.broker_program.specs.Faults.{opening_text};
-
-    ghost output = { λ opening. Some (opening_text opening.0) };
-
-    fn fmt<W: fmt::Write>(&self, f: &mut fmt::Formatter<W>) -> fmt::Result {
-        match self.0 {
-            OpenFault::NotEmpty => f.write_str("open 1"),
-            OpenFault::NotABroker => f.write_str("open 2"),
-            OpenFault::Format(format) => write!(f, "open 3.{format}"),
-            OpenFault::Memory => f.write_str("open 4"),
-            OpenFault::Store => f.write_str("open 5"),
-        }
-    }
-}
-
-/// The text of a fault of serving.
-fn serving_text(fault: ServeFault) -> &'static str
-    ensures { result.now ≡ spec_text fault }
-{
-    match fault {
-        ServeFault::Read => "serve 1",
-        ServeFault::Write => "serve 2",
-        ServeFault::Memory => "serve 3",
-    }
 }

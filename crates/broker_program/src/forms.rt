@@ -1,6 +1,7 @@
 //! The forms of tokens and names among the options.
-ghost use Rattle.std.specs.Prelude.{◌≡◌, ◌↔◌, IfOk, IsErrOf};
+ghost use Rattle.std.specs.Prelude.{◌≡◌, ◌↔◌, IfErr, IfOk, IsErrOf};
 ghost use Rattle.broker_core.specs.Name.{IsName, IsToken};
+ghost use Rattle.broker_program.specs.Reasons.{IsTokenFault};
 
 use crate::fault::RunFault;
 use broker_core::name::{Name, NameFault, Token, TokenFault};
@@ -10,6 +11,7 @@ use std::alloc::Global;
 pub(crate) fn token_of(alloc: Global, text: &str) -> Result<Token, RunFault>
     ensures ok { IfOk result (λ token. (token ≡ text.now) × IsToken text.now) }
     ensures bad { IsErrOf result RunFault.Token ↔ (¬ (IsToken text.now)) }
+    ensures err { IfErr result (IsTokenFault text.now) }
 {
     match Token::new(alloc, text) {
         Ok(token) => Ok(token),

@@ -14,6 +14,7 @@ mod normalise;
 mod output;
 mod process;
 mod replay;
+mod report;
 mod routes;
 mod running;
 mod serve;

@@ -1,6 +1,7 @@
 //! What a command writes to standard output.
-ghost use Rattle.std.specs.Prelude.{◌++◌, OnErr, OnOk};
+ghost use Rattle.std.specs.Prelude.{◌++◌, IfErr, OnErr, OnOk};
 ghost use Rattle.std.specs.Io.KnownBytes.{Appends};
+ghost use Rattle.broker_program.specs.Reasons.{IsFromOutside};
 ghost use Rattle.broker_program.specs.Told.{IsBegun, newline};
 
 use crate::fault::RunFault;
@@ -11,6 +12,7 @@ use std::io::Write;
 fn write_bytes<W: Write>(output: &mut W, bytes: &[u8]) -> Result<(), RunFault>
     ensures ok { OnOk result (Appends (W.contents output.old) (W.contents output.new) bytes.now) }
     ensures err { OnErr result (IsBegun bytes.now (W.contents output.old) (W.contents output.new)) }
+    ensures cause { IfErr result IsFromOutside }
 {
     match write_whole(output, bytes) {
         Ok(()) => Ok(()),
@@ -22,6 +24,7 @@ fn write_bytes<W: Write>(output: &mut W, bytes: &[u8]) -> Result<(), RunFault>
 pub(crate) fn write_line<W: Write>(output: &mut W, text: &str) -> Result<(), RunFault>
     ensures ok { OnOk result (Appends (W.contents output.old) (W.contents output.new) (text.now ++ newline)) }
     ensures err { OnErr result (IsBegun (text.now ++ newline) (W.contents output.old) (W.contents output.new)) }
+    ensures cause { IfErr result IsFromOutside }
 {
     write_bytes(output, text.as_bytes())?;
     write_bytes(output, b"\n")

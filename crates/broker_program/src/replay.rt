@@ -1,9 +1,10 @@
 //! Serving standard input over tables in memory.
-ghost use Rattle.std.specs.Prelude.{◌≡◌, ◌≢◌, ◌↔◌, IfOk, OnOk, OnErr, Err};
+ghost use Rattle.std.specs.Prelude.{IfErr, IfOk, OnOk, OnErr};
 ghost use Rattle.sqlite.specs.Held.{state};
 ghost use Rattle.sqlite.specs.Steps.{over_memory};
 ghost use Rattle.broker_core.specs.Name.{IsToken};
 ghost use Rattle.broker_http.specs.Serving.{IsInMode};
+ghost use Rattle.broker_program.specs.Reasons.{EndsReplay, IsOpeningFault};
 ghost use Rattle.broker_program.specs.Replays.{FailsToReplay, Replays, new_broker};
 
 use crate::fault::RunFault;
@@ -19,7 +20,7 @@ use std::io::{Read, Write};
 /// A new broker over tables in memory.
 fn new_broker(alloc: Global, office: &Token) -> Result<Broker<MemStore>, RunFault>
     ensures holds { IfOk result (IsInMode (state over_memory) (new_broker office.now)) }
-    ensures fails { result ≢ Err RunFault.Token }
+    ensures fails { IfErr result IsOpeningFault }
 {
     match Connection::open_in_memory(alloc) {
         Ok(connection) => match Broker::create(alloc, connection, office) {
@@ -37,7 +38,6 @@ pub(crate) fn replay<R: Read, W: Write>(
     input: &mut R,
     output: &mut W,
 ) -> Result<(), RunFault>
-    ensures token { result ≡ Err RunFault.Token ↔ (¬ (IsToken office_token.now)) }
     ensures known { OnOk result (IsToken office_token.now) }
     ensures ok { OnOk result (Replays office_token.now
         (R.remaining input.old) (R.remaining input.new)
@@ -45,6 +45,8 @@ pub(crate) fn replay<R: Read, W: Write>(
     // Nothing was read or written, or some requests were answered.
     ensures fails { OnErr result (FailsToReplay R.remaining W.contents office_token.now input.old input.new
         output.old output.new) }
+    ensures cause { IfErr result (EndsReplay office_token.now (R.remaining input.old) (R.remaining input.new)
+        (W.contents output.old) (W.contents output.new)) }
 {
     let office = token_of(alloc, office_token)?;
     let mut broker = new_broker(alloc, &office)?;

@@ -1,12 +1,10 @@
 //! Running a command over any reader and writers.
-ghost use Rattle.std.specs.Prelude.{◌≡◌, ◌≢◌, ◌⊎◌, ◌++◌, IfOk, IsTrue, OnErr};
-ghost use Rattle.std.specs.Io.KnownBytes.{Appends};
-ghost use Rattle.broker_program.specs.Faults.{fault_text};
-ghost use Rattle.broker_program.specs.Told.{newline};
+ghost use Rattle.std.specs.Prelude.{◌≡◌, ◌≢◌, ◌⊎◌, IfErr, IfOk, OnErr};
 ghost use Rattle.sqlite.specs.WalFiles.{image_at};
 ghost use Rattle.clap.specs.Values.{kind_of};
 ghost use Rattle.command_line.specs.Lines.{texts_of};
-ghost use Rattle.broker_program.specs.Running.{CommandEndsOn, CommandFailsOn, Ran};
+ghost use Rattle.broker_program.specs.Reasons.{HasReport, IsReported};
+ghost use Rattle.broker_program.specs.Running.{CommandEndsOn, CommandFailsOn, IsFaultOn, LineRan, Ran};
 
 use crate::can_i_deploy::{Question, ask};
 use crate::check::check;
@@ -16,31 +14,28 @@ use crate::left::Left;
 use crate::migrate::migrate;
 use crate::normalise::normalise;
 use crate::replay::replay;
+use crate::report::report;
 use crate::serve::serve_file;
 use clap::Error;
 use clap::error::ErrorKind;
 use command_line::{Line, read_line};
 use sqlite::{FileFrom, Start};
+use std::alloc::Global;
 use std::io::{Read, Write};
 
-/// Reports the fault as one line on standard error, and whether that took it.
-fn tell_fault<E: Write>(fault: &RunFault, errors: &mut E) -> bool
-    ensures { IsTrue result → Appends (E.contents errors.old) (E.contents errors.new) (fault_text fault.now ++ newline) }
-{
-    writeln!(errors, "{}", fault).is_ok()
-}
-
 /// The status of a command that failed, with the fault on standard error.
-fn fail<E: Write>(fault: &RunFault, errors: &mut E) -> u8
-    ensures { result ≡ 3 }
+fn fail<E: Write>(alloc: Global, fault: &RunFault, errors: &mut E) -> u8
+    ensures status { result ≡ 3 }
+    ensures reported { IsReported fault.now (E.contents errors.old) (E.contents errors.new) }
 {
-    let _ = tell_fault(fault, errors);
+    report(alloc, fault, errors);
     3
 }
 
 /// Reports what `clap` says of the words: help on standard output, a mistake on standard error.
-fn tell<W: Write, E: Write>(error: &Error, output: &mut W, errors: &mut E) -> u8
-    ensures memory { kind_of error.now ≡ ErrorKind.OutOfMemory → (result ≡ 3) × (output.new ≡ output.old) }
+fn tell<W: Write, E: Write>(alloc: Global, error: &Error, output: &mut W, errors: &mut E) -> u8
+    ensures memory { kind_of error.now ≡ ErrorKind.OutOfMemory → (result ≡ 3) × (output.new ≡ output.old)
+        × IsReported RunFault.Memory (E.contents errors.old) (E.contents errors.new) }
     ensures mistake { kind_of error.now ≢ ErrorKind.OutOfMemory
         → kind_of error.now ≢ ErrorKind.DisplayHelp → kind_of error.now ≢ ErrorKind.DisplayVersion
         → result ≡ 2 }
@@ -48,9 +43,10 @@ fn tell<W: Write, E: Write>(error: &Error, output: &mut W, errors: &mut E) -> u8
     ensures shown { (kind_of error.now ≡ ErrorKind.DisplayHelp) ⊎ (kind_of error.now ≡ ErrorKind.DisplayVersion)
         → (result ≡ 0) ⊎ (result ≡ 3) }
     ensures statuses { (result ≡ 0) ⊎ ((result ≡ 2) ⊎ (result ≡ 3)) }
+    ensures reports { result ≡ 3 → HasReport (E.contents errors.old) (E.contents errors.new) }
 {
     if error.kind() == ErrorKind::OutOfMemory {
-        return fail(&RunFault::Memory, errors);
+        return fail(alloc, &RunFault::Memory, errors);
     }
     if error.use_stderr() {
         let _ = write!(errors, "{error}");
@@ -58,7 +54,7 @@ fn tell<W: Write, E: Write>(error: &Error, output: &mut W, errors: &mut E) -> u8
     }
     match write!(output, "{error}") {
         Ok(()) => 0,
-        Err(_) => fail(&RunFault::File, errors),
+        Err(_) => fail(alloc, &RunFault::File, errors),
     }
 }
 
@@ -78,6 +74,8 @@ fn carry_out<S: Start, R: Read, W: Write>(
         input.old input.new output.old output.new result.1 line.entry) }
     ensures fails { OnErr result.0 (CommandFailsOn (image_at S.Start) R.remaining W.contents
         input.old input.new output.old output.new result.1 line.entry) }
+    ensures cause { IfErr result.0 (IsFaultOn R.remaining W.contents input.old input.new output.old output.new
+        line.entry) }
 {
     match line {
         Line::Replay { office_token } => match replay(rt.alloc(), office_token, input, output) {
@@ -123,6 +121,27 @@ fn carry_out<S: Start, R: Read, W: Write>(
     }
 }
 
+/// Runs the command, and answers the status that the program ends with, with the fault on standard error, and what is
+/// left of the file that it worked on.
+fn run_line<S: Start, R: Read, W: Write, E: Write>(
+    rt: &HostRuntime,
+    line: Line<'_>,
+    start: S,
+    input: &mut R,
+    output: &mut W,
+    errors: &mut E,
+) -> (u8, Left<FileFrom<S>>)
+    ensures { LineRan (image_at S.Start) R.remaining W.contents E.contents line.entry input.old input.new
+        output.old output.new errors.old errors.new result.0 result.1 }
+{
+    let (done, left) = carry_out(rt, line, start, input, output);
+    match done {
+        Ok(true) => (0, left),
+        Ok(false) => (1, left),
+        Err(fault) => (fail(rt.alloc(), &fault, errors), left),
+    }
+}
+
 /// Runs the command that the words name: the program's own name, a command and its options. The result
 /// is the status that the program ends with.
 ///
@@ -153,18 +172,11 @@ pub fn run<S: Start, R: Read, W: Write, E: Write>(
     output: &mut W,
     errors: &mut E,
 ) -> (u8, Left<FileFrom<S>>)
-    ensures { Ran (image_at S.Start) R.remaining W.contents (texts_of words.now) input.old input.new
+    ensures { Ran (image_at S.Start) R.remaining W.contents E.contents (texts_of words.now) input.old input.new
         output.old output.new errors.old errors.new result.0 result.1 }
 {
     match read_line(rt.alloc(), &*words) {
-        Ok(line) => {
-            let (done, left) = carry_out(rt, line, start, input, output);
-            match done {
-                Ok(true) => (0, left),
-                Ok(false) => (1, left),
-                Err(fault) => (fail(&fault, errors), left),
-            }
-        }
-        Err(error) => (tell(&error, output, errors), Left::Nothing),
+        Ok(line) => run_line(rt, line, start, input, output, errors),
+        Err(error) => (tell(rt.alloc(), &error, output, errors), Left::Nothing),
     }
 }

@@ -3,7 +3,7 @@ use Rattle.sqlite_trees.specs.View.{doubt}
 use Rattle.sqlite.specs.Held.{state}
 use Rattle.sqlite.specs.Steps.{over_memory}
 use Rattle.broker_http.specs.Serving.{IsInMode}
-use Rattle.broker_program.specs.Replays.{Replays, ReplaysUntil, new_broker}
+use Rattle.broker_program.specs.Replays.{Replays, ReplaysUpTo, new_broker}
 use Rattle.broker_program.proofs.replay.replay.Goals as goal
 
 pub returns-in-Ok-clause-ok : goal.returns-in-Ok-clause-ok
@@ -14,8 +14,15 @@ returns-in-Ok-clause-ok g c =
     (served.0, c.in-Ok.field-0, served.2, served.3)
 
 pub returns-clause-fails : goal.returns-clause-fails
-unfolding doubt ReplaysUntil
+unfolding doubt ReplaysUpTo
 returns-clause-fails g c =
     let holds = subst (λ t. IsInMode (state over_memory) (new_broker t) c.in_ok-broker.broker) c.in_ok-office.ensures.ok.0 c.in_ok-broker.ensures.holds in
     let served = c.in-Err.ensures.machine refl (new_broker c.args.office_token.now) holds in
-    inr (served.0, c.in-Err.fault, served.2, served.3)
+    inr (c.in-Err.fault, (served.0, served.2, served.3))
+
+pub returns-clause-cause : goal.returns-clause-cause
+unfolding doubt ReplaysUpTo
+returns-clause-cause g c =
+    let holds = subst (λ t. IsInMode (state over_memory) (new_broker t) c.in_ok-broker.broker) c.in_ok-office.ensures.ok.0 c.in_ok-broker.ensures.holds in
+    let served = c.in-Err.ensures.machine refl (new_broker c.args.office_token.now) holds in
+    inr (c.in_ok-office.ensures.ok.1, inr (served.0, served.2, served.3))
