@@ -1,25 +1,22 @@
 -- sound names stay sound
-use Rattle.std.proofs.Common.{◌≡◌, ◌⊎◌, ◌∷◌, [], ◌++◌, ℕ, List, refl, sym, ◌∙◌, ap, subst, inl, inr, Bool, true, false, ◌&&◌, IsTrue, if◌then◌else◌}
+use Rattle.std.proofs.Common.{◌≡◌, ◌⊎◌, ◌∷◌, [], ◌++◌, ℕ, List, refl, sym, ap, subst, inl, inr, Bool, true, false, ◌&&◌, IsTrue, if◌then◌else◌}
 use Rattle.std.specs.Prelude.{Option, Some, None, IfSome, Contains, is_some}
-use Rattle.std.specs.List.{AllByRecursion}
 use Rattle.std.specs.Option.{option_map_or}
 use Rattle.std.proofs.lemmas.List.Elements.{Contains-push_cases}
 use Rattle.broker_core.specs.declared.command.Command.{Command}
 use Rattle.broker_core.specs.declared.command.Command.TheVariants.{PutTeam, PutPacticipant, PutEnvironment, PutGrant, DeleteGrant, PutVersion, PutPact, GetPact, GetBranchPact, PostResult, PostReplies, Deploy, Undeploy, Release, EndSupport, GetEnvironment, CanIDeploy, GetMatrix, Malformed}
 use Rattle.broker_core.specs.declared.command.Marks.{Marks}
-use Rattle.broker_core.specs.declared.command.PactPath.{PactPath}
 use Rattle.broker_core.specs.declared.command.Version.{Version}
 use Rattle.broker_core.specs.declared.answer.Answer.{Answer}
-use Rattle.broker_core.specs.declared.answer.Answer.TheVariants.{Taken, Full, NotPermitted, Unknown}
-use Rattle.broker_core.specs.declared.answer.Clash.TheVariants as clash
+use Rattle.broker_core.specs.declared.answer.Answer.TheVariants.{Full, NotPermitted}
 use Rattle.broker_core.specs.declared.answer.Detail.{Detail}
-use Rattle.broker_core.specs.Name.{IsName, IsToken}
-use Rattle.broker_core.specs.Text.{Text, same_text, same_version, same_pair, same_place, put_at, version}
-use Rattle.broker_core.specs.State.{State, Verification, opening}
+use Rattle.broker_core.specs.Name.{IsName}
+use Rattle.broker_core.specs.Text.{Text, same_text, same_version, same_pair, same_place, put_at}
+use Rattle.broker_core.specs.State.{State, Verification}
 use Rattle.broker_core.specs.Request.{is_known, consumer_version}
 use Rattle.broker_core.specs.Change.{Transition, unchanged_with, done, repeated, put_team, put_pacticipant, put_environment, put_version, named, joined, put_pact, stored, is_stored, content_number, report, is_text, instance_of, can_name, on_branch}
-use Rattle.broker_core.specs.Machine.{Primitives, Step, TakesEffect, Request, Run, report_replies}
-use Rattle.broker_core.specs.SoundNames.{IsDigest, VersionHasNames, IsInstance, HasSoundNames, AreNamesOfPath, AreNames, GivesDigests, NamesBegin, NamesStay, NamesStayInRuns}
+use Rattle.broker_core.specs.Machine.{Primitives, TakesEffect, report_replies}
+use Rattle.broker_core.specs.SoundNames.{IsDigest, VersionHasNames, IsInstance, HasSoundNames, AreNames, GivesDigests, NamesBegin, NamesStay, NamesStayInRuns}
 use Rattle.broker_core.proofs.Lists.{some_is, contains_none}
 use Rattle.broker_core.proofs.Judgement.{and_both, text_is, contract_is, mark_is, place_is}
 use Rattle.broker_core.proofs.Retry.{acts-or-same}

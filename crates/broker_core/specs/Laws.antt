@@ -3,7 +3,7 @@ use Rattle.std.specs.Prelude.{◌≡◌, ◌⊎◌, ◌++◌, ℕ, Bool, List, [
 use Rattle.broker_core.specs.declared.policy.Caller.{Caller}
 use Rattle.broker_core.specs.declared.policy.Caller.TheVariants.{Team}
 use Rattle.broker_core.specs.declared.command.Command.{Command}
-use Rattle.broker_core.specs.declared.command.Command.TheVariants.{PutTeam, PutPacticipant, PutEnvironment, PutGrant, DeleteGrant, PutVersion, PutPact, GetPact, GetBranchPact, PostResult, PostReplies, Deploy, Undeploy, Release, EndSupport, GetEnvironment, CanIDeploy, GetMatrix, Malformed}
+use Rattle.broker_core.specs.declared.command.Command.TheVariants.{PutPact, PostResult, PostReplies, Deploy}
 use Rattle.broker_core.specs.declared.command.Version.{Version}
 use Rattle.broker_core.specs.declared.answer.Answer.{Answer}
 use Rattle.broker_core.specs.declared.answer.Answer.TheVariants.{Done, BadForm}
@@ -75,27 +75,11 @@ GateAnswersOnce parts =
     → TeamsDiffer s → Agree parts token s t v e
     → Step parts s token (Deploy e v instance) a → Step parts t token (Deploy e v instance) b → a.answer ≡ b.answer
 
--- results and replies without a run are counted each time
+-- a command may come twice, but for results and replies without a run, which are counted each time
 abbrev pub IsRepeatable : Command → Type 0
-IsRepeatable (PutTeam team token) = Unit {0}
-IsRepeatable (PutPacticipant p team) = Unit {0}
-IsRepeatable (PutEnvironment e marks) = Unit {0}
-IsRepeatable (PutGrant team e) = Unit {0}
-IsRepeatable (DeleteGrant team e) = Unit {0}
-IsRepeatable (PutVersion v branch) = Unit {0}
-IsRepeatable (PutPact path file) = Unit {0}
-IsRepeatable (GetPact path) = Unit {0}
-IsRepeatable (GetBranchPact provider consumer branch) = Unit {0}
 IsRepeatable (PostResult path report success) = IsSome report.run
 IsRepeatable (PostReplies path report replies) = IsSome report.run
-IsRepeatable (Deploy e v instance) = Unit {0}
-IsRepeatable (Undeploy e v instance) = Unit {0}
-IsRepeatable (Release e v) = Unit {0}
-IsRepeatable (EndSupport e v) = Unit {0}
-IsRepeatable (GetEnvironment e) = Unit {0}
-IsRepeatable (CanIDeploy v e) = Unit {0}
-IsRepeatable (GetMatrix v) = Unit {0}
-IsRepeatable (Malformed fault) = Unit {0}
+IsRepeatable _ = Unit {0}
 
 -- a step taken twice leaves a state of a step taken once
 abbrev pub Retry : Primitives → (State → Type 0) → Type 0
@@ -198,27 +182,11 @@ RunsOnce parts =
 -- the command's file is read in some way, and its replies can be compared with the text of the contract; nothing is
 -- asked of a command without a file
 abbrev pub CanBeRead : Primitives → State → Command → Type 0
-CanBeRead parts s (PutTeam team token) = Unit {0}
-CanBeRead parts s (PutPacticipant p team) = Unit {0}
-CanBeRead parts s (PutEnvironment e marks) = Unit {0}
-CanBeRead parts s (PutGrant team e) = Unit {0}
-CanBeRead parts s (DeleteGrant team e) = Unit {0}
-CanBeRead parts s (PutVersion v branch) = Unit {0}
 CanBeRead parts s (PutPact path file) = (reading : Reading) × parts.Reads file reading
-CanBeRead parts s (GetPact path) = Unit {0}
-CanBeRead parts s (GetBranchPact provider consumer branch) = Unit {0}
-CanBeRead parts s (PostResult path report success) = Unit {0}
 CanBeRead parts s (PostReplies path report replies) = ((found : Option FormFault) × parts.ReadsReplies replies found)
     × ((text : Text) → pact_text s (consumer_version path) path.provider ≡ Some text → parts.ReadsReplies replies None
     → (failing : Option (List ℕ)) × parts.Fails text replies failing)
-CanBeRead parts s (Deploy e v instance) = Unit {0}
-CanBeRead parts s (Undeploy e v instance) = Unit {0}
-CanBeRead parts s (Release e v) = Unit {0}
-CanBeRead parts s (EndSupport e v) = Unit {0}
-CanBeRead parts s (GetEnvironment e) = Unit {0}
-CanBeRead parts s (CanIDeploy v e) = Unit {0}
-CanBeRead parts s (GetMatrix v) = Unit {0}
-CanBeRead parts s (Malformed fault) = Unit {0}
+CanBeRead parts s _ = Unit {0}
 
 -- every command has a step, in each state whose tables are listed and whose contents are sound
 abbrev pub StepExists : Primitives → Type 0
@@ -234,28 +202,12 @@ ReadsRefusal is_refusal (IsRefused fault) = IsTrue (is_refusal fault)
 -- the command's file is read in one way, a pattern's refusal aside, and its replies in one way; nothing is asked
 -- of a command without a file
 abbrev pub IsReadOnce : Primitives → (FormFault → Bool) → Command → Type 0
-IsReadOnce parts is_refusal (PutTeam team token) = Unit {0}
-IsReadOnce parts is_refusal (PutPacticipant p team) = Unit {0}
-IsReadOnce parts is_refusal (PutEnvironment e marks) = Unit {0}
-IsReadOnce parts is_refusal (PutGrant team e) = Unit {0}
-IsReadOnce parts is_refusal (DeleteGrant team e) = Unit {0}
-IsReadOnce parts is_refusal (PutVersion v branch) = Unit {0}
 IsReadOnce parts is_refusal (PutPact path file) = (a b : Reading) → parts.Reads file a → parts.Reads file b
     → (a ≡ b) ⊎ (ReadsRefusal is_refusal a ⊎ ReadsRefusal is_refusal b)
-IsReadOnce parts is_refusal (GetPact path) = Unit {0}
-IsReadOnce parts is_refusal (GetBranchPact provider consumer branch) = Unit {0}
-IsReadOnce parts is_refusal (PostResult path report success) = Unit {0}
 IsReadOnce parts is_refusal (PostReplies path report replies) =
     ((a b : Option FormFault) → parts.ReadsReplies replies a → parts.ReadsReplies replies b → a ≡ b)
     × ((text : Text) (a b : Option (List ℕ)) → parts.Fails text replies a → parts.Fails text replies b → a ≡ b)
-IsReadOnce parts is_refusal (Deploy e v instance) = Unit {0}
-IsReadOnce parts is_refusal (Undeploy e v instance) = Unit {0}
-IsReadOnce parts is_refusal (Release e v) = Unit {0}
-IsReadOnce parts is_refusal (EndSupport e v) = Unit {0}
-IsReadOnce parts is_refusal (GetEnvironment e) = Unit {0}
-IsReadOnce parts is_refusal (CanIDeploy v e) = Unit {0}
-IsReadOnce parts is_refusal (GetMatrix v) = Unit {0}
-IsReadOnce parts is_refusal (Malformed fault) = Unit {0}
+IsReadOnce parts is_refusal _ = Unit {0}
 
 -- the answer is that a pattern was refused
 abbrev pub AnswersRefusal : (FormFault → Bool) → Answer → Type 0

@@ -75,28 +75,14 @@ fault_of_reading consumer provider (IsPact c p text) =
 abbrev pub fault_of_marks : Marks → Option FormFault
 fault_of_marks marks = if marks.strict && not marks.gated then Some (fault.Field (codes "strict")) else None
 
--- the fault of a command's form, if there is one
+-- the fault of a command's form, if there is one; of the other commands no form is wrong
 abbrev pub FindsFault : Primitives → Command → Option FormFault → Type 0
-FindsFault parts (PutTeam team token) found = found ≡ None
-FindsFault parts (PutPacticipant p team) found = found ≡ None
 FindsFault parts (PutEnvironment e marks) found = found ≡ fault_of_marks marks
-FindsFault parts (PutGrant team e) found = found ≡ None
-FindsFault parts (DeleteGrant team e) found = found ≡ None
-FindsFault parts (PutVersion v branch) found = found ≡ None
 FindsFault parts (PutPact path file) found =
     (reading : Reading) × parts.Reads file reading × (found ≡ fault_of_reading path.consumer path.provider reading)
-FindsFault parts (GetPact path) found = found ≡ None
-FindsFault parts (GetBranchPact provider consumer branch) found = found ≡ None
-FindsFault parts (PostResult path report success) found = found ≡ None
 FindsFault parts (PostReplies path report replies) found = parts.ReadsReplies replies found
-FindsFault parts (Deploy e v instance) found = found ≡ None
-FindsFault parts (Undeploy e v instance) found = found ≡ None
-FindsFault parts (Release e v) found = found ≡ None
-FindsFault parts (EndSupport e v) found = found ≡ None
-FindsFault parts (GetEnvironment e) found = found ≡ None
-FindsFault parts (CanIDeploy v e) found = found ≡ None
-FindsFault parts (GetMatrix v) found = found ≡ None
 FindsFault parts (Malformed fault) found = found ≡ Some fault
+FindsFault parts _ found = found ≡ None
 
 abbrev pub is_empty : List ℕ → Bool
 is_empty [] = true

@@ -16,7 +16,7 @@ pub trait Machine {
 /// that are there has a successful latest verification, no required provider is absent and the caller's team is
 /// granted; otherwise the answer names every failing or missing pair, or the denying rule, and nothing changes. A
 /// release is judged in the same way.
-pub fn headline<M: Machine>()
+pub fn headline_of_step<M: Machine>()
     ensures deployments { DeploysExactly M.primitives }
     ensures releases { ReleasesExactly M.primitives }
     ensures gate { PermitsVerified }

@@ -3,7 +3,7 @@ ghost use Rattle.std.specs.Prelude.{◌≡◌, ◌↔◌, IfOk, IsErrOf, IsTrue,
 ghost use Rattle.std.specs.Ordering.{nat_cmp};
 ghost use Rattle.std.specs.Cmp.Lexicographic.{pointwise, slice_cmp, nat_list_eq_equiv, nat_list_cmp_total, texts_ties, texts_po};
 ghost use Rattle.std.specs.Cmp.{partial_equiv_from_equiv};
-ghost use Rattle.broker_core.specs.Name.{IsName, IsToken, is_token_byte};
+ghost use Rattle.broker_core.specs.Name.{IsName, IsToken, are_name_bytes as are_name_bytes_of, is_name, is_token_byte};
 
 use std::alloc::{AllocError, Global};
 use std::cmp::Ordering;
@@ -50,18 +50,25 @@ pub enum NameFault {
     Memory,
 }
 
-impl Name {
-    /// Whether the text is a name. No memory is taken.
-    pub fn is_valid(text: &str) -> bool
-        ensures { IsTrue result ↔ IsName text.now }
-    {
-        if text.is_empty() || text.len() > LONGEST_NAME {
+/// Whether none of the bytes is a control character of ASCII.
+fn are_name_bytes(text: &[u8]) -> bool
+    ensures { result ≡ are_name_bytes_of text.now }
+{
+    for byte in text {
+        if *byte < 32 || *byte == 127 {
             return false;
         }
-        !text
-            .as_bytes()
-            .iter()
-            .any(|byte| *byte < 32 || *byte == 127)
+    }
+    true
+}
+
+impl Name {
+    /// Whether the text is a name. No memory is taken.
+    #[tactic(auto, unfolding(crate::specs::Name::is_name))]
+    pub fn is_valid(text: &str) -> bool
+        ensures { result ≡ is_name text.now }
+    {
+        1 <= text.len() && text.len() <= LONGEST_NAME && are_name_bytes(text.as_bytes())
     }
 
     /// A copy of the text as a name.

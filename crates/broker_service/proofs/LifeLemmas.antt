@@ -242,11 +242,11 @@ not_opened (OfFormer s) = refl
 not_opened Blank = refl
 
 -- trees without an entry have no tables
-blank_trees : (trees : Trees) → IsEmpty trees → IsOnDisk IsBlank trees
+pub blank_trees : (trees : Trees) → IsEmpty trees → IsOnDisk IsBlank trees
 blank_trees trees none = let sound = empty_is_sound trees none.1 in record { schema = no_schema; sound = sound; has = record { schema = refl; sound = sound } }
 
 -- an empty file has no entry
-found_empty : (image : Image) (trees : Trees) → image.db ≡ [] → AreFoundIn image trees → IsEmpty trees
+pub found_empty : (image : Image) (trees : Trees) → image.db ≡ [] → AreFoundIn image trees → IsEmpty trees
 found_empty image trees none (inl found) = absurd (let some : 0 < length image.db = found.3.found.present in let never : 0 < 0 = subst (λ (bytes : List ℕ). 0 < length bytes) none some in omega (arith, never))
 found_empty image trees none (inr found) = found.1
 

@@ -21,13 +21,13 @@ impl Machine for BrokerMachine {
     ghost primitives = { broker_primitives };
 }
 
-/// See [`laws::headline`].
-pub fn headline()
+/// See [`laws::headline_of_step`].
+pub fn headline_of_broker()
     ensures deployments { DeploysExactly broker_primitives }
     ensures releases { ReleasesExactly broker_primitives }
     ensures gate { PermitsVerified }
 {
-    laws::headline::<BrokerMachine>()
+    laws::headline_of_step::<BrokerMachine>()
 }
 
 /// The sentence for which this broker exists, over a list of requests. In each run of the machine from
@@ -37,7 +37,7 @@ pub fn headline()
 /// every failing or missing pair, or the denying rule, and nothing changes. So is each release. `serve`
 /// promises such a run of the requests of a stream. No two teams have tokens with one digest in a state
 /// that a database holds, and so in none of these (`callers`).
-pub fn headline_of_run()
+pub fn headline_of_stored_run()
     ensures deployments { StoredRunsDeployExactly }
     ensures releases { StoredRunsReleaseExactly }
     ensures callers { StoredTeamsDiffer }

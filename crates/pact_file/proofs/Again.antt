@@ -10,7 +10,8 @@ use Rattle.serde_json.specs.Events.{items_len}
 use Rattle.serde_json.specs.Find.{get, as_array}
 use Rattle.serde_json.specs.View.{items_of}
 use Rattle.serde_json.proofs.OnLiterals.{serde_json_on_literals}
-use Rattle.pact_file.specs.File.{most_bytes, most_interactions, file_of, is_version_3, has_no_messages, is_name, side_of, sides_of, items_of as items_at}
+use Rattle.broker_core.specs.Name.{is_name}
+use Rattle.pact_file.specs.File.{most_bytes, most_interactions, file_of, is_version_3, has_no_messages, side_of, sides_of, items_of as items_at}
 use Rattle.pact_file.specs.Laws.{NormalAgain, OnePact}
 use Rattle.pact_file.specs.Normal.{InteractionRead, InOrder, InteractionsRead, if_short, Normal, IsRefusal}
 use Rattle.pact_rules.specs.Outcome.{guard}

@@ -1,11 +1,12 @@
 -- What comes before the interactions of a pact file: its form, its version, and the two sides.
-use Rattle.std.specs.Prelude.{ℕ, ◌&&◌, ◌||◌, ◌==◌, List, [], ◌∷◌, length, Bool, true, false, not, nat_eq, nat_le, Option, Some, None, option_map, option_and_then, unwrap_or, Result, Ok, codes}
+use Rattle.std.specs.Prelude.{ℕ, ◌||◌, ◌==◌, List, length, Bool, true, false, not, nat_eq, nat_le, Option, Some, None, option_map, option_and_then, unwrap_or, Result, Ok, codes}
 use Rattle.std.specs.List.{starts_with}
 use Rattle.std.specs.Option.{ok_or, option_or}
 use Rattle.std.specs.Str.{bytes_eq}
 use Rattle.serde_json.specs.Data.{Data, Num, null, boolean, number, string, array, object, unsigned, negative, float}
 use Rattle.serde_json.specs.Events.{items_len}
 use Rattle.serde_json.specs.Find.{get}
+use Rattle.broker_core.specs.Name.{is_name}
 use Rattle.pact_rules.specs.Outcome.{◌>>=◌, guard}
 use Rattle.pact_file.specs.Objects.{object_of, with_fault}
 use Rattle.pact_file.specs.Parts.{text_at, object_at, list_at, listed}
@@ -77,14 +78,7 @@ holds_nothing (object ms) = false
 unfoldable pub has_no_messages : Data → Bool
 has_no_messages file = unwrap_or (option_map holds_nothing (get (codes "messages") file)) true
 
-abbrev pub are_printable : List ℕ → Bool
-are_printable [] = true
-are_printable (b ∷ bs) = (nat_le 32 b && not (b == 127)) && are_printable bs
-
--- a name has 1 to 100 bytes and no control characters of ASCII
-unfoldable pub is_name : List ℕ → Bool
-is_name s = nat_le 1 (length s) && nat_le (length s) 100 && are_printable s
-
+-- the name of one side
 unfoldable pub side_of : List ℕ → Place → Place → Data → Result (List ℕ) PactFault
 side_of key side its_name file = do
   found ← ok_or (object_at key file) (Shape side)

@@ -7,7 +7,7 @@ ghost use Rattle.serde_json.specs.View.{view, items_view};
 ghost use Rattle.pact_file.specs.declared.fault.PactFault.TheVariants.{Memory, Shape, TooLong};
 ghost use Rattle.pact_file.specs.File.{most_bytes, most_interactions, as_file_fault, file_of, is_3};
 ghost use Rattle.pact_file.specs.File.{version_under, is_version_3};
-ghost use Rattle.pact_file.specs.File.{holds_nothing, has_no_messages, are_printable, is_name as is_name_of, side_of};
+ghost use Rattle.pact_file.specs.File.{holds_nothing, has_no_messages, side_of};
 ghost use Rattle.pact_file.specs.File.{sides_of, items_of};
 ghost use Rattle.pact_file.specs.Parts.{list_at};
 ghost use Rattle.pact_file.specs.Normal.{InteractionRead, InteractionsRead, Normal};
@@ -22,6 +22,7 @@ use crate::order::in_key_order;
 use crate::pact::{Interaction, Pact};
 use crate::parts::list_member;
 use crate::texts::is_short;
+use broker_core::name::Name;
 use pact_rules::Patterns;
 use serde_json::Value;
 use std::alloc::Global;
@@ -103,24 +104,6 @@ fn lacks_messages(file: &Value) -> bool
     }
 }
 
-fn all_printable(text: &[u8]) -> bool
-    ensures { result ≡ are_printable text.now }
-{
-    for byte in text {
-        if *byte < 32 || *byte == 127 {
-            return false;
-        }
-    }
-    true
-}
-
-#[tactic(auto, unfolding(crate::specs::File::is_name))]
-fn is_name(text: &str) -> bool
-    ensures { result ≡ is_name_of text.now }
-{
-    1 <= text.len() && text.len() <= 100 && all_printable(text.as_bytes())
-}
-
 #[tactic(auto, unfolding(crate::specs::File::side_of))]
 fn read_side<'a>(
     file: &'a Value,
@@ -132,7 +115,7 @@ fn read_side<'a>(
 {
     let found = object_in(file, key, side)?;
     let name = text_in(found, "name", its_name)?;
-    if !is_name(name) {
+    if !Name::is_valid(name) {
         return Err(PactFault::Shape(its_name));
     }
     Ok(name)

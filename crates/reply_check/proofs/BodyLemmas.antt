@@ -1,11 +1,10 @@
 -- Bodies that meet the expected one.
-use Rattle.std.proofs.Common.{◌≡◌, ◌⊎◌, ◌↔◌, inl, inr, ℕ, Bool, true, false, List, [], Option, Some, None, IsTrue, refl, sym, ap, ◌∙◌, subst, true≢false}
+use Rattle.std.proofs.Common.{◌≡◌, ◌↔◌, ℕ, Bool, true, false, List, [], Option, Some, None, IsTrue, refl, sym, ap, ◌∙◌, true≢false}
 use Rattle.std.proofs.lemmas.Slice.Eq.{bytes_eq-Decides}
-use Rattle.std.proofs.lemmas.Option.{same_Some}
 use Rattle.pact_rules.specs.Trees.{Node, null, truth, whole, text, list, object}
 use Rattle.pact_rules.specs.Rules.{Rules}
 use Rattle.reply_check.specs.Fitting.{Fits, are_alike}
-use Rattle.reply_check.specs.Bodies.{is_empty, MeetsExpected, MeetsBody}
+use Rattle.reply_check.specs.Bodies.{is_empty, MeetsBody}
 
 never : {A : Type 0} → false ≡ true → A
 never h = absurd (true≢false (sym h))
@@ -42,34 +41,24 @@ empty_alike (text s) e = (bytes_eq-Decides s s).1 refl
 empty_alike (list ts) e = never e
 empty_alike (object fs) e = never e
 
-none_by : (b : Bool) (rules : Rules) (x : Node) → IsTrue b ↔ MeetsExpected b rules x None
-none_by true rules x = (λ h. inl refl, λ s. refl)
-none_by false rules x = (λ h. never h, λ s. absurd s)
-
 -- nothing is expected
 pub meets_any : (rules : Rules) (actual : Option Node) → IsTrue true ↔ MeetsBody rules None actual
 meets_any rules actual = (λ h. tt, λ s. refl)
 
 -- no body
 pub meets_none : (b : Bool) (rules : Rules) (x : Node) → b ≡ is_empty x → IsTrue b ↔ MeetsBody rules (Some x) None
-meets_none b rules x is = subst (λ c. IsTrue b ↔ MeetsExpected c rules x None) is (none_by b rules x)
-
-same_of : (x y : Node) → (Some y ≡ None) ⊎ (Some y ≡ Some x) → y ≡ x
-same_of x y (inl h) = absurd (cc-none h)
-  where
-    cc-none : Some y ≡ None → ⊥
-    cc-none h = absurd cc
-same_of x y (inr h) = same_Some y x h
+meets_none b rules x is = (λ h. sym is ∙ h, λ s. is ∙ s)
 
 -- an empty one
 pub meets_empty : (b e : Bool) (rules : Rules) (x y : Node) → e ≡ is_empty x → e ≡ true → b ≡ are_alike x y → IsTrue b ↔ MeetsBody rules (Some x) (Some y)
 meets_empty b e rules x y is so same =
-    let empty : is_empty x ≡ true = sym is ∙ so in
-    subst (λ c. IsTrue b ↔ MeetsExpected c rules x (Some y)) (sym empty) (
-      λ h. inr (ap (λ n. Some n) (alike_empty x y empty (sym same ∙ h))),
-      λ s. same ∙ ap (are_alike x) (same_of x y s) ∙ empty_alike x empty,
+    let empty : is_empty x ≡ true = sym is ∙ so in (
+      λ h. (λ _. alike_empty x y empty (sym same ∙ h), λ full. never (sym full ∙ empty)),
+      λ s. same ∙ ap (are_alike x) (s.0 empty) ∙ empty_alike x empty,
     )
 
 -- any other
 pub meets_full : (b e : Bool) (rules : Rules) (x y : Node) → e ≡ is_empty x → e ≡ false → IsTrue b ↔ Fits rules [] x y → IsTrue b ↔ MeetsBody rules (Some x) (Some y)
-meets_full b e rules x y is so h = subst (λ c. IsTrue b ↔ MeetsExpected c rules x (Some y)) (sym (sym is ∙ so)) h
+meets_full b e rules x y is so h =
+    let full : is_empty x ≡ false = sym is ∙ so in
+    (λ fits. (λ empty. never (sym full ∙ empty), λ _. h.0 fits), λ s. h.1 (s.1 full))

@@ -1,7 +1,7 @@
 -- When a reply's header has the value that is expected where no rule speaks of it (this project's own choice): spaces
 -- and tabs at both ends and behind commas don't count; and where a media type is expected without parameters, those
 -- of the reply and the case of letters don't count either.
-use Rattle.std.specs.Prelude.{◌≡◌, ◌==◌, ◌||◌, ◌&&◌, ℕ, Bool, true, false, not, List, [], ◌∷◌, map, if◌then◌else◌, bytes_eq, codes}
+use Rattle.std.specs.Prelude.{◌≡◌, ◌==◌, ◌||◌, ◌&&◌, ℕ, Bool, not, List, [], ◌∷◌, map, if◌then◌else◌, bytes_eq, codes}
 use Rattle.std.specs.List.{list_any}
 use mathlib.Core.List.{reverse}
 use Rattle.std.specs.Str.{str_to_ascii_lowercase}
@@ -42,11 +42,11 @@ before_semicolon (b ∷ bs) = if b == 59 then [] else b ∷ before_semicolon bs
 abbrev pub is_plain_type : List ℕ → List ℕ → Bool
 is_plain_type name expected = bytes_eq name (codes "content-type") && not (list_any (λ b. b == 59) expected)
 
-abbrev pub HasValueBy : Bool → List ℕ → List ℕ → Type 0
-HasValueBy true expected sent =
-    counting_parts (str_to_ascii_lowercase expected) ≡ counting_parts (before_semicolon (str_to_ascii_lowercase sent))
-HasValueBy false expected sent = counting_parts expected ≡ counting_parts sent
+-- what counts of a value under the name, which is in lower case, where this one is expected
+abbrev pub counted : List ℕ → List ℕ → List ℕ → List (List ℕ)
+counted name expected value =
+    counting_parts (if is_plain_type name expected then before_semicolon (str_to_ascii_lowercase value) else value)
 
--- what was sent under the name, which is in lower case, is the expected value
+-- what was sent is the expected value: what counts is the same
 abbrev pub HasValue : List ℕ → List ℕ → List ℕ → Type 0
-HasValue name expected sent = HasValueBy (is_plain_type name expected) expected sent
+HasValue name expected sent = counted name expected expected ≡ counted name expected sent

@@ -27,7 +27,7 @@ pub(crate) fn has_value(
     let sent = in_lower_case(alloc, sent)?;
     are_same(
         alloc,
-        expected.as_bytes(),
+        before_semicolon(expected.as_bytes()),
         before_semicolon(sent.as_bytes()),
     )
 }

@@ -1,6 +1,5 @@
 use Rattle.std.proofs.Common.{◌≡◌, ℕ, List, option_map, string_bytes, refl, ap, ◌∙◌, sym, subst, arith}
 use Rattle.serde_json.specs.Data.{Data}
-use Rattle.serde_json.specs.View.{view}
 use Rattle.serde_json.specs.Written.{compact_text}
 use Rattle.pact_rules.specs.TreeView.{tree_view}
 use Rattle.pact_file.specs.Pact.{states_data}
@@ -9,7 +8,7 @@ use Rattle.pact_file.proofs.ReadBack.{read-compact_text}
 use Rattle.pact_file.proofs.SoundData.{kept, whole, shallow}
 use Rattle.reply_check.specs.Filled.{IsFilled, said}
 use Rattle.reply_check.specs.PartsView.{parts_view}
-use Rattle.reply_check.specs.Recorded.{Reply, reply_with}
+use Rattle.reply_check.specs.Recorded.{reply_with}
 use Rattle.reply_check.proofs.parts.reply_of.Goals as goal
 
 -- a text that was written of a sound value says it

@@ -1,0 +1,7 @@
+use Rattle.std.proofs.Common.{◌≡◌, drop}
+use Rattle.broker_core.specs.Name.{are_name_bytes}
+use Rattle.broker_core.proofs.name.are_name_bytes.Given as goal
+
+-- what is left answers for all
+abbrev pub invariant-loop-byte : goal.invariant-loop-byte
+invariant-loop-byte l = are_name_bytes l.text ≡ are_name_bytes (drop l.byte-index l.text)
