@@ -1,4 +1,5 @@
 mod QueryLemmas
 mod TargetLemmas
+mod TokenLemmas
 pub mod OneRequest
 pub mod RequestExamples

@@ -14,7 +14,7 @@ use Rattle.httparse.specs.Grammar.{RequestHead, IsRequestHead, Field, IsField, I
 use Rattle.percent_encoding.proofs.OnLiterals.{percent_encoding_on_literals}
 use Rattle.serde_json.proofs.OnLiterals.{serde_json_on_literals}
 use Rattle.serde_json.specs.Data.{Data, string, object, member, no_members}
-use Rattle.broker_core.specs.Name.{IsName, IsNameByte, IsToken as IsCallersToken, is_token_byte as is_callers_byte}
+use Rattle.broker_core.specs.Name.{IsName, is_name, IsToken as IsCallersToken, is_token_byte as is_callers_byte}
 use Rattle.broker_core.specs.Text.{Text, version}
 use Rattle.broker_core.specs.declared.command.Command.TheVariants.{Deploy}
 use Rattle.http_messages.specs.Fields.{same_name, values_named}
@@ -105,17 +105,17 @@ the_stream_begins_with_the_message = record { whole = refl; head = refl; body = 
 
 -- ---- what it asks
 
-plain : (b : ℕ) → 32 ≤ b → b < 127 → IsNameByte b
-plain b low high = let other : b ≢ 127 = omega arith in (low, other)
-
 prod_name : IsName (codes "prod")
-prod_name = record { some = omega arith; short = omega arith; plain = (All-cons IsNameByte 112 (114 ∷ 111 ∷ 100 ∷ []) (plain 112 (omega arith) (omega arith)) (All-cons IsNameByte 114 (111 ∷ 100 ∷ []) (plain 114 (omega arith) (omega arith)) (All-cons IsNameByte 111 (100 ∷ []) (plain 111 (omega arith) (omega arith)) (All-cons IsNameByte 100 ([]) (plain 100 (omega arith) (omega arith)) (All-nil IsNameByte))))) }
+unfolding is_name
+prod_name = refl
 
 shop_name : IsName (codes "shop")
-shop_name = record { some = omega arith; short = omega arith; plain = (All-cons IsNameByte 115 (104 ∷ 111 ∷ 112 ∷ []) (plain 115 (omega arith) (omega arith)) (All-cons IsNameByte 104 (111 ∷ 112 ∷ []) (plain 104 (omega arith) (omega arith)) (All-cons IsNameByte 111 (112 ∷ []) (plain 111 (omega arith) (omega arith)) (All-cons IsNameByte 112 ([]) (plain 112 (omega arith) (omega arith)) (All-nil IsNameByte))))) }
+unfolding is_name
+shop_name = refl
 
 one_name : IsName (codes "1")
-one_name = record { some = omega arith; short = omega arith; plain = (All-cons IsNameByte 49 ([]) (plain 49 (omega arith) (omega arith)) (All-nil IsNameByte)) }
+unfolding is_name
+one_name = refl
 
 named : (text : Text) → list_all (λ b. ltb b 128) text ≡ true → IsName text → IsNamed text (Some text)
 named text low name = (refl, in_ascii text low, name)

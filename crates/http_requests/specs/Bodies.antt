@@ -3,7 +3,7 @@ use Rattle.std.specs.Prelude.{◌≡◌, ℕ, ◌==◌, Bool, false, List, lengt
 use Rattle.serde_json.specs.Data.{Data, null, boolean, number, string, array, object}
 use Rattle.serde_json.specs.Find.{get, as_str, as_bool, as_object}
 use Rattle.serde_json.specs.Read.{read as read_text}
-use Rattle.broker_core.specs.Name.{IsToken}
+use Rattle.broker_core.specs.Name.{IsName, IsToken}
 use Rattle.broker_core.specs.Text.{Text}
 use Rattle.broker_core.specs.declared.command.FormFault.{FormFault}
 use Rattle.broker_core.specs.declared.command.FormFault.TheVariants as fault
@@ -41,6 +41,10 @@ non_null (Some (object members)) = Some (object members)
 abbrev pub IsTextNamed : Option Text → Option Text → Type 0
 IsTextNamed None name = name ≡ None
 IsTextNamed (Some text) name = IsNamed text name
+
+-- there is a text, and it is a name
+abbrev pub HasName : Option Text → Type 0
+HasName text = (name : Text) × (text ≡ Some name) × IsName name
 
 -- a name that must be there
 abbrev pub IsNameField : Text → Option Data → Result Text FormFault → Type 0

@@ -22,3 +22,7 @@ abbrev pub IsPathName : ℕ → Text → Result Text FormFault → Type 0
 IsPathName index path r =
     (name : Option Text) × IsNamed (percent_decode (segment index path)) name
     × (r ≡ name_or fault.Name name)
+
+-- the segment stands for a name
+abbrev pub HasPathName : ℕ → Text → Type 0
+HasPathName index path = IsName (percent_decode (segment index path))

@@ -3,6 +3,7 @@ use Rattle.std.specs.Prelude.{◌≡◌, ℕ, ◌≤◌, List, [], ◌∷◌, le
 use Rattle.std.specs.String.{string_bytes}
 use Rattle.std.specs.Str.Lossy.{utf8_lossy}
 use Rattle.form_urlencoded.specs.Form.{raw_pairs, decode}
+use Rattle.broker_core.specs.Name.{IsName}
 use Rattle.broker_core.specs.Text.{Text}
 use Rattle.broker_core.specs.declared.command.FormFault.{FormFault}
 use Rattle.broker_core.specs.declared.command.FormFault.TheVariants as fault
@@ -29,6 +30,10 @@ abbrev pub IsOnce : List (List ℕ) → Option Text → Type 0
 IsOnce [] name = name ≡ None
 IsOnce (value ∷ []) name = IsNamed value name
 IsOnce (value ∷ other ∷ values) name = name ≡ None
+
+-- there is one value, and it is a name
+abbrev pub IsOneName : List (List ℕ) → Type 0
+IsOneName values = (value : List ℕ) × (values ≡ value ∷ []) × IsName value
 
 -- the name under a key, which must be there exactly once
 abbrev pub IsQueryName : Text → Text → Result Text FormFault → Type 0

@@ -30,3 +30,7 @@ only_credentials (value ∷ other ∷ values) = None
 abbrev pub IsTokenOf : List (List ℕ) → Option (List ℕ) → Type 0
 IsTokenOf values (Some token) = (only_credentials values ≡ Some token) × IsToken token
 IsTokenOf values None = (text : List ℕ) → only_credentials values ≡ Some text → ¬ (IsToken text)
+
+-- there is a token in the values
+abbrev pub HasTokenIn : List (List ℕ) → Type 0
+HasTokenIn values = (token : List ℕ) × IsTokenOf values (Some token)

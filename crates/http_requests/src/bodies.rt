@@ -1,16 +1,18 @@
 //! The fields of a body.
-ghost use Rattle.std.specs.Prelude.{◌≡◌, IfOk, codes, string_bytes, Option, Some, None, option_and_then};
+ghost use Rattle.std.specs.Prelude.{◌≡◌, ◌≢◌, ◌↔◌, ◌<◌, length, IsUtf8, IsOk, IfOk, IfErr, codes, string_bytes, Option, Some, None, Ok, Err, option_and_then};
 ghost use Rattle.std.specs.Option.{option_map};
 ghost use Rattle.serde_json.specs.Data.{Data};
 ghost use Rattle.serde_json.specs.Find.{get, as_str, as_bool};
+ghost use Rattle.serde_json.specs.Errors.{IsMemory};
 ghost use Rattle.serde_json.specs.View.{view};
+ghost use Rattle.broker_core.specs.Name.{IsToken};
 ghost use Rattle.http_requests.specs.Views.{object_in};
-ghost use Rattle.http_requests.specs.Bodies.{IsData, IsObject, IsTextNamed, IsNameField, IsGivenName, IsOptionalName, IsTokenText, IsTokenField, non_null, given_truth, optional_truth, or_empty, truth_field, truth_or};
+ghost use Rattle.http_requests.specs.Bodies.{IsData, IsObject, IsTextNamed, HasName, IsNameField, IsGivenName, IsOptionalName, IsTokenText, IsTokenField, non_null, given_truth, optional_truth, or_empty, truth_field, truth_or};
 
 use crate::names::{Parsed, name_of};
 use broker_core::command::FormFault;
 use broker_core::name::{Name, Text, Token, TokenFault};
-use serde_json::Value;
+use serde_json::{Error, Value};
 use std::alloc::{AllocError, Global};
 
 /// The fields of a body: none if the body is no object of JSON.
@@ -19,14 +21,31 @@ pub(crate) struct Fields {
     object: Option<Value>,
 }
 
-/// The value that a body is, if it is one.
-fn read_value(alloc: Global, body: &[u8]) -> Result<Option<Value>, AllocError>
-    ensures { IfOk result (λ value. IsData body.now (option_map view value)) }
+/// Whether it was a fault of the text that ended its reading. An `Err` means that it was want of memory, and nothing else.
+fn of_text(error: &Error) -> Result<(), AllocError>
+    ensures { IsOk result ↔ (¬ (IsMemory error.now)) }
 {
-    match Value::from_slice(alloc, body) {
+    if error.is_memory() {
+        Err(AllocError)
+    } else {
+        Ok(())
+    }
+}
+
+/// The value that a body is, if it is one. That a body is empty or not UTF-8 is found before memory is taken.
+fn read_value(alloc: Global, body: &[u8]) -> Result<Option<Value>, AllocError>
+    ensures value { IfOk result (λ value. IsData body.now (option_map view value)) }
+    ensures memory { IfErr result (λ _. IsUtf8 body.now × (0 < length body.now)) }
+{
+    let Ok(text) = str::from_utf8(body) else {
+        return Ok(None);
+    };
+    match Value::from_str(alloc, text) {
         Ok(value) => Ok(Some(value)),
-        Err(error) if error.is_memory() => Err(AllocError),
-        Err(_) => Ok(None),
+        Err(error) => {
+            of_text(&error)?;
+            Ok(None)
+        }
     }
 }
 
@@ -44,9 +63,10 @@ fn field_fault(alloc: Global, key: &str) -> Result<FormFault, AllocError>
     Ok(FormFault::Field(Text::new(String::from_str(alloc, key)?)))
 }
 
-/// The name that a text is, if there is one.
+/// The name that a text is, if there is one. Memory is taken only for a name.
 fn text_named(alloc: Global, text: Option<&str>) -> Result<Option<Name>, AllocError>
-    ensures { IfOk result (IsTextNamed (option_map (λ t. t.now) text.entry)) }
+    ensures named { IfOk result (IsTextNamed (option_map (λ t. t.now) text.entry)) }
+    ensures memory { IfErr result (λ _. HasName (option_map (λ t. t.now) text.entry)) }
 {
     match text {
         Some(text) => name_of(alloc, text),
@@ -54,9 +74,10 @@ fn text_named(alloc: Global, text: Option<&str>) -> Result<Option<Name>, AllocEr
     }
 }
 
-/// The truth value that is found, or the fault of the field.
+/// The truth value that is found, or the fault of the field, which alone takes memory.
 fn truth_or(alloc: Global, key: &str, truth: Option<bool>) -> Parsed<bool>
-    ensures { IfOk result (λ r. r ≡ truth_or (FormFault.Field key.now) truth) }
+    ensures truth { IfOk result (λ r. r ≡ truth_or (FormFault.Field key.now) truth) }
+    ensures memory { IfErr result (λ _. truth ≡ None) }
 {
     match truth {
         Some(truth) => Ok(Ok(truth)),
@@ -74,9 +95,10 @@ fn non_null(value: Option<&Value>) -> Option<&Value>
     }
 }
 
-/// The token that a text is.
+/// The token that a text is. A text that is none takes no memory.
 fn body_token(alloc: Global, text: Option<&str>) -> Parsed<Token>
-    ensures { IfOk result (IsTokenText (option_map (λ t. t.now) text.entry)) }
+    ensures token { IfOk result (IsTokenText (option_map (λ t. t.now) text.entry)) }
+    ensures memory { IfErr result (λ _. ¬ (IsTokenText (option_map (λ t. t.now) text.entry) (Err FormFault.Token))) }
 {
     let Some(text) = text else {
         return Ok(Err(field_fault(alloc, "token")?));
@@ -88,9 +110,10 @@ fn body_token(alloc: Global, text: Option<&str>) -> Parsed<Token>
     }
 }
 
-/// The name in a value that is given.
+/// The name in a value that is given. Without one no memory is taken.
 fn given_name(alloc: Global, value: Option<&Value>, key: &str) -> Parsed<Option<Name>>
-    ensures { IfOk result (IsGivenName key.now (option_map (λ v. view v.now) value.entry)) }
+    ensures named { IfOk result (IsGivenName key.now (option_map (λ v. view v.now) value.entry)) }
+    ensures memory { IfErr result (λ _. ¬ (IsGivenName key.now (option_map (λ v. view v.now) value.entry) (Ok None))) }
 {
     let Some(value) = value else {
         return Ok(Ok(None));
@@ -101,9 +124,11 @@ fn given_name(alloc: Global, value: Option<&Value>, key: &str) -> Parsed<Option<
     }
 }
 
-/// The truth value in a value that is given.
+/// The truth value in a value that is given, or the fault of the field, which alone takes memory.
 fn given_truth(alloc: Global, value: Option<&Value>, key: &str) -> Parsed<bool>
-    ensures { IfOk result (λ r. r ≡ given_truth key.now (option_map (λ v. view v.now) value.entry)) }
+    ensures truth { IfOk result (λ r. r ≡ given_truth key.now (option_map (λ v. view v.now) value.entry)) }
+    ensures memory { IfErr result
+        (λ _. given_truth key.now (option_map (λ v. view v.now) value.entry) ≡ Err (FormFault.Field key.now)) }
 {
     let Some(value) = value else {
         return Ok(Ok(false));
@@ -123,9 +148,10 @@ impl Fields {
         Ok(Fields { object })
     }
 
-    /// A name that must be there.
+    /// A name that must be there. That the body is no object takes no memory to say.
     pub(crate) fn name(&self, alloc: Global, key: &str) -> Parsed<Name>
-        ensures { IfOk result (IsNameField key.now (object_in self.now)) }
+        ensures named { IfOk result (IsNameField key.now (object_in self.now)) }
+        ensures memory { IfErr result (λ _. object_in self.now ≢ None) }
     {
         let Some(object) = &self.object else {
             return Ok(Err(FormFault::Json));
@@ -136,9 +162,11 @@ impl Fields {
         }
     }
 
-    /// A name that may be absent.
+    /// A name that may be absent. Neither that it is nor that the body is no object takes memory to say.
     pub(crate) fn optional_name(&self, alloc: Global, key: &str) -> Parsed<Option<Name>>
-        ensures { IfOk result (IsOptionalName key.now (object_in self.now)) }
+        ensures named { IfOk result (IsOptionalName key.now (object_in self.now)) }
+        ensures memory { IfErr result (λ _. object_in self.now ≢ None) }
+        ensures absent { IfErr result (λ _. ¬ (IsOptionalName key.now (object_in self.now) (Ok None))) }
     {
         let Some(object) = &self.object else {
             return Ok(Err(FormFault::Json));
@@ -146,9 +174,11 @@ impl Fields {
         given_name(alloc, non_null(object.get(key)), key)
     }
 
-    /// The token.
+    /// The token. Neither that it has a wrong form nor that the body is no object takes memory to say.
     pub(crate) fn token(&self, alloc: Global) -> Parsed<Token>
-        ensures { IfOk result (IsTokenField (object_in self.now)) }
+        ensures token { IfOk result (IsTokenField (object_in self.now)) }
+        ensures memory { IfErr result (λ _. object_in self.now ≢ None) }
+        ensures form { IfErr result (λ _. ¬ (IsTokenField (object_in self.now) (Err FormFault.Token))) }
     {
         let Some(object) = &self.object else {
             return Ok(Err(FormFault::Json));
@@ -156,9 +186,11 @@ impl Fields {
         body_token(alloc, object.get("token").and_then(Value::as_str))
     }
 
-    /// A truth value that must be there.
+    /// A truth value that must be there. Only the fault of the field takes memory.
     pub(crate) fn truth(&self, alloc: Global, key: &str) -> Parsed<bool>
-        ensures { IfOk result (λ r. r ≡ truth_field key.now (object_in self.now)) }
+        ensures truth { IfOk result (λ r. r ≡ truth_field key.now (object_in self.now)) }
+        ensures memory { IfErr result
+            (λ _. truth_field key.now (object_in self.now) ≡ Err (FormFault.Field key.now)) }
     {
         let Some(object) = &self.object else {
             return Ok(Err(FormFault::Json));
@@ -166,9 +198,11 @@ impl Fields {
         truth_or(alloc, key, object.get(key).and_then(Value::as_bool))
     }
 
-    /// A truth value that may be absent, which counts as false.
+    /// A truth value that may be absent, which counts as false. Only the fault of the field takes memory.
     pub(crate) fn optional_truth(&self, alloc: Global, key: &str) -> Parsed<bool>
-        ensures { IfOk result (λ r. r ≡ optional_truth key.now (object_in self.now)) }
+        ensures truth { IfOk result (λ r. r ≡ optional_truth key.now (object_in self.now)) }
+        ensures memory { IfErr result
+            (λ _. optional_truth key.now (object_in self.now) ≡ Err (FormFault.Field key.now)) }
     {
         let Some(object) = &self.object else {
             return Ok(Err(FormFault::Json));

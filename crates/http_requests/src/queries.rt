@@ -1,7 +1,7 @@
 //! Names in a query.
-ghost use Rattle.std.specs.Prelude.{◌≡◌, IfOk, List, ℕ};
+ghost use Rattle.std.specs.Prelude.{◌≡◌, IfOk, IfErr, List, ℕ};
 ghost use Rattle.form_urlencoded.specs.Form.{raw_pairs};
-ghost use Rattle.http_requests.specs.Queries.{values_at, AreValues, IsOnce, IsQueryName};
+ghost use Rattle.http_requests.specs.Queries.{values_at, AreValues, IsOnce, IsOneName, IsQueryName};
 
 use crate::names::{Parsed, name_of};
 use broker_core::command::FormFault;
@@ -35,9 +35,10 @@ fn values_at(alloc: Global, query: &[u8], key: &str) -> Result<Values, AllocErro
     Ok(found)
 }
 
-/// The name that the only value is.
+/// The name that the only value is. Memory is taken only for a name.
 fn only_name(alloc: Global, values: Values) -> Result<Option<Name>, AllocError>
-    ensures { IfOk result (λ name. (all : List (List ℕ)) → AreValues all values → IsOnce all name) }
+    ensures named { IfOk result (λ name. (all : List (List ℕ)) → AreValues all values → IsOnce all name) }
+    ensures memory { IfErr result (λ _. (all : List (List ℕ)) → AreValues all values → IsOneName all) }
 {
     match values {
         Values::Once(value) => name_of(alloc, value.as_str()),

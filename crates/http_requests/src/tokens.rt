@@ -1,9 +1,9 @@
 //! The token of a request.
-ghost use Rattle.std.specs.Prelude.{◌≡◌, ℕ, List, drop, IfOk, Option, Some, None, MatchOption};
+ghost use Rattle.std.specs.Prelude.{◌≡◌, ℕ, List, drop, IfOk, IfErr, Option, Some, None, MatchOption};
 ghost use Rattle.std.specs.Option.{option_map};
 ghost use Rattle.broker_core.specs.Name.{IsToken};
 ghost use Rattle.http_messages.specs.Fields.{IsField, same_name};
-ghost use Rattle.http_requests.specs.Tokens.{skip_spaces, behind_spaces, credentials, only_credentials, IsTokenOf};
+ghost use Rattle.http_requests.specs.Tokens.{skip_spaces, behind_spaces, credentials, only_credentials, IsTokenOf, HasTokenIn};
 
 use broker_core::name::{Token, TokenFault};
 use http_messages::fields::Field;
@@ -46,10 +46,11 @@ fn credentials(value: &[u8]) -> Option<&[u8]>
     }
 }
 
-/// The token that some bytes are, if they are one.
+/// The token that some bytes are, if they are one. Memory is taken only for a token.
 fn token_of(alloc: Global, bytes: &[u8]) -> Result<Option<Token>, AllocError>
-    ensures { IfOk result (λ token.
+    ensures token { IfOk result (λ token.
         MatchOption token (¬ (IsToken bytes.now)) (λ t. (t ≡ bytes.now) × IsToken bytes.now)) }
+    ensures memory { IfErr result (λ _. IsToken bytes.now) }
 {
     let Ok(text) = str::from_utf8(bytes) else {
         return Ok(None);
@@ -74,9 +75,10 @@ fn only_credentials(field: Field<'_>) -> Option<&[u8]>
 }
 
 /// The token of the field authorization, if it is there once with the scheme Bearer, one or more spaces and a token;
-/// the scheme is compared without ASCII case. An `Err` means out of memory.
+/// the scheme is compared without ASCII case. An `Err` means out of memory, which only a token takes.
 pub fn caller_token(alloc: Global, field: Field<'_>) -> Result<Option<Token>, AllocError>
-    ensures { (values : List (List ℕ)) → IsField values field.entry → IfOk result (IsTokenOf values) }
+    ensures token { (values : List (List ℕ)) → IsField values field.entry → IfOk result (IsTokenOf values) }
+    ensures memory { (values : List (List ℕ)) → IsField values field.entry → IfErr result (λ _. HasTokenIn values) }
 {
     match only_credentials(field) {
         Some(text) => token_of(alloc, text),

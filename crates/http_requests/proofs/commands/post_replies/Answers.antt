@@ -4,12 +4,12 @@ use Rattle.http_requests.proofs.commands.post_replies.Goals as goal
 
 pub returns-in-Err-2 : goal.returns-in-Err-2
 returns-in-Err-2 c =
-    (c.in_ok-part.field-0, c.in_ok-part.ensures, rw c.in-Ok.is (object_in c.in_ok-fields.fields, c.in_ok-fields.ensures, (c.in_ok-part-2.field-0, c.in_ok-part-2.ensures, rw c.in-Err-2.is refl)))
+    (c.in_ok-part.field-0, c.in_ok-part.ensures, rw c.in-Ok.is (object_in c.in_ok-fields.fields, c.in_ok-fields.ensures, (c.in_ok-part-2.field-0, c.in_ok-part-2.ensures.named, rw c.in-Err-2.is refl)))
 
 pub returns-in-Err-3 : goal.returns-in-Err-3
 returns-in-Err-3 c =
-    (c.in_ok-part.field-0, c.in_ok-part.ensures, rw c.in-Ok.is (object_in c.in_ok-fields.fields, c.in_ok-fields.ensures, (c.in_ok-part-2.field-0, c.in_ok-part-2.ensures, rw c.in-Ok-2.is (c.in_ok-part-3.field-0, c.in_ok-part-3.ensures, rw c.in-Err-3.is refl))))
+    (c.in_ok-part.field-0, c.in_ok-part.ensures, rw c.in-Ok.is (object_in c.in_ok-fields.fields, c.in_ok-fields.ensures, (c.in_ok-part-2.field-0, c.in_ok-part-2.ensures.named, rw c.in-Ok-2.is (c.in_ok-part-3.field-0, c.in_ok-part-3.ensures.named, rw c.in-Err-3.is refl))))
 
 pub returns : goal.returns
 returns c =
-    (c.in_ok-part.field-0, c.in_ok-part.ensures, rw c.in-Ok.is (object_in c.in_ok-fields.fields, c.in_ok-fields.ensures, (c.in_ok-part-2.field-0, c.in_ok-part-2.ensures, rw c.in-Ok-2.is (c.in_ok-part-3.field-0, c.in_ok-part-3.ensures, rw (c.in-Ok-3.is, c.new-replies.ensures, c.in_ok-from_slice.ensures.items) refl))))
+    (c.in_ok-part.field-0, c.in_ok-part.ensures, rw c.in-Ok.is (object_in c.in_ok-fields.fields, c.in_ok-fields.ensures, (c.in_ok-part-2.field-0, c.in_ok-part-2.ensures.named, rw c.in-Ok-2.is (c.in_ok-part-3.field-0, c.in_ok-part-3.ensures.named, rw (c.in-Ok-3.is, c.new-replies.ensures, c.in_ok-from_slice.ensures.items) refl))))
