@@ -53,7 +53,7 @@ module _ (s : State) (caller : Caller) (path : PactPath) (r : Report) (body : Te
         → Tells text replies told → Leads s path.provider r content told out → CallersStep caller (PostReplies path r body) s out
     by_told out content text (Failing places) is none has tells leads = λ sound. inl (acts s caller (PostReplies path r body) well_formed out none (content, is, (text, has, (Some places, (replies, reads, tells), leads))))
     by_told out content text UnknownReply is none has tells leads = λ sound. inl (acts s caller (PostReplies path r body) well_formed out none (content, is, (text, has, (None, (replies, reads, tells), leads))))
-    by_told out content text Pattern is none has tells leads = λ sound. inr (leads, (well_formed, none, (text, ap (option_and_then (text_of s)) is ∙ has, stored_pattern s content text sound has tells)))
+    by_told out content text Pattern is none has tells leads = λ sound. inr (leads, (well_formed, none, (text, ap (option_and_then (text_of s)) is ∙ has, stored_pattern s content text sound has tells.0)))
     by_told out content text NoPact is none has tells leads = absurd leads
 
     -- they are compared with the contract

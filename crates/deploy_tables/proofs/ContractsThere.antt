@@ -14,8 +14,6 @@ use Rattle.sqlite_sql.specs.declared.ops.BinaryOp.TheVariants.{Compare}
 use Rattle.sqlite_sql.specs.declared.ops.CompareOp.TheVariants.{Eq}
 use Rattle.sqlite_sql.specs.Ops.{binary, is_true}
 use Rattle.sqlite.specs.Collation.TheVariants.{Binary}
-use Rattle.sqlite.specs.Command.{Command}
-use Rattle.sqlite.specs.Command.TheVariants.{Select}
 use Rattle.sqlite.specs.Effect.{Database, Answers}
 use Rattle.sqlite.specs.Listing.{understood}
 use Rattle.sqlite_rules.specs.Lists.{Has}
@@ -23,7 +21,6 @@ use Rattle.sqlite_tied.specs.Compute.{everything}
 use Rattle.table_access.specs.Columns.{text, text_cmp, whole_at, by_both}
 use Rattle.table_access.specs.Statements.{from_both, keeps_both}
 use Rattle.table_access.specs.Reading.{AreRead}
-use Rattle.table_access.proofs.Steps.{Means}
 use Rattle.table_access.proofs.SoundLemmas.{any_of}
 use Rattle.table_access.proofs.Maps.{find_has, has_find}
 use Rattle.table_access.proofs.Members.{any_has, pair_has, has_pair}
@@ -31,11 +28,10 @@ use Rattle.broker_core.specs.declared.command.Version.{Version}
 use Rattle.broker_core.specs.Text.{Text as Words, version}
 use Rattle.broker_core.specs.State.{State as Broker}
 use Rattle.broker_core.specs.Gate.{Stands}
-use Rattle.broker_tables.specs.Schema.{broker_schema}
 use Rattle.broker_tables.specs.Rows.{value_at, stands_at}
 use Rattle.broker_tables.specs.Numbers.{number_of}
-use Rattle.broker_tables.specs.Holds.{Holds, IsBroker}
-use Rattle.broker_tables.proofs.Frames.{meant}
+use Rattle.broker_tables.specs.Holds.{Holds}
+use Rattle.broker_tables.proofs.Asked.{Asked, IsShown}
 use Rattle.broker_tables.proofs.Listed.{read_has, has_read}
 use Rattle.broker_tables.proofs.NumberLemmas.{one_version}
 use Rattle.broker_tables.proofs.Orders.{triples_total, exact_triple, placed_total, exact_placed, marked_total, exact_marked}
@@ -58,31 +54,17 @@ terms place = op2 (Compare Eq Binary) (col 2 1) (col 1 place) ∷ op2 (Compare E
 abbrev project : List Term
 project = col 2 1 ∷ col 2 3 ∷ []
 
-abbrev pub deployed_sql : List ℕ
-deployed_sql = codes "SELECT c.version_number, c.content FROM deployed d JOIN contracts c ON c.version_number = d.version_number WHERE d.environment = ?1 AND c.provider = ?2"
-
-abbrev pub deployed_command : Command
-deployed_command = Select (record { lets = []; body = from_both 21 15 (terms 4) project [] }) (codes "version_number" ∷ codes "content" ∷ [])
-
-deployed_text : Means broker_schema deployed_sql deployed_command
+pub of_deployed : (e p : Words)
+    → Asked (codes "SELECT c.version_number, c.content FROM deployed d JOIN contracts c ON c.version_number = d.version_number WHERE d.environment = ?1 AND c.provider = ?2")
+    (Text e ∷ Text p ∷ []) (from_both 21 15 (terms 4) project [])
 unfolding understood everything
-deployed_text = record { is = refl; plain = (refl, refl); unlisted = refl }
+of_deployed e p = record { names = _; means = record { is = refl; plain = (refl, refl); unlisted = refl }; runs = record { whole = refl; typed = refl; sumless = refl } }
 
-pub deployed_means : (db : Database) → IsBroker db → Means db.schema deployed_sql deployed_command
-deployed_means db broker = meant db broker deployed_sql deployed_text
-
-abbrev pub released_sql : List ℕ
-released_sql = codes "SELECT c.version_number, c.content FROM released r JOIN contracts c ON c.version_number = r.version_number WHERE r.environment = ?1 AND c.provider = ?2"
-
-abbrev pub released_command : Command
-released_command = Select (record { lets = []; body = from_both 23 15 (terms 2) project [] }) (codes "version_number" ∷ codes "content" ∷ [])
-
-released_text : Means broker_schema released_sql released_command
+pub of_released : (e p : Words)
+    → Asked (codes "SELECT c.version_number, c.content FROM released r JOIN contracts c ON c.version_number = r.version_number WHERE r.environment = ?1 AND c.provider = ?2")
+    (Text e ∷ Text p ∷ []) (from_both 23 15 (terms 2) project [])
 unfolding understood everything
-released_text = record { is = refl; plain = (refl, refl); unlisted = refl }
-
-pub released_means : (db : Database) → IsBroker db → Means db.schema released_sql released_command
-released_means db broker = meant db broker released_sql released_text
+of_released e p = record { names = _; means = record { is = refl; plain = (refl, refl); unlisted = refl }; runs = record { whole = refl; typed = refl; sumless = refl } }
 
 -- ---- rows of a table that name an environment and a version, joined with the contracts
 
@@ -160,7 +142,7 @@ module _ (db : Database) (s : Broker) (held : Holds db s) (e p : Words) where
       let d = find_has triples_total exact_triple deployed_rows.place_of (whole_at 4) (e, (w.pacticipant, there.0)) (pos at.0) (db.trees 21) at.1 in
       (d.0, d.1, sym (ap (λ x. x.0) d.2), d.3 ∙ ap pos (same_some at.0 n (sym at.2 ∙ known)))
 
-  pub deployed_told : (rows : List Row) (items : List NumberedContract) → Answers db (record { lets = []; body = from_both 21 15 (terms 4) project [] }) params rows → AreRead IsNumberedRow rows items → TellsContracts s p (IsDeployedIn s e) items
+  pub deployed_told : (rows : List Row) (items : List NumberedContract) → IsShown (of_deployed e p) db rows → AreRead IsNumberedRow rows items → TellsContracts s p (IsDeployedIn s e) items
   deployed_told = told 21 4 (deployed_rows.environments db held.broker) (deployed_rows.numbers db held.broker) (IsDeployedIn s e) deployed_is is_deployed
 
   -- ---- what is released
@@ -180,7 +162,7 @@ module _ (db : Database) (s : Broker) (held : Holds db s) (e p : Words) where
       let place : (e, pos n) ≡ released_rows.place_of d.0 = exact_placed (e, pos n) (released_rows.place_of d.0) ((Equal-is (released_rows.placed (e, pos n) (released_rows.place_of d.0))).0 d.2) in
       (d.0, d.1, sym (ap (λ x. x.0) place), sym (ap (λ x. x.1) place))
 
-  pub released_told : (rows : List Row) (items : List NumberedContract) → Answers db (record { lets = []; body = from_both 23 15 (terms 2) project [] }) params rows → AreRead IsNumberedRow rows items → TellsContracts s p (IsReleasedIn s e) items
+  pub released_told : (rows : List Row) (items : List NumberedContract) → IsShown (of_released e p) db rows → AreRead IsNumberedRow rows items → TellsContracts s p (IsReleasedIn s e) items
   released_told = told 23 2 (released_rows.environments db held.broker) (released_rows.numbers db held.broker) (IsReleasedIn s e) released_is is_released
 
 -- ---- both

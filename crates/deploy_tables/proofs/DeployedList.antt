@@ -12,8 +12,6 @@ use Rattle.sqlite.specs.Collation.TheVariants.{Binary}
 use Rattle.sqlite_sql.specs.Query.{sort_cmp}
 use Rattle.sqlite_value.specs.declared.keys.Key.{Key}
 use Rattle.sqlite_value.specs.Keys.{ascending}
-use Rattle.sqlite.specs.Command.{Command}
-use Rattle.sqlite.specs.Command.TheVariants.{Select}
 use Rattle.sqlite.specs.Effect.{Database}
 use Rattle.sqlite.specs.Listing.{understood}
 use Rattle.sqlite_rules.specs.Lists.{Has}
@@ -23,12 +21,10 @@ use Rattle.sqlite_value.proofs.OrderLemmas.{value_cmp-Text, then-Equal}
 use Rattle.sqlite_tied.specs.Compute.{everything}
 use Rattle.table_access.specs.Columns.{text, text_cmp, whole_at, by_both}
 use Rattle.table_access.specs.Sound.{text_in}
-use Rattle.sqlite.specs.Effect.{Answers}
 use Rattle.std.specs.Cmp.{IsTotalOrder, tied_itself}
 use Rattle.std.specs.Cmp.Lexicographic.{nat_list_cmp_total}
 use Rattle.table_access.specs.Statements.{from_both, keeps_both, pairs_kept}
 use Rattle.table_access.specs.Reading.{AreRead}
-use Rattle.table_access.proofs.Steps.{Means}
 use Rattle.table_access.proofs.Keys.{ascending_on}
 use Rattle.table_access.proofs.Parts.{numbers_once}
 use Rattle.table_access.proofs.Maps.{find_has, has_find}
@@ -41,11 +37,10 @@ use Rattle.broker_core.specs.Text.{Text as Words, version}
 use Rattle.broker_core.specs.Listing.{Lists}
 use Rattle.broker_core.specs.Machine.{deployed_cmp}
 use Rattle.broker_core.specs.State.{State as Broker}
-use Rattle.broker_tables.specs.Schema.{broker_schema}
 use Rattle.broker_tables.specs.Rows.{value_at}
 use Rattle.broker_tables.specs.Numbers.{number_of}
 use Rattle.broker_tables.specs.Holds.{Holds, IsBroker}
-use Rattle.broker_tables.proofs.Frames.{meant}
+use Rattle.broker_tables.proofs.Asked.{Asked, IsShown}
 use Rattle.broker_tables.proofs.Listed.{read_has, has_read}
 use Rattle.broker_tables.proofs.Orders.{pairs_total, triples_total, exact_triple}
 use Rattle.std.specs.Prelude.{Contains, ◌↔◌}
@@ -56,42 +51,28 @@ use Rattle.deploy_tables.specs.declared.standing_versions.StandingVersion.{Stand
 use Rattle.deploy_tables.proofs.DeployedRows.{place_of, environments, pacticipants, instances, numbers, keys}
 use Rattle.deploy_tables.proofs.VersionRows.{joined_by, joined_is, is_joined, versions_numbered, same_version_row, find_version, same_some, same_pos, still_less}
 
-abbrev pub list_sql : List ℕ
-list_sql = codes "SELECT d.pacticipant, d.instance, v.version FROM deployed d JOIN versions v ON v.number = d.version_number WHERE d.environment = ?1 ORDER BY d.pacticipant, d.instance"
-
 abbrev list_order : List (Term × Key)
 list_order = (col 1 2, ascending Binary) ∷ (col 1 3, ascending Binary) ∷ []
 
 abbrev list_project : List Term
 list_project = col 1 2 ∷ col 1 3 ∷ col 2 3 ∷ []
 
-abbrev pub list_command : Command
-list_command = Select (record { lets = []; body = from_both 21 6 (joined_by 4) list_project list_order }) (codes "pacticipant" ∷ codes "instance" ∷ codes "version" ∷ [])
-
-list_text : Means broker_schema list_sql list_command
+pub deployments : (e : List ℕ)
+    → Asked (codes "SELECT d.pacticipant, d.instance, v.version FROM deployed d JOIN versions v ON v.number = d.version_number WHERE d.environment = ?1 ORDER BY d.pacticipant, d.instance")
+    (Text e ∷ []) (from_both 21 6 (joined_by 4) list_project list_order)
 unfolding understood everything
-list_text = record { is = refl; plain = (refl, refl); unlisted = refl }
-
-pub list_means : (db : Database) → IsBroker db → Means db.schema list_sql list_command
-list_means db broker = meant db broker list_sql list_text
+deployments e = record { names = _; means = record { is = refl; plain = (refl, refl); unlisted = refl }; runs = record { whole = refl; typed = refl; sumless = refl } }
 
 -- ---- the same rows, with the versions' numbers
-
-abbrev pub standing_sql : List ℕ
-standing_sql = codes "SELECT d.version_number, d.pacticipant, v.version FROM deployed d JOIN versions v ON v.number = d.version_number WHERE d.environment = ?1 ORDER BY d.pacticipant, d.instance"
 
 abbrev standing_project : List Term
 standing_project = col 1 4 ∷ col 1 2 ∷ col 2 3 ∷ []
 
-abbrev pub standing_command : Command
-standing_command = Select (record { lets = []; body = from_both 21 6 (joined_by 4) standing_project list_order }) (codes "version_number" ∷ codes "pacticipant" ∷ codes "version" ∷ [])
-
-standing_text : Means broker_schema standing_sql standing_command
+pub standing : (e : List ℕ)
+    → Asked (codes "SELECT d.version_number, d.pacticipant, v.version FROM deployed d JOIN versions v ON v.number = d.version_number WHERE d.environment = ?1 ORDER BY d.pacticipant, d.instance")
+    (Text e ∷ []) (from_both 21 6 (joined_by 4) standing_project list_order)
 unfolding understood everything
-standing_text = record { is = refl; plain = (refl, refl); unlisted = refl }
-
-pub standing_means : (db : Database) → IsBroker db → Means db.schema standing_sql standing_command
-standing_means db broker = meant db broker standing_sql standing_text
+standing e = record { names = _; means = record { is = refl; plain = (refl, refl); unlisted = refl }; runs = record { whole = refl; typed = refl; sumless = refl } }
 
 -- ---- sorted pairs of a row and its version
 
@@ -158,12 +139,12 @@ module _ (db : Database) (broker : IsBroker db) (e : Words) where
   abbrev sorted : List Pair
   sorted = sort_by by_key kept
 
-  rows_are : (rows : List Row) → Answers db (record { lets = []; body = from_both 21 6 (joined_by 4) list_project list_order }) (Text e ∷ []) rows → rows ≡ map (λ q. eval_all list_project (env q)) sorted
+  rows_are : (rows : List Row) → IsShown (deployments e) db rows → rows ≡ map (λ q. eval_all list_project (env q)) sorted
   rows_are rows h =
       joins_in_order db (Text e ∷ []) 21 6 (joined_by 4) list_project list_order rows h (ascending_on _ _ kept (λ a b ha hb apart. ap is_eq (sort_is a b ha hb) ∙ apart) no_ties)
       ∙ ap (map (λ q. eval_all list_project (env q))) (same_sort (λ a b. sort_cmp list_order (env a) (env b)) by_key kept sort_is)
 
-  items_are : (rows : List Row) (items : List DeployedItem) → Answers db (record { lets = []; body = from_both 21 6 (joined_by 4) list_project list_order }) (Text e ∷ []) rows → AreRead IsDeployedRow rows items → items ≡ map item_of sorted
+  items_are : (rows : List Row) (items : List DeployedItem) → IsShown (deployments e) db rows → AreRead IsDeployedRow rows items → items ≡ map item_of sorted
   items_are rows items h read =
       read_is IsDeployedRow (λ row. record { pacticipant = text 0 row; instance = text 1 row; version = text 2 row })
       (λ row item is i. record { pacticipant = text_in (sym is.0 i); instance = text_in (sym is.1 i); version = text_in (sym is.2 i) }) rows items read
@@ -199,7 +180,7 @@ module _ (db : Database) (broker : IsBroker db) (e : Words) where
         let joined = is_joined db broker 4 e d.0 v.0 (numbers db broker d.0 d.1) (environments db broker d.0 d.1) v.1 (v.4 ∙ sym d.3) env_is in
         ((d.0, v.0), has_pair (keeps_both (joined_by 4) (Text e ∷ [])) (db.trees 6) (db.trees 21) d.0 v.0 d.1 v.1 joined, sym (ap (λ x. x.1.0) d.2), sym (ap (λ x. x.1.1) d.2), v.3)
 
-    pub deployed_listed : (rows : List Row) (items : List DeployedItem) → Answers db (record { lets = []; body = from_both 21 6 (joined_by 4) list_project list_order }) (Text e ∷ []) rows → AreRead IsDeployedRow rows items
+    pub deployed_listed : (rows : List Row) (items : List DeployedItem) → IsShown (deployments e) db rows → AreRead IsDeployedRow rows items
         → Lists deployed_cmp (λ x. s.deployed (e, x.pacticipant, x.instance) ≡ Some x.version) items
     deployed_listed rows items h read = subst (Lists deployed_cmp (λ x. s.deployed (e, x.pacticipant, x.instance) ≡ Some x.version)) (sym (items_are rows items h read)) (record {
       sorted = rises_map by_key deployed_cmp item_of (λ a b less. still_less (text_cmp (text 2 a.0) (text 2 b.0)) (text_cmp (text 3 a.0) (text 3 b.0)) (text_cmp (text 3 a.1) (text 3 b.1)) less) sorted (rises by_key by_key_total kept no_ties);
@@ -235,7 +216,7 @@ module _ (db : Database) (broker : IsBroker db) (e : Words) where
         let at = valued (value_at (by_both text_cmp (by_both text_cmp text_cmp)) place_of (whole_at 4) (db.trees 21) (e, (p, i))) (number_of s.versions (version p name)) (held.deployed e p i ∙ ap (option_map (λ n. option_map pos (number_of s.versions (version p n)))) there) in
         (at.0, at.2)
 
-    standing_rows : (rows : List Row) → Answers db (record { lets = []; body = from_both 21 6 (joined_by 4) standing_project list_order }) (Text e ∷ []) rows → rows ≡ map (λ q. eval_all standing_project (env q)) sorted
+    standing_rows : (rows : List Row) → IsShown (standing e) db rows → rows ≡ map (λ q. eval_all standing_project (env q)) sorted
     standing_rows rows h =
         joins_in_order db (Text e ∷ []) 21 6 (joined_by 4) standing_project list_order rows h (ascending_on _ _ kept (λ a b ha hb apart. ap is_eq (sort_is a b ha hb) ∙ apart) no_ties)
         ∙ ap (map (λ q. eval_all standing_project (env q))) (same_sort (λ a b. sort_cmp list_order (env a) (env b)) by_key kept sort_is)
@@ -249,7 +230,7 @@ module _ (db : Database) (broker : IsBroker db) (e : Words) where
         let shown : whole_at 4 q.0 ≡ pos x.number = ap id_in reads.0 in
         (p, name, (λ i. number_of s.versions (version (sym p i) (sym name i))) ∙ it.1 ∙ ap Some (same_pos it.0 x.number (sym it.2 ∙ shown)))
 
-    pub standing_listed : (rows : List Row) (items : List StandingVersion) → Answers db (record { lets = []; body = from_both 21 6 (joined_by 4) standing_project list_order }) (Text e ∷ []) rows → AreRead IsStandingRow rows items
+    pub standing_listed : (rows : List Row) (items : List StandingVersion) → IsShown (standing e) db rows → AreRead IsStandingRow rows items
         → (x : StandingVersion) → Contains items x ↔ IsDeployedThere s e x
     standing_listed rows items h read x = (
       λ c.

@@ -18,11 +18,11 @@ use Rattle.sqlite_sql.specs.declared.ops.BinaryOp.TheVariants.{Compare}
 use Rattle.sqlite_sql.specs.declared.ops.CompareOp.TheVariants.{Eq}
 use Rattle.sqlite.specs.Source.TheVariants.{Values}
 use Rattle.sqlite.specs.Command.{Command}
-use Rattle.sqlite.specs.Command.TheVariants.{Select, InsertOr, Delete}
+use Rattle.sqlite.specs.Command.TheVariants.{InsertOr, Delete}
 use Rattle.sqlite_schema.specs.declared.command.Conflict.TheVariants.{Abort}
 use Rattle.sqlite.specs.Schema.{Schema}
 use Rattle.sqlite.specs.Effect.{Database}
-use Rattle.sqlite.specs.State.{State, Shown, Executes}
+use Rattle.sqlite.specs.State.{State, Executes}
 use Rattle.sqlite.specs.Listing.{understood}
 use Rattle.sqlite_rules.specs.Lists.{Has}
 use Rattle.sqlite_schema.specs.Rules.{agree}
@@ -30,7 +30,7 @@ use Rattle.sqlite_value.specs.Keys.{plain}
 use Rattle.sqlite_tied.specs.Compute.{everything}
 use Rattle.table_access.specs.Columns.{text, text_cmp, whole_at, by_both}
 use Rattle.table_access.specs.Statements.{from_table, keeps, shows, ChangesOnly}
-use Rattle.table_access.proofs.Steps.{Means, selects, deletes, deletes_counted}
+use Rattle.table_access.proofs.Steps.{Means, answered, deletes, deletes_counted}
 use Rattle.table_access.proofs.CountLemmas.{some_counted, same_any, any_never}
 use Rattle.table_access.proofs.Maps.{looks_up_at, has_find}
 use Rattle.table_access.proofs.Keys.{apart_by}
@@ -40,6 +40,7 @@ use Rattle.broker_tables.specs.Schema.{broker_schema}
 use Rattle.broker_tables.specs.Rows.{value_at}
 use Rattle.broker_tables.specs.Holds.{IsBroker}
 use Rattle.broker_tables.proofs.Frames.{meant}
+use Rattle.broker_tables.proofs.Asked.{Asked, IsShown}
 use Rattle.table_access.specs.Sound.{text_in}
 use Rattle.table_access.proofs.Upsert.{upsert_leaves, Upserted}
 use Rattle.table_access.proofs.Changes.{upserts_at}
@@ -103,29 +104,22 @@ module _ (db : Database) (broker : IsBroker db) where
 
 -- ---- the version at a place
 
-abbrev pub number_sql : List ℕ
-number_sql = codes "SELECT version_number FROM deployed WHERE environment = ?1 AND pacticipant = ?2 AND instance = ?3"
-
-abbrev pub number_command : Command
-number_command = Select (record { lets = []; body = from_table 21 (is_param 1 0 ∷ is_param 2 1 ∷ is_param 3 2 ∷ []) (col 1 4 ∷ []) [] }) (codes "version_number" ∷ [])
-
-number_text : Means broker_schema number_sql number_command
-unfolding understood everything
-number_text = record { is = refl; plain = (refl, refl); unlisted = refl }
-
-pub number_means : (db : Database) → IsBroker db → Means db.schema number_sql number_command
-number_means db broker = meant db broker number_sql number_text
-
 abbrev by_place : List Term
 by_place = is_param 1 0 ∷ is_param 2 1 ∷ is_param 3 2 ∷ []
 
-pub number_found : (e p i : List ℕ) (old new : State) (rows : List Row) → IsBroker old.now → Shown number_sql (Text e ∷ Text p ∷ Text i ∷ []) old new rows
-    → option_map (whole_at 0) (slice_get rows 0) ≡ value_at (by_both text_cmp (by_both text_cmp text_cmp)) place_of (whole_at 4) (old.now.trees 21) (e, (p, i))
-number_found e p i old new rows broker h =
+pub number_at : (e p i : List ℕ)
+    → Asked (codes "SELECT version_number FROM deployed WHERE environment = ?1 AND pacticipant = ?2 AND instance = ?3")
+    (Text e ∷ Text p ∷ Text i ∷ []) (from_table 21 by_place (col 1 4 ∷ []) [])
+unfolding understood everything
+number_at e p i = record { names = _; means = record { is = refl; plain = (refl, refl); unlisted = refl }; runs = record { whole = refl; typed = refl; sumless = refl } }
+
+pub number_found : (e p i : List ℕ) (db : Database) (rows : List Row) → IsBroker db → IsShown (number_at e p i) db rows
+    → option_map (whole_at 0) (slice_get rows 0) ≡ value_at (by_both text_cmp (by_both text_cmp text_cmp)) place_of (whole_at 4) (db.trees 21) (e, (p, i))
+number_found e p i db rows broker h =
     let params = Text e ∷ Text p ∷ Text i ∷ [] in
-    looks_up_at triples_total exact_triple place_of (whole_at 4) (shows (col 1 4 ∷ []) params) (whole_at 0) (λ r. refl) (e, (p, i)) (keeps by_place params) (old.now.trees 21) rows
-    (all_where (by_both text_cmp (by_both text_cmp text_cmp)) (old.now.trees 21) place_of (e, (p, i)) by_place params (where_place (old.now.trees 21) (one old.now broker) (two old.now broker) (three old.now broker) e p i))
-    (keys old.now broker) (selects number_sql params old new 21 by_place (col 1 4 ∷ []) [] (codes "version_number" ∷ []) (number_means old.now broker) rows h)
+    looks_up_at triples_total exact_triple place_of (whole_at 4) (shows (col 1 4 ∷ []) params) (whole_at 0) (λ r. refl) (e, (p, i)) (keeps by_place params) (db.trees 21) rows
+    (all_where (by_both text_cmp (by_both text_cmp text_cmp)) (db.trees 21) place_of (e, (p, i)) by_place params (where_place (db.trees 21) (one db broker) (two db broker) (three db broker) e p i))
+    (keys db broker) (answered db params 21 by_place (col 1 4 ∷ []) [] rows h)
 
 -- ---- a deployment
 

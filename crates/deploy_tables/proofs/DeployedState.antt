@@ -4,6 +4,7 @@ use Rattle.std.specs.Prelude.{option_map, if◌then◌else◌}
 use Rattle.std.specs.Option.{option_map_or}
 use Rattle.std.specs.Ordering.{eq_by_cmp, int_cmp}
 use Rattle.std.specs.Cmp.{eq_by_cmp_equiv, Equal-is}
+use Rattle.std.specs.FinMap.{int_cmp-IsAntisymmetric}
 use Rattle.std.specs.Cmp.Lexicographic.{texts_ties, nat_list_cmp_total}
 use Rattle.std.proofs.lemmas.Bool.{cases_Bool, eqb-true}
 use Rattle.std.proofs.lemmas.Cmp.{int_cmp_total}
@@ -22,7 +23,7 @@ use Rattle.broker_tables.proofs.Frames.{frame_of, deployed_change}
 use Rattle.broker_tables.proofs.NumberLemmas.{number_ties}
 use Rattle.broker_tables.proofs.Orders.{exact_triple}
 use Rattle.broker_tables.proofs.Ties.{two_tests, both_eq, nat_ties}
-use Rattle.deploy_tables.specs.Deployments.{IsVersionOf, TakesOutAndTells, without_instance}
+use Rattle.deploy_tables.specs.Deployments.{IsVersionOf, TakesOutAndTells, FindsNothing, without_instance}
 use Rattle.deploy_tables.proofs.DeployedRows.{Place, place_of, place_cmp, record_sql, recorded, end_sql, is_number, at_place, ended}
 
 same_itself : (t : Words) → same_text t t ≡ true
@@ -99,32 +100,58 @@ is_number_there versions p (Some z) (Some name) held v n numbered owner =
     known None e = absurd cc
     known (Some k) e = (k, refl, cc)
 
--- the version isn't deployed there any more, and the count says whether it was; another version stays
-pub taken_out : (e p i : Words) (n : ℕ) (old new : State) (count : ℕ) (s : Broker) → Holds old.now s → Executes end_sql (Text e ∷ Text p ∷ Text i ∷ Int (pos n) ∷ []) old new (Ok count) → IsVersionOf p n s
-    → (t : Broker) × TakesOutAndTells e p i n (nat_lt 0 count) s t × Holds new.now t
-taken_out e p i n old new count s held h v =
-    let told : (w : Version) → number_of s.versions w ≡ Some n → w.pacticipant ≡ p → is_number n there ≡ is_text w.name (s.deployed (e, p, i)) =
-    λ w is owner. is_number_there s.versions p there (s.deployed (e, p, i)) (held.deployed e p i) w n is owner in (
-      if is_text v.0.name (s.deployed (e, p, i)) then without_instance s e p i else s,
-      ((v.0, v.1, v.2, refl), λ w is owner. it.2 ∙ told w is owner),
-      go (is_text v.0.name (s.deployed (e, p, i))) (told v.0 v.1 v.2),
-    )
+-- no version of the pacticipant has this number, so none of this number is there
+none_is_there : (versions : List Version) (p : Words) (value : Option ℤ) (there : Option Words) → option_map Some value ≡ option_map (λ name. option_map pos (number_of versions (version p name))) there
+    → (n : ℕ) → ((v : Version) → number_of versions v ≡ Some n → v.pacticipant ≡ p → ⊥) → is_number n value ≡ false
+none_is_there versions p None there held n none = refl
+none_is_there versions p (Some z) None held n none = absurd (let a : Some (Some z) ≡ None = held in cc)
+none_is_there versions p (Some z) (Some name) held n none = elim (cases_Bool (eq_by_cmp int_cmp (pos n) z)) [
+  | inl hit ↦
+      let a : Some (Some z) ≡ Some (option_map pos (number_of versions (version p name))) = held in
+      let b : Some z ≡ option_map pos (number_of versions (version p name)) = cc in
+      let same : pos n ≡ z = int_cmp-IsAntisymmetric (pos n) z ((Equal-is (int_cmp (pos n) z)).0 hit) in
+      absurd (none (version p name) (known (number_of versions (version p name)) (ap Some same ∙ b)) refl)
+  | inr miss ↦ miss
+]
   where
-    there : Option ℤ
-    there = at_place old.now held.broker e p i n
+    known : (o : Option ℕ) → Some (pos n) ≡ option_map pos o → o ≡ Some n
+    known None e = absurd cc
+    known (Some m) e = let same : pos n ≡ pos m = cc in let nats : n ≡ m = cc in ap Some (sym nats)
 
-    it : ChangesOnly 21 old new × ((b : Bool) → is_number n there ≡ b → (q : Place) → value_at place_cmp place_of (whole_at 4) (new.now.trees 21) q ≡ cond (b && eq_by_cmp place_cmp q (e, (p, i))) None (value_at place_cmp place_of (whole_at 4) (old.now.trees 21) q))
-        × (nat_lt 0 count ≡ is_number n there)
-    it = ended e p i n old new count held.broker h
+-- ---- the end of a deployment
 
-    each : (f q j : Words) (b : Bool)
-        → option_map Some (cond b None (value_at place_cmp place_of (whole_at 4) (old.now.trees 21) (f, (q, j)))) ≡ option_map (λ name. option_map pos (number_of s.versions (version q name))) (cond b None (s.deployed (f, q, j)))
-    each f q j true = refl
-    each f q j false = held.deployed f q j
+module _ (e p i : Words) (n : ℕ) (old new : State) (count : ℕ) (s : Broker) (held : Holds old.now s) (h : Executes end_sql (Text e ∷ Text p ∷ Text i ∷ Int (pos n) ∷ []) old new (Ok count)) where
+  abbrev there : Option ℤ
+  there = at_place old.now held.broker e p i n
 
-    go : (b : Bool) → is_number n there ≡ b → Holds new.now (if b then without_instance s e p i else s)
-    go true hit =
-        deployed_change old.now new.now s _ held (frame_of (codes "deployed" ∷ []) 21 refl old new held.broker it.0) (λ f q j.
-        ap (option_map Some) (it.1 true hit (f, (q, j))) ∙ each f q j (eq_by_cmp place_cmp (f, (q, j)) (e, (p, i)))
-        ∙ ap (λ b. option_map (λ name. option_map pos (number_of s.versions (version q name))) (cond b None (s.deployed (f, q, j)))) (sym (place_ties f q j e p i)))
-    go false miss = deployed_change old.now new.now s s.deployed held (frame_of (codes "deployed" ∷ []) 21 refl old new held.broker it.0) (λ f q j. ap (option_map Some) (it.1 false miss (f, (q, j))) ∙ held.deployed f q j)
+  it : ChangesOnly 21 old new × ((b : Bool) → is_number n there ≡ b → (q : Place) → value_at place_cmp place_of (whole_at 4) (new.now.trees 21) q ≡ cond (b && eq_by_cmp place_cmp q (e, (p, i))) None (value_at place_cmp place_of (whole_at 4) (old.now.trees 21) q))
+      × (nat_lt 0 count ≡ is_number n there)
+  it = ended e p i n old new count held.broker h
+
+  each : (f q j : Words) (b : Bool)
+      → option_map Some (cond b None (value_at place_cmp place_of (whole_at 4) (old.now.trees 21) (f, (q, j)))) ≡ option_map (λ name. option_map pos (number_of s.versions (version q name))) (cond b None (s.deployed (f, q, j)))
+  each f q j true = refl
+  each f q j false = held.deployed f q j
+
+  go : (b : Bool) → is_number n there ≡ b → Holds new.now (if b then without_instance s e p i else s)
+  go true hit =
+      deployed_change old.now new.now s _ held (frame_of (codes "deployed" ∷ []) 21 refl old new held.broker it.0) (λ f q j.
+      ap (option_map Some) (it.1 true hit (f, (q, j))) ∙ each f q j (eq_by_cmp place_cmp (f, (q, j)) (e, (p, i)))
+      ∙ ap (λ b. option_map (λ name. option_map pos (number_of s.versions (version q name))) (cond b None (s.deployed (f, q, j)))) (sym (place_ties f q j e p i)))
+  go false miss = deployed_change old.now new.now s s.deployed held (frame_of (codes "deployed" ∷ []) 21 refl old new held.broker it.0) (λ f q j. ap (option_map Some) (it.1 false miss (f, (q, j))) ∙ held.deployed f q j)
+
+  -- the version isn't deployed there any more, and the count says whether it was; another version stays
+  pub taken_out : IsVersionOf p n s → (t : Broker) × TakesOutAndTells e p i n (nat_lt 0 count) s t × Holds new.now t
+  taken_out v =
+      let told : (w : Version) → number_of s.versions w ≡ Some n → w.pacticipant ≡ p → is_number n there ≡ is_text w.name (s.deployed (e, p, i)) =
+      λ w is owner. is_number_there s.versions p there (s.deployed (e, p, i)) (held.deployed e p i) w n is owner in (
+        if is_text v.0.name (s.deployed (e, p, i)) then without_instance s e p i else s,
+        ((v.0, v.1, v.2, refl), λ w is owner. it.2 ∙ told w is owner),
+        go (is_text v.0.name (s.deployed (e, p, i))) (told v.0 v.1 v.2),
+      )
+
+  -- where the pacticipant has no version of that number, all stays
+  pub none_taken : ¬ (IsVersionOf p n s) → (t : Broker) × FindsNothing (nat_lt 0 count) s t × Holds new.now t
+  none_taken none =
+      let miss = none_is_there s.versions p there (s.deployed (e, p, i)) (held.deployed e p i) n (λ v is owner. none (v, is, owner)) in
+      (s, (it.2 ∙ miss, refl), go false miss)

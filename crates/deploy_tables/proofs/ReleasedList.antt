@@ -13,8 +13,6 @@ use Rattle.sqlite.specs.Collation.TheVariants.{Binary}
 use Rattle.sqlite_sql.specs.Query.{sort_cmp}
 use Rattle.sqlite_value.specs.declared.keys.Key.{Key}
 use Rattle.sqlite_value.specs.Keys.{ascending}
-use Rattle.sqlite.specs.Command.{Command}
-use Rattle.sqlite.specs.Command.TheVariants.{Select}
 use Rattle.sqlite.specs.Effect.{Database}
 use Rattle.sqlite.specs.Listing.{understood}
 use Rattle.sqlite_rules.specs.Lists.{Has}
@@ -22,11 +20,9 @@ use Rattle.sqlite_value.proofs.OrderLemmas.{value_cmp-Text, then-Equal}
 use Rattle.sqlite_tied.specs.Compute.{everything}
 use Rattle.table_access.specs.Columns.{text, text_cmp, whole_at, by_both, pair_cmp}
 use Rattle.table_access.specs.Sound.{text_in}
-use Rattle.sqlite.specs.Effect.{Answers}
 use Rattle.std.specs.Cmp.Lexicographic.{nat_list_cmp_total}
 use Rattle.table_access.specs.Statements.{from_both, keeps_both, pairs_kept}
 use Rattle.table_access.specs.Reading.{AreRead}
-use Rattle.table_access.proofs.Steps.{Means}
 use Rattle.table_access.proofs.SoundLemmas.{has_place, text_at, whole_in, any_of}
 use Rattle.table_access.proofs.Keys.{ascending_on, apart_by}
 use Rattle.table_access.proofs.Parts.{text_part, whole_part, agree_last, agree_and, once, numbers_once}
@@ -37,11 +33,10 @@ use Rattle.broker_core.specs.Text.{Text as Words, version}
 use Rattle.broker_core.specs.Listing.{Lists}
 use Rattle.broker_core.specs.Machine.{version_cmp}
 use Rattle.broker_core.specs.State.{State as Broker}
-use Rattle.broker_tables.specs.Schema.{broker_schema}
 use Rattle.broker_tables.specs.Rows.{stands_at}
 use Rattle.broker_tables.specs.Numbers.{number_of}
 use Rattle.broker_tables.specs.Holds.{Holds, IsBroker}
-use Rattle.broker_tables.proofs.Frames.{meant}
+use Rattle.broker_tables.proofs.Asked.{Asked, IsShown}
 use Rattle.broker_tables.proofs.Listed.{sorts, lists_join}
 use Rattle.broker_tables.proofs.NumberLemmas.{version_row}
 use Rattle.broker_tables.proofs.Orders.{pairs_total, exact_pair, placed_total, exact_placed}
@@ -54,42 +49,28 @@ use Rattle.table_access.proofs.Changes.{apart_or_same}
 use Rattle.sqlite.specs.Schema.{Schema}
 use Rattle.std.specs.Option.{option_map_or}
 
-abbrev pub list_sql : List ℕ
-list_sql = codes "SELECT v.pacticipant, v.version FROM released r JOIN versions v ON v.number = r.version_number WHERE r.environment = ?1 ORDER BY v.pacticipant, v.version"
-
 abbrev list_order : List (Term × Key)
 list_order = (col 2 2, ascending Binary) ∷ (col 2 3, ascending Binary) ∷ []
 
 abbrev list_project : List Term
 list_project = col 2 2 ∷ col 2 3 ∷ []
 
-abbrev pub list_command : Command
-list_command = Select (record { lets = []; body = from_both 23 6 (joined_by 2) list_project list_order }) (codes "pacticipant" ∷ codes "version" ∷ [])
-
-list_text : Means broker_schema list_sql list_command
+pub releases : (e : List ℕ)
+    → Asked (codes "SELECT v.pacticipant, v.version FROM released r JOIN versions v ON v.number = r.version_number WHERE r.environment = ?1 ORDER BY v.pacticipant, v.version")
+    (Text e ∷ []) (from_both 23 6 (joined_by 2) list_project list_order)
 unfolding understood everything
-list_text = record { is = refl; plain = (refl, refl); unlisted = refl }
-
-pub list_means : (db : Database) → IsBroker db → Means db.schema list_sql list_command
-list_means db broker = meant db broker list_sql list_text
+releases e = record { names = _; means = record { is = refl; plain = (refl, refl); unlisted = refl }; runs = record { whole = refl; typed = refl; sumless = refl } }
 
 -- ---- the same rows, with the versions' numbers
-
-abbrev pub standing_sql : List ℕ
-standing_sql = codes "SELECT r.version_number, v.pacticipant, v.version FROM released r JOIN versions v ON v.number = r.version_number WHERE r.environment = ?1 ORDER BY v.pacticipant, v.version"
 
 abbrev standing_project : List Term
 standing_project = col 1 2 ∷ col 2 2 ∷ col 2 3 ∷ []
 
-abbrev pub standing_command : Command
-standing_command = Select (record { lets = []; body = from_both 23 6 (joined_by 2) standing_project list_order }) (codes "version_number" ∷ codes "pacticipant" ∷ codes "version" ∷ [])
-
-standing_text : Means broker_schema standing_sql standing_command
+pub standing : (e : List ℕ)
+    → Asked (codes "SELECT r.version_number, v.pacticipant, v.version FROM released r JOIN versions v ON v.number = r.version_number WHERE r.environment = ?1 ORDER BY v.pacticipant, v.version")
+    (Text e ∷ []) (from_both 23 6 (joined_by 2) standing_project list_order)
 unfolding understood everything
-standing_text = record { is = refl; plain = (refl, refl); unlisted = refl }
-
-pub standing_means : (db : Database) → IsBroker db → Means db.schema standing_sql standing_command
-standing_means db broker = meant db broker standing_sql standing_text
+standing e = record { names = _; means = record { is = refl; plain = (refl, refl); unlisted = refl }; runs = record { whole = refl; typed = refl; sumless = refl } }
 
 -- ---- the columns
 
@@ -227,7 +208,7 @@ module _ (db : Database) (broker : IsBroker db) (e : Words) where
         let joined = is_joined db broker 2 e d.0 v.0 (numbers db broker d.0 d.1) (environments db broker d.0 d.1) v.1 (v.4 ∙ ap (λ x. x.1) place) (sym (ap (λ x. x.0) place)) in
         ((d.0, v.0), has_pair (keeps_both (joined_by 2) (Text e ∷ [])) (db.trees 6) (db.trees 23) d.0 v.0 d.1 v.1 joined, v.2, v.3)
 
-    pub released_listed : (rows : List Row) (items : List Version) → Answers db (record { lets = []; body = from_both 23 6 (joined_by 2) list_project list_order }) (Text e ∷ []) rows → AreRead IsReleasedRow rows items
+    pub released_listed : (rows : List Row) (items : List Version) → IsShown (releases e) db rows → AreRead IsReleasedRow rows items
         → Lists version_cmp (λ v. IsTrue (s.released (e, v))) items
     released_listed = lists_join db (Text e ∷ []) (joined_by 2) list_project list_order IsReleasedRow version_cmp (λ v. IsTrue (s.released (e, v))) 23 6 apart
         (λ a b x y ha hb ra rb h. in_order a b x.pacticipant x.name y.pacticipant y.name ha hb (ap text_in ra.0) (ap text_in ra.1) (ap text_in rb.0) (ap text_in rb.1) h)
@@ -259,7 +240,7 @@ module _ (db : Database) (broker : IsBroker db) (e : Words) where
         let shown : whole_at 2 q.0 ≡ pos x.number = ap id_in reads.0 in
         (p, name, (λ i. number_of s.versions (version (sym p i) (sym name i))) ∙ it.1 ∙ ap Some (same_pos it.0 x.number (sym it.2 ∙ shown)))
 
-    pub standing_listed : (rows : List Row) (items : List StandingVersion) → Answers db (record { lets = []; body = from_both 23 6 (joined_by 2) standing_project list_order }) (Text e ∷ []) rows → AreRead IsStandingRow rows items
+    pub standing_listed : (rows : List Row) (items : List StandingVersion) → IsShown (standing e) db rows → AreRead IsStandingRow rows items
         → Lists standing_cmp (IsReleasedThere s e) items
     standing_listed = lists_join db (Text e ∷ []) (joined_by 2) standing_project list_order IsStandingRow standing_cmp (IsReleasedThere s e) 23 6 apart
         (λ a b x y ha hb ra rb h. still_less (text_cmp x.pacticipant y.pacticipant) (text_cmp x.name y.name) (nat_cmp x.number y.number)

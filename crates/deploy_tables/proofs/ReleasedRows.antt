@@ -14,16 +14,16 @@ use Rattle.sqlite.specs.Order.{Row}
 use Rattle.sqlite.specs.Term.{Term, col, lit}
 use Rattle.sqlite.specs.Source.TheVariants.{Values}
 use Rattle.sqlite.specs.Command.{Command}
-use Rattle.sqlite.specs.Command.TheVariants.{Insert, Select, Delete}
+use Rattle.sqlite.specs.Command.TheVariants.{Insert, Delete}
 use Rattle.sqlite.specs.Effect.{Database}
-use Rattle.sqlite.specs.State.{State, Shown, Executes}
+use Rattle.sqlite.specs.State.{State, Executes}
 use Rattle.sqlite.specs.Listing.{understood}
 use Rattle.sqlite_rules.specs.Lists.{Has}
 use Rattle.sqlite_tied.specs.Compute.{everything}
 use Rattle.table_access.specs.Columns.{text, text_cmp, whole_at}
 use Rattle.table_access.specs.Statements.{from_table, keeps, shows}
 use Rattle.table_access.proofs.Values.{cast_null, cast_int}
-use Rattle.table_access.proofs.Steps.{Means, selects, inserts, deletes, deletes_counted}
+use Rattle.table_access.proofs.Steps.{Means, answered, inserts, deletes, deletes_counted}
 use Rattle.table_access.proofs.CountLemmas.{some_counted, same_any}
 use Rattle.table_access.proofs.Maps.{looks_up_at}
 use Rattle.table_access.proofs.SoundLemmas.{has_place, at_has}
@@ -36,6 +36,7 @@ use Rattle.broker_tables.specs.Schema.{broker_schema}
 use Rattle.broker_tables.specs.Rows.{stands_at}
 use Rattle.broker_tables.specs.Numbers.{number_of}
 use Rattle.broker_tables.specs.Holds.{Holds, IsBroker}
+use Rattle.broker_tables.proofs.Asked.{Asked, IsShown}
 use Rattle.broker_tables.proofs.Frames.{meant, frame_of, released_change}
 use Rattle.broker_tables.proofs.NumberLemmas.{number_ties, version_unknown}
 use Rattle.broker_tables.proofs.Orders.{placed_total, exact_placed}
@@ -59,28 +60,21 @@ module _ (db : Database) (broker : IsBroker db) where
 
 -- ---- whether a version is released
 
-abbrev pub is_sql : List ℕ
-is_sql = codes "SELECT environment FROM released WHERE environment = ?1 AND version_number = ?2"
-
-abbrev pub is_command : Command
-is_command = Select (record { lets = []; body = from_table 23 by_place (col 1 1 ∷ []) [] }) (codes "environment" ∷ [])
-
-is_text : Means broker_schema is_sql is_command
+pub release : (e : Words) (n : ℕ)
+    → Asked (codes "SELECT environment FROM released WHERE environment = ?1 AND version_number = ?2")
+    (Text e ∷ Int (pos n) ∷ []) (from_table 23 by_place (col 1 1 ∷ []) [])
 unfolding understood everything
-is_text = record { is = refl; plain = (refl, refl); unlisted = refl }
-
-pub is_means : (db : Database) → IsBroker db → Means db.schema is_sql is_command
-is_means db broker = meant db broker is_sql is_text
+release e n = record { names = _; means = record { is = refl; plain = (refl, refl); unlisted = refl }; runs = record { whole = refl; typed = refl; sumless = refl } }
 
 -- a row is shown just where one has this environment and number
-row_found : (e : Words) (n : ℕ) (old new : State) (rows : List Row) → IsBroker old.now → Shown is_sql (Text e ∷ Int (pos n) ∷ []) old new rows
-    → is_some (option_map (text 0) (slice_get rows 0)) ≡ stands_at placed place_of (old.now.trees 23) (e, pos n)
-row_found e n old new rows broker h =
+row_found : (e : Words) (n : ℕ) (db : Database) (rows : List Row) → IsBroker db → IsShown (release e n) db rows
+    → is_some (option_map (text 0) (slice_get rows 0)) ≡ stands_at placed place_of (db.trees 23) (e, pos n)
+row_found e n db rows broker h =
     let params = Text e ∷ Int (pos n) ∷ [] in
-    ap is_some (looks_up_at placed_total exact_placed place_of (text 1) (shows (col 1 1 ∷ []) params) (text 0) (λ r. refl) (e, pos n) (keeps by_place params) (old.now.trees 23) rows
-    (all_where placed (old.now.trees 23) place_of (e, pos n) by_place params (where_place old.now broker e n)) (keys old.now broker)
-    (selects is_sql params old new 23 by_place (col 1 1 ∷ []) [] (codes "environment" ∷ []) (is_means old.now broker) rows h))
-    ∙ stands_found placed place_of (text 1) (old.now.trees 23) (e, pos n)
+    ap is_some (looks_up_at placed_total exact_placed place_of (text 1) (shows (col 1 1 ∷ []) params) (text 0) (λ r. refl) (e, pos n) (keeps by_place params) (db.trees 23) rows
+    (all_where placed (db.trees 23) place_of (e, pos n) by_place params (where_place db broker e n)) (keys db broker)
+    (answered db params 23 by_place (col 1 1 ∷ []) [] rows h))
+    ∙ stands_found placed place_of (text 1) (db.trees 23) (e, pos n)
 
 -- no row names a number that no version has
 none_placed : (db : Database) (s : Broker) → Holds db s → (e : Words) (n : ℕ) → (¬ IsVersion n s) → stands_at placed place_of (db.trees 23) (e, pos n) ≡ false
@@ -95,15 +89,15 @@ none_placed db s held e n none = elim (cases_Bool (stands_at placed place_of (db
   | inr miss ↦ miss
 ]
 
-pub none_released : (e : Words) (n : ℕ) (old new : State) (rows : List Row) (s : Broker) → Holds old.now s → (¬ IsVersion n s) → Shown is_sql (Text e ∷ Int (pos n) ∷ []) old new rows
+pub none_released : (e : Words) (n : ℕ) (db : Database) (rows : List Row) (s : Broker) → Holds db s → (¬ IsVersion n s) → IsShown (release e n) db rows
     → is_some (option_map (text 0) (slice_get rows 0)) ≡ false
-none_released e n old new rows s held none h = row_found e n old new rows held.broker h ∙ none_placed old.now s held e n none
+none_released e n db rows s held none h = row_found e n db rows held.broker h ∙ none_placed db s held e n none
 
-pub release_found : (e : Words) (n : ℕ) (old new : State) (rows : List Row) (s : Broker) (v : Version) → Holds old.now s → number_of s.versions v ≡ Some n → Shown is_sql (Text e ∷ Int (pos n) ∷ []) old new rows
+pub release_found : (e : Words) (n : ℕ) (db : Database) (rows : List Row) (s : Broker) (v : Version) → Holds db s → number_of s.versions v ≡ Some n → IsShown (release e n) db rows
     → is_some (option_map (text 0) (slice_get rows 0)) ≡ s.released (e, v)
-release_found e n old new rows s v held is h =
-    row_found e n old new rows held.broker h
-    ∙ sym (ap (λ o. option_map_or (λ k. stands_at placed place_of (old.now.trees 23) (e, pos k)) o false) is) ∙ held.released e v
+release_found e n db rows s v held is h =
+    row_found e n db rows held.broker h
+    ∙ sym (ap (λ o. option_map_or (λ k. stands_at placed place_of (db.trees 23) (e, pos k)) o false) is) ∙ held.released e v
 
 -- ---- a change of one place
 

@@ -14,8 +14,6 @@ use Rattle.sqlite_sql.specs.declared.ops.BinaryOp.TheVariants.{Compare}
 use Rattle.sqlite_sql.specs.declared.ops.CompareOp.TheVariants.{Eq}
 use Rattle.sqlite_sql.specs.Ops.{binary, is_true}
 use Rattle.sqlite.specs.Collation.TheVariants.{Binary}
-use Rattle.sqlite.specs.Command.{Command}
-use Rattle.sqlite.specs.Command.TheVariants.{Select}
 use Rattle.sqlite.specs.Effect.{Database, Answers}
 use Rattle.sqlite.specs.Listing.{understood}
 use Rattle.sqlite_rules.specs.Lists.{Has}
@@ -25,18 +23,16 @@ use Rattle.table_access.specs.Columns.{whole_at}
 use Rattle.table_access.specs.Sound.{IsNumbered}
 use Rattle.table_access.specs.Statements.{from_both, keeps_both}
 use Rattle.table_access.specs.Reading.{AreRead}
-use Rattle.table_access.proofs.Steps.{Means}
 use Rattle.table_access.proofs.Maps.{find_has, has_find}
 use Rattle.table_access.proofs.Members.{has_pair, pair_has, any_has}
 use Rattle.table_access.proofs.Parts.{numbers_once}
 use Rattle.table_access.proofs.SoundLemmas.{any_of, whole_in, has_place, at_has}
 use Rattle.broker_core.specs.declared.command.Version.{Version}
 use Rattle.broker_core.specs.State.{State as Broker, Verification, latest_result}
-use Rattle.broker_tables.specs.Schema.{broker_schema}
 use Rattle.broker_tables.specs.Rows.{value_at, stands_at}
 use Rattle.broker_tables.specs.Numbers.{number_of}
-use Rattle.broker_tables.specs.Holds.{Holds, IsBroker, ResultRow, result_in, result_of}
-use Rattle.broker_tables.proofs.Frames.{meant}
+use Rattle.broker_tables.specs.Holds.{Holds, ResultRow, result_in, result_of}
+use Rattle.broker_tables.proofs.Asked.{Asked, IsShown}
 use Rattle.broker_tables.proofs.Listed.{read_has, has_read}
 use Rattle.broker_tables.proofs.Orders.{numbers_total, exact_numbers}
 use Rattle.broker_tables.proofs.Placed.{latest, latest_there}
@@ -53,60 +49,38 @@ use Rattle.deploy_tables.proofs.VersionRows.{same_some, same_pos}
 -- ---- the four statements
 
 -- ON the row's number is the result, WHERE the column at this place is the parameter
-abbrev terms : ℕ → List Term
+abbrev pub terms : ℕ → List Term
 terms place = op2 (Compare Eq Binary) (col 2 0) (col 1 3) ∷ op2 (Compare Eq Binary) (col 1 place) (col 0 0) ∷ []
 
-abbrev pass_project : List Term
+abbrev pub pass_project : List Term
 pass_project = col 1 3 ∷ col 2 5 ∷ []
 
-abbrev mark_project : List Term
+abbrev pub mark_project : List Term
 mark_project = col 1 3 ∷ []
 
-abbrev pub pass_command : ℕ → Command
-pass_command place = Select (record { lets = []; body = from_both 19 17 (terms place) pass_project [] }) (codes "result" ∷ codes "pass" ∷ [])
-
-abbrev pub mark_command : ℕ → Command
-mark_command place = Select (record { lets = []; body = from_both 19 25 (terms place) mark_project [] }) (codes "result" ∷ [])
-
-abbrev pub passes_for_sql : List ℕ
-passes_for_sql = codes "SELECT l.result, r.pass FROM latest l JOIN results r ON r.number = l.result WHERE l.content = ?1"
-
-passes_for_text : Means broker_schema passes_for_sql (pass_command 1)
+pub passes_for : (n : ℕ)
+    → Asked (codes "SELECT l.result, r.pass FROM latest l JOIN results r ON r.number = l.result WHERE l.content = ?1")
+    (Int (pos n) ∷ []) (from_both 19 17 (terms 1) pass_project [])
 unfolding understood everything
-passes_for_text = record { is = refl; plain = (refl, refl); unlisted = refl }
+passes_for n = record { names = _; means = record { is = refl; plain = (refl, refl); unlisted = refl }; runs = record { whole = refl; typed = refl; sumless = refl } }
 
-pub passes_for_means : (db : Database) → IsBroker db → Means db.schema passes_for_sql (pass_command 1)
-passes_for_means db broker = meant db broker passes_for_sql passes_for_text
-
-abbrev pub passes_by_sql : List ℕ
-passes_by_sql = codes "SELECT l.result, r.pass FROM latest l JOIN results r ON r.number = l.result WHERE l.provider_version = ?1"
-
-passes_by_text : Means broker_schema passes_by_sql (pass_command 2)
+pub passes_by : (n : ℕ)
+    → Asked (codes "SELECT l.result, r.pass FROM latest l JOIN results r ON r.number = l.result WHERE l.provider_version = ?1")
+    (Int (pos n) ∷ []) (from_both 19 17 (terms 2) pass_project [])
 unfolding understood everything
-passes_by_text = record { is = refl; plain = (refl, refl); unlisted = refl }
+passes_by n = record { names = _; means = record { is = refl; plain = (refl, refl); unlisted = refl }; runs = record { whole = refl; typed = refl; sumless = refl } }
 
-pub passes_by_means : (db : Database) → IsBroker db → Means db.schema passes_by_sql (pass_command 2)
-passes_by_means db broker = meant db broker passes_by_sql passes_by_text
-
-abbrev pub checked_for_sql : List ℕ
-checked_for_sql = codes "SELECT l.result FROM latest l JOIN checked_results c ON c.result = l.result WHERE l.content = ?1"
-
-checked_for_text : Means broker_schema checked_for_sql (mark_command 1)
+pub checked_for : (n : ℕ)
+    → Asked (codes "SELECT l.result FROM latest l JOIN checked_results c ON c.result = l.result WHERE l.content = ?1")
+    (Int (pos n) ∷ []) (from_both 19 25 (terms 1) mark_project [])
 unfolding understood everything
-checked_for_text = record { is = refl; plain = (refl, refl); unlisted = refl }
+checked_for n = record { names = _; means = record { is = refl; plain = (refl, refl); unlisted = refl }; runs = record { whole = refl; typed = refl; sumless = refl } }
 
-pub checked_for_means : (db : Database) → IsBroker db → Means db.schema checked_for_sql (mark_command 1)
-checked_for_means db broker = meant db broker checked_for_sql checked_for_text
-
-abbrev pub checked_by_sql : List ℕ
-checked_by_sql = codes "SELECT l.result FROM latest l JOIN checked_results c ON c.result = l.result WHERE l.provider_version = ?1"
-
-checked_by_text : Means broker_schema checked_by_sql (mark_command 2)
+pub checked_by : (n : ℕ)
+    → Asked (codes "SELECT l.result FROM latest l JOIN checked_results c ON c.result = l.result WHERE l.provider_version = ?1")
+    (Int (pos n) ∷ []) (from_both 19 25 (terms 2) mark_project [])
 unfolding understood everything
-checked_by_text = record { is = refl; plain = (refl, refl); unlisted = refl }
-
-pub checked_by_means : (db : Database) → IsBroker db → Means db.schema checked_by_sql (mark_command 2)
-checked_by_means db broker = meant db broker checked_by_sql checked_by_text
+checked_by n = record { names = _; means = record { is = refl; plain = (refl, refl); unlisted = refl }; runs = record { whole = refl; typed = refl; sumless = refl } }
 
 -- ---- the rows that they join
 
@@ -196,10 +170,10 @@ module _ (db : Database) (s : Broker) (held : Holds db s) where
         subst (Contains items) same y.1,
   )
 
-  pub passes_for_told : (k : ℕ) (rows : List Row) (items : List ResultPass) → Answers db (record { lets = []; body = from_both 19 17 (terms 1) pass_project [] }) (Int (pos k) ∷ []) rows → AreRead IsPassRow rows items → TellPasses s (λ content w. content ≡ k) items
+  pub passes_for_told : (k : ℕ) (rows : List Row) (items : List ResultPass) → IsShown (passes_for k) db rows → AreRead IsPassRow rows items → TellPasses s (λ content w. content ≡ k) items
   passes_for_told k = passes_told 1 k (contents db held.broker) (λ content w. content ≡ k) (λ content m w l of known one two. one ∙ ap pos of)
 
-  pub passes_by_told : (k : ℕ) (rows : List Row) (items : List ResultPass) → Answers db (record { lets = []; body = from_both 19 17 (terms 2) pass_project [] }) (Int (pos k) ∷ []) rows → AreRead IsPassRow rows items → TellPasses s (λ content w. number_of s.versions w ≡ Some k) items
+  pub passes_by_told : (k : ℕ) (rows : List Row) (items : List ResultPass) → IsShown (passes_by k) db rows → AreRead IsPassRow rows items → TellPasses s (λ content w. number_of s.versions w ≡ Some k) items
   passes_by_told k = passes_told 2 k (versions db held.broker) (λ content w. number_of s.versions w ≡ Some k) (λ content m w l of known one two. two ∙ ap pos (same_some m k (sym known ∙ of)))
 
   -- ---- which of them the broker checked
@@ -237,8 +211,8 @@ module _ (db : Database) (s : Broker) (held : Holds db s) where
         subst (Contains items) (same_pos y.0 e.0 (sym (ap id_in y.2) ∙ l.6)) y.1,
   )
 
-  pub checked_for_told : (k : ℕ) (rows : List Row) (items : List ℕ) → Answers db (record { lets = []; body = from_both 19 25 (terms 1) mark_project [] }) (Int (pos k) ∷ []) rows → AreRead IsNumber rows items → TellChecked s (λ content w. content ≡ k) items
+  pub checked_for_told : (k : ℕ) (rows : List Row) (items : List ℕ) → IsShown (checked_for k) db rows → AreRead IsNumber rows items → TellChecked s (λ content w. content ≡ k) items
   checked_for_told k = checked_told 1 k (contents db held.broker) (λ content w. content ≡ k) (λ content m w l of known one two. one ∙ ap pos of)
 
-  pub checked_by_told : (k : ℕ) (rows : List Row) (items : List ℕ) → Answers db (record { lets = []; body = from_both 19 25 (terms 2) mark_project [] }) (Int (pos k) ∷ []) rows → AreRead IsNumber rows items → TellChecked s (λ content w. number_of s.versions w ≡ Some k) items
+  pub checked_by_told : (k : ℕ) (rows : List Row) (items : List ℕ) → IsShown (checked_by k) db rows → AreRead IsNumber rows items → TellChecked s (λ content w. number_of s.versions w ≡ Some k) items
   checked_by_told k = checked_told 2 k (versions db held.broker) (λ content w. number_of s.versions w ≡ Some k) (λ content m w l of known one two. two ∙ ap pos (same_some m k (sym known ∙ of)))

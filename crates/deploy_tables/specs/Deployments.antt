@@ -37,6 +37,10 @@ abbrev pub FindsDeployed : Text → Text → Text → ℕ → Bool → State →
 FindsDeployed e p instance number stood s =
     TellsDeployed e p instance number stood s × ((¬ IsVersionOf p number s) → stood ≡ false)
 
+-- nothing is done, and nothing was there
+abbrev pub FindsNothing : Bool → State → State → Type 0
+FindsNothing stood s t = (stood ≡ false) × (t ≡ s)
+
 -- it is taken out, and whether it was there is told
 abbrev pub TakesOutAndTells : Text → Text → Text → ℕ → Bool → State → State → Type 0
 TakesOutAndTells e p instance number stood s t = TakesOut e p instance number s t × TellsDeployed e p instance number stood s

@@ -1,5 +1,5 @@
 -- How the rows of the listings read.
-use Rattle.std.specs.Prelude.{◌≡◌}
+use Rattle.std.specs.Prelude.{◌≡◌, ◌↔◌}
 use Rattle.sqlite.specs.Order.{Row, column}
 use Rattle.sqlite.specs.declared.types.Value.TheVariants.{Text}
 use Rattle.table_access.specs.declared.StoreFault.{StoreFault}
@@ -26,9 +26,9 @@ ReadsAsDeployed row = IsNameAt 0 row × IsTextAt 1 row × IsNameAt 2 row
 abbrev pub ReadsAsReleased : Row → Type 0
 ReadsAsReleased row = IsNameAt 0 row × IsNameAt 1 row
 
--- Store comes only where the row doesn't read, and wherever its first column is no name
+-- Store comes exactly where the row doesn't read, whichever of its columns is at fault
 abbrev pub FailsAsDeployed : Row → StoreFault → Type 0
-FailsAsDeployed row fault = (fault ≡ Store → ¬ ReadsAsDeployed row) × ((¬ IsNameAt 0 row) → fault ≡ Store)
+FailsAsDeployed row fault = (fault ≡ Store) ↔ (¬ ReadsAsDeployed row)
 
 abbrev pub FailsAsReleased : Row → StoreFault → Type 0
-FailsAsReleased row fault = (fault ≡ Store → ¬ ReadsAsReleased row) × ((¬ IsNameAt 0 row) → fault ≡ Store)
+FailsAsReleased row fault = (fault ≡ Store) ↔ (¬ ReadsAsReleased row)

@@ -1,7 +1,7 @@
 -- What a version needs in an environment, from the parts that are read: what stands there, its own contracts,
 -- and those that are with it. The clauses of `standing` and `needs` cite `AreNumbered`, `standing_cmp`, `IsStanding`
 -- and `ListsNeeds`, which say it in the machine's words; all else is for private clauses.
-use Rattle.std.specs.Prelude.{Contains, ◌≡◌, ◌≢◌, ℕ, List, [], ◌∷◌, ◌++◌, map, filter_map, flat_map, Option, Some, None, option_map, option_and_then, if◌then◌else◌, IsTrue, MatchOption, ⊤, pos}
+use Rattle.std.specs.Prelude.{Contains, ◌≡◌, ◌≢◌, ◌↔◌, ℕ, List, [], ◌∷◌, ◌++◌, map, filter_map, flat_map, Option, Some, None, option_map, option_and_then, if◌then◌else◌, IsTrue, MatchOption, ⊤, pos}
 use Rattle.sqlite.specs.Order.{Row, column}
 use Rattle.sqlite.specs.declared.types.Value.TheVariants.{Int, Text as SqlText}
 use Rattle.std.specs.declared.cmp.Ordering.{Ordering}
@@ -64,9 +64,9 @@ IsStandingRow row x = (column row 0 ≡ Int (pos x.number)) × (column row 1 ≡
 abbrev pub ReadsAsStanding : Row → Type 0
 ReadsAsStanding row = IsNumberRow row × IsNameAt 1 row × IsNameAt 2 row
 
--- Store comes only where the row doesn't read, and wherever its first column is no number
+-- Store comes exactly where the row doesn't read, whichever of its columns is at fault
 abbrev pub FailsAsStanding : Row → StoreFault → Type 0
-FailsAsStanding row fault = (fault ≡ Store → ¬ ReadsAsStanding row) × ((¬ IsNumberRow row) → fault ≡ Store)
+FailsAsStanding row fault = (fault ≡ Store) ↔ (¬ ReadsAsStanding row)
 
 -- each version that stands there has a number
 abbrev pub AreNumbered : State → Text → Type 0

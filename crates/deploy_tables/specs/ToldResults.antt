@@ -11,7 +11,7 @@ use Rattle.broker_core.specs.declared.command.Version.{Version}
 use Rattle.broker_core.specs.declared.answer.MatrixRow.{MatrixRow}
 use Rattle.broker_core.specs.declared.answer.Verified.{Verified}
 use Rattle.broker_core.specs.State.{State, Verification, latest_result}
-use Rattle.broker_tables.specs.Rows.{truth}
+use Rattle.broker_tables.specs.Rows.{truth, IsTruthAt}
 use Rattle.broker_tables.specs.Numbers.{number_of}
 use Rattle.contract_tables.specs.declared.listings.Contract.{Contract}
 use Rattle.contract_tables.specs.declared.listings.VerifiedVersion.{VerifiedVersion}
@@ -20,9 +20,9 @@ use Rattle.contract_tables.specs.VersionResults.{is_among}
 use Rattle.deploy_tables.specs.declared.entries.Entry.{Entry}
 use Rattle.deploy_tables.specs.declared.told_results.ResultPass.{ResultPass}
 
--- the columns are the result, and whether it is a pass
+-- the columns are the result, and whether it is a pass, which is 0 or 1
 abbrev pub IsPassRow : Row → ResultPass → Type 0
-IsPassRow row x = (column row 0 ≡ Int (pos x.number)) × (truth 1 row ≡ x.pass)
+IsPassRow row x = (column row 0 ≡ Int (pos x.number)) × (truth 1 row ≡ x.pass) × IsTruthAt 1 row
 
 -- each tells of the result with its number whether that is a pass, and one tells of each latest result, for a content
 -- and a version that are meant

@@ -3,7 +3,7 @@ ghost use Rattle.std.specs.Prelude.{◌≡◌, ◌==◌, false};
 ghost use Rattle.std.specs.Option.{option_map_or};
 ghost use Rattle.broker_tables.specs.Holds.{Changes, ChangesAndAnswers};
 ghost use Rattle.broker_tables.specs.Calm.{CalmQueriesInPlace};
-ghost use Rattle.deploy_tables.specs.Deployments.{RecordsDeployed, IsVersionOf, FindsDeployed, TakesOutAndTells};
+ghost use Rattle.deploy_tables.specs.Deployments.{RecordsDeployed, IsVersionOf, FindsDeployed, TakesOutAndTells, FindsNothing};
 
 use sqlite::{Alter, Connection, params};
 use table_access::{StoreFault, change, change_counted, number_of};
@@ -65,7 +65,8 @@ pub fn record_deployed<S: Alter>(
 }
 
 /// Takes the version of that number, one of the pacticipant, out of the environment as that instance, and answers
-/// whether it was deployed there. Its other instances stay, and so does another version that is deployed there.
+/// whether it was deployed there. Its other instances stay, and so does another version that is deployed there. `false`
+/// if the pacticipant has no version of that number; then everything stays.
 ///
 /// # Errors
 /// `StoreFault::Memory` if the database is out of memory; `StoreFault::Store` if it refused the change.
@@ -76,8 +77,10 @@ pub fn take_out<S: Alter>(
     instance: &str,
     number: u32,
 ) -> Result<bool, StoreFault>
-    ensures { ChangesAndAnswers S.Store conn.old conn.new result (IsVersionOf pacticipant.now number)
+    ensures taken { ChangesAndAnswers S.Store conn.old conn.new result (IsVersionOf pacticipant.now number)
         (TakesOutAndTells environment.now pacticipant.now instance.now number) }
+    ensures unknown { ChangesAndAnswers S.Store conn.old conn.new result
+        (λ s. ¬ (IsVersionOf pacticipant.now number s)) FindsNothing }
 {
     let taken = done!(change_counted(
         conn,

@@ -1,19 +1,26 @@
 //! What is in an environment, listed.
-ghost use Rattle.std.specs.Prelude.{◌≡◌, IsTrue, Some};
+ghost use Rattle.std.specs.Prelude.{◌≡◌, ◌↔◌, IsTrue, Some};
 ghost use Rattle.broker_core.specs.Listing.{Lists};
 ghost use Rattle.broker_core.specs.Machine.{deployed_cmp, version_cmp};
 ghost use Rattle.broker_tables.specs.Calm.{CalmQueries};
-ghost use Rattle.deploy_tables.specs.Listings.{IsDeployedRow, IsReleasedRow, FailsAsDeployed, FailsAsReleased};
+ghost use Rattle.deploy_tables.specs.Listings.{IsDeployedRow, IsReleasedRow, ReadsAsDeployed, ReadsAsReleased, FailsAsDeployed, FailsAsReleased};
 
 use broker_core::answer::DeployedItem;
 use broker_core::command::Version;
 use broker_core::name::Text;
-use broker_tables::{name_in, text_in};
+use broker_tables::{has_name, name_in, text_in};
 use sqlite::{Alter, Connection, Row, params};
 use std::alloc::Global;
-use table_access::{ReadRow, StoreFault, list_of};
+use table_access::{ReadRow, StoreFault, list_of, text_at};
 
-/// A pacticipant, an instance and a version.
+/// Whether the row has a pacticipant, an instance and a version. No memory is taken.
+fn reads_as_deployed(row: &Row) -> bool
+    ensures { IsTrue result ↔ ReadsAsDeployed row.now }
+{
+    has_name(row, 0) && text_at(row, 1).is_some() && has_name(row, 2)
+}
+
+/// A pacticipant, an instance and a version. They are looked at before memory is taken.
 struct DeployedRow;
 
 impl ReadRow for DeployedRow {
@@ -24,6 +31,9 @@ impl ReadRow for DeployedRow {
     ghost fails_as = { FailsAsDeployed };
 
     fn read(alloc: Global, row: &Row) -> Result<DeployedItem, StoreFault> {
+        if !reads_as_deployed(row) {
+            return Err(StoreFault::Store);
+        }
         let pacticipant = name_in(alloc, row, 0)?;
         let instance = text_in(alloc, row, 1)?;
         let version = name_in(alloc, row, 2)?;
@@ -35,7 +45,14 @@ impl ReadRow for DeployedRow {
     }
 }
 
-/// A pacticipant and a version.
+/// Whether the row has a pacticipant and a version. No memory is taken.
+fn reads_as_released(row: &Row) -> bool
+    ensures { IsTrue result ↔ ReadsAsReleased row.now }
+{
+    has_name(row, 0) && has_name(row, 1)
+}
+
+/// A pacticipant and a version. Both are looked at before memory is taken.
 struct ReleasedRow;
 
 impl ReadRow for ReleasedRow {
@@ -46,6 +63,9 @@ impl ReadRow for ReleasedRow {
     ghost fails_as = { FailsAsReleased };
 
     fn read(alloc: Global, row: &Row) -> Result<Version, StoreFault> {
+        if !reads_as_released(row) {
+            return Err(StoreFault::Store);
+        }
         let pacticipant = name_in(alloc, row, 0)?;
         let name = name_in(alloc, row, 1)?;
         Ok(Version { pacticipant, name })

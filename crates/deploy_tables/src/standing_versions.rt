@@ -7,7 +7,7 @@ ghost use Rattle.deploy_tables.specs.Needs.{IsDeployedThere, AreDeployedNumbered
 ghost use Rattle.deploy_tables.specs.Needs.{IsStanding, AreNumbered, standing_cmp};
 
 use broker_core::name::Name;
-use broker_tables::name_in;
+use broker_tables::{has_name, name_in};
 use sqlite::{Alter, Connection, Row, params};
 use std::alloc::Global;
 use table_access::{ReadRow, StoreFault, list_of, number_in};
@@ -20,7 +20,7 @@ pub struct StandingVersion {
     pub number: u32,
 }
 
-/// A version's number, its pacticipant and its name.
+/// A version's number, its pacticipant and its name. They are looked at before memory is taken.
 struct StandingRow;
 
 impl ReadRow for StandingRow {
@@ -32,6 +32,12 @@ impl ReadRow for StandingRow {
 
     fn read(alloc: Global, row: &Row) -> Result<StandingVersion, StoreFault> {
         let number = number_in(row)?;
+        if !has_name(row, 1) {
+            return Err(StoreFault::Store);
+        }
+        if !has_name(row, 2) {
+            return Err(StoreFault::Store);
+        }
         let pacticipant = name_in(alloc, row, 1)?;
         let name = name_in(alloc, row, 2)?;
         Ok(StandingVersion {

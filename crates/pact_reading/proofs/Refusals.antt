@@ -23,7 +23,7 @@ use Rattle.pact_file.proofs.Again.{one_read}
 use Rattle.reply_check.specs.Recorded.{Reply}
 use Rattle.reply_check.specs.Verdicts.{IsKnown, AreKnown, IsFirstUnknown, UsesPattern}
 use Rattle.reply_check.specs.Meeting.{HasPattern}
-use Rattle.pact_reading.specs.Readings.{TellsRefusal, HasPatternIfPact, IsNoPact}
+use Rattle.pact_reading.specs.Readings.{TellsRefusal, HasPatternIfPact, IsNoPact, IsPatternAsked}
 use Rattle.pact_reading.proofs.Patterns.{refused_regex}
 
 same_Ok : {A F : Type 0} {x y : A} → ◌≡◌ {A = Result A F} (Ok x) (Ok y) → x ≡ y
@@ -194,8 +194,11 @@ no_pact text e other h p k =
       err_same : (x y : PactFault) → ◌≡◌ {A = Result Pact PactFault} (Err x) (Err y) → x ≡ y
       err_same x y k = cc
 
-pub told_pattern : (text : List ℕ) (e : PactFault) → TellsRefusal e → Normal text (Err e) → HasPatternIfPact text
-told_pattern text e (i, is) h p k = refused_pattern text (Err e) p (i, ap Err is) h k
+has_refused : (text : List ℕ) (e : PactFault) → TellsRefusal e → Normal text (Err e) → HasPatternIfPact text
+has_refused text e (i, is) h p k = refused_pattern text (Err e) p (i, ap Err is) h k
+
+pub told_pattern : (text : List ℕ) (replies : List Reply) (e : PactFault) → TellsRefusal e → Normal text (Err e) → HasPatternIfPact text × IsPatternAsked text replies
+told_pattern text replies e is h = (has_refused text e is h, inl (e, is, h))
 
 pub ok_both : {A F : Type 0} (r : Result A F) (P Q R : A → Type 0) → ((x : A) → P x → Q x → R x) → IfOk r P → IfOk r Q → IfOk r R
 ok_both (Ok x) P Q R f h k = f x h k
@@ -216,5 +219,6 @@ has_pattern [] replies h = absurd h
 has_pattern (x ∷ xs) replies (inl h) = inl h.1
 has_pattern (x ∷ xs) replies (inr h) = inr (has_pattern xs replies h)
 
-pub pattern_used : (text : List ℕ) (p : Pact) (replies : List Reply) → Normal text (Ok p) → UsesPattern p.interactions replies → HasPatternIfPact text
-pattern_used text p replies normal uses q also = subst (λ (z : Pact). OneOf HasPattern z.interactions) (one_read text p q normal also) (has_pattern p.interactions replies uses)
+pub pattern_used : (text : List ℕ) (p : Pact) (replies : List Reply) → Normal text (Ok p) → AreKnown p.interactions replies × UsesPattern p.interactions replies → HasPatternIfPact text × IsPatternAsked text replies
+pattern_used text p replies normal uses =
+    (λ q also. subst (λ (z : Pact). OneOf HasPattern z.interactions) (one_read text p q normal also) (has_pattern p.interactions replies uses.1), inr (p, normal, uses))

@@ -1,6 +1,6 @@
 -- What the machine takes from pact files and from recorded replies: how a file is read (Pact Specification, version
 -- 3), whether replies are well formed, and which interactions fail by them (this project's own choice)
-use Rattle.std.specs.Prelude.{◌≡◌, ℕ, Bool, false, nat_eq, List, Option, Some, None, Result, Ok, Err, codes}
+use Rattle.std.specs.Prelude.{◌≡◌, ◌⊎◌, ℕ, Bool, false, nat_eq, List, Option, Some, None, Result, Ok, Err, codes}
 use Rattle.std.specs.List.{starts_with}
 use Rattle.pact_file.specs.Normal.{Normal}
 use Rattle.pact_file.specs.Pact.{Interaction, Pact, normal_text}
@@ -12,7 +12,7 @@ use Rattle.pact_rules.specs.Lists.{OneOf}
 use Rattle.reply_check.specs.Meeting.{HasPattern as InteractionHasPattern}
 use Rattle.reply_check.specs.Recorded.{Reply}
 use Rattle.reply_check.specs.Replies.{RepliesRead}
-use Rattle.reply_check.specs.Verdicts.{AreKnown, AreFailing}
+use Rattle.reply_check.specs.Verdicts.{AreKnown, AreFailing, UsesPattern}
 use Rattle.reply_check.specs.Words.{number_text as replies_number}
 use Rattle.reply_check.specs.declared.fault.RepliesFault.{RepliesFault}
 use Rattle.pact_reading.specs.declared.checking.Comparison.{Comparison}
@@ -83,9 +83,23 @@ PactHasPattern text = (p : Pact) × Normal text (Ok p) × OneOf InteractionHasPa
 abbrev pub HasPatternIfPact : Text → Type 0
 HasPatternIfPact text = (p : Pact) → Normal text (Ok p) → OneOf InteractionHasPattern p.interactions
 
+-- a pattern is refused where the text is read
+abbrev pub IsReadToRefusal : Text → Type 0
+IsReadToRefusal text = (found : PactFault) × TellsRefusal found × Normal text (Err found)
+
+-- the text is read as a pact that knows each reply, and an interaction that has one has a pattern
+abbrev pub IsComparedByPattern : Text → List Reply → Type 0
+IsComparedByPattern text replies = (p : Pact) × Normal text (Ok p)
+    × (AreKnown p.interactions replies × UsesPattern p.interactions replies)
+
+-- a pattern is asked of the text or of a reply to it: so none is where the text is no pact for another fault, or where
+-- a reply belongs to no interaction
+abbrev pub IsPatternAsked : Text → List Reply → Type 0
+IsPatternAsked text replies = IsReadToRefusal text ⊎ IsComparedByPattern text replies
+
 -- what the comparison of a stored pact with replies tells
 abbrev pub Tells : Text → List Reply → Comparison → Type 0
 Tells text replies (Failing places) = Compared text replies (Some places)
 Tells text replies UnknownReply = Compared text replies None
-Tells text replies Pattern = HasPatternIfPact text
+Tells text replies Pattern = HasPatternIfPact text × IsPatternAsked text replies
 Tells text replies NoPact = IsNoPact text

@@ -12,11 +12,7 @@ use Rattle.sqlite.specs.Collation.TheVariants.{Binary}
 use Rattle.sqlite_sql.specs.declared.ops.BinaryOp.TheVariants.{Compare}
 use Rattle.sqlite_sql.specs.declared.ops.CompareOp.TheVariants.{Eq, Lt}
 use Rattle.sqlite_sql.specs.Ops.{binary, is_true}
-use Rattle.sqlite.specs.Command.{Command}
-use Rattle.sqlite.specs.Query.{Query}
-use Rattle.sqlite.specs.Command.TheVariants.{Select}
 use Rattle.sqlite.specs.Effect.{Database}
-use Rattle.sqlite.specs.State.{State, Shown}
 use Rattle.sqlite.specs.Listing.{understood}
 use Rattle.sqlite_rules.specs.Lists.{Has}
 use Rattle.sqlite_keyed.specs.Lists.{sort_by}
@@ -25,55 +21,33 @@ use Rattle.sqlite_tied.specs.Compute.{everything}
 use Rattle.table_access.specs.Columns.{whole_at}
 use Rattle.table_access.specs.Statements.{from_both, up_to, keeps_both}
 use Rattle.table_access.proofs.Values.{less_ints}
-use Rattle.table_access.proofs.Steps.{Means, shown_answers}
 use Rattle.table_access.proofs.Members.{contains_has, has_contains, has_pair}
 use Rattle.table_access.proofs.Ordered.{sorted_has, has_sorted}
 use Rattle.table_access.proofs.Newest.{joins_first}
 use Rattle.table_access.proofs.ReadLemmas.{number_found}
 use Rattle.table_access.proofs.SoundLemmas.{at_has}
 use Rattle.broker_core.specs.State.{State as Broker}
-use Rattle.broker_tables.specs.Schema.{broker_schema}
 use Rattle.broker_tables.specs.Holds.{Holds, IsBroker}
 use Rattle.table_access.specs.Reading.{IsNumberRow}
-use Rattle.table_access.proofs.Answered.{Runs, number_shown, first_pair_shown}
-use Rattle.broker_tables.specs.Readable.{IsReadable}
+use Rattle.broker_tables.proofs.Asked.{Asked, IsShown, EachReads, of_first_both}
+use Rattle.broker_tables.proofs.ReadableRows.{number_cell}
 use Rattle.registry_tables.proofs.VersionRows as of_versions
-use Rattle.broker_tables.proofs.Frames.{runs_here, meant}
 use Rattle.registry_tables.specs.Registry.{IsBranchNumber, IsNewestBelow}
 use Rattle.registry_tables.proofs.BranchNumbers.{terms, order, ids, number, by_number, total, kept_pairs, from_rows, sorted, apart_too, falls, from_pair, to_pair, exact_pos}
-
-abbrev pub below_sql : List ℕ
-below_sql = codes "SELECT v.number FROM versions v JOIN branches b ON b.version_number = v.number WHERE v.pacticipant = ?1 AND b.branch = ?2 AND v.number < ?3 ORDER BY v.number DESC LIMIT 1"
 
 abbrev below_terms : List Term
 below_terms = op2 (Compare Eq Binary) (col 2 1) (col 1 0) ∷ op2 (Compare Eq Binary) (col 1 2) (col 0 0) ∷ op2 (Compare Eq Binary) (col 2 2) (col 0 1) ∷ op2 (Compare Lt Binary) (col 1 0) (col 0 2) ∷ []
 
-abbrev pub below_query : Query
-below_query = up_to 1 (from_both 6 8 below_terms (col 1 0 ∷ []) order)
-
-abbrev pub below_command : Command
-below_command = Select (record { lets = []; body = below_query }) (codes "number" ∷ [])
-
-below_text : Means broker_schema below_sql below_command
+pub below : (p b : List ℕ) (k : ℕ)
+    → Asked (codes "SELECT v.number FROM versions v JOIN branches b ON b.version_number = v.number WHERE v.pacticipant = ?1 AND b.branch = ?2 AND v.number < ?3 ORDER BY v.number DESC LIMIT 1")
+    (Text p ∷ Text b ∷ Int (pos k) ∷ []) (up_to 1 (from_both 6 8 below_terms (col 1 0 ∷ []) order))
 unfolding understood everything
-below_text = record { is = refl; plain = (refl, refl); unlisted = refl }
-
-pub below_means : (db : Database) → IsBroker db → Means db.schema below_sql below_command
-below_means db broker = meant db broker below_sql below_text
-
-below_there : (p b : List ℕ) (k : ℕ) → Runs broker_schema below_sql (Text p ∷ Text b ∷ Int (pos k) ∷ []) below_query
-unfolding understood everything
-below_there p b k = record { whole = refl; typed = refl; sumless = refl }
-
-pub below_runs : (db : Database) → IsBroker db → (p b : List ℕ) (k : ℕ) → Runs db.schema below_sql (Text p ∷ Text b ∷ Int (pos k) ∷ []) below_query
-below_runs db broker p b k = runs_here db broker below_sql (Text p ∷ Text b ∷ Int (pos k) ∷ []) below_query (below_there p b k)
+below p b k = record { names = _; means = record { is = refl; plain = (refl, refl); unlisted = refl }; runs = record { whole = refl; typed = refl; sumless = refl } }
 
 -- where the versions are few enough, the numbers can be read
-pub below_stand : (p b : List ℕ) (k : ℕ) (old new : State) (rows : List Row) (row : Row) (s : Broker) → Holds old.now s → IsReadable s → Shown below_sql (Text p ∷ Text b ∷ Int (pos k) ∷ []) old new rows → Has rows row → IsNumberRow row
-below_stand p b k old new rows row s held readable h has =
-    let it = first_pair_shown old.now (Text p ∷ Text b ∷ Int (pos k) ∷ []) 1 6 8 below_terms (col 1 0 ∷ []) order rows (shown_answers below_sql (Text p ∷ Text b ∷ Int (pos k) ∷ []) old new _ _ (below_means old.now held.broker) rows h) row has in
-    let n = of_versions.low old.now s held readable it.0 it.2 in
-    number_shown (Text p ∷ Text b ∷ Int (pos k) ∷ []) it.0 row 0 (of_versions.ids old.now held.broker it.0 it.2) it.4 n.0 n.1 n.2
+pub below_reads : (p b : List ℕ) (k : ℕ) (db : Database) → EachReads (below p b k) db IsNumberRow
+below_reads p b k db s held readable =
+    of_first_both (below p b k) db _ (λ v x hv hx kept. number_cell (eval_all (col 1 0 ∷ []) ([] ∷ v ∷ x ∷ [])) 0 (whole_at 0 v) (omega arith) (of_versions.ids db held.broker v hv) (of_versions.low db s held readable v hv))
 
 -- ---- the order of numbers, and of the columns that hold them
 
@@ -192,14 +166,11 @@ first_taken : {X Y : Type 0} (f : X → Y) (xs : List X) → slice_get (take 1 (
 first_taken f [] = refl
 first_taken f (x ∷ xs) = refl
 
-pub below_found : (p b : List ℕ) (k : ℕ) (old new : State) (rows : List Row) (found : Option ℕ) (s : Broker) → Holds old.now s → Shown below_sql (Text p ∷ Text b ∷ Int (pos k) ∷ []) old new rows
+pub below_found : (p b : List ℕ) (k : ℕ) (db : Database) (rows : List Row) (found : Option ℕ) (s : Broker) → Holds db s → IsShown (below p b k) db rows
     → option_map (λ n. Int (pos n)) found ≡ option_map (λ r. column r 0) (slice_get rows 0) → IsNewestBelow s p b k found
-below_found p b k old new rows found s held h read =
+below_found p b k db rows found s held h read =
     first_is db broker p b k s held found (in_order db broker p b k) first (falls db broker p b (keep db broker p b k) (asks db broker p b k)) (λ q has. has) (λ q has. has)
   where
-    db : Database
-    db = old.now
-
     broker : IsBroker db
     broker = held.broker
 
@@ -207,7 +178,7 @@ below_found p b k old new rows found s held h read =
     project q = eval_all (col 1 0 ∷ []) ((Text p ∷ Text b ∷ Int (pos k) ∷ []) ∷ q.0 ∷ q.1 ∷ [])
 
     is : rows ≡ take 1 (map project (in_order db broker p b k))
-    is = joins_first old.now (Text p ∷ Text b ∷ Int (pos k) ∷ []) 6 8 below_terms (col 1 0 ∷ []) order 1 rows (shown_answers below_sql (Text p ∷ Text b ∷ Int (pos k) ∷ []) old new _ _ (below_means old.now held.broker) rows h)
+    is = joins_first db (Text p ∷ Text b ∷ Int (pos k) ∷ []) 6 8 below_terms (col 1 0 ∷ []) order 1 rows h
         (apart_too db broker p b (keep db broker p b k) (asks db broker p b k)) ∙ ap (λ l. take 1 (map project l)) (sorted db broker p b (keep db broker p b k) (asks db broker p b k))
 
     shown : (o : Option (Row × Row)) → option_map (λ r. id_in (column r 0)) (option_map project o) ≡ option_map (number db broker p b) o

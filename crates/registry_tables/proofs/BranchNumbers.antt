@@ -1,5 +1,5 @@
 -- The query for the numbers of the versions on a branch.
-use Rattle.std.proofs.Common.{◌≡◌, ℕ, ℤ, pos, codes, List, [], ◌∷◌, map, Bool, true, false, cond, nat_lt, ◌&&◌, refl, sym, ap, subst, ◌∙◌, Some, None, Option, Ordering, Less, Equal, Greater, inl, inr}
+use Rattle.std.proofs.Common.{◌≡◌, ℕ, ℤ, pos, codes, List, [], ◌∷◌, map, Bool, true, false, cond, nat_lt, ◌&&◌, refl, sym, ap, subst, ◌∙◌, Some, None, Option, Ordering, Less, Equal, Greater, inl, inr, arith}
 use Rattle.std.specs.Prelude.{option_map, Contains, ◌==◌}
 use Rattle.std.specs.Option.{option_map_or}
 use Rattle.std.specs.List.{AllByRecursion}
@@ -20,11 +20,7 @@ use Rattle.sqlite_sql.specs.Ops.{binary, is_true}
 use Rattle.sqlite_sql.specs.Query.{sort_cmp}
 use Rattle.sqlite_value.specs.declared.keys.Key.{Key}
 use Rattle.sqlite_value.proofs.OrderLemmas.{value_cmp-Int, then-Equal}
-use Rattle.sqlite.specs.Command.{Command}
-use Rattle.sqlite.specs.Query.{Query}
-use Rattle.sqlite.specs.Command.TheVariants.{Select}
 use Rattle.sqlite.specs.Effect.{Database}
-use Rattle.sqlite.specs.State.{State, Shown}
 use Rattle.sqlite.specs.Listing.{understood}
 use Rattle.sqlite_rules.specs.Lists.{Has}
 use Rattle.sqlite_rules.proofs.TableLemmas.{int_is}
@@ -34,7 +30,6 @@ use Rattle.sqlite_tied.specs.Compute.{everything}
 use Rattle.table_access.specs.Columns.{text, text_cmp, whole_at, by_both}
 use Rattle.table_access.specs.Statements.{from_both, keeps_both}
 use Rattle.table_access.proofs.Values.{same_texts, same_ints}
-use Rattle.table_access.proofs.Steps.{Means, shown_answers}
 use Rattle.table_access.proofs.Keys.{ascending_on}
 use Rattle.table_access.proofs.Maps.{find_has, has_find}
 use Rattle.table_access.proofs.Members.{contains_has, has_contains, has_map, map_has, pairs, has_pair, pair_has, pairs_rise, rises_map}
@@ -44,14 +39,12 @@ use Rattle.table_access.proofs.SoundLemmas.{at_has, any_of}
 use Rattle.broker_core.specs.Listing.{Lists}
 use Rattle.broker_core.specs.Text.{version}
 use Rattle.broker_core.specs.State.{State as Broker}
-use Rattle.broker_tables.specs.Schema.{broker_schema}
 use Rattle.broker_tables.specs.Rows.{stands_at}
 use Rattle.broker_tables.specs.Numbers.{number_of}
 use Rattle.broker_tables.specs.Holds.{Holds, IsBroker}
 use Rattle.table_access.specs.Reading.{IsNumberRow}
-use Rattle.table_access.proofs.Answered.{Runs, number_shown, pair_shown}
-use Rattle.broker_tables.specs.Readable.{IsReadable}
-use Rattle.broker_tables.proofs.Frames.{runs_here, meant}
+use Rattle.broker_tables.proofs.Asked.{Asked, IsShown, EachReads, of_both}
+use Rattle.broker_tables.proofs.ReadableRows.{number_cell}
 use Rattle.broker_tables.proofs.Orders.{exact_texts, pairs_total, exact_pair, marked_total, exact_marked}
 use Rattle.broker_tables.proofs.NumberLemmas.{version_row}
 use Rattle.broker_tables.proofs.References.{any_has}
@@ -60,41 +53,22 @@ use Rattle.registry_tables.proofs.VersionRows as of_versions
 use Rattle.registry_tables.proofs.BranchRows as of_branches
 use Rattle.registry_tables.proofs.BranchRows.{key}
 
-abbrev pub numbers_sql : List ℕ
-numbers_sql = codes "SELECT v.number FROM versions v JOIN branches b ON b.version_number = v.number WHERE v.pacticipant = ?1 AND b.branch = ?2 ORDER BY v.number DESC"
-
 abbrev pub terms : List Term
 terms = op2 (Compare Eq Binary) (col 2 1) (col 1 0) ∷ op2 (Compare Eq Binary) (col 1 2) (col 0 0) ∷ op2 (Compare Eq Binary) (col 2 2) (col 0 1) ∷ []
 
 abbrev pub order : List (Term × Key)
 order = (col 1 0, record { collation = Binary; descending = true }) ∷ []
 
-abbrev pub numbers_query : Query
-numbers_query = from_both 6 8 terms (col 1 0 ∷ []) order
-
-abbrev pub numbers_command : Command
-numbers_command = Select (record { lets = []; body = numbers_query }) (codes "number" ∷ [])
-
-numbers_text : Means broker_schema numbers_sql numbers_command
+pub numbers : (p b : List ℕ)
+    → Asked (codes "SELECT v.number FROM versions v JOIN branches b ON b.version_number = v.number WHERE v.pacticipant = ?1 AND b.branch = ?2 ORDER BY v.number DESC")
+    (Text p ∷ Text b ∷ []) (from_both 6 8 terms (col 1 0 ∷ []) order)
 unfolding understood everything
-numbers_text = record { is = refl; plain = (refl, refl); unlisted = refl }
-
-pub numbers_means : (db : Database) → IsBroker db → Means db.schema numbers_sql numbers_command
-numbers_means db broker = meant db broker numbers_sql numbers_text
-
-numbers_there : (p b : List ℕ) → Runs broker_schema numbers_sql (Text p ∷ Text b ∷ []) numbers_query
-unfolding understood everything
-numbers_there p b = record { whole = refl; typed = refl; sumless = refl }
-
-pub numbers_runs : (db : Database) → IsBroker db → (p b : List ℕ) → Runs db.schema numbers_sql (Text p ∷ Text b ∷ []) numbers_query
-numbers_runs db broker p b = runs_here db broker numbers_sql (Text p ∷ Text b ∷ []) numbers_query (numbers_there p b)
+numbers p b = record { names = _; means = record { is = refl; plain = (refl, refl); unlisted = refl }; runs = record { whole = refl; typed = refl; sumless = refl } }
 
 -- where the versions are few enough, the numbers can be read
-pub numbers_stand : (p b : List ℕ) (old new : State) (rows : List Row) (row : Row) (s : Broker) → Holds old.now s → IsReadable s → Shown numbers_sql (Text p ∷ Text b ∷ []) old new rows → Has rows row → IsNumberRow row
-numbers_stand p b old new rows row s held readable h has =
-    let it = pair_shown old.now (Text p ∷ Text b ∷ []) 6 8 terms (col 1 0 ∷ []) order rows (shown_answers numbers_sql (Text p ∷ Text b ∷ []) old new _ _ (numbers_means old.now held.broker) rows h) row has in
-    let n = of_versions.low old.now s held readable it.0 it.2 in
-    number_shown (Text p ∷ Text b ∷ []) it.0 row 0 (of_versions.ids old.now held.broker it.0 it.2) it.4 n.0 n.1 n.2
+pub numbers_reads : (p b : List ℕ) (db : Database) → EachReads (numbers p b) db IsNumberRow
+numbers_reads p b db s held readable =
+    of_both (numbers p b) db _ (λ v x hv hx kept. number_cell (eval_all (col 1 0 ∷ []) ([] ∷ v ∷ x ∷ [])) 0 (whole_at 0 v) (omega arith) (of_versions.ids db held.broker v hv) (of_versions.low db s held readable v hv))
 
 -- ---- lists of numbers
 
@@ -257,9 +231,9 @@ firsts : (p b : List ℕ) (qs : List (Row × Row)) → map id_in (map (λ r. col
 firsts p b [] = refl
 firsts p b (q ∷ qs) = ap (λ more. whole_at 0 q.0 ∷ more) (firsts p b qs)
 
-pub numbers_listed : (p b : List ℕ) (old new : State) (rows : List Row) (items : List ℕ) (s : Broker) → Holds old.now s → Shown numbers_sql (Text p ∷ Text b ∷ []) old new rows → map (λ n. Int (pos n)) items ≡ map (λ r. column r 0) rows
+pub numbers_listed : (p b : List ℕ) (db : Database) (rows : List Row) (items : List ℕ) (s : Broker) → Holds db s → IsShown (numbers p b) db rows → map (λ n. Int (pos n)) items ≡ map (λ r. column r 0) rows
     → Lists (flip_args nat_cmp) (IsBranchNumber s p b) items
-numbers_listed p b old new rows items s held h read = record { sorted = unmapped items rising; exactly = λ n. (there n, back n) }
+numbers_listed p b db rows items s held h read = record { sorted = unmapped items rising; exactly = λ n. (there n, back n) }
   where
     keep : Row → Row → Bool
     keep = keeps_both terms (Text p ∷ Text b ∷ [])
@@ -268,31 +242,31 @@ numbers_listed p b old new rows items s held h read = record { sorted = unmapped
     itself r x kept = kept
 
     in_order : List (Row × Row)
-    in_order = sort_by (by_number old.now held.broker p b) (kept_pairs old.now held.broker p b keep itself)
+    in_order = sort_by (by_number db held.broker p b) (kept_pairs db held.broker p b keep itself)
 
-    is : rows ≡ map (λ (q : Row × Row). eval_all (col 1 0 ∷ []) ((Text p ∷ Text b ∷ []) ∷ q.0 ∷ q.1 ∷ [])) (sort_by (by_query old.now held.broker p b) (kept_pairs old.now held.broker p b keep itself))
-    is = joins_in_order old.now (Text p ∷ Text b ∷ []) 6 8 terms (col 1 0 ∷ []) order rows (shown_answers numbers_sql (Text p ∷ Text b ∷ []) old new _ _ (numbers_means old.now held.broker) rows h) (apart_too old.now held.broker p b keep itself)
+    is : rows ≡ map (λ (q : Row × Row). eval_all (col 1 0 ∷ []) ((Text p ∷ Text b ∷ []) ∷ q.0 ∷ q.1 ∷ [])) (sort_by (by_query db held.broker p b) (kept_pairs db held.broker p b keep itself))
+    is = joins_in_order db (Text p ∷ Text b ∷ []) 6 8 terms (col 1 0 ∷ []) order rows h (apart_too db held.broker p b keep itself)
 
-    ints : map pos items ≡ map (number old.now held.broker p b) in_order
-    ints = sym (wholes items) ∙ ap (map id_in) (read ∙ ap (map (λ r. column r 0)) is) ∙ firsts p b _ ∙ ap (map (number old.now held.broker p b)) (sorted old.now held.broker p b keep itself)
+    ints : map pos items ≡ map (number db held.broker p b) in_order
+    ints = sym (wholes items) ∙ ap (map id_in) (read ∙ ap (map (λ r. column r 0)) is) ∙ firsts p b _ ∙ ap (map (number db held.broker p b)) (sorted db held.broker p b keep itself)
 
     rising : IsStrictlySortedBy (flip_args int_cmp) (map pos items)
-    rising = subst (IsStrictlySortedBy (flip_args int_cmp)) (sym ints) (rises_map (by_number old.now held.broker p b) (flip_args int_cmp) (number old.now held.broker p b) (λ a c less. less) _ (falls old.now held.broker p b keep itself))
+    rising = subst (IsStrictlySortedBy (flip_args int_cmp)) (sym ints) (rises_map (by_number db held.broker p b) (flip_args int_cmp) (number db held.broker p b) (λ a c less. less) _ (falls db held.broker p b keep itself))
 
     there : (n : ℕ) → Contains items n → IsBranchNumber s p b n
     there n contains =
         let one : Has (map pos items) (pos n) = has_map pos items n (contains_has items n contains) in
-        let q = map_has (number old.now held.broker p b) in_order (pos n) (subst (λ xs. Has xs (pos n)) ints one) in
-        let among : Has (kept_pairs old.now held.broker p b keep itself) q.0 = contains_has _ q.0 (sorted_has (by_number old.now held.broker p b) (total old.now held.broker p b) (kept_pairs old.now held.broker p b keep itself) q.0 (has_contains in_order q.0 q.1)) in
-        let stand = from_rows old.now held.broker p b keep itself q.0 among in
-        from_pair old.now s held p b q.0.0 q.0.1 stand.0 stand.1 stand.2 n q.2
+        let q = map_has (number db held.broker p b) in_order (pos n) (subst (λ xs. Has xs (pos n)) ints one) in
+        let among : Has (kept_pairs db held.broker p b keep itself) q.0 = contains_has _ q.0 (sorted_has (by_number db held.broker p b) (total db held.broker p b) (kept_pairs db held.broker p b keep itself) q.0 (has_contains in_order q.0 q.1)) in
+        let stand = from_rows db held.broker p b keep itself q.0 among in
+        from_pair db s held p b q.0.0 q.0.1 stand.0 stand.1 stand.2 n q.2
 
     back : (n : ℕ) → IsBranchNumber s p b n → Contains items n
     back n on_branch =
-        let q = to_pair old.now s held p b n on_branch in
-        let among : Has (kept_pairs old.now held.broker p b keep itself) q.0 = has_pair keep (old.now.trees 8) (old.now.trees 6) q.0.0 q.0.1 q.1 q.2 q.3 in
-        let listed : Has in_order q.0 = contains_has in_order q.0 (has_sorted (by_number old.now held.broker p b) (total old.now held.broker p b) (kept_pairs old.now held.broker p b keep itself) q.0 (has_contains _ q.0 among)) in
-        let whole : Has (map pos items) (pos n) = subst (λ xs. Has xs (pos n)) (sym ints) (subst (Has _) q.4 (has_map (number old.now held.broker p b) in_order q.0 listed)) in
+        let q = to_pair db s held p b n on_branch in
+        let among : Has (kept_pairs db held.broker p b keep itself) q.0 = has_pair keep (db.trees 8) (db.trees 6) q.0.0 q.0.1 q.1 q.2 q.3 in
+        let listed : Has in_order q.0 = contains_has in_order q.0 (has_sorted (by_number db held.broker p b) (total db held.broker p b) (kept_pairs db held.broker p b keep itself) q.0 (has_contains _ q.0 among)) in
+        let whole : Has (map pos items) (pos n) = subst (λ xs. Has xs (pos n)) (sym ints) (subst (Has _) q.4 (has_map (number db held.broker p b) in_order q.0 listed)) in
         let item = map_has pos items (pos n) whole in
         let nat : n ≡ item.0 = exact_pos n item.0 item.2 in
         has_contains items n (subst (Has items) (sym nat) item.1)

@@ -15,19 +15,17 @@ use Rattle.sqlite.specs.Kind.TheVariants.{Integer}
 use Rattle.sqlite.specs.Term.{col, lit}
 use Rattle.sqlite.specs.Source.TheVariants.{Values}
 use Rattle.sqlite.specs.Command.{Command}
-use Rattle.sqlite.specs.Query.{Query}
-use Rattle.sqlite.specs.Command.TheVariants.{Insert, Select}
+use Rattle.sqlite.specs.Command.TheVariants.{Insert}
 use Rattle.sqlite.specs.Schema.{Schema}
 use Rattle.sqlite.specs.Effect.{Database}
-use Rattle.sqlite.specs.State.{State, Shown, Executes}
+use Rattle.sqlite.specs.State.{State, Executes}
 use Rattle.sqlite.specs.Listing.{understood}
 use Rattle.sqlite_rules.specs.Lists.{Has}
 use Rattle.sqlite_tied.specs.Compute.{everything}
 use Rattle.table_access.specs.Columns.{text, text_cmp, whole_at, by_both}
 use Rattle.table_access.specs.Statements.{from_table, by_two, keeps}
 use Rattle.table_access.proofs.Values.{cast_null, cast_int}
-use Rattle.table_access.proofs.Answered.{Runs, shown_of}
-use Rattle.table_access.proofs.Steps.{Means, selects, inserts}
+use Rattle.table_access.proofs.Steps.{Means, answered, inserts}
 use Rattle.table_access.proofs.Maps.{looks_up_at}
 use Rattle.table_access.proofs.Keys.{apart_by}
 use Rattle.table_access.proofs.Parts.{Part, text_part, whole_part, is_param, where_last, where_and, all_where, agree_last, agree_and, once}
@@ -39,7 +37,8 @@ use Rattle.broker_tables.specs.Schema.{broker_schema}
 use Rattle.broker_tables.specs.Rows.{stands_at}
 use Rattle.broker_tables.specs.Numbers.{number_of}
 use Rattle.broker_tables.specs.Holds.{Holds, IsBroker}
-use Rattle.broker_tables.proofs.Frames.{runs_here, meant, frame_of, branches_change}
+use Rattle.broker_tables.proofs.Asked.{Asked, IsShown, NoneFor, of_table}
+use Rattle.broker_tables.proofs.Frames.{meant, frame_of, branches_change}
 use Rattle.broker_tables.proofs.Orders.{marked_total, exact_marked}
 use Rattle.broker_tables.proofs.Ties.{both_eq, two_tests}
 use Rattle.broker_tables.proofs.NumberLemmas.{number_ties, version_unknown}
@@ -70,43 +69,25 @@ module _ (db : Database) (broker : IsBroker db) where
 
 -- ---- whether a version is on a branch
 
-abbrev pub on_sql : List ℕ
-on_sql = codes "SELECT branch FROM branches WHERE version_number = ?1 AND branch = ?2"
-
-abbrev pub on_query : Query
-on_query = from_table 8 (by_two 1 2) (col 1 2 ∷ []) []
-
-abbrev pub on_command : Command
-on_command = Select (record { lets = []; body = on_query }) (codes "branch" ∷ [])
-
-on_text : Means broker_schema on_sql on_command
+pub on : (n : ℕ) (b : List ℕ)
+    → Asked (codes "SELECT branch FROM branches WHERE version_number = ?1 AND branch = ?2")
+    (Int (pos n) ∷ Text b ∷ []) (from_table 8 (by_two 1 2) (col 1 2 ∷ []) [])
 unfolding understood everything
-on_text = record { is = refl; plain = (refl, refl); unlisted = refl }
-
-pub on_means : (db : Database) → IsBroker db → Means db.schema on_sql on_command
-on_means db broker = meant db broker on_sql on_text
-
-on_there : (n : ℕ) (b : List ℕ) → Runs broker_schema on_sql (Int (pos n) ∷ Text b ∷ []) on_query
-unfolding understood everything
-on_there n b = record { whole = refl; typed = refl; sumless = refl }
-
-pub on_runs : (db : Database) → IsBroker db → (n : ℕ) (b : List ℕ) → Runs db.schema on_sql (Int (pos n) ∷ Text b ∷ []) on_query
-on_runs db broker n b = runs_here db broker on_sql (Int (pos n) ∷ Text b ∷ []) on_query (on_there n b)
+on n b = record { names = _; means = record { is = refl; plain = (refl, refl); unlisted = refl }; runs = record { whole = refl; typed = refl; sumless = refl } }
 
 -- no row is shown for a number that no version has
-pub no_branch : (n : ℕ) (b : List ℕ) (old new : State) (rows : List Row) (s : Broker) → Holds old.now s → ((v : Version) → ¬ (number_of s.versions v ≡ Some n)) → Shown on_sql (Int (pos n) ∷ Text b ∷ []) old new rows → (row : Row) → Has rows row → ⊥
-no_branch n b old new rows s held none h row has =
-    let it = shown_of on_sql (Int (pos n) ∷ Text b ∷ []) old new 8 _ _ _ _ (on_means old.now held.broker) rows row h has in
-    no_row old.now s held n none branches (has_place _ 4 branches (branches_there old.now held.broker)) 1 (inl refl) it.0 it.1 ((numbers old.now held.broker).typed it.0 it.1) (first_of_both _ _ it.2)
+pub on_none : (n : ℕ) (b : List ℕ) (db : Database) → NoneFor (on n b) db n
+on_none n b db s held none = of_table (on n b) db _ (λ r has kept.
+    no_row db s held n none branches (has_place _ 4 branches (branches_there db held.broker)) 1 (inl refl) r has ((numbers db held.broker).typed r has) (first_of_both _ _ kept))
 
-pub branch_found : (n : ℕ) (b : List ℕ) (old new : State) (rows : List Row) (s : Broker) (v : Version) → Holds old.now s → number_of s.versions v ≡ Some n → Shown on_sql (Int (pos n) ∷ Text b ∷ []) old new rows
+pub on_found : (n : ℕ) (b : List ℕ) (db : Database) (rows : List Row) (s : Broker) (v : Version) → Holds db s → number_of s.versions v ≡ Some n → IsShown (on n b) db rows
     → is_some (option_map (text 0) (slice_get rows 0)) ≡ s.branches (v, b)
-branch_found n b old new rows s v held is h =
-    ap is_some (looks_up_at marked_total exact_marked key (text 2) _ (text 0) (λ r. refl) (pos n, b) _ (old.now.trees 8) rows
-    (all_where (by_both int_cmp text_cmp) (old.now.trees 8) key (pos n, b) (by_two 1 2) (Int (pos n) ∷ Text b ∷ []) (by_key old.now held.broker n b)) (keys old.now held.broker)
-    (selects on_sql (Int (pos n) ∷ Text b ∷ []) old new 8 _ _ _ _ (on_means old.now held.broker) rows h))
-    ∙ stands_found (by_both int_cmp text_cmp) key (text 2) (old.now.trees 8) (pos n, b)
-    ∙ sym (ap (λ o. option_map_or (λ k. stands_at (by_both int_cmp text_cmp) key (old.now.trees 8) (pos k, b)) o false) is) ∙ held.branches v b
+on_found n b db rows s v held is h =
+    ap is_some (looks_up_at marked_total exact_marked key (text 2) _ (text 0) (λ r. refl) (pos n, b) _ (db.trees 8) rows
+    (all_where (by_both int_cmp text_cmp) (db.trees 8) key (pos n, b) (by_two 1 2) (Int (pos n) ∷ Text b ∷ []) (by_key db held.broker n b)) (keys db held.broker)
+    (answered db _ 8 _ _ _ rows h))
+    ∙ stands_found (by_both int_cmp text_cmp) key (text 2) (db.trees 8) (pos n, b)
+    ∙ sym (ap (λ o. option_map_or (λ k. stands_at (by_both int_cmp text_cmp) key (db.trees 8) (pos k, b)) o false) is) ∙ held.branches v b
 
 -- ---- a version is put on a branch
 

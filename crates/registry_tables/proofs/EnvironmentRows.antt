@@ -1,5 +1,5 @@
 -- The statements on environments and their marks.
-use Rattle.std.proofs.Common.{◌≡◌, ◌==◌, ℕ, pos, codes, List, [], ◌∷◌, Bool, true, false, cond, ◌||◌, refl, sym, ap, ◌∙◌, slice_get, Some, None, Option, Ok, ◌<◌, ◌≤◌, ◌^◌, arith}
+use Rattle.std.proofs.Common.{◌≡◌, ◌==◌, ℕ, pos, codes, List, [], ◌∷◌, Bool, true, false, cond, ◌||◌, refl, sym, ap, ◌∙◌, slice_get, Some, None, Option, Ok, ◌<◌, ◌≤◌, ◌^◌, subst, arith}
 use Rattle.std.specs.Prelude.{option_map, is_some, IsSomeAnd}
 use Rattle.std.specs.Option.{option_map_or}
 use Rattle.std.specs.Ordering.{eq_by_cmp}
@@ -23,7 +23,9 @@ use Rattle.sqlite.specs.Query.{Query}
 use Rattle.sqlite.specs.Command.TheVariants.{Insert, Select}
 use Rattle.sqlite.specs.Schema.{Schema}
 use Rattle.sqlite.specs.Effect.{Database}
-use Rattle.sqlite.specs.State.{State, Shown, Executes}
+use Rattle.sqlite.specs.State.{State, Shown, ShowsRows, IsUnchanged, Executes}
+use Rattle.sqlite.specs.Given.{IsPlain}
+use Rattle.sqlite.specs.Clock.{timed}
 use Rattle.sqlite.specs.Listing.{understood}
 use Rattle.sqlite_rules.specs.Lists.{Has}
 use Rattle.sqlite_tied.specs.Compute.{everything}
@@ -42,7 +44,7 @@ use Rattle.broker_core.specs.declared.command.Marks.{Marks}
 use Rattle.broker_core.specs.Text.{put_at, same_text}
 use Rattle.broker_core.specs.State.{State as Broker}
 use Rattle.broker_tables.specs.Schema.{broker_schema}
-use Rattle.broker_tables.specs.Rows.{truth, truth_in, value_at, stands_at}
+use Rattle.broker_tables.specs.Rows.{truth, truth_in, value_at, stands_at, IsTruthAt}
 use Rattle.broker_tables.specs.Holds.{Holds, IsBroker, marks_in}
 use Rattle.broker_tables.proofs.Frames.{runs_here, meant, frame_of, Frame, environments_change}
 use Rattle.broker_tables.proofs.Orders.{exact_texts}
@@ -51,6 +53,7 @@ use Rattle.broker_tables.proofs.Growth.{none_stands}
 use Rattle.broker_tables.proofs.References.{refers_environment}
 use Rattle.broker_tables.proofs.Standing.{stands_found, stands_put, value_map}
 use Rattle.broker_tables.proofs.Placed.{environments, environments_there, strict_environments, strict_environments_there}
+use Rattle.registry_tables.specs.Marks.{gate_question, IsMarkShown, IsMarkKnown}
 use Rattle.registry_tables.specs.Registry.{marks}
 use Rattle.std.proofs.Common.{inl}
 
@@ -73,7 +76,7 @@ module _ (db : Database) (broker : IsBroker db) where
 -- ---- the mark gated
 
 abbrev pub gated_sql : List ℕ
-gated_sql = codes "SELECT gated FROM environments WHERE name = ?1"
+gated_sql = gate_question
 
 abbrev pub gated_query : Query
 gated_query = from_table 10 (op2 (Compare Eq Binary) (col 1 1) (col 0 0) ∷ []) (col 1 2 ∷ []) []
@@ -139,6 +142,37 @@ gated_true e old new rows s (Some n) held h read high = go (slice_get rows 0) re
         let same : pos n ≡ pos k.0 = whole ∙ ap (whole_at 0) it.3 ∙ k.1 in
         let nats : n ≡ k.0 = cc in
         omega (arith, high, nats, k.2)
+
+-- a number above 1 is no mark
+pub no_mark : (found : Option ℕ) (o : Option Row) → option_map (λ n. Int (pos n)) found ≡ option_map (λ row. column row 0) o → IsSomeAnd found (λ n. 1 < n) → (row : Row) × (o ≡ Some row) × (¬ IsTruthAt 0 row)
+no_mark None o read high = absurd high
+no_mark (Some n) None read high = absurd cc
+no_mark (Some n) (Some row) read high = (
+  row,
+  refl,
+  λ stands.
+      let one : Some (Int (pos n)) ≡ Some (Int (pos stands.1.0)) = read ∙ ap Some stands.1.1 in
+      let nats : n ≡ stands.1.0 = cc in
+      omega (arith, high, nats, stands.1.2),
+)
+
+-- a mark is a number
+pub mark_is_number : (row : Row) → IsTruthAt 0 row → IsNumberRow row
+mark_is_number row stands = (stands.0, (stands.1.0, stands.1.1, omega (arith, stands.1.2)))
+
+-- what a query showed it shows again, and leaves all as it is
+shown_again : (sql : List ℕ) (params : Row) (old new : State) (rows : List Row) → IsPlain (understood old.now.schema sql) → Shown sql params old new rows → Shown sql params old old rows
+unfolding Shown
+shown_again sql params old new rows plain h =
+    let none = (subst IsPlain h.1.is plain).0 in
+    let full = timed params h.0.formats h.1.now in
+    let it = subst (ShowsRows old new sql h.0 full rows) none h.2 in
+    let is_open = it.3.0.was_open in
+    let same : IsUnchanged old old = (record { was_open = is_open; is_open = is_open; now_is = refl; committed_is = refl; mode = refl }, record { changes = refl; last_rowid = refl }, refl) in
+    (h.0, h.1, subst (ShowsRows old old sql h.0 full rows) (sym none) (it.0, it.1, it.2, same))
+
+pub gate_known : (e : List ℕ) (old new : State) (gated : Option Bool) → IsMarkShown e old new gated → IsMarkKnown e old gated
+gate_known e old new gated h plain = (h.0, shown_again gate_question (Text e ∷ []) old new h.0 plain h.1, h.2)
 
 -- ---- the mark strict
 

@@ -1,5 +1,5 @@
 -- The format that a query on meta finds.
-use Rattle.std.proofs.Common.{◌≡◌, ◌≢◌, ℕ, pos, codes, List, [], ◌∷◌, map, filter, length, refl, sym, ap, subst, ◌∙◌, slice_get, Some, None, Option, Ok}
+use Rattle.std.proofs.Common.{◌≡◌, ◌≢◌, ◌<◌, ◌^◌, arith, ℕ, pos, codes, List, [], ◌∷◌, map, filter, length, refl, sym, ap, subst, ◌∙◌, slice_get, Some, None, Option, Ok}
 use Rattle.std.specs.Prelude.{MatchOption, option_and_then}
 use Rattle.std.specs.List.Sorted.{IsPermutation}
 use Rattle.std.proofs.lemmas.List.{length-map}
@@ -16,10 +16,11 @@ use Rattle.sqlite.specs.Order.{Row, column}
 use Rattle.sqlite.specs.Term.{col}
 use Rattle.sqlite.specs.State.{State, Shown}
 use Rattle.sqlite.specs.Listing.{understood}
+use Rattle.table_access.specs.Reading.{IsNumberRow}
 use Rattle.table_access.specs.Statements.{keeps, shows}
 use Rattle.table_access.proofs.Steps.{Means, selects, shown_unchanged}
 use Rattle.broker_tables.specs.Schema.{meta, numbers, texts}
-use Rattle.registry_tables.specs.Format.{IsLike, AreLike, IsMetaTable, Finds, table_of}
+use Rattle.registry_tables.specs.Format.{IsLike, AreLike, IsMetaTable, Finds, HasNoFormat, table_of}
 use Rattle.registry_tables.proofs.FormatText.{format_sql, like, like_meta, format_command, format_means}
 
 -- ---- the query
@@ -76,6 +77,16 @@ found_in db t there is rows same (Some n) one =
     let single : length (db.trees t.tree) ≡ 1 = sym (as_many (db.trees t.tree) rows same) ∙ sym (length-map rows (λ (x : Row). column x 0)) ∙ ap length one in
     (t, there, is, sym (one_shown (db.trees t.tree) rows same single) ∙ one)
 
+head_same : (x y : Row) → ◌≡◌ {A = List Row} (x ∷ []) (y ∷ []) → x ≡ y
+head_same x y h = cc
+
+-- the one row that is shown has no number: nor has the one row of the table
+numberless : (rows out : List Row) → IsPermutation (map (shows (col 1 2 ∷ []) []) (filter (keeps [] []) rows)) out → (row : Row) → out ≡ row ∷ [] → ¬ (IsNumberRow row) → (r : Row) × (rows ≡ r ∷ []) × ((n : ℕ) → column r 2 ≡ Int (pos n) → ¬ (n < 2 ^ 32))
+numberless [] out same row one not = let many : length {A = Row} [] ≡ 1 = sym (as_many [] out same) ∙ ap length one in absurd cc
+numberless (r ∷ []) out same row one not =
+    (r, refl, λ n is low. not (subst IsNumberRow (head_same (shows (col 1 2 ∷ []) [] r) row (sym (one_permutation _ out same) ∙ one)) (omega arith, (n, is, low))))
+numberless (r ∷ q ∷ rows) out same row one not = let many : length (r ∷ q ∷ rows) ≡ 1 = sym (as_many (r ∷ q ∷ rows) out same) ∙ ap length one in absurd cc
+
 module _ (old new : State) (t : Table) (there : table_of meta.name old.now.schema ≡ Some t) (is : IsMetaTable t) (rows : List Row) (h : Shown format_sql [] old new rows) where
   shown_means : Means old.now.schema format_sql (format_command t.tree)
   unfolding Shown
@@ -87,3 +98,8 @@ module _ (old new : State) (t : Table) (there : table_of meta.name old.now.schem
   -- and the database is as it was
   pub format_read : new.now ≡ old.now
   format_read = (shown_unchanged format_sql [] old new rows shown_means.plain h).0.now_is
+
+  pub no_format : (row : Row) → rows ≡ row ∷ [] → ¬ (IsNumberRow row) → HasNoFormat old.now
+  no_format row one not =
+      let found = numberless (old.now.trees t.tree) rows (selects format_sql [] old new t.tree [] (col 1 2 ∷ []) [] (codes "format" ∷ []) shown_means rows h) row one not in
+      (t, there, is, found)

@@ -10,19 +10,17 @@ use Rattle.sqlite.specs.Order.{Row, column}
 use Rattle.sqlite.specs.Term.{col, lit}
 use Rattle.sqlite.specs.Source.TheVariants.{Values}
 use Rattle.sqlite.specs.Command.{Command}
-use Rattle.sqlite.specs.Query.{Query}
-use Rattle.sqlite.specs.Command.TheVariants.{Insert, Select, Delete}
+use Rattle.sqlite.specs.Command.TheVariants.{Insert, Delete}
 use Rattle.sqlite.specs.Schema.{Schema}
 use Rattle.sqlite.specs.Effect.{Database}
-use Rattle.sqlite.specs.State.{State, Shown, Executes}
+use Rattle.sqlite.specs.State.{State, Executes}
 use Rattle.sqlite.specs.Listing.{understood}
 use Rattle.sqlite_rules.specs.Lists.{Has}
 use Rattle.sqlite_tied.specs.Compute.{everything}
 use Rattle.table_access.specs.Columns.{text, pair_cmp}
 use Rattle.table_access.specs.Statements.{from_table, by_two, keeps}
 use Rattle.table_access.proofs.Values.{cast_null}
-use Rattle.table_access.proofs.Answered.{Runs}
-use Rattle.table_access.proofs.Steps.{Means, selects, inserts, deletes}
+use Rattle.table_access.proofs.Steps.{Means, answered, inserts, deletes}
 use Rattle.table_access.proofs.Maps.{looks_up_at}
 use Rattle.table_access.proofs.Keys.{apart_by, pair_keys, by_pair}
 use Rattle.table_access.proofs.SoundLemmas.{text_at, has_place, at_has}
@@ -30,7 +28,8 @@ use Rattle.broker_core.specs.Text.{put_at, same_text, same_pair}
 use Rattle.broker_core.specs.State.{State as Broker}
 use Rattle.broker_tables.specs.Schema.{broker_schema}
 use Rattle.broker_tables.specs.Holds.{Holds, IsBroker}
-use Rattle.broker_tables.proofs.Frames.{runs_here, meant, frame_of, grants_change}
+use Rattle.broker_tables.proofs.Asked.{Asked, IsShown}
+use Rattle.broker_tables.proofs.Frames.{meant, frame_of, grants_change}
 use Rattle.broker_tables.proofs.Orders.{pairs_total, exact_pair}
 use Rattle.broker_tables.proofs.Ties.{grant_ties}
 use Rattle.broker_tables.proofs.Standing.{stands_found, stands_put, stands_out}
@@ -48,35 +47,18 @@ module _ (db : Database) (broker : IsBroker db) where
 
 -- ---- whether a grant stands
 
-abbrev pub granted_sql : List ℕ
-granted_sql = codes "SELECT team FROM grants WHERE team = ?1 AND environment = ?2"
-
-abbrev pub granted_query : Query
-granted_query = from_table 12 (by_two 1 2) (col 1 1 ∷ []) []
-
-abbrev pub granted_command : Command
-granted_command = Select (record { lets = []; body = granted_query }) (codes "team" ∷ [])
-
-granted_text : Means broker_schema granted_sql granted_command
+pub granted : (team e : List ℕ)
+    → Asked (codes "SELECT team FROM grants WHERE team = ?1 AND environment = ?2")
+    (Text team ∷ Text e ∷ []) (from_table 12 (by_two 1 2) (col 1 1 ∷ []) [])
 unfolding understood everything
-granted_text = record { is = refl; plain = (refl, refl); unlisted = refl }
+granted team e = record { names = _; means = record { is = refl; plain = (refl, refl); unlisted = refl }; runs = record { whole = refl; typed = refl; sumless = refl } }
 
-pub granted_means : (db : Database) → IsBroker db → Means db.schema granted_sql granted_command
-granted_means db broker = meant db broker granted_sql granted_text
-
-granted_there : (team e : List ℕ) → Runs broker_schema granted_sql (Text team ∷ Text e ∷ []) granted_query
-unfolding understood everything
-granted_there team e = record { whole = refl; typed = refl; sumless = refl }
-
-pub granted_runs : (db : Database) → IsBroker db → (team e : List ℕ) → Runs db.schema granted_sql (Text team ∷ Text e ∷ []) granted_query
-granted_runs db broker team e = runs_here db broker granted_sql (Text team ∷ Text e ∷ []) granted_query (granted_there team e)
-
-pub grant_found : (team e : List ℕ) (old new : State) (rows : List Row) (s : Broker) → Holds old.now s → Shown granted_sql (Text team ∷ Text e ∷ []) old new rows → is_some (option_map (text 0) (slice_get rows 0)) ≡ s.grants (team, e)
-grant_found team e old new rows s held h =
-    ap is_some (looks_up_at pairs_total exact_pair (λ r. (text 1 r, text 2 r)) (text 1) _ (text 0) (λ r. refl) (team, e) _ (old.now.trees 12) rows
-    (by_pair (old.now.trees 12) 1 2 team e (names old.now held.broker) (places old.now held.broker)) (keys old.now held.broker)
-    (selects granted_sql (Text team ∷ Text e ∷ []) old new 12 _ _ _ _ (granted_means old.now held.broker) rows h))
-    ∙ stands_found pair_cmp (λ r. (text 1 r, text 2 r)) (text 1) (old.now.trees 12) (team, e) ∙ held.grants team e
+pub grant_found : (team e : List ℕ) (db : Database) (rows : List Row) (s : Broker) → Holds db s → IsShown (granted team e) db rows → is_some (option_map (text 0) (slice_get rows 0)) ≡ s.grants (team, e)
+grant_found team e db rows s held h =
+    ap is_some (looks_up_at pairs_total exact_pair (λ r. (text 1 r, text 2 r)) (text 1) _ (text 0) (λ r. refl) (team, e) _ (db.trees 12) rows
+    (by_pair (db.trees 12) 1 2 team e (names db held.broker) (places db held.broker)) (keys db held.broker)
+    (answered db _ 12 _ _ _ rows h))
+    ∙ stands_found pair_cmp (λ r. (text 1 r, text 2 r)) (text 1) (db.trees 12) (team, e) ∙ held.grants team e
 
 -- ---- a new grant
 

@@ -7,7 +7,6 @@ pub mod VersionRows
 pub mod BranchRows
 pub mod EnvironmentRows
 pub mod MetaRow
-pub mod MissingLemmas
 pub mod FormatText
 pub mod FoundFormat
 pub mod BranchNumbers

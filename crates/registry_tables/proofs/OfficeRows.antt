@@ -11,11 +11,8 @@ use Rattle.table_access.proofs.SoundLemmas.{text_at, has_place}
 use Rattle.broker_tables.proofs.Placed.{meta}
 use Rattle.sqlite.specs.Schema.{Schema}
 use Rattle.sqlite.specs.Term.{col}
-use Rattle.sqlite.specs.Command.{Command}
-use Rattle.sqlite.specs.Query.{Query}
-use Rattle.sqlite.specs.Command.TheVariants.{Select}
 use Rattle.sqlite.specs.Effect.{Database}
-use Rattle.sqlite.specs.State.{State, Shown}
+use Rattle.sqlite.specs.State.{State}
 use Rattle.sqlite.specs.Listing.{understood}
 use Rattle.sqlite_tied.specs.Compute.{everything}
 use Rattle.table_access.specs.declared.StoreFault.{StoreFault}
@@ -24,41 +21,22 @@ use Rattle.table_access.specs.Calls.{IsEnded}
 use Rattle.table_access.specs.Reading.{FailsToTake, TellsText, IsTextAt}
 use Rattle.table_access.specs.Columns.{text}
 use Rattle.table_access.specs.Statements.{from_table, keeps, shows}
-use Rattle.table_access.proofs.Answered.{Runs, text_stands}
-use Rattle.table_access.proofs.Steps.{Means, selects}
+use Rattle.table_access.proofs.Steps.{answered}
 use Rattle.table_access.proofs.CallLemmas.{query_by, refused_memory}
 use Rattle.broker_core.specs.State.{State as Broker}
-use Rattle.broker_tables.specs.Readable.{IsReadable}
-use Rattle.broker_tables.specs.Schema.{broker_schema}
 use Rattle.broker_tables.specs.Holds.{Holds, IsBroker, IsMeta, format}
 use Rattle.std.proofs.Common.{ℤ}
-use Rattle.broker_tables.proofs.Frames.{runs_here, meant}
+use Rattle.broker_tables.proofs.Asked.{Asked, IsShown, FirstReads, is_answer, text_reads}
 
 digests : (db : Database) → IsBroker db → (r : Row) → Has (db.trees 0) r → column r 3 ≡ Text (text 3 r)
 digests db broker r has = text_at db broker.kept.sound meta (has_place _ 0 meta (ap (λ (c : Schema). slice_get c.tables 0) broker.schema)) r has 2 _ refl refl refl refl refl
 
-abbrev pub office_sql : List ℕ
+abbrev office_sql : List ℕ
 office_sql = codes "SELECT office_digest FROM meta"
 
-abbrev pub office_query : Query
-office_query = from_table 0 [] (col 1 3 ∷ []) []
-
-abbrev pub office_command : Command
-office_command = Select (record { lets = []; body = office_query }) (codes "office_digest" ∷ [])
-
-office_text : Means broker_schema office_sql office_command
+pub office : Asked office_sql [] (from_table 0 [] (col 1 3 ∷ []) [])
 unfolding understood everything
-office_text = record { is = refl; plain = (refl, refl); unlisted = refl }
-
-pub office_means : (db : Database) → IsBroker db → Means db.schema office_sql office_command
-office_means db broker = meant db broker office_sql office_text
-
-office_there : Runs broker_schema office_sql [] office_query
-unfolding understood everything
-office_there = record { whole = refl; typed = refl; sumless = refl }
-
-pub office_runs : (db : Database) → IsBroker db → Runs db.schema office_sql [] office_query
-office_runs db broker = runs_here db broker office_sql [] office_query office_there
+office = record { names = _; means = record { is = refl; plain = (refl, refl); unlisted = refl }; runs = record { whole = refl; typed = refl; sumless = refl } }
 
 one_row : (n : ℕ) (rows out : List Row) (x : List ℕ) → IsMeta n x rows → IsPermutation (map (shows (col 1 3 ∷ []) []) (filter (keeps [] []) rows)) out → option_map (text 0) (slice_get out 0) ≡ Some x
 one_row n [] out x one same = absurd cc
@@ -66,15 +44,15 @@ one_row n (r ∷ []) out x one same =
     ap (λ rows. option_map (text 0) (slice_get rows 0)) (one_permutation _ out same) ∙ ap (λ (xs : List (ℤ × ℤ × List ℕ)). option_map (λ m. m.2) (slice_get xs 0)) one
 one_row n (r ∷ q ∷ rows) out x one same = absurd cc
 
-pub office_found : (old new : State) (rows : List Row) (s : Broker) → Holds old.now s → Shown office_sql [] old new rows → option_map (text 0) (slice_get rows 0) ≡ Some s.office
-office_found old new rows s held h = one_row format (old.now.trees 0) rows s.office held.meta (selects office_sql [] old new 0 _ _ _ _ (office_means old.now held.broker) rows h)
+pub office_found : (db : Database) (rows : List Row) (s : Broker) → Holds db s → IsShown office db rows → option_map (text 0) (slice_get rows 0) ≡ Some s.office
+office_found db rows s held h = one_row format (db.trees 0) rows s.office held.meta (answered db [] 0 [] _ [] rows h)
 
 -- where the digest is a text in UTF-8, it can be read
-pub office_stands : (old new : State) (rows : List Row) (row : Row) (s : Broker) → Holds old.now s → IsReadable s → Shown office_sql [] old new rows → slice_get rows 0 ≡ Some row → IsTextAt 0 row
-office_stands old new rows row s held readable h head =
-    let is : Some (text 0 row) ≡ Some s.office = sym (ap (option_map (text 0)) head) ∙ office_found old new rows s held h in
+pub office_reads : (db : Database) → FirstReads office db (IsTextAt 0)
+office_reads db s held readable = text_reads office db (digests db held.broker) (λ rows h row head.
+    let is : Some (text 0 row) ≡ Some s.office = sym (ap (option_map (text 0)) head) ∙ office_found db rows s held h in
     let same : text 0 row ≡ s.office = cc in
-    text_stands office_sql [] old new 0 3 _ _ _ (office_means old.now held.broker) (digests old.now held.broker) rows row h head (subst IsUtf8 (sym same) readable.office)
+    subst IsUtf8 (sym same) readable.office)
 
 -- where meta has no row, only the store is ever out of memory
 no_first : (out : List Row) (row : Row) → IsPermutation {X = Row} [] out → slice_get out 0 ≡ Some row → ⊥
@@ -84,4 +62,4 @@ no_first (r ∷ out) row same first = let none = length_permutation [] (r ∷ ou
 pub no_office : (old new : State) (fault : StoreFault) → IsBroker old.now → old.now.trees 0 ≡ [] → FailsToTake TellsText office_sql [] old new fault → IsTrue old.in_transaction → fault ≡ Memory → IsEnded old new Memory
 no_office old new fault broker none (inl refused) inside is = refused_memory old new refused.0 fault refused.1 (query_by office_sql [] old new refused.0 refused.2) is
 no_office old new fault broker none (inr (rows, shown, row, first, tells)) inside is =
-    absurd (no_first rows row (subst (λ xs. IsPermutation (map (shows (col 1 3 ∷ []) []) (filter (keeps [] []) xs)) rows) none (selects office_sql [] old new 0 _ _ _ _ (office_means old.now broker) rows shown)) first)
+    absurd (no_first rows row (subst (λ xs. IsPermutation (map (shows (col 1 3 ∷ []) []) (filter (keeps [] []) xs)) rows) none (answered old.now [] 0 [] _ [] rows (is_answer office old new broker rows shown))) first)

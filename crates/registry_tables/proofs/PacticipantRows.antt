@@ -14,29 +14,27 @@ use Rattle.sqlite_sql.specs.declared.ops.BinaryOp.TheVariants.{Compare}
 use Rattle.sqlite_sql.specs.declared.ops.CompareOp.TheVariants.{Eq}
 use Rattle.sqlite.specs.Source.TheVariants.{Values}
 use Rattle.sqlite.specs.Command.{Command}
-use Rattle.sqlite.specs.Query.{Query}
-use Rattle.sqlite.specs.Command.TheVariants.{Insert, Select}
+use Rattle.sqlite.specs.Command.TheVariants.{Insert}
 use Rattle.sqlite.specs.Schema.{Schema}
 use Rattle.sqlite.specs.Effect.{Database}
-use Rattle.sqlite.specs.State.{State, Shown, Executes}
+use Rattle.sqlite.specs.State.{State, Executes}
 use Rattle.sqlite.specs.Listing.{understood}
 use Rattle.sqlite_rules.specs.Lists.{Has}
 use Rattle.sqlite_tied.specs.Compute.{everything}
 use Rattle.table_access.specs.Columns.{text, text_cmp}
 use Rattle.table_access.specs.Statements.{from_table}
 use Rattle.table_access.proofs.Values.{cast_null}
-use Rattle.table_access.proofs.Answered.{Runs, text_stands}
-use Rattle.table_access.proofs.Steps.{Means, selects, inserts}
+use Rattle.table_access.proofs.Steps.{Means, answered, inserts}
 use Rattle.table_access.proofs.Maps.{looks_up_at, puts_at}
 use Rattle.table_access.proofs.Keys.{apart_by, text_keys, by_text}
 use Rattle.table_access.proofs.SoundLemmas.{text_at, has_place}
 use Rattle.broker_core.specs.Text.{put_at, same_text}
 use Rattle.broker_core.specs.State.{State as Broker}
 use Rattle.table_access.specs.Reading.{IsTextAt}
-use Rattle.broker_tables.specs.Readable.{IsReadable}
 use Rattle.broker_tables.specs.Schema.{broker_schema}
 use Rattle.broker_tables.specs.Holds.{Holds, IsBroker}
-use Rattle.broker_tables.proofs.Frames.{runs_here, meant, frame_of, pacticipants_change}
+use Rattle.broker_tables.proofs.Asked.{Asked, IsShown, FirstShown, FirstReads, text_reads}
+use Rattle.broker_tables.proofs.Frames.{meant, frame_of, pacticipants_change}
 use Rattle.broker_tables.proofs.Orders.{exact_texts}
 use Rattle.broker_tables.proofs.Placed.{pacticipants, pacticipants_there}
 
@@ -50,43 +48,25 @@ module _ (db : Database) (broker : IsBroker db) where
   keys : IsAscending (λ a b. eq_by_cmp text_cmp (text 1 a) (text 1 b) ≡ false) (db.trees 4)
   keys = text_keys (db.trees 4) 1 names (apart_by db broker.kept pacticipants 2 (pacticipants_there db broker) _ 2 (ap (λ (s : Schema). slice_get s.indexes 2) broker.schema) refl)
 
-abbrev pub owner_sql : List ℕ
-owner_sql = codes "SELECT team FROM pacticipants WHERE name = ?1"
-
-abbrev pub owner_query : Query
-owner_query = from_table 4 (op2 (Compare Eq Binary) (col 1 1) (col 0 0) ∷ []) (col 1 2 ∷ []) []
-
-abbrev pub owner_command : Command
-owner_command = Select (record { lets = []; body = owner_query }) (codes "team" ∷ [])
-
-owner_text : Means broker_schema owner_sql owner_command
+pub owner : (p : List ℕ)
+    → Asked (codes "SELECT team FROM pacticipants WHERE name = ?1")
+    (Text p ∷ []) (from_table 4 (op2 (Compare Eq Binary) (col 1 1) (col 0 0) ∷ []) (col 1 2 ∷ []) [])
 unfolding understood everything
-owner_text = record { is = refl; plain = (refl, refl); unlisted = refl }
+owner p = record { names = _; means = record { is = refl; plain = (refl, refl); unlisted = refl }; runs = record { whole = refl; typed = refl; sumless = refl } }
 
-pub owner_means : (db : Database) → IsBroker db → Means db.schema owner_sql owner_command
-owner_means db broker = meant db broker owner_sql owner_text
-
-owner_there : (p : List ℕ) → Runs broker_schema owner_sql (Text p ∷ []) owner_query
-unfolding understood everything
-owner_there p = record { whole = refl; typed = refl; sumless = refl }
-
-pub owner_runs : (db : Database) → IsBroker db → (p : List ℕ) → Runs db.schema owner_sql (Text p ∷ []) owner_query
-owner_runs db broker p = runs_here db broker owner_sql (Text p ∷ []) owner_query (owner_there p)
-
-pub owner_found : (p : List ℕ) (old new : State) (rows : List Row) (s : Broker) → Holds old.now s → Shown owner_sql (Text p ∷ []) old new rows → option_map (text 0) (slice_get rows 0) ≡ s.pacticipants p
-owner_found p old new rows s held h =
-    looks_up_at nat_list_cmp_total exact_texts (text 1) (text 2) _ (text 0) (λ r. refl) p _ (old.now.trees 4) rows (by_text (old.now.trees 4) 1 p (names old.now held.broker)) (keys old.now held.broker)
-    (selects owner_sql (Text p ∷ []) old new 4 _ _ _ _ (owner_means old.now held.broker) rows h) ∙ held.pacticipants p
+pub owner_found : (p : List ℕ) (db : Database) (rows : List Row) (s : Broker) → Holds db s → IsShown (owner p) db rows → option_map (text 0) (slice_get rows 0) ≡ s.pacticipants p
+owner_found p db rows s held h =
+    looks_up_at nat_list_cmp_total exact_texts (text 1) (text 2) _ (text 0) (λ r. refl) p _ (db.trees 4) rows (by_text (db.trees 4) 1 p (names db held.broker)) (keys db held.broker)
+    (answered db _ 4 _ _ _ rows h) ∙ held.pacticipants p
 
 -- where the owner is a text in UTF-8, it can be read
-pub owner_stands : (p : List ℕ) (old new : State) (rows : List Row) (row : Row) (s : Broker) → Holds old.now s → IsReadable s → Shown owner_sql (Text p ∷ []) old new rows → slice_get rows 0 ≡ Some row → IsTextAt 0 row
-owner_stands p old new rows row s held readable h head =
-    text_stands owner_sql (Text p ∷ []) old new 4 2 _ _ _ (owner_means old.now held.broker) (owners old.now held.broker) rows row h head
-    (readable.pacticipants p (text 0 row) (sym (owner_found p old new rows s held h) ∙ ap (option_map (text 0)) head)).1.0
+pub owner_reads : (p : List ℕ) (db : Database) → FirstReads (owner p) db (IsTextAt 0)
+owner_reads p db s held readable =
+    text_reads (owner p) db (owners db held.broker) (λ rows h row head. (readable.pacticipants p (text 0 row) (sym (owner_found p db rows s held h) ∙ ap (option_map (text 0)) head)).1.0)
 
 -- where there is no such pacticipant, no row is shown
-pub owner_missing : (p : List ℕ) (old new : State) (s : Broker) → Holds old.now s → s.pacticipants p ≡ None → (rows : List Row) (row : Row) → Shown owner_sql (Text p ∷ []) old new rows → slice_get rows 0 ≡ Some row → ⊥
-owner_missing p old new s held none rows row h head = let clash : Some (text 0 row) ≡ None = ap (option_map (text 0)) (sym head) ∙ owner_found p old new rows s held h ∙ none in cc
+pub owner_missing : (p : List ℕ) (db : Database) (s : Broker) → Holds db s → s.pacticipants p ≡ None → FirstShown (owner p) db (λ row. ⊥)
+owner_missing p db s held none rows h row head = let clash : Some (text 0 row) ≡ None = ap (option_map (text 0)) (sym head) ∙ owner_found p db rows s held h ∙ none in cc
 
 abbrev pub add_sql : List ℕ
 add_sql = codes "INSERT INTO pacticipants (name, team) VALUES (?1, ?2)"

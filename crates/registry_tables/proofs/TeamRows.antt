@@ -14,19 +14,17 @@ use Rattle.sqlite_sql.specs.declared.ops.BinaryOp.TheVariants.{Compare}
 use Rattle.sqlite_sql.specs.declared.ops.CompareOp.TheVariants.{Eq}
 use Rattle.sqlite.specs.Source.TheVariants.{Values}
 use Rattle.sqlite.specs.Command.{Command}
-use Rattle.sqlite.specs.Query.{Query}
-use Rattle.sqlite.specs.Command.TheVariants.{Insert, Select}
+use Rattle.sqlite.specs.Command.TheVariants.{Insert}
 use Rattle.sqlite.specs.Schema.{Schema}
 use Rattle.sqlite.specs.Effect.{Database}
-use Rattle.sqlite.specs.State.{State, Shown, Executes}
+use Rattle.sqlite.specs.State.{State, Executes}
 use Rattle.sqlite.specs.Listing.{understood}
 use Rattle.sqlite_rules.specs.Lists.{Has}
 use Rattle.sqlite_tied.specs.Compute.{everything}
 use Rattle.table_access.specs.Columns.{text, text_cmp}
 use Rattle.table_access.specs.Statements.{from_table}
 use Rattle.table_access.proofs.Values.{cast_null}
-use Rattle.table_access.proofs.Answered.{Runs, text_stands}
-use Rattle.table_access.proofs.Steps.{Means, selects, inserts}
+use Rattle.table_access.proofs.Steps.{Means, answered, inserts}
 use Rattle.table_access.proofs.Maps.{looks_up_at, puts_at, other_way, no_other_way}
 use Rattle.table_access.proofs.Keys.{apart_by, text_keys, by_text}
 use Rattle.table_access.proofs.SoundLemmas.{text_at, has_place}
@@ -34,11 +32,11 @@ use Rattle.broker_core.specs.Text.{put_at, same_text}
 use Rattle.broker_core.specs.State.{State as Broker}
 use Rattle.broker_core.specs.Laws.{TeamsDiffer}
 use Rattle.table_access.specs.Reading.{IsTextAt}
-use Rattle.broker_tables.specs.Readable.{IsReadable}
 use Rattle.broker_tables.specs.Schema.{broker_schema}
 use Rattle.broker_tables.specs.Rows.{value_at}
 use Rattle.broker_tables.specs.Holds.{Holds, IsBroker}
-use Rattle.broker_tables.proofs.Frames.{runs_here, meant, frame_of, teams_change}
+use Rattle.broker_tables.proofs.Asked.{Asked, IsShown, FirstShown, FirstReads, text_reads}
+use Rattle.broker_tables.proofs.Frames.{meant, frame_of, teams_change}
 use Rattle.broker_tables.proofs.Orders.{exact_texts}
 use Rattle.broker_tables.proofs.Placed.{teams, teams_there}
 
@@ -57,94 +55,58 @@ module _ (db : Database) (broker : IsBroker db) where
 
 -- ---- the digest of a team
 
-abbrev pub digest_sql : List ℕ
-digest_sql = codes "SELECT token_digest FROM teams WHERE name = ?1"
-
-abbrev pub digest_query : Query
-digest_query = from_table 1 (op2 (Compare Eq Binary) (col 1 1) (col 0 0) ∷ []) (col 1 2 ∷ []) []
-
-abbrev pub digest_command : Command
-digest_command = Select (record { lets = []; body = digest_query }) (codes "token_digest" ∷ [])
-
-digest_text : Means broker_schema digest_sql digest_command
+pub token : (team : List ℕ)
+    → Asked (codes "SELECT token_digest FROM teams WHERE name = ?1")
+    (Text team ∷ []) (from_table 1 (op2 (Compare Eq Binary) (col 1 1) (col 0 0) ∷ []) (col 1 2 ∷ []) [])
 unfolding understood everything
-digest_text = record { is = refl; plain = (refl, refl); unlisted = refl }
+token team = record { names = _; means = record { is = refl; plain = (refl, refl); unlisted = refl }; runs = record { whole = refl; typed = refl; sumless = refl } }
 
-pub digest_means : (db : Database) → IsBroker db → Means db.schema digest_sql digest_command
-digest_means db broker = meant db broker digest_sql digest_text
-
-digest_there : (team : List ℕ) → Runs broker_schema digest_sql (Text team ∷ []) digest_query
-unfolding understood everything
-digest_there team = record { whole = refl; typed = refl; sumless = refl }
-
-pub digest_runs : (db : Database) → IsBroker db → (team : List ℕ) → Runs db.schema digest_sql (Text team ∷ []) digest_query
-digest_runs db broker team = runs_here db broker digest_sql (Text team ∷ []) digest_query (digest_there team)
-
-pub digest_found : (team : List ℕ) (old new : State) (rows : List Row) (s : Broker) → Holds old.now s → Shown digest_sql (Text team ∷ []) old new rows → option_map (text 0) (slice_get rows 0) ≡ s.teams team
-digest_found team old new rows s held h =
-    looks_up_at nat_list_cmp_total exact_texts (text 1) (text 2) _ (text 0) (λ r. refl) team _ (old.now.trees 1) rows (by_text (old.now.trees 1) 1 team (names old.now held.broker)) (team_keys old.now held.broker)
-    (selects digest_sql (Text team ∷ []) old new 1 _ _ _ _ (digest_means old.now held.broker) rows h) ∙ held.teams team
+pub token_found : (team : List ℕ) (db : Database) (rows : List Row) (s : Broker) → Holds db s → IsShown (token team) db rows → option_map (text 0) (slice_get rows 0) ≡ s.teams team
+token_found team db rows s held h =
+    looks_up_at nat_list_cmp_total exact_texts (text 1) (text 2) _ (text 0) (λ r. refl) team _ (db.trees 1) rows (by_text (db.trees 1) 1 team (names db held.broker)) (team_keys db held.broker)
+    (answered db _ 1 _ _ _ rows h) ∙ held.teams team
 
 -- where the digest is a text in UTF-8, it can be read
-pub digest_stands : (team : List ℕ) (old new : State) (rows : List Row) (row : Row) (s : Broker) → Holds old.now s → IsReadable s → Shown digest_sql (Text team ∷ []) old new rows → slice_get rows 0 ≡ Some row → IsTextAt 0 row
-digest_stands team old new rows row s held readable h head =
-    text_stands digest_sql (Text team ∷ []) old new 1 2 _ _ _ (digest_means old.now held.broker) (digests old.now held.broker) rows row h head
-    (readable.teams team (text 0 row) (sym (digest_found team old new rows s held h) ∙ ap (option_map (text 0)) head)).1
+pub token_reads : (team : List ℕ) (db : Database) → FirstReads (token team) db (IsTextAt 0)
+token_reads team db s held readable =
+    text_reads (token team) db (digests db held.broker) (λ rows h row head. (readable.teams team (text 0 row) (sym (token_found team db rows s held h) ∙ ap (option_map (text 0)) head)).1)
 
 -- where there is no such team, no row is shown
-pub digest_missing : (team : List ℕ) (old new : State) (s : Broker) → Holds old.now s → s.teams team ≡ None → (rows : List Row) (row : Row) → Shown digest_sql (Text team ∷ []) old new rows → slice_get rows 0 ≡ Some row → ⊥
-digest_missing team old new s held none rows row h head = let clash : Some (text 0 row) ≡ None = ap (option_map (text 0)) (sym head) ∙ digest_found team old new rows s held h ∙ none in cc
+pub token_missing : (team : List ℕ) (db : Database) (s : Broker) → Holds db s → s.teams team ≡ None → FirstShown (token team) db (λ row. ⊥)
+token_missing team db s held none rows h row head = let clash : Some (text 0 row) ≡ None = ap (option_map (text 0)) (sym head) ∙ token_found team db rows s held h ∙ none in cc
 
 -- ---- the team of a digest
 
-abbrev pub team_sql : List ℕ
-team_sql = codes "SELECT name FROM teams WHERE token_digest = ?1"
-
-abbrev pub team_query : Query
-team_query = from_table 1 (op2 (Compare Eq Binary) (col 1 2) (col 0 0) ∷ []) (col 1 1 ∷ []) []
-
-abbrev pub team_command : Command
-team_command = Select (record { lets = []; body = team_query }) (codes "name" ∷ [])
-
-team_text : Means broker_schema team_sql team_command
+pub holder : (digest : List ℕ)
+    → Asked (codes "SELECT name FROM teams WHERE token_digest = ?1")
+    (Text digest ∷ []) (from_table 1 (op2 (Compare Eq Binary) (col 1 2) (col 0 0) ∷ []) (col 1 1 ∷ []) [])
 unfolding understood everything
-team_text = record { is = refl; plain = (refl, refl); unlisted = refl }
+holder digest = record { names = _; means = record { is = refl; plain = (refl, refl); unlisted = refl }; runs = record { whole = refl; typed = refl; sumless = refl } }
 
-pub team_means : (db : Database) → IsBroker db → Means db.schema team_sql team_command
-team_means db broker = meant db broker team_sql team_text
-
-team_there : (digest : List ℕ) → Runs broker_schema team_sql (Text digest ∷ []) team_query
-unfolding understood everything
-team_there digest = record { whole = refl; typed = refl; sumless = refl }
-
-pub team_runs : (db : Database) → IsBroker db → (digest : List ℕ) → Runs db.schema team_sql (Text digest ∷ []) team_query
-team_runs db broker digest = runs_here db broker team_sql (Text digest ∷ []) team_query (team_there digest)
-
-found_by_digest : (digest : List ℕ) (old new : State) (rows : List Row) (s : Broker) → Holds old.now s → Shown team_sql (Text digest ∷ []) old new rows → option_map (text 0) (slice_get rows 0) ≡ value_at text_cmp (text 2) (text 1) (old.now.trees 1) digest
-found_by_digest digest old new rows s held h =
-    looks_up_at nat_list_cmp_total exact_texts (text 2) (text 1) _ (text 0) (λ r. refl) digest _ (old.now.trees 1) rows (by_text (old.now.trees 1) 2 digest (digests old.now held.broker)) (digest_keys old.now held.broker)
-    (selects team_sql (Text digest ∷ []) old new 1 _ _ _ _ (team_means old.now held.broker) rows h)
+found_by_digest : (digest : List ℕ) (db : Database) (rows : List Row) (s : Broker) → Holds db s → IsShown (holder digest) db rows → option_map (text 0) (slice_get rows 0) ≡ value_at text_cmp (text 2) (text 1) (db.trees 1) digest
+found_by_digest digest db rows s held h =
+    looks_up_at nat_list_cmp_total exact_texts (text 2) (text 1) _ (text 0) (λ r. refl) digest _ (db.trees 1) rows (by_text (db.trees 1) 2 digest (digests db held.broker)) (digest_keys db held.broker)
+    (answered db _ 1 _ _ _ rows h)
 
 -- that team has it, or no team has it
 abbrev pub IsTeamOf : Broker → List ℕ → Option (List ℕ) → Type 0
 IsTeamOf s digest found = MatchOption found ((t : List ℕ) → ¬ (s.teams t ≡ Some digest)) (λ name. s.teams name ≡ Some digest)
 
-pub team_found : (digest : List ℕ) (old new : State) (rows : List Row) (s : Broker) → Holds old.now s → Shown team_sql (Text digest ∷ []) old new rows → IsTeamOf s digest (option_map (text 0) (slice_get rows 0))
-team_found digest old new rows s held h = subst (IsTeamOf s digest) (sym (found_by_digest digest old new rows s held h)) (go (value_at text_cmp (text 2) (text 1) (old.now.trees 1) digest) refl)
+pub holder_found : (digest : List ℕ) (db : Database) (rows : List Row) (s : Broker) → Holds db s → IsShown (holder digest) db rows → IsTeamOf s digest (option_map (text 0) (slice_get rows 0))
+holder_found digest db rows s held h = subst (IsTeamOf s digest) (sym (found_by_digest digest db rows s held h)) (go (value_at text_cmp (text 2) (text 1) (db.trees 1) digest) refl)
   where
-    go : (o : Option (List ℕ)) → value_at text_cmp (text 2) (text 1) (old.now.trees 1) digest ≡ o → IsTeamOf s digest o
-    go None e = λ t has. no_other_way nat_list_cmp_total exact_texts nat_list_cmp_total exact_texts (text 1) (text 2) (old.now.trees 1) t digest e (held.teams t ∙ has)
-    go (Some name) e = sym (held.teams name) ∙ other_way nat_list_cmp_total exact_texts nat_list_cmp_total exact_texts (text 1) (text 2) (old.now.trees 1) name digest (team_keys old.now held.broker) e
+    go : (o : Option (List ℕ)) → value_at text_cmp (text 2) (text 1) (db.trees 1) digest ≡ o → IsTeamOf s digest o
+    go None e = λ t has. no_other_way nat_list_cmp_total exact_texts nat_list_cmp_total exact_texts (text 1) (text 2) (db.trees 1) t digest e (held.teams t ∙ has)
+    go (Some name) e = sym (held.teams name) ∙ other_way nat_list_cmp_total exact_texts nat_list_cmp_total exact_texts (text 1) (text 2) (db.trees 1) name digest (team_keys db held.broker) e
 
 -- where the team's name is a text in UTF-8, it can be read
-pub team_stands : (digest : List ℕ) (old new : State) (rows : List Row) (row : Row) (s : Broker) → Holds old.now s → IsReadable s → Shown team_sql (Text digest ∷ []) old new rows → slice_get rows 0 ≡ Some row → IsTextAt 0 row
-team_stands digest old new rows row s held readable h head =
-    text_stands team_sql (Text digest ∷ []) old new 1 1 _ _ _ (team_means old.now held.broker) (names old.now held.broker) rows row h head
-    (readable.teams (text 0 row) digest (subst (IsTeamOf s digest) (ap (option_map (text 0)) head) (team_found digest old new rows s held h))).0.0
+pub holder_reads : (digest : List ℕ) (db : Database) → FirstReads (holder digest) db (IsTextAt 0)
+holder_reads digest db s held readable =
+    text_reads (holder digest) db (names db held.broker) (λ rows h row head. (readable.teams (text 0 row) digest (subst (IsTeamOf s digest) (ap (option_map (text 0)) head) (holder_found digest db rows s held h))).0.0)
 
 -- where no team has this digest, no row is shown
-pub team_missing : (digest : List ℕ) (old new : State) (s : Broker) → Holds old.now s → ((t : List ℕ) → ¬ (s.teams t ≡ Some digest)) → (rows : List Row) (row : Row) → Shown team_sql (Text digest ∷ []) old new rows → slice_get rows 0 ≡ Some row → ⊥
-team_missing digest old new s held none rows row h head = none (text 0 row) (subst (IsTeamOf s digest) (ap (option_map (text 0)) head) (team_found digest old new rows s held h))
+pub holder_missing : (digest : List ℕ) (db : Database) (s : Broker) → Holds db s → ((t : List ℕ) → ¬ (s.teams t ≡ Some digest)) → FirstShown (holder digest) db (λ row. ⊥)
+holder_missing digest db s held none rows h row head = none (text 0 row) (subst (IsTeamOf s digest) (ap (option_map (text 0)) head) (holder_found digest db rows s held h))
 
 pub by_view : {X : Type 0} (view : X → List ℕ) (s : Broker) (digest : List ℕ) (found : Option X) → IsTeamOf s digest (option_map view found) → MatchOption found ((t : List ℕ) → ¬ (s.teams t ≡ Some digest)) (λ name. s.teams (view name) ≡ Some digest)
 by_view view s digest None h = h

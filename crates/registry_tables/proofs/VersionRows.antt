@@ -12,8 +12,7 @@ use Rattle.sqlite.specs.Order.{Row, column}
 use Rattle.sqlite.specs.Term.{col, lit}
 use Rattle.sqlite.specs.Source.TheVariants.{Values}
 use Rattle.sqlite.specs.Command.{Command}
-use Rattle.sqlite.specs.Query.{Query}
-use Rattle.sqlite.specs.Command.TheVariants.{Insert, Select}
+use Rattle.sqlite.specs.Command.TheVariants.{Insert}
 use Rattle.sqlite.specs.Schema.{Schema}
 use Rattle.sqlite.specs.Effect.{Database}
 use Rattle.sqlite.specs.State.{State, Shown, Executes}
@@ -21,11 +20,10 @@ use Rattle.sqlite.specs.Listing.{understood}
 use Rattle.sqlite_rules.specs.Lists.{Has}
 use Rattle.sqlite_tied.specs.Compute.{everything}
 use Rattle.table_access.specs.Columns.{text, text_cmp, pair_cmp, whole_at, by_both}
-use Rattle.table_access.specs.Statements.{from_table, up_to, newest, by_two}
+use Rattle.table_access.specs.Statements.{from_table, up_to, newest, by_two, shows}
 use Rattle.table_access.specs.Sound.{IsNumbered}
 use Rattle.table_access.proofs.Values.{cast_null, cast_int}
-use Rattle.table_access.proofs.Answered.{Runs, first_has, first_shown_of, number_shown, number_stands}
-use Rattle.table_access.proofs.Steps.{Means, selects, inserts}
+use Rattle.table_access.proofs.Steps.{Means, answered, inserts}
 use Rattle.table_access.proofs.Maps.{looks_up_at}
 use Rattle.table_access.proofs.Newest.{newest_number}
 use Rattle.table_access.proofs.Keys.{apart_by, pair_keys, by_pair}
@@ -40,7 +38,9 @@ use Rattle.broker_tables.specs.Schema.{broker_schema}
 use Rattle.broker_tables.specs.Rows.{stands_at}
 use Rattle.broker_tables.specs.Numbers.{number_of}
 use Rattle.broker_tables.specs.Holds.{Holds, IsBroker}
-use Rattle.broker_tables.proofs.Frames.{runs_here, meant, frame_of, Frame}
+use Rattle.broker_tables.proofs.Asked.{Asked, IsShown, EachReads, of_first, number_reads}
+use Rattle.broker_tables.proofs.ReadableRows.{number_cell}
+use Rattle.broker_tables.proofs.Frames.{meant, frame_of, Frame}
 use Rattle.broker_tables.proofs.Growth.{versions_grow}
 use Rattle.broker_tables.proofs.Newest.{newest as newest_count}
 use Rattle.broker_tables.proofs.NextRow.{next_row}
@@ -77,28 +77,11 @@ low db s held readable r has =
 
 -- ---- the number of a version
 
-abbrev pub version_sql : List ℕ
-version_sql = codes "SELECT number FROM versions WHERE pacticipant = ?1 AND version = ?2"
-
-abbrev pub version_query : Query
-version_query = from_table 6 (by_two 2 3) (col 1 0 ∷ []) []
-
-abbrev pub version_command : Command
-version_command = Select (record { lets = []; body = version_query }) (codes "number" ∷ [])
-
-version_text : Means broker_schema version_sql version_command
+pub known : (p name : List ℕ)
+    → Asked (codes "SELECT number FROM versions WHERE pacticipant = ?1 AND version = ?2")
+    (Text p ∷ Text name ∷ []) (from_table 6 (by_two 2 3) (col 1 0 ∷ []) [])
 unfolding understood everything
-version_text = record { is = refl; plain = (refl, refl); unlisted = refl }
-
-pub version_means : (db : Database) → IsBroker db → Means db.schema version_sql version_command
-version_means db broker = meant db broker version_sql version_text
-
-version_there : (p name : List ℕ) → Runs broker_schema version_sql (Text p ∷ Text name ∷ []) version_query
-unfolding understood everything
-version_there p name = record { whole = refl; typed = refl; sumless = refl }
-
-pub version_runs : (db : Database) → IsBroker db → (p name : List ℕ) → Runs db.schema version_sql (Text p ∷ Text name ∷ []) version_query
-version_runs db broker p name = runs_here db broker version_sql (Text p ∷ Text name ∷ []) version_query (version_there p name)
+known p name = record { names = _; means = record { is = refl; plain = (refl, refl); unlisted = refl }; runs = record { whole = refl; typed = refl; sumless = refl } }
 
 read_number : (found n : Option ℕ) → option_map (λ k. whole_at 0 (Int (pos k) ∷ [])) found ≡ option_map pos n → found ≡ n
 read_number None None e = refl
@@ -106,18 +89,18 @@ read_number None (Some k) e = absurd cc
 read_number (Some k) None e = absurd cc
 read_number (Some k) (Some n) e = let same : k ≡ n = cc in ap Some same
 
-row_found : (p name : List ℕ) (old new : State) (rows : List Row) (s : Broker) → Holds old.now s → Shown version_sql (Text p ∷ Text name ∷ []) old new rows → option_map (whole_at 0) (slice_get rows 0) ≡ option_map pos (number_of s.versions (version p name))
-row_found p name old new rows s held h =
-    looks_up_at pairs_total exact_pair (λ r. (text 2 r, text 3 r)) (whole_at 0) _ (whole_at 0) (λ r. refl) (p, name) _ (old.now.trees 6) rows
-    (by_pair (old.now.trees 6) 2 3 p name (owners old.now held.broker) (names old.now held.broker)) (keys old.now held.broker)
-    (selects version_sql (Text p ∷ Text name ∷ []) old new 6 _ _ _ _ (version_means old.now held.broker) rows h)
-    ∙ version_row (old.now.trees 6) s.versions p name held.versions
+row_found : (p name : List ℕ) (db : Database) (rows : List Row) (s : Broker) → Holds db s → IsShown (known p name) db rows → option_map (whole_at 0) (slice_get rows 0) ≡ option_map pos (number_of s.versions (version p name))
+row_found p name db rows s held h =
+    looks_up_at pairs_total exact_pair (λ r. (text 2 r, text 3 r)) (whole_at 0) _ (whole_at 0) (λ r. refl) (p, name) _ (db.trees 6) rows
+    (by_pair (db.trees 6) 2 3 p name (owners db held.broker) (names db held.broker)) (keys db held.broker)
+    (answered db _ 6 _ _ _ rows h)
+    ∙ version_row (db.trees 6) s.versions p name held.versions
 
-pub version_found : (p name : List ℕ) (old new : State) (rows : List Row) (s : Broker) (found : Option ℕ) → Holds old.now s → Shown version_sql (Text p ∷ Text name ∷ []) old new rows
+pub known_found : (p name : List ℕ) (db : Database) (rows : List Row) (s : Broker) (found : Option ℕ) → Holds db s → IsShown (known p name) db rows
     → option_map (λ n. Int (pos n)) found ≡ option_map (λ row. column row 0) (slice_get rows 0) → (found ≡ number_of s.versions (version p name)) × (is_some found ≡ is_known s (version p name))
-version_found p name old new rows s found held h read =
+known_found p name db rows s found held h read =
     let here : option_map (λ k. whole_at 0 (Int (pos k) ∷ [])) found ≡ option_map pos (number_of s.versions (version p name)) =
-    sym (twice found) ∙ ap (option_map (λ (v : Value). whole_at 0 (v ∷ []))) read ∙ shown (slice_get rows 0) ∙ row_found p name old new rows s held h in
+    sym (twice found) ∙ ap (option_map (λ (v : Value). whole_at 0 (v ∷ []))) read ∙ shown (slice_get rows 0) ∙ row_found p name db rows s held h in
     let same = read_number found (number_of s.versions (version p name)) here in
     (same, ap is_some same ∙ known_numbered s (version p name))
   where
@@ -130,46 +113,26 @@ version_found p name old new rows s found held h read =
     shown (Some r) = refl
 
 -- where the versions are few enough, the number can be read
-pub version_stands : (p name : List ℕ) (old new : State) (rows : List Row) (row : Row) (s : Broker) → Holds old.now s → IsReadable s → Shown version_sql (Text p ∷ Text name ∷ []) old new rows → slice_get rows 0 ≡ Some row → IsNumberRow row
-version_stands p name old new rows row s held readable h head =
-    number_stands version_sql (Text p ∷ Text name ∷ []) old new 6 0 _ _ _ (version_means old.now held.broker) (ids old.now held.broker) (low old.now s held readable) rows row h head
+pub known_reads : (p name : List ℕ) (db : Database) → EachReads (known p name) db IsNumberRow
+known_reads p name db s held readable = number_reads (known p name) db (λ r has. (ids db held.broker r has, low db s held readable r has))
 
 -- ---- how many versions there are
 
-abbrev pub count_sql : List ℕ
+abbrev count_sql : List ℕ
 count_sql = codes "SELECT number FROM versions ORDER BY number DESC LIMIT 1"
 
-abbrev pub count_query : Query
-count_query = up_to 1 (from_table 6 [] (col 1 0 ∷ []) newest)
-
-abbrev pub count_command : Command
-count_command = Select (record { lets = []; body = count_query }) (codes "number" ∷ [])
-
-count_text : Means broker_schema count_sql count_command
+pub highest : Asked count_sql [] (up_to 1 (from_table 6 [] (col 1 0 ∷ []) newest))
 unfolding understood everything
-count_text = record { is = refl; plain = (refl, refl); unlisted = refl }
-
-pub count_means : (db : Database) → IsBroker db → Means db.schema count_sql count_command
-count_means db broker = meant db broker count_sql count_text
-
-count_there : Runs broker_schema count_sql [] count_query
-unfolding understood everything
-count_there = record { whole = refl; typed = refl; sumless = refl }
-
-pub count_runs : (db : Database) → IsBroker db → Runs db.schema count_sql [] count_query
-count_runs db broker = runs_here db broker count_sql [] count_query count_there
+highest = record { names = _; means = record { is = refl; plain = (refl, refl); unlisted = refl }; runs = record { whole = refl; typed = refl; sumless = refl } }
 
 pub versions_counted : (old new : State) (rows : List Row) (s : Broker) (found : Option ℕ) → Holds old.now s → Shown count_sql [] old new rows → option_map (λ n. Int (pos n)) found ≡ option_map (λ row. column row 0) (slice_get rows 0)
     → unwrap_or found 0 ≡ length s.versions
 versions_counted old new rows s found held h read =
     newest_count (λ r. version (text 2 r) (text 3 r)) (old.now.trees 6) s.versions found held.versions
-    (newest_number count_sql old new 6 _ (count_means old.now held.broker) (numbered_rows old.now held.broker) rows h found read)
+    (newest_number count_sql old new 6 _ (meant old.now held.broker count_sql highest.means) (numbered_rows old.now held.broker) rows h found read)
 
-pub count_stands : (old new : State) (rows : List Row) (row : Row) (s : Broker) → Holds old.now s → IsReadable s → Shown count_sql [] old new rows → slice_get rows 0 ≡ Some row → IsNumberRow row
-count_stands old new rows row s held readable h head =
-    let it = first_shown_of count_sql [] old new 1 6 _ _ _ _ (count_means old.now held.broker) rows row h (first_has rows row head) in
-    let n = low old.now s held readable it.0 it.1 in
-    number_shown [] it.0 row 0 (ids old.now held.broker it.0 it.1) it.3 n.0 n.1 n.2
+pub highest_reads : (db : Database) → EachReads highest db IsNumberRow
+highest_reads db s held readable = of_first highest db _ (λ r has kept. number_cell (shows (col 1 0 ∷ []) [] r) 0 (whole_at 0 r) (omega arith) (ids db held.broker r has) (low db s held readable r has))
 
 -- ---- a new version
 

@@ -1,13 +1,17 @@
 -- What tells that a database is a broker's, and the format of its tables.
-use Rattle.std.specs.Prelude.{◌≡◌, ◌≢◌, ◌⊎◌, ℕ, pos, [], ◌∷◌, List, map, length, slice_get, option_and_then, Option, Some, MatchOption, IsSomeAnd}
+use Rattle.std.specs.Prelude.{◌≡◌, ◌≢◌, ◌⊎◌, ◌<◌, ◌^◌, ℕ, pos, [], ◌∷◌, List, map, length, slice_get, option_and_then, Option, Some, MatchOption, IsSomeAnd}
 use Rattle.std.specs.List.{AllByRecursion, AllZip}
 use Rattle.sqlite.specs.Table.{Table}
 use Rattle.sqlite.specs.Schema.{Schema}
-use Rattle.sqlite.specs.Order.{column}
+use Rattle.sqlite.specs.Order.{Row, column}
 use Rattle.sqlite.specs.declared.types.Value.TheVariants.{Int}
 use Rattle.sqlite.specs.Effect.{Database}
+use Rattle.sqlite.specs.State.{State}
 use Rattle.sqlite_schema.specs.Names.{table_named}
 use Rattle.sqlite_schema.specs.declared.schema.Column.{Column}
+use Rattle.table_access.specs.declared.StoreFault.{StoreFault}
+use Rattle.table_access.specs.declared.StoreFault.TheVariants.{Store}
+use Rattle.table_access.specs.Reading.{IsRefusedAs}
 use Rattle.broker_tables.specs.Schema.{meta}
 use Rattle.broker_tables.specs.Former.{former_format, former_tables}
 
@@ -43,6 +47,17 @@ IsForeign db = (table : Table) → table_of meta.name db.schema ≡ Some table �
 -- what is found in a database: a format, or none
 abbrev pub Finds : Database → Option ℕ → Type 0
 Finds db found = MatchOption found (IsForeign db) (λ n. IsOfFormat n db)
+
+-- the table is like meta, and its one row has no number from 0 to 2^32 - 1 as its format
+abbrev pub HasNoFormat : Database → Type 0
+HasNoFormat db = (table : Table) × (table_of meta.name db.schema ≡ Some table) × IsMetaTable table
+    × ((row : Row) × (db.trees table.tree ≡ row ∷ [])
+    × ((n : ℕ) → column row 2 ≡ Int (pos n) → ¬ (n < 2 ^ 32)))
+
+-- why no format is told: a query was refused, or there is no number
+abbrev pub FailsToFind : State → State → StoreFault → Type 0
+FailsToFind old new fault =
+    ((question : List ℕ) × IsRefusedAs question [] old new fault) ⊎ ((fault ≡ Store) × HasNoFormat old.now)
 
 -- ---- the tables of format 1
 

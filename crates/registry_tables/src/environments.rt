@@ -1,8 +1,11 @@
 //! Environments and their two marks: whether the gate judges what comes in, and whether it trusts only checked results.
-ghost use Rattle.std.specs.Prelude.{◌≡◌, ◌==◌, false, Some, option_map};
+ghost use Rattle.std.specs.Prelude.{◌≡◌, ◌==◌, false, Some, IfOk, IfErr, option_map};
+ghost use Rattle.sqlite.specs.Held.{state};
+ghost use Rattle.sqlite.specs.State.{HasCleanDisk};
 ghost use Rattle.broker_core.specs.declared.command.Marks.{Marks as MarksModel};
 ghost use Rattle.broker_tables.specs.Holds.{Changes};
 ghost use Rattle.broker_tables.specs.Calm.{CalmQueriesInPlace};
+ghost use Rattle.registry_tables.specs.Marks.{IsMarkShown, IsMarkKnown, FailsAsMark};
 ghost use Rattle.registry_tables.specs.Registry.{AddsEnvironment, marks, MakesStrict};
 
 use broker_core::command::Marks;
@@ -10,17 +13,22 @@ use broker_tables::truth_of;
 use sqlite::{Alter, Connection, params};
 use table_access::{StoreFault, change, has_row, number_of};
 
-/// Whether the environment is gated, or `None` if there is no such environment.
+/// Whether the environment is gated, or `None` if there is no such environment. A mark that is neither 0 nor 1 is never
+/// taken for one of both, in any database.
 ///
 /// # Errors
 /// `StoreFault::Memory` if the database is out of memory; `StoreFault::Store` if it refused the query or holds no truth
-/// value there.
+/// value there, and only then.
 pub fn gated<S: Alter>(
     conn: &mut Connection<S>,
     environment: &str,
 ) -> Result<Option<bool>, StoreFault>
-    ensures { CalmQueriesInPlace S.Store conn.old conn.new result
+    ensures answers { CalmQueriesInPlace S.Store conn.old conn.new result
         (λ found s. found ≡ option_map (λ m. m.gated) (s.environments environment.now)) }
+    ensures shown { HasCleanDisk (state S.Store conn.new) →
+        IfOk result (IsMarkShown environment.now (state S.Store conn.old) (state S.Store conn.new)) }
+    ensures cause { HasCleanDisk (state S.Store conn.new) →
+        IfErr result (FailsAsMark environment.now (state S.Store conn.old) (state S.Store conn.new)) }
 {
     let found = done!(number_of(
         conn,
@@ -42,7 +50,8 @@ fn is_strict<S: Alter>(conn: &mut Connection<S>, environment: &str) -> Result<bo
     )
 }
 
-/// The marks of the environment, or `None` if there is no such environment.
+/// The marks of the environment, or `None` if there is no such environment. As with `gated`, a mark that is neither 0
+/// nor 1 is never taken for one of both.
 ///
 /// # Errors
 /// `StoreFault::Memory` if the database is out of memory; `StoreFault::Store` if it refused a query or holds no truth
@@ -51,8 +60,10 @@ pub fn marks_of<S: Alter>(
     conn: &mut Connection<S>,
     environment: &str,
 ) -> Result<Option<Marks>, StoreFault>
-    ensures { CalmQueriesInPlace S.Store conn.old conn.new result
+    ensures answers { CalmQueriesInPlace S.Store conn.old conn.new result
         (λ found s. found ≡ s.environments environment.now) }
+    ensures known { HasCleanDisk (state S.Store conn.new) → IfOk result
+        (λ found. IsMarkKnown environment.now (state S.Store conn.old) (option_map (λ m. m.gated) found)) }
 {
     match done!(gated(conn, environment)) {
         Some(gated) => {

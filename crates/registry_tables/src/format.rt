@@ -1,11 +1,13 @@
 //! The format of the tables of a broker.
 ghost use Rattle.std.specs.Prelude.{◌≡◌, ◌≢◌, ◌↔◌, ◌∷◌, [], IsTrue, IfOk, IfErr, MatchOption, IsSomeAnd, Some, None, pos, map, length};
 ghost use Rattle.sqlite.specs.Held.{state};
-ghost use Rattle.sqlite.specs.Order.{column};
+ghost use Rattle.sqlite.specs.Order.{Row as SqlRow, column};
+ghost use Rattle.sqlite.specs.State.{HasCleanDisk};
 ghost use Rattle.sqlite.specs.declared.types.Value.TheVariants.{Int};
 ghost use Rattle.table_access.specs.Calls.{CallsStore};
+ghost use Rattle.table_access.specs.Reading.{IsNumberRow};
 ghost use Rattle.broker_tables.specs.Schema.{meta};
-ghost use Rattle.registry_tables.specs.Format.{AreLike, IsMetaTable, Finds, table_of};
+ghost use Rattle.registry_tables.specs.Format.{AreLike, IsMetaTable, Finds, FailsToFind, table_of};
 
 use sqlite::{Alter, Connection, Row};
 use sqlite_schema::schema::{Column, Kind, Schema, Table};
@@ -65,7 +67,8 @@ fn one_number(rows: &[Row]) -> Result<Option<u32>, StoreFault>
     ensures ok { IfOk result
         (λ found. MatchOption found (length rows.now ≢ 1)
         (λ n. map (λ row. column row 0) rows.now ≡ Int (pos n) ∷ [])) }
-    ensures cause { IfErr result (λ fault. fault ≡ StoreFault.Store) }
+    ensures cause { IfErr result (λ fault. (fault ≡ StoreFault.Store)
+        × (row : SqlRow) × (rows.now ≡ row ∷ []) × (¬ IsNumberRow row)) }
 {
     match rows {
         [row] => Ok(Some(done!(number_in(row)))),
@@ -78,11 +81,13 @@ fn one_number(rows: &[Row]) -> Result<Option<u32>, StoreFault>
 ///
 /// # Errors
 /// `StoreFault::Memory` if the database has no memory; `StoreFault::Store` if it refused the query or holds no number
-/// there.
+/// there, and only then.
 pub fn format_of<S: Alter>(conn: &mut Connection<S>) -> Result<Option<u32>, StoreFault>
-    ensures { CallsStore S.Store conn.old conn.new result
+    ensures finds { CallsStore S.Store conn.old conn.new result
         (λ found old new. Finds old.now found
         × (new.now ≡ old.now)) }
+    ensures cause { HasCleanDisk (state S.Store conn.new) →
+        IfErr result (FailsToFind (state S.Store conn.old) (state S.Store conn.new)) }
 {
     if !is_marked(conn) {
         return Ok(None);

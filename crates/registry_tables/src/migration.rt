@@ -1,11 +1,13 @@
 //! The tables of a broker of format 1, as they become today's.
-ghost use Rattle.std.specs.Prelude.{◌≡◌, ◌∷◌, []};
+ghost use Rattle.std.specs.Prelude.{◌≡◌, ◌∷◌, [], IfErr};
+ghost use Rattle.sqlite.specs.Held.{state};
+ghost use Rattle.sqlite.specs.State.{HasCleanDisk};
 ghost use Rattle.table_access.specs.Calls.{CallsStore};
 ghost use Rattle.broker_core.specs.State.{State as Broker};
 ghost use Rattle.broker_tables.specs.Schema.{checked_results};
 ghost use Rattle.broker_tables.specs.Holds.{format};
 ghost use Rattle.broker_tables.specs.Former.{HoldsUnmarked, former_format, added_tables};
-ghost use Rattle.registry_tables.specs.Format.{FindsFormer};
+ghost use Rattle.registry_tables.specs.Format.{FindsFormer, FailsToFind};
 
 use crate::format::format_of;
 use crate::former::has_former_tables;
@@ -19,9 +21,11 @@ use table_access::{StoreFault, change};
 /// # Errors
 /// As `format_of`.
 pub fn format_to_migrate<S: Alter>(conn: &mut Connection<S>) -> Result<Option<u32>, StoreFault>
-    ensures { CallsStore S.Store conn.old conn.new result
+    ensures finds { CallsStore S.Store conn.old conn.new result
         (λ found old new. FindsFormer old.now found
         × (new.now ≡ old.now)) }
+    ensures cause { HasCleanDisk (state S.Store conn.new) →
+        IfErr result (FailsToFind (state S.Store conn.old) (state S.Store conn.new)) }
 {
     match done!(format_of(conn)) {
         Some(1) => Ok(if has_former_tables(conn) {

@@ -1,20 +1,10 @@
-use Rattle.sqlite.specs.Held.{state}
-use Rattle.table_access.proofs.Answered.{list_ends}
-use Rattle.table_access.proofs.Steps.{shown_answers}
-use Rattle.broker_tables.proofs.Frames.{held_still}
-use Rattle.broker_tables.proofs.QueryLemmas.{read_out, else_memory}
-use Rattle.deploy_tables.proofs.ReleasedList.{list_sql, list_means, released_listed}
-use Rattle.deploy_tables.proofs.ReadableRows.{releases_runs, releases_stand}
+use Rattle.broker_tables.proofs.Asked.{lists}
+use Rattle.deploy_tables.proofs.ReleasedList.{releases, released_listed}
+use Rattle.deploy_tables.proofs.ReadableRows.{releases_reads}
 use Rattle.deploy_tables.proofs.listings.released.Goals as goal
 
 pub returns : goal.returns
 returns g c =
-    let old = state g.S.Store c.args.conn.now in
-    let new = state g.S.Store c.list_of.new.conn in
     let said = rw c.params-to_sql.ensures at c.list_of.ensures in
-    read_out old new c.list_of.result _ _ _ (λ items h s held. (
-      released_listed old.now held.broker c.args.environment.now s held h.0 items.items (shown_answers list_sql _ old new _ _ (list_means old.now held.broker) h.0 h.1) h.2,
-      held_still list_sql _ old new h.0 s (list_means old.now held.broker) h.1 held,
-    ))
-    (λ s here. list_ends _ _ old new _ _ (list_means old.now here.held.broker) (releases_runs old.now here.held.broker c.args.environment.now) here.unlimited _ _
-    (λ rows row h has fault why. else_memory fault why.0 (releases_stand c.args.environment.now old new rows row s here.held here.readable h has))) said.leaves said.cause
+    lists (releases c.args.environment.now) _ _ (λ row fault why. why.0) (λ s held rows h list are. released_listed _ held.broker c.args.environment.now s held rows list.items h are)
+    (releases_reads c.args.environment.now _) said.leaves said.cause

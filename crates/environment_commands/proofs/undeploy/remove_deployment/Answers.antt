@@ -23,7 +23,7 @@ returns-then-value g c =
           let stood : is_text c.args.version.now.name (s.deployed (c.args.environment.now, c.args.version.now.pacticipant, c.args.instance.now)) ≡ true = sym (next.1 c.args.version.now number (sym c.as_str-2.ensures) ∙ (λ i. is_text c.args.version.now.name (s.deployed (c.as_str.ensures i, c.as_str-2.ensures i, c.args.instance.now)))) ∙ c.if-value.true in
           let same : t ≡ after = next.0.3 ∙ (λ i. if is_text (one_version s.versions next.0.0 c.args.version.now c.args.number next.0.1 number i).name (s.deployed (c.as_str.ensures i, c.as_str-2.ensures i, c.args.instance.now)) then without_instance s (c.as_str.ensures i) (c.as_str-2.ensures i) c.args.instance.now else s) ∙ ap (λ (b : Bool). if b then after else s) stood in
           ap (λ (t : State). record { answer = Done Plain; state = t }) same ∙ sym (ap (λ (b : Bool). if b then done after else unchanged_with s (Unknown missing.Deployed)) stood),
-    )) c.in-Ok.ensures
+    )) c.in-Ok.ensures.taken
 
 pub returns-else-value : goal.returns-else-value
 returns-else-value g c =
@@ -36,4 +36,4 @@ returns-else-value g c =
           let stood : is_text c.args.version.now.name (s.deployed (c.args.environment.now, c.args.version.now.pacticipant, c.args.instance.now)) ≡ false = sym (next.1 c.args.version.now number (sym c.as_str-2.ensures) ∙ (λ i. is_text c.args.version.now.name (s.deployed (c.as_str.ensures i, c.as_str-2.ensures i, c.args.instance.now)))) ∙ c.if-value.false in
           let same : t ≡ s = next.0.3 ∙ (λ i. if is_text (one_version s.versions next.0.0 c.args.version.now c.args.number next.0.1 number i).name (s.deployed (c.as_str.ensures i, c.as_str-2.ensures i, c.args.instance.now)) then without_instance s (c.as_str.ensures i) (c.as_str-2.ensures i) c.args.instance.now else s) ∙ ap (λ (b : Bool). if b then after else s) stood in
           ap (λ (t : State). record { answer = Unknown missing.Deployed; state = t }) same ∙ sym (ap (λ (b : Bool). if b then done after else unchanged_with s (Unknown missing.Deployed)) stood),
-    )) c.in-Ok.ensures
+    )) c.in-Ok.ensures.taken

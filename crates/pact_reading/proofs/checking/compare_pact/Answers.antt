@@ -10,4 +10,4 @@ returns-in-Err-UnknownInteraction c = λ text normal. (
 )
 
 pub returns-in-Err-Pattern : goal.returns-in-Err-Pattern
-returns-in-Err-Pattern c = λ text normal. pattern_used text c.args.pact.now c.args.replies.now normal (c.in-Err-Pattern.ensures.pattern c.in-Err-Pattern.field-0-is).1
+returns-in-Err-Pattern c = λ text normal. pattern_used text c.args.pact.now c.args.replies.now normal (c.in-Err-Pattern.ensures.pattern c.in-Err-Pattern.field-0-is)

@@ -17,4 +17,4 @@ returns-in-Ok-add_environment g c =
       record s { environments = put_at same_text s.environments c.args.environment.now (Some c.args.marks) },
       (ap s.environments c.as_str-in-None.ensures ∙ it.0, ap (λ (e : Text). record s { environments = put_at same_text s.environments e (Some c.args.marks) }) (sym c.as_str-in-None.ensures)),
       it.1,
-    )) c.in-Ok.ensures.call c.in-Ok-add_environment.ensures
+    )) c.in-Ok.ensures.answers.call c.in-Ok-add_environment.ensures

@@ -1,14 +1,17 @@
-use Rattle.std.proofs.Common.{◌∙◌}
+use Rattle.std.proofs.Common.{◌∙◌, ap, pos, inl, inr}
+use Rattle.std.specs.Prelude.{option_map}
 use Rattle.std.proofs.lemmas.Result.{IfOk-weaker, IfErr-weaker}
 use Rattle.sqlite.specs.Held.{state}
+use Rattle.sqlite.specs.declared.types.Value.TheVariants.{Int}
 use Rattle.table_access.proofs.Answered.{number_ends}
 use Rattle.broker_tables.proofs.QueryLemmas.{looked_result, looked_err}
 use Rattle.broker_tables.proofs.Frames.{held_still}
-use Rattle.registry_tables.proofs.EnvironmentRows.{gated_means, gated_runs, gated_found, gated_stands, gated_true}
+use Rattle.broker_tables.proofs.TruthLemmas.{mark_in_column}
+use Rattle.registry_tables.proofs.EnvironmentRows.{gated_means, gated_runs, gated_found, gated_stands, gated_true, no_mark, mark_is_number}
 use Rattle.registry_tables.proofs.environments.gated.Goals as goal
 
-pub returns : goal.returns
-returns g c =
+pub returns-clause-answers : goal.returns-clause-answers
+returns-clause-answers g c =
     let old = state g.S.Store c.args.conn.now in
     let new = state g.S.Store c.number_of.new.conn in
     looked_result old new c.in-Ok.value c.truth_of.result _ _
@@ -17,11 +20,29 @@ returns g c =
     (λ s here h. IfErr-weaker c.truth_of.result _ _ (λ fault why. gated_true c.args.environment.now old new h.0 s c.in-Ok.value here.held h.1 h.2 why.1) c.truth_of.ensures.cause)
     (rw c.params-to_sql.ensures at c.in-Ok.ensures.leaves)
 
-pub returns-in-Err : goal.returns-in-Err
-returns-in-Err g c =
+pub returns-in-Err-clause-answers : goal.returns-in-Err-clause-answers
+returns-in-Err-clause-answers g c =
     let old = state g.S.Store c.args.conn.now in
     let new = state g.S.Store c.number_of.new.conn in
     let said = rw c.params-to_sql.ensures at c.in-Err.ensures in
     looked_err old new c.in-Err.fault _ _ _
     (λ s here. number_ends _ _ old new _ _ (gated_means old.now here.held.broker) (gated_runs old.now here.held.broker c.args.environment.now) here.unlimited (λ rows row h head. gated_stands c.args.environment.now old new rows row s here.held h head))
     said.leaves said.cause
+
+pub returns-clause-shown : goal.returns-clause-shown
+returns-clause-shown g c clean =
+    let shown = (rw c.params-to_sql.ensures at c.in-Ok.ensures.leaves).call.ok clean in
+    IfOk-weaker c.truth_of.result _ _ (λ truth exact. (shown.0, shown.1, mark_in_column truth ∙ ap (option_map (λ n. Int (pos n))) exact ∙ shown.2)) c.truth_of.ensures.exact
+
+pub returns-clause-cause : goal.returns-clause-cause
+returns-clause-cause g c clean =
+    let shown = (rw c.params-to_sql.ensures at c.in-Ok.ensures.leaves).call.ok clean in
+    IfErr-weaker c.truth_of.result _ _ (λ fault why. let it = no_mark c.in-Ok.value _ shown.2 why.1 in inr (shown.0, shown.1, it.0, it.1, (why.0, it.2))) c.truth_of.ensures.cause
+
+pub returns-in-Err-clause-cause : goal.returns-in-Err-clause-cause
+returns-in-Err-clause-cause g c clean =
+    let said = (rw c.params-to_sql.ensures at c.in-Err.ensures.cause) clean in
+    elim said [
+      | inl refused ↦ inl refused
+      | inr told ↦ inr (told.0, told.1, told.2, told.3, (told.4.0, λ stands. told.4.1 (mark_is_number told.2 stands)))
+    ]

@@ -5,8 +5,8 @@ use Rattle.table_access.proofs.CallLemmas.{statement_ok}
 use Rattle.registry_tables.specs.Format.{Finds, HasFormerTables}
 use Rattle.registry_tables.proofs.migration.format_to_migrate.Goals as goal
 
-pub returns-else-has_former_tables : goal.returns-else-has_former_tables
-returns-else-has_former_tables g c =
+pub returns-else-has_former_tables-clause-finds : goal.returns-else-has_former_tables-clause-finds
+returns-else-has_former_tables-clause-finds g c =
     let old = state g.S.Store c.args.conn.now in
     let new = state g.S.Store c.format_of.new.conn in
     let is : c.in-Ok.value ≡ Some 1 = cc in
@@ -17,4 +17,4 @@ returns-else-has_former_tables g c =
         λ has. (let there : c.has_former_tables.result ≡ true = c.has_former_tables.ensures.1 (subst (λ (db : Database). HasFormerTables db.schema) (sym it.1) has) in cc),
       ),
       it.1,
-    )) c.in-Ok.ensures
+    )) c.in-Ok.ensures.finds

@@ -1,10 +1,9 @@
 use Rattle.std.proofs.Common.{◌≡◌, Some, None, ◌∙◌, refl, string_bytes}
 use Rattle.sqlite.specs.Held.{state}
-use Rattle.table_access.proofs.Answered.{text_ends}
 use Rattle.table_access.proofs.CallLemmas.{memory_ok, memory_store}
 use Rattle.broker_tables.proofs.QueryLemmas.{read_ok, read_err, read_never}
-use Rattle.broker_tables.proofs.Frames.{held_still}
-use Rattle.registry_tables.proofs.OfficeRows.{office_means, office_runs, office_found, office_stands, no_office}
+use Rattle.broker_tables.proofs.Asked.{is_answer, reads, why_text}
+use Rattle.registry_tables.proofs.OfficeRows.{office, office_found, office_reads, no_office}
 use Rattle.registry_tables.proofs.office.office_digest.Goals as goal
 
 pub returns-in-Some-clause-reads : goal.returns-in-Some-clause-reads
@@ -12,23 +11,19 @@ returns-in-Some-clause-reads g c =
     let old = state g.S.Store c.args.conn.now in
     let new = state g.S.Store c.text_of.new.conn in
     read_ok old new (Some c.in-Some.digest) c.in-Some.digest _ _ (λ h s held.
-    let is : Some (string_bytes c.in-Some.digest) ≡ Some s.office = h.2 ∙ office_found old new h.0 s held h.1 in
-    (cc, held_still _ _ old new h.0 s (office_means old.now held.broker) h.1 held)) (rw c.in-Some.is at c.in-Ok.ensures.leaves)
+    let it = reads office old new s held h.0 h.1 in
+    let is : Some (string_bytes c.in-Some.digest) ≡ Some s.office = h.2 ∙ office_found old.now h.0 s held it.0 in
+    (cc, it.1)) (rw c.in-Some.is at c.in-Ok.ensures.leaves)
 
 -- a state that is held has the row
 pub returns-in-None-clause-reads : goal.returns-in-None-clause-reads
 returns-in-None-clause-reads g c =
     let old = state g.S.Store c.args.conn.now in
     let new = state g.S.Store c.text_of.new.conn in
-    read_never old new None _ _ _ (λ s here h. let e = h.2 ∙ office_found old new h.0 s here.held h.1 in cc) (rw c.in-None.is at c.in-Ok.ensures.leaves)
+    read_never old new None _ _ _ (λ s here h. let e = h.2 ∙ office_found old.now h.0 s here.held (is_answer office old new here.held.broker h.0 h.1) in cc) (rw c.in-None.is at c.in-Ok.ensures.leaves)
 
 pub returns-in-Err-clause-reads : goal.returns-in-Err-clause-reads
-returns-in-Err-clause-reads g c =
-    let old = state g.S.Store c.args.conn.now in
-    let new = state g.S.Store c.text_of.new.conn in
-    read_err old new c.in-Err.fault _ _ _
-    (λ s here. text_ends _ _ old new _ _ (office_means old.now here.held.broker) (office_runs old.now here.held.broker) here.unlimited (λ rows row h head. office_stands old new rows row s here.held here.readable h head))
-    c.in-Err.ensures.leaves c.in-Err.ensures.cause
+returns-in-Err-clause-reads g c = read_err _ _ c.in-Err.fault _ _ _ (why_text office _ _ (office_reads _)) c.in-Err.ensures.leaves c.in-Err.ensures.cause
 
 pub returns-in-Some-clause-memory : goal.returns-in-Some-clause-memory
 returns-in-Some-clause-memory g c broker none = memory_ok (state g.S.Store c.args.conn.now) (state g.S.Store c.text_of.new.conn) _

@@ -1,24 +1,15 @@
-use Rattle.sqlite.specs.Held.{state}
 use Rattle.std.proofs.Common.{◌∙◌}
-use Rattle.table_access.proofs.Answered.{text_ends, refusal_ends}
 use Rattle.std.proofs.lemmas.Result.{IfErr-weaker}
-use Rattle.broker_tables.proofs.QueryLemmas.{read_out}
-use Rattle.broker_tables.proofs.Frames.{held_still}
-use Rattle.registry_tables.proofs.MissingLemmas.{unread}
-use Rattle.registry_tables.proofs.PacticipantRows.{owner_means, owner_runs, owner_found, owner_stands, owner_missing}
+use Rattle.broker_tables.proofs.Asked.{looks_up_text, why_unread}
+use Rattle.registry_tables.proofs.PacticipantRows.{owner, owner_found, owner_reads, owner_missing}
 use Rattle.registry_tables.proofs.pacticipants.owner_of.Goals as goal
 
 pub returns-clause-answers : goal.returns-clause-answers
 returns-clause-answers g c =
-    let old = state g.S.Store c.args.conn.now in
-    let new = state g.S.Store c.text_of.new.conn in
     let said = rw c.params-to_sql.ensures at c.text_of.ensures in
-    read_out old new c.text_of.result _ _ _ (λ found h s held. (h.2 ∙ owner_found c.args.pacticipant.now old new h.0 s held h.1, held_still _ _ old new h.0 s (owner_means old.now held.broker) h.1 held))
-    (λ s here. text_ends _ _ old new _ _ (owner_means old.now here.held.broker) (owner_runs old.now here.held.broker c.args.pacticipant.now) here.unlimited (λ rows row h head. owner_stands c.args.pacticipant.now old new rows row s here.held here.readable h head)) said.leaves said.cause
+    looks_up_text (owner c.args.pacticipant.now) _ _ (λ s held rows h found is. is ∙ owner_found c.args.pacticipant.now _ rows s held h) (owner_reads c.args.pacticipant.now _) said.leaves said.cause
 
 pub returns-clause-missing : goal.returns-clause-missing
-returns-clause-missing g c =
-    let old = state g.S.Store c.args.conn.now in
-    let new = state g.S.Store c.text_of.new.conn in
+returns-clause-missing g c clean s here none =
     let said = rw c.params-to_sql.ensures at c.text_of.ensures in
-    λ clean s here none. IfErr-weaker c.text_of.result _ _ (λ fault. unread _ _ old new fault (refusal_ends _ _ old new _ _ (owner_means old.now here.held.broker) (owner_runs old.now here.held.broker c.args.pacticipant.now) here.unlimited fault) (owner_missing c.args.pacticipant.now old new s here.held none)) (said.cause clean)
+    IfErr-weaker c.text_of.result _ _ (why_unread (owner c.args.pacticipant.now) _ _ s here (owner_missing c.args.pacticipant.now _ s here.held none)) (said.cause clean)

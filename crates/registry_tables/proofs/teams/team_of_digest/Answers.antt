@@ -1,24 +1,15 @@
-use Rattle.sqlite.specs.Held.{state}
 use Rattle.std.proofs.Common.{sym, subst, string_bytes}
-use Rattle.table_access.proofs.Answered.{text_ends, refusal_ends}
 use Rattle.std.proofs.lemmas.Result.{IfErr-weaker}
-use Rattle.broker_tables.proofs.QueryLemmas.{read_out}
-use Rattle.broker_tables.proofs.Frames.{held_still}
-use Rattle.registry_tables.proofs.MissingLemmas.{unread}
-use Rattle.registry_tables.proofs.TeamRows.{team_means, team_runs, team_stands, team_found, IsTeamOf, by_view, team_missing}
+use Rattle.broker_tables.proofs.Asked.{looks_up_text, why_unread}
+use Rattle.registry_tables.proofs.TeamRows.{holder, holder_found, holder_reads, holder_missing, IsTeamOf, by_view}
 use Rattle.registry_tables.proofs.teams.team_of_digest.Goals as goal
 
 pub returns-clause-answers : goal.returns-clause-answers
 returns-clause-answers g c =
-    let old = state g.S.Store c.args.conn.now in
-    let new = state g.S.Store c.text_of.new.conn in
     let said = rw c.params-to_sql.ensures at c.text_of.ensures in
-    read_out old new c.text_of.result _ _ _ (λ found h s held. (by_view string_bytes s c.args.digest.now found (subst (IsTeamOf s c.args.digest.now) (sym h.2) (team_found c.args.digest.now old new h.0 s held h.1)), held_still _ _ old new h.0 s (team_means old.now held.broker) h.1 held))
-    (λ s here. text_ends _ _ old new _ _ (team_means old.now here.held.broker) (team_runs old.now here.held.broker c.args.digest.now) here.unlimited (λ rows row h head. team_stands c.args.digest.now old new rows row s here.held here.readable h head)) said.leaves said.cause
+    looks_up_text (holder c.args.digest.now) _ _ (λ s held rows h found is. by_view string_bytes s c.args.digest.now found (subst (IsTeamOf s c.args.digest.now) (sym is) (holder_found c.args.digest.now _ rows s held h))) (holder_reads c.args.digest.now _) said.leaves said.cause
 
 pub returns-clause-missing : goal.returns-clause-missing
-returns-clause-missing g c =
-    let old = state g.S.Store c.args.conn.now in
-    let new = state g.S.Store c.text_of.new.conn in
+returns-clause-missing g c clean s here none =
     let said = rw c.params-to_sql.ensures at c.text_of.ensures in
-    λ clean s here none. IfErr-weaker c.text_of.result _ _ (λ fault. unread _ _ old new fault (refusal_ends _ _ old new _ _ (team_means old.now here.held.broker) (team_runs old.now here.held.broker c.args.digest.now) here.unlimited fault) (team_missing c.args.digest.now old new s here.held none)) (said.cause clean)
+    IfErr-weaker c.text_of.result _ _ (why_unread (holder c.args.digest.now) _ _ s here (holder_missing c.args.digest.now _ s here.held none)) (said.cause clean)

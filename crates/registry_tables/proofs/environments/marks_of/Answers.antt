@@ -1,0 +1,14 @@
+use Rattle.std.proofs.Common.{arith, Some, None}
+use Rattle.sqlite.specs.Held.{state}
+use Rattle.sqlite.specs.State.{HasCleanDisk}
+use Rattle.registry_tables.proofs.EnvironmentRows.{gate_known}
+use Rattle.registry_tables.proofs.environments.marks_of.Goals as goal
+
+pub returns-in-Ok-is_strict-clause-known : goal.returns-in-Ok-is_strict-clause-known
+returns-in-Ok-is_strict-clause-known g c clean =
+    let mid_clean : HasCleanDisk (state g.S.Store c.gated.new.conn) = omega (arith, c.is_strict.ensures.call.survives.clean, clean) in
+    gate_known c.args.environment.now (state g.S.Store c.args.conn.now) (state g.S.Store c.gated.new.conn) (Some c.in-Some.gated) (rw c.in-Some.is at (c.in-Ok.ensures.shown mid_clean))
+
+pub returns-in-None-clause-known : goal.returns-in-None-clause-known
+returns-in-None-clause-known g c clean =
+    gate_known c.args.environment.now (state g.S.Store c.args.conn.now) (state g.S.Store c.gated.new.conn) None (rw c.in-None.is at (c.in-Ok.ensures.shown clean))
