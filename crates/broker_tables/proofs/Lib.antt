@@ -1,6 +1,7 @@
 pub mod Definitions
 pub mod Frames
 pub mod QueryLemmas
+pub mod Asked
 pub mod TruthLemmas
 pub mod ReadableRows
 pub mod Placed

@@ -1,5 +1,5 @@
 -- Rows that name a version by its number: where no version has the number, no such row is there.
-use Rattle.std.proofs.Common.{◌≡◌, ◌∙◌, ◌↔◌, inl, inr, ℕ, ℤ, pos, List, [], ◌∷◌, Option, Some, None, true, refl, sym, ap, codes, slice_get}
+use Rattle.std.proofs.Common.{◌≡◌, ◌∙◌, inl, ℕ, pos, List, [], ◌∷◌, Option, Some, None, true, refl, sym, ap, codes, slice_get}
 use Rattle.std.specs.Prelude.{option_map}
 use Rattle.sqlite.specs.declared.types.Value.TheVariants.{Int}
 use Rattle.sqlite.specs.Order.{Row, column}

@@ -1,12 +1,12 @@
 -- Queries that fail only as the store fails, one and one after another. Each lemma has the form of its namesake in
 -- `CallLemmas`; why a query fails goes along, and asks nothing of the caller.
-use Rattle.std.proofs.Common.{refl, inl, inr, ◌≡◌, ◌∙◌, IsTrue, arith, Ok, Err, Result, IfOk, IfErr, ◌≤◌}
+use Rattle.std.proofs.Common.{refl, inl, inr, ◌≡◌, ◌∙◌, arith, Ok, Err, Result, IfOk, IfErr, ◌≤◌}
 use Rattle.std.proofs.lemmas.Result.{IfErr-weaker}
 use Rattle.sqlite.specs.State.{State, HasCleanDisk}
 use Rattle.table_access.specs.declared.StoreFault.{StoreFault}
 use Rattle.table_access.specs.declared.StoreFault.TheVariants.{Memory, Store}
 use Rattle.table_access.specs.Calls.{CallsTablesBetween, CallsStoreBetween, GoesOn, IsEnded}
-use Rattle.table_access.proofs.CallLemmas.{call_with, then_ok, then_err, then_stop, then_result, seq, idle, ended_since, statement_with, statement_ok, statement_err, statement_result, statement_seq}
+use Rattle.table_access.proofs.CallLemmas.{call_with, then_ok, then_err, then_stop, then_result, seq, ended_since, statement_with, statement_ok, statement_err, statement_result, statement_seq}
 use Rattle.broker_core.specs.State.{State as Broker}
 use Rattle.broker_tables.specs.Holds.{IsRead}
 use Rattle.broker_tables.specs.Calm.{Serves, FailsOnlyBy, IsEndedOrMemory, CalmQueriesBetween, CalmQueriesInPlaceBetween}

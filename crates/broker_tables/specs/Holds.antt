@@ -132,13 +132,21 @@ AreLatest s rows = (content : ℕ) (v : Version)
     (number_of s.versions v)
     ≡ option_map (λ e. pos e.0) (latest_result s content v)
 
--- an environment, a pacticipant and an instance, and the number of the version there, which is one of that pacticipant
+-- the number in the row of an environment, a pacticipant and an instance, if there is one
+abbrev pub number_at_place : List Row → Text × (Text × Text) → Option ℤ
+number_at_place rows place =
+    value_at (by_both text_cmp (by_both text_cmp text_cmp)) (λ r. (text 1 r, (text 2 r, text 3 r))) (whole_at 4) rows place
+
+-- the number of the version of a pacticipant with this name, if there is such a version
+abbrev pub number_named : List Version → Text → Text → Option ℤ
+number_named versions p name = option_map pos (number_of versions (version p name))
+
+-- An environment, a pacticipant and an instance have a row where a version is deployed, and only there: it has the
+-- number of the version, which is one of that pacticipant.
 abbrev pub AreDeployed : List Version → (Text × Text × Text → Option Text) → List Row → Type 0
 AreDeployed versions deployed rows = (e p instance : Text)
-    → option_map Some
-    (value_at (by_both text_cmp (by_both text_cmp text_cmp)) (λ r. (text 1 r, (text 2 r, text 3 r))) (whole_at 4)
-    rows (e, (p, instance)))
-    ≡ option_map (λ name. option_map pos (number_of versions (version p name))) (deployed (e, p, instance))
+    → option_map Some (number_at_place rows (e, (p, instance)))
+    ≡ option_map (number_named versions p) (deployed (e, p, instance))
 
 -- an environment, and the number of a version that is released there
 abbrev pub AreReleased : List Version → (Text × Version → Bool) → List Row → Type 0

@@ -23,7 +23,7 @@ use Rattle.sqlite_sql.specs.declared.ops.BinaryOp.TheVariants.{Compare}
 use Rattle.sqlite_sql.specs.declared.ops.CompareOp.TheVariants.{Eq}
 use Rattle.sqlite_sql.specs.Ops.{binary, is_true}
 use Rattle.sqlite.specs.Command.{Command}
-use Rattle.sqlite.specs.Command.TheVariants.{Insert, Select}
+use Rattle.sqlite.specs.Command.TheVariants.{Insert}
 use Rattle.sqlite.specs.Source.TheVariants.{Values}
 use Rattle.sqlite.specs.Edit.{with_rowid}
 use Rattle.sqlite.specs.Rowids.TheVariants.{Chosen}
@@ -39,7 +39,7 @@ use Rattle.table_access.specs.Columns.{text, text_cmp, whole_at}
 use Rattle.table_access.specs.Statements.{from_table, up_to, newest, keeps, shows}
 use Rattle.table_access.specs.Sound.{IsNumbered}
 use Rattle.table_access.proofs.Values.{same_ints, cast_null, cast_int}
-use Rattle.table_access.proofs.Steps.{Means, selects, inserts, shown_unchanged, shown_answers}
+use Rattle.table_access.proofs.Steps.{Means, inserts, answered}
 use Rattle.table_access.proofs.Newest.{newest_number}
 use Rattle.table_access.proofs.Ordered.{selects_in_order}
 use Rattle.table_access.proofs.Keys.{ascending_on, by_text}
@@ -50,6 +50,7 @@ use Rattle.broker_tables.specs.Schema.{broker_schema}
 use Rattle.broker_tables.specs.Numbers.{numbered}
 use Rattle.broker_tables.specs.Holds.{IsBroker}
 use Rattle.broker_tables.proofs.Newest.{newest as newest_count}
+use Rattle.broker_tables.proofs.Asked.{Asked, IsShown}
 use Rattle.broker_tables.proofs.Frames.{meant, frame_of, Frame, is_other, still_broker}
 use Rattle.broker_tables.specs.Rows.{rows_of}
 use Rattle.broker_tables.proofs.Placed.{contents, contents_there}
@@ -69,45 +70,28 @@ module _ (db : Database) (broker : IsBroker db) where
   pub digests : (r : Row) → Has (db.trees 14) r → column r 2 ≡ Text (text 2 r)
   digests r has = text_at db broker.kept.sound contents (has_place _ 7 contents (contents_there db broker)) r has 1 _ refl refl refl refl refl
 
--- a query leaves all as it was
-pub read_same : {command : Command} (sql : List ℕ) (params : Row) (old new : State) (rows : List Row) → Means old.now.schema sql command → Shown sql params old new rows → new.now ≡ old.now
-read_same sql params old new rows means shown = (shown_unchanged sql params old new rows means.plain shown).0.now_is
-
 -- ---- the text with a number
 
-abbrev pub body_sql : List ℕ
-body_sql = codes "SELECT body FROM contents WHERE number = ?1"
-
-abbrev pub body_command : Command
-body_command = Select (record { lets = []; body = from_table 14 (op2 (Compare Eq Binary) (col 1 0) (col 0 0) ∷ []) (col 1 3 ∷ []) [] }) (codes "body" ∷ [])
-
-body_text : Means broker_schema body_sql body_command
+pub stored : (z : ℤ)
+    → Asked (codes "SELECT body FROM contents WHERE number = ?1")
+    (Int z ∷ []) (from_table 14 (op2 (Compare Eq Binary) (col 1 0) (col 0 0) ∷ []) (col 1 3 ∷ []) [])
 unfolding understood everything
-body_text = record { is = refl; plain = (refl, refl); unlisted = refl }
-
-pub body_means : (db : Database) → IsBroker db → Means db.schema body_sql body_command
-body_means db broker = meant db broker body_sql body_text
+stored z = record { names = _; means = record { is = refl; plain = (refl, refl); unlisted = refl }; runs = record { whole = refl; typed = refl; sumless = refl } }
 
 -- ---- how many texts there are
 
-abbrev pub count_sql : List ℕ
+abbrev count_sql : List ℕ
 count_sql = codes "SELECT number FROM contents ORDER BY number DESC LIMIT 1"
 
-abbrev pub count_command : Command
-count_command = Select (record { lets = []; body = up_to 1 (from_table 14 [] (col 1 0 ∷ []) newest) }) (codes "number" ∷ [])
-
-count_text : Means broker_schema count_sql count_command
+pub highest : Asked count_sql [] (up_to 1 (from_table 14 [] (col 1 0 ∷ []) newest))
 unfolding understood everything
-count_text = record { is = refl; plain = (refl, refl); unlisted = refl }
-
-pub count_means : (db : Database) → IsBroker db → Means db.schema count_sql count_command
-count_means db broker = meant db broker count_sql count_text
+highest = record { names = _; means = record { is = refl; plain = (refl, refl); unlisted = refl }; runs = record { whole = refl; typed = refl; sumless = refl } }
 
 pub contents_counted : (digest : List ℕ → List ℕ) (old new : State) (rows : List Row) (texts : List (List ℕ)) (found : Option ℕ) → ContentsBy digest old.now texts → Shown count_sql [] old new rows
     → option_map (λ n. Int (pos n)) found ≡ option_map (λ row. column row 0) (slice_get rows 0) → unwrap_or found 0 ≡ length texts
 contents_counted digest old new rows texts found held h read =
     newest_count (λ r. (text 2 r, text 3 r)) (old.now.trees 14) (map (with_digest_by digest) texts) found held.are
-    (newest_number count_sql old new 14 _ (count_means old.now held.broker) (numbered_rows old.now held.broker) rows h found read)
+    (newest_number count_sql old new 14 _ (meant old.now held.broker count_sql highest.means) (numbered_rows old.now held.broker) rows h found read)
     ∙ length-map texts (with_digest_by digest)
 
 -- ---- the text with a number, in the rows
@@ -140,33 +124,29 @@ by_id db broker z = all_of _ (db.trees 14) (λ r has. and_true _ ∙ test r has)
     test : (r : Row) → Has (db.trees 14) r → is_true (binary (Compare Eq Binary) (column r 0) (Int z)) ≡ eq_by_cmp int_cmp z (whole_at 0 r)
     test r has = ap (λ v. is_true (binary (Compare Eq Binary) v (Int z))) (ids db broker r has) ∙ same_ints (whole_at 0 r) z ∙ (eq_by_cmp_equiv int_cmp_total).symm (whole_at 0 r) z
 
-pub body_found : (digest : List ℕ → List ℕ) (z : ℤ) (n : ℕ) → z ≡ pos n → (old new : State) (rows : List Row) (texts : List (List ℕ)) → ContentsBy digest old.now texts → Shown body_sql (Int z ∷ []) old new rows
+pub body_found : (digest : List ℕ → List ℕ) (z : ℤ) (n : ℕ) → z ≡ pos n → (db : Database) (rows : List Row) (texts : List (List ℕ)) → ContentsBy digest db texts → IsShown (stored z) db rows
     → option_map (text 0) (slice_get rows 0) ≡ text_in texts n
-body_found digest z n is old new rows texts held h =
-    looks_up_at int_cmp_total int_cmp-IsAntisymmetric (whole_at 0) (text 3) _ (text 0) (λ r. refl) z _ (old.now.trees 14) rows (by_id old.now held.broker z) (numbers_once (old.now.trees 14) (numbered_rows old.now held.broker))
-    (selects body_sql (Int z ∷ []) old new 14 _ _ _ _ (body_means old.now held.broker) rows h)
-    ∙ ap (find int_cmp z) (bodies digest (old.now.trees 14) texts held.are) ∙ ap (λ k. find int_cmp k (numbers_from 1 texts)) is ∙ by_number texts n
+body_found digest z n is db rows texts held h =
+    looks_up_at int_cmp_total int_cmp-IsAntisymmetric (whole_at 0) (text 3) _ (text 0) (λ r. refl) z _ (db.trees 14) rows (by_id db held.broker z) (numbers_once (db.trees 14) (numbered_rows db held.broker))
+    (answered db _ 14 _ _ _ rows h)
+    ∙ ap (find int_cmp z) (bodies digest (db.trees 14) texts held.are) ∙ ap (λ k. find int_cmp k (numbers_from 1 texts)) is ∙ by_number texts n
 
 -- ---- the number of a text
 
-abbrev pub found_sql : List ℕ
-found_sql = codes "SELECT number, body FROM contents WHERE digest = ?1 ORDER BY number"
-
-abbrev pub of_digest : List Term
+abbrev of_digest : List Term
 of_digest = op2 (Compare Eq Binary) (col 1 2) (col 0 0) ∷ []
 
-abbrev pub rising : List (Term × Key)
+abbrev rising : List (Term × Key)
 rising = (col 1 0, record { collation = Binary; descending = false }) ∷ []
 
-abbrev pub found_command : Command
-found_command = Select (record { lets = []; body = from_table 14 of_digest (col 1 0 ∷ col 1 3 ∷ []) rising }) (codes "number" ∷ codes "body" ∷ [])
+abbrev pub project : List Term
+project = col 1 0 ∷ col 1 3 ∷ []
 
-found_text : Means broker_schema found_sql found_command
+pub sharing : (dg : List ℕ)
+    → Asked (codes "SELECT number, body FROM contents WHERE digest = ?1 ORDER BY number")
+    (Text dg ∷ []) (from_table 14 of_digest project rising)
 unfolding understood everything
-found_text = record { is = refl; plain = (refl, refl); unlisted = refl }
-
-pub found_means : (db : Database) → IsBroker db → Means db.schema found_sql found_command
-found_means db broker = meant db broker found_sql found_text
+sharing dg = record { names = _; means = record { is = refl; plain = (refl, refl); unlisted = refl }; runs = record { whole = refl; typed = refl; sumless = refl } }
 
 -- a list that rises is sorted already
 sort_rising : {X : Type 0} (cmp : X → X → Ordering) (xs : List X) → IsAscending (λ a b. cmp a b ≡ Less) xs → sort_by cmp xs ≡ xs
@@ -178,21 +158,20 @@ sort_rising {X} cmp (x ∷ xs) up = ap (insert_sorted cmp x) (sort_rising cmp xs
     here (y ∷ ys) all = ap (λ o. cond (is_gt o) (y ∷ insert_sorted cmp x ys) (x ∷ y ∷ ys)) all.0
 
 -- the candidates, in the order of their numbers
-candidates : (dg : List ℕ) (old new : State) (rows : List Row) → IsBroker old.now → Shown found_sql (Text dg ∷ []) old new rows
-    → rows ≡ map (shows (col 1 0 ∷ col 1 3 ∷ []) (Text dg ∷ [])) (filter (keeps of_digest (Text dg ∷ [])) (old.now.trees 14))
-candidates dg old new rows broker h =
-    selects_in_order old.now (Text dg ∷ []) 14 of_digest (col 1 0 ∷ col 1 3 ∷ []) rising rows (shown_answers found_sql (Text dg ∷ []) old new _ _ (found_means old.now broker) rows h)
+candidates : (dg : List ℕ) (db : Database) (rows : List Row) → IsBroker db → IsShown (sharing dg) db rows → rows ≡ map (shows project (Text dg ∷ [])) (filter (keeps of_digest (Text dg ∷ [])) (db.trees 14))
+candidates dg db rows broker h =
+    selects_in_order db (Text dg ∷ []) 14 of_digest project rising rows h
     (ascending_on _ _ kept (λ a b ha hb less. ap is_eq less) up)
-    ∙ ap (map (shows (col 1 0 ∷ col 1 3 ∷ []) (Text dg ∷ []))) (sort_rising by_query kept up)
+    ∙ ap (map (shows project (Text dg ∷ []))) (sort_rising by_query kept up)
   where
     kept : List Row
-    kept = filter (keeps of_digest (Text dg ∷ [])) (old.now.trees 14)
+    kept = filter (keeps of_digest (Text dg ∷ [])) (db.trees 14)
 
     by_query : Row → Row → Ordering
     by_query a b = sort_cmp rising ((Text dg ∷ []) ∷ a ∷ []) ((Text dg ∷ []) ∷ b ∷ [])
 
     up : IsAscending (λ a b. by_query a b ≡ Less) kept
-    up = ascending-filter (λ a b. by_query a b ≡ Less) (keeps of_digest (Text dg ∷ [])) (old.now.trees 14) (ascending_on _ _ (old.now.trees 14) (λ a b ha hb less. then-Equal (value_cmp (column a 0) (column b 0)) ∙ less) (numbered_rows old.now broker).0)
+    up = ascending-filter (λ a b. by_query a b ≡ Less) (keeps of_digest (Text dg ∷ [])) (db.trees 14) (ascending_on _ _ (db.trees 14) (λ a b ha hb less. then-Equal (value_cmp (column a 0) (column b 0)) ∙ less) (numbered_rows db broker).0)
 
 module _ (digest : List ℕ → List ℕ) (body dg : List ℕ) (is : digest body ≡ dg) where
   abbrev Entry : Type 0
@@ -202,7 +181,7 @@ module _ (digest : List ℕ → List ℕ) (body dg : List ℕ) (is : digest body
   entry r = (whole_at 0 r, (text 2 r, text 3 r))
 
   abbrev shown : Row → Row
-  shown r = shows (col 1 0 ∷ col 1 3 ∷ []) (Text dg ∷ []) r
+  shown r = shows project (Text dg ∷ []) r
 
   abbrev head_of : Entry → List Entry → Entry
   head_of d [] = d
@@ -251,12 +230,12 @@ module _ (digest : List ℕ → List ℕ) (body dg : List ℕ) (is : digest body
           later ∙ ap (λ k. cond (is_among texts body) (Some (pos k)) None) (let same : place texts + (m + 1) ≡ 1 + place texts + m = omega arith in same)
           ∙ sym (ap (λ x. cond (x || is_among texts body) (Some (pos (cond (not x) (1 + place texts) 0 + m))) None) f)
 
-  pub number_found : (old new : State) (rows : List Row) (texts : List (List ℕ)) (found : Option ℕ) → ContentsBy digest old.now texts → Shown found_sql (Text dg ∷ []) old new rows
+  pub number_found : (db : Database) (rows : List Row) (texts : List (List ℕ)) (found : Option ℕ) → ContentsBy digest db texts → IsShown (sharing dg) db rows
       → option_map (λ n. Int (pos n)) found ≡ option_map (λ row. column row 0) (first (λ row. same_text body (text 1 row)) rows) → found ≡ found_in texts body
-  number_found old new rows texts found held h read =
+  number_found db rows texts found held h read =
       named found (is_among texts body) (twice found ∙ ap (option_map id_in) read ∙ inner (first (λ row. same_text body (text 1 row)) rows)
-      ∙ ap (λ rs. option_map (whole_at 0) (first (λ row. same_text body (text 1 row)) rs)) (candidates dg old new rows held.broker h)
-      ∙ first_from 1 (keeps of_digest (Text dg ∷ [])) (old.now.trees 14) texts (by_text (old.now.trees 14) 2 dg (digests old.now held.broker)) held.are)
+      ∙ ap (λ rs. option_map (whole_at 0) (first (λ row. same_text body (text 1 row)) rs)) (candidates dg db rows held.broker h)
+      ∙ first_from 1 (keeps of_digest (Text dg ∷ [])) (db.trees 14) texts (by_text (db.trees 14) 2 dg (digests db held.broker)) held.are)
     where
       twice : (x : Option ℕ) → option_map pos x ≡ option_map id_in (option_map (λ n. Int (pos n)) x)
       twice None = refl

@@ -13,8 +13,6 @@ use Rattle.sqlite_sql.specs.declared.ops.BinaryOp.TheVariants.{Compare}
 use Rattle.sqlite_sql.specs.declared.ops.CompareOp.TheVariants.{Eq}
 use Rattle.sqlite_sql.specs.Ops.{binary, is_true}
 use Rattle.sqlite.specs.Collation.TheVariants.{Binary}
-use Rattle.sqlite.specs.Command.{Command}
-use Rattle.sqlite.specs.Command.TheVariants.{Select}
 use Rattle.sqlite.specs.Effect.{Database, Answers}
 use Rattle.sqlite.specs.Listing.{understood}
 use Rattle.sqlite_value.specs.declared.keys.Key.{Key}
@@ -27,7 +25,6 @@ use Rattle.table_access.specs.Columns.{text, text_cmp, whole_at, by_both, pair_c
 use Rattle.table_access.specs.Sound.{text_in}
 use Rattle.table_access.specs.Statements.{from_table, from_both, keeps, keeps_both, pairs_kept}
 use Rattle.table_access.specs.Reading.{AreRead}
-use Rattle.table_access.proofs.Steps.{Means}
 use Rattle.table_access.proofs.Keys.{ascending_on}
 use Rattle.table_access.proofs.Maps.{find_has, has_find}
 use Rattle.table_access.proofs.Members.{has_filter, filter_has, has_pair, pair_has}
@@ -37,39 +34,31 @@ use Rattle.broker_core.specs.Listing.{Lists}
 use Rattle.broker_core.specs.Machine.{version_cmp}
 use Rattle.broker_core.specs.Text.{Text as Words, version}
 use Rattle.broker_core.specs.State.{State as Broker}
-use Rattle.broker_tables.specs.Schema.{broker_schema}
 use Rattle.broker_tables.specs.Rows.{value_at}
 use Rattle.broker_tables.specs.Numbers.{number_of}
-use Rattle.broker_tables.specs.Holds.{Holds, IsBroker}
-use Rattle.broker_tables.proofs.Frames.{meant}
+use Rattle.broker_tables.specs.Holds.{Holds}
 use Rattle.broker_tables.proofs.Listed.{sorts, lists_table, lists_join}
 use Rattle.broker_tables.proofs.VersionRows.{whole_test, text_test, all_three, by_number, version_number, owners, names, same_version, row_number, find_version, joined_apart}
 use Rattle.broker_tables.proofs.Orders.{exact_pair, marked_total, exact_marked}
 use Rattle.contract_tables.specs.declared.listings.Contract.{Contract}
 use Rattle.contract_tables.specs.Listings.{contract_cmp, IsContractRow, IsConsumerRow}
+use Rattle.broker_tables.proofs.Asked.{Asked}
 use Rattle.contract_tables.proofs.ContractRows.{key, keys, numbers, providers, contents, named, held_content, content_at}
 
-abbrev pub own_sql : List ℕ
-own_sql = codes "SELECT content, provider FROM contracts WHERE version_number = ?1 ORDER BY provider"
-
-abbrev terms : List Term
+abbrev pub terms : List Term
 terms = is_param 1 0 ∷ []
 
-abbrev order : List (Term × Key)
+abbrev pub order : List (Term × Key)
 order = (col 1 2, ascending Binary) ∷ []
 
-abbrev project : List Term
+abbrev pub project : List Term
 project = col 1 3 ∷ col 1 2 ∷ []
 
-abbrev pub own_command : Command
-own_command = Select (record { lets = []; body = from_table 15 terms project order }) (codes "content" ∷ codes "provider" ∷ [])
-
-own_text : Means broker_schema own_sql own_command
+pub own : (n : ℕ)
+    → Asked (codes "SELECT content, provider FROM contracts WHERE version_number = ?1 ORDER BY provider")
+    (Int (pos n) ∷ []) (from_table 15 terms project order)
 unfolding understood everything
-own_text = record { is = refl; plain = (refl, refl); unlisted = refl }
-
-pub own_means : (db : Database) → IsBroker db → Means db.schema own_sql own_command
-own_means db broker = meant db broker own_sql own_text
+own n = record { names = _; means = record { is = refl; plain = (refl, refl); unlisted = refl }; runs = record { whole = refl; typed = refl; sumless = refl } }
 
 pub first_less : (o p : Ordering) → o ≡ Less → ordering_then o p ≡ Less
 first_less o p h = ap (λ x. ordering_then x p) h
@@ -149,27 +138,20 @@ module _ (db : Database) (s : Broker) (held : Holds db s) (v : Version) (n : ℕ
 
 -- ---- the consumers that have a contract of a content with a provider
 
-abbrev pub users_sql : List ℕ
-users_sql = codes "SELECT v.pacticipant, v.version FROM contracts c JOIN versions v ON v.number = c.version_number WHERE c.content = ?1 AND c.provider = ?2 ORDER BY v.pacticipant, v.version"
-
-abbrev users_terms : List Term
+abbrev pub users_terms : List Term
 users_terms = op2 (Compare Eq Binary) (col 2 0) (col 1 1) ∷ op2 (Compare Eq Binary) (col 1 3) (col 0 0) ∷ op2 (Compare Eq Binary) (col 1 2) (col 0 1) ∷ []
 
-abbrev users_order : List (Term × Key)
+abbrev pub users_order : List (Term × Key)
 users_order = (col 2 2, ascending Binary) ∷ (col 2 3, ascending Binary) ∷ []
 
-abbrev users_project : List Term
+abbrev pub users_project : List Term
 users_project = col 2 2 ∷ col 2 3 ∷ []
 
-abbrev pub users_command : Command
-users_command = Select (record { lets = []; body = from_both 15 6 users_terms users_project users_order }) (codes "pacticipant" ∷ codes "version" ∷ [])
-
-users_text : Means broker_schema users_sql users_command
+pub users : (n : ℕ) (p : Words)
+    → Asked (codes "SELECT v.pacticipant, v.version FROM contracts c JOIN versions v ON v.number = c.version_number WHERE c.content = ?1 AND c.provider = ?2 ORDER BY v.pacticipant, v.version")
+    (Int (pos n) ∷ Text p ∷ []) (from_both 15 6 users_terms users_project users_order)
 unfolding understood everything
-users_text = record { is = refl; plain = (refl, refl); unlisted = refl }
-
-pub users_means : (db : Database) → IsBroker db → Means db.schema users_sql users_command
-users_means db broker = meant db broker users_sql users_text
+users n p = record { names = _; means = record { is = refl; plain = (refl, refl); unlisted = refl }; runs = record { whole = refl; typed = refl; sumless = refl } }
 
 module _ (db : Database) (s : Broker) (held : Holds db s) (content : ℕ) (p : Words) where
   abbrev users_params : Row

@@ -12,17 +12,17 @@ use Rattle.sqlite.specs.Order.{Row, column}
 use Rattle.sqlite.specs.Term.{col, lit}
 use Rattle.sqlite.specs.Source.TheVariants.{Values}
 use Rattle.sqlite.specs.Command.{Command}
-use Rattle.sqlite.specs.Command.TheVariants.{Insert, Select}
+use Rattle.sqlite.specs.Command.TheVariants.{Insert}
 use Rattle.sqlite.specs.Schema.{Schema}
 use Rattle.sqlite.specs.Effect.{Database}
-use Rattle.sqlite.specs.State.{State, Shown, Executes}
+use Rattle.sqlite.specs.State.{State, Executes}
 use Rattle.sqlite.specs.Listing.{understood}
 use Rattle.sqlite_rules.specs.Lists.{Has}
 use Rattle.sqlite_tied.specs.Compute.{everything}
 use Rattle.table_access.specs.Columns.{text, text_cmp, whole_at, by_both}
 use Rattle.table_access.specs.Statements.{from_table, by_two, keeps}
 use Rattle.table_access.proofs.Values.{cast_null, cast_int}
-use Rattle.table_access.proofs.Steps.{Means, selects, inserts}
+use Rattle.table_access.proofs.Steps.{Means, answered, inserts}
 use Rattle.table_access.proofs.Maps.{looks_up_at, puts_at}
 use Rattle.table_access.proofs.Keys.{apart_by}
 use Rattle.table_access.proofs.Parts.{Part, text_part, whole_part, is_param, where_last, where_and, all_where, agree_last, agree_and, once}
@@ -40,6 +40,7 @@ use Rattle.broker_tables.proofs.Orders.{marked_total, exact_marked}
 use Rattle.broker_tables.proofs.Ties.{both_eq, two_tests}
 use Rattle.broker_tables.proofs.NumberLemmas.{number_ties, version_unknown}
 use Rattle.broker_tables.proofs.Placed.{contracts, contracts_there}
+use Rattle.broker_tables.proofs.Asked.{Asked, IsShown}
 
 abbrev pub key : Row → ℤ × List ℕ
 key r = (whole_at 1 r, text 2 r)
@@ -70,18 +71,11 @@ module _ (db : Database) (broker : IsBroker db) where
 
 -- ---- the content of a contract
 
-abbrev pub content_sql : List ℕ
-content_sql = codes "SELECT content FROM contracts WHERE version_number = ?1 AND provider = ?2"
-
-abbrev pub content_command : Command
-content_command = Select (record { lets = []; body = from_table 15 (by_two 1 2) (col 1 3 ∷ []) [] }) (codes "content" ∷ [])
-
-content_text : Means broker_schema content_sql content_command
+pub content : (n : ℕ) (p : List ℕ)
+    → Asked (codes "SELECT content FROM contracts WHERE version_number = ?1 AND provider = ?2")
+    (Int (pos n) ∷ Text p ∷ []) (from_table 15 (by_two 1 2) (col 1 3 ∷ []) [])
 unfolding understood everything
-content_text = record { is = refl; plain = (refl, refl); unlisted = refl }
-
-pub content_means : (db : Database) → IsBroker db → Means db.schema content_sql content_command
-content_means db broker = meant db broker content_sql content_text
+content n p = record { names = _; means = record { is = refl; plain = (refl, refl); unlisted = refl }; runs = record { whole = refl; typed = refl; sumless = refl } }
 
 -- numbers are equal where the columns hold the same
 pub named : (a b : Option ℕ) → option_map pos a ≡ option_map pos b → a ≡ b
@@ -94,14 +88,14 @@ named (Some k) (Some n) e = let ints : pos k ≡ pos n = cc in let nats : k ≡ 
 pub held_content : (db : Database) (s : Broker) (v : Version) (n : ℕ) (p : List ℕ) → Holds db s → number_of s.versions v ≡ Some n → content_at (db.trees 15) n p ≡ option_map pos (s.contracts (v, p))
 held_content db s v n p held is = sym (ap (option_and_then (λ k. content_at (db.trees 15) k p)) is) ∙ held.contracts v p
 
-pub content_found : (n : ℕ) (p : List ℕ) (old new : State) (rows : List Row) (found : Option ℕ) (s : Broker) (v : Version) → Holds old.now s → number_of s.versions v ≡ Some n → Shown content_sql (Int (pos n) ∷ Text p ∷ []) old new rows
-    → option_map (λ n. Int (pos n)) found ≡ option_map (λ r. column r 0) (slice_get rows 0) → found ≡ s.contracts (v, p)
-content_found n p old new rows found s v held is h read = named found (s.contracts (v, p)) (
+pub content_found : (n : ℕ) (p : List ℕ) (db : Database) (s : Broker) (v : Version) → Holds db s → number_of s.versions v ≡ Some n → (rows : List Row) → IsShown (content n p) db rows
+    → (found : Option ℕ) → option_map (λ n. Int (pos n)) found ≡ option_map (λ r. column r 0) (slice_get rows 0) → found ≡ s.contracts (v, p)
+content_found n p db s v held is rows h found read = named found (s.contracts (v, p)) (
     number_found found rows read
-    ∙ looks_up_at marked_total exact_marked key (whole_at 3) _ (whole_at 0) (λ r. refl) (pos n, p) _ (old.now.trees 15) rows
-    (all_where (by_both int_cmp text_cmp) (old.now.trees 15) key (pos n, p) (by_two 1 2) (Int (pos n) ∷ Text p ∷ []) (by_key old.now held.broker n p)) (keys old.now held.broker)
-    (selects content_sql (Int (pos n) ∷ Text p ∷ []) old new 15 _ _ _ _ (content_means old.now held.broker) rows h)
-    ∙ held_content old.now s v n p held is
+    ∙ looks_up_at marked_total exact_marked key (whole_at 3) _ (whole_at 0) (λ r. refl) (pos n, p) _ (db.trees 15) rows
+    (all_where (by_both int_cmp text_cmp) (db.trees 15) key (pos n, p) (by_two 1 2) (Int (pos n) ∷ Text p ∷ []) (by_key db held.broker n p)) (keys db held.broker)
+    (answered db _ 15 _ _ _ rows h)
+    ∙ held_content db s v n p held is
     )
 
 -- ---- a contract is put in

@@ -9,26 +9,21 @@ use Rattle.sqlite_sql.specs.declared.ops.BinaryOp.TheVariants.{Compare}
 use Rattle.sqlite_sql.specs.declared.ops.CompareOp.TheVariants.{Eq}
 use Rattle.sqlite_sql.specs.Ops.{binary, is_true}
 use Rattle.sqlite.specs.Collation.TheVariants.{Binary}
-use Rattle.sqlite.specs.Command.{Command}
-use Rattle.sqlite.specs.Command.TheVariants.{Select}
 use Rattle.sqlite.specs.Effect.{Database, Answers}
-use Rattle.sqlite.specs.State.{State, Shown}
 use Rattle.sqlite.specs.Listing.{understood}
 use Rattle.sqlite_rules.specs.Lists.{Has}
 use Rattle.sqlite_tied.specs.Compute.{everything}
 use Rattle.table_access.specs.Columns.{whole_at}
 use Rattle.table_access.specs.Statements.{from_both, keeps_both}
-use Rattle.table_access.proofs.Steps.{Means, shown_answers}
 use Rattle.table_access.proofs.Members.{has_pair, pair_has}
 use Rattle.broker_core.specs.declared.command.Version.{Version}
 use Rattle.broker_core.specs.State.{State as Broker, Verification, latest_result, latest, said_by}
-use Rattle.broker_tables.specs.Schema.{broker_schema}
 use Rattle.broker_tables.specs.Rows.{truth}
 use Rattle.broker_tables.specs.Numbers.{number_of}
-use Rattle.broker_tables.specs.Holds.{Holds, IsBroker, ResultRow}
-use Rattle.broker_tables.proofs.Frames.{meant}
+use Rattle.broker_tables.specs.Holds.{Holds, ResultRow}
 use Rattle.broker_tables.proofs.VersionRows.{whole_test, all_three}
 use Rattle.contract_tables.specs.Verified.{PassCells, pass_cells, pass_of, Passed, passed_of, passed_as, result_with}
+use Rattle.broker_tables.proofs.Asked.{Asked, IsShown}
 use Rattle.contract_tables.proofs.ContractList.{same_pos}
 use Rattle.contract_tables.proofs.LastRow.{latest_with}
 use Rattle.contract_tables.proofs.JoinRows.{row_shown, pair_shown}
@@ -37,24 +32,17 @@ use Rattle.contract_tables.proofs.VersionResults.{numbers, numbered, row_tells, 
 use Rattle.contract_tables.proofs.ResultLookups.{numbered_rows}
 
 -- ON the row's number is the result, WHERE the content and the version are the parameters
-abbrev terms : List Term
+abbrev pub terms : List Term
 terms = op2 (Compare Eq Binary) (col 2 0) (col 1 3) ∷ op2 (Compare Eq Binary) (col 1 1) (col 0 0) ∷ op2 (Compare Eq Binary) (col 1 2) (col 0 1) ∷ []
 
-abbrev project : List Term
+abbrev pub project : List Term
 project = col 2 0 ∷ col 2 5 ∷ []
 
-abbrev pub join_sql : List ℕ
-join_sql = codes "SELECT r.number, r.pass FROM latest l JOIN results r ON r.number = l.result WHERE l.content = ?1 AND l.provider_version = ?2"
-
-abbrev pub join_command : Command
-join_command = Select (record { lets = []; body = from_both 19 17 terms project [] }) (codes "number" ∷ codes "pass" ∷ [])
-
-join_text : Means broker_schema join_sql join_command
+pub join : (c n : ℕ)
+    → Asked (codes "SELECT r.number, r.pass FROM latest l JOIN results r ON r.number = l.result WHERE l.content = ?1 AND l.provider_version = ?2")
+    (Int (pos c) ∷ Int (pos n) ∷ []) (from_both 19 17 terms project [])
 unfolding understood everything
-join_text = record { is = refl; plain = (refl, refl); unlisted = refl }
-
-pub join_means : (db : Database) → IsBroker db → Means db.schema join_sql join_command
-join_means db broker = meant db broker join_sql join_text
+join c n = record { names = _; means = record { is = refl; plain = (refl, refl); unlisted = refl }; runs = record { whole = refl; typed = refl; sumless = refl } }
 
 module _ (db : Database) (s : Broker) (held : Holds db s) (v : Version) (content n : ℕ) (is : number_of s.versions v ≡ Some n) where
   abbrev params : Row
@@ -94,23 +82,23 @@ module _ (db : Database) (s : Broker) (held : Holds db s) (v : Version) (content
       (eval_all project (params ∷ l.0 ∷ r.0 ∷ []), pair_shown db params 19 17 terms project [] rows h (l.0, r.0) kept)
 
 -- the first row tells the latest result, and there is none where there is no row
-pub join_found : {X : Type 0} (number : X → ℕ) (pass : X → Bool) (content n : ℕ) (old new : State) (rows : List Row) (found : Option X) (s : Broker) (v : Version) → Holds old.now s → number_of s.versions v ≡ Some n
-    → Shown join_sql (Int (pos content) ∷ Int (pos n) ∷ []) old new rows → option_map (λ x. pass_of (number x) (pass x)) found ≡ option_map pass_cells (slice_get rows 0)
+pub join_found : {X : Type 0} (number : X → ℕ) (pass : X → Bool) (content n : ℕ) (db : Database) (rows : List Row) (found : Option X) (s : Broker) (v : Version) → Holds db s → number_of s.versions v ≡ Some n
+    → IsShown (join content n) db rows → option_map (λ x. pass_of (number x) (pass x)) found ≡ option_map pass_cells (slice_get rows 0)
     → option_map (λ x. passed_as (number x) (pass x)) found ≡ option_map passed_of (latest_result s content v)
-join_found {X} number pass content n old new rows found s v held is h read = go rows (shown_answers join_sql _ old new _ _ (join_means old.now held.broker) rows h) found read
+join_found {X} number pass content n db rows found s v held is h read = go rows h found read
   where
-    none : (o : Option (ℕ × Verification)) → Answers old.now (record { lets = []; body = from_both 19 17 terms project [] }) (Int (pos content) ∷ Int (pos n) ∷ []) [] → latest_result s content v ≡ o → o ≡ None
+    none : (o : Option (ℕ × Verification)) → IsShown (join content n) db [] → latest_result s content v ≡ o → o ≡ None
     none None h is_o = refl
-    none (Some e) h is_o = absurd ((shows_one old.now s held v content n is [] e h is_o).1)
+    none (Some e) h is_o = absurd ((shows_one db s held v content n is [] e h is_o).1)
 
-    go : (rows : List Row) → Answers old.now (record { lets = []; body = from_both 19 17 terms project [] }) (Int (pos content) ∷ Int (pos n) ∷ []) rows → (x : Option X) → option_map (λ x. pass_of (number x) (pass x)) x ≡ option_map pass_cells (slice_get rows 0)
+    go : (rows : List Row) → IsShown (join content n) db rows → (x : Option X) → option_map (λ x. pass_of (number x) (pass x)) x ≡ option_map pass_cells (slice_get rows 0)
         → option_map (λ x. passed_as (number x) (pass x)) x ≡ option_map passed_of (latest_result s content v)
     go [] h None same = sym (ap (option_map passed_of) (none (latest_result s content v) h refl))
     go [] h (Some x) same = absurd cc
     go (row ∷ rows) h None same = absurd cc
     go (row ∷ rows) h (Some x) same =
         let cells : pass_of (number x) (pass x) ≡ pass_cells row = cc in
-        let it = told old.now s held v content n is (row ∷ rows) row (number x) (pass x) h (inl refl) cells in
+        let it = told db s held v content n is (row ∷ rows) row (number x) (pass x) h (inl refl) cells in
         (λ i. Some (passed_as (it.2 i) (it.3 i))) ∙ sym (ap (option_map passed_of) it.1)
 
 -- with the mark whether the broker checked it

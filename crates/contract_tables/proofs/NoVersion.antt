@@ -1,67 +1,55 @@
 -- No row is shown for a number that no version has.
-use Rattle.std.proofs.Common.{◌≡◌, inl, inr, ℕ, pos, List, [], ◌∷◌, Some, refl, slice_get}
-use Rattle.sqlite.specs.declared.types.Value.TheVariants.{Int, Text as SqlText}
+use Rattle.std.proofs.Common.{◌≡◌, inl, inr, ℕ, pos, List, Some, true, refl}
+use Rattle.sqlite.specs.declared.types.Value.TheVariants.{Int}
 use Rattle.sqlite.specs.Order.{Row, column}
-use Rattle.sqlite.specs.State.{State, Shown}
+use Rattle.sqlite.specs.Effect.{Database}
+use Rattle.sqlite.specs.Collation.TheVariants.{Binary}
+use Rattle.sqlite_sql.specs.declared.ops.BinaryOp.TheVariants.{Compare}
+use Rattle.sqlite_sql.specs.declared.ops.CompareOp.TheVariants.{Eq}
+use Rattle.sqlite_sql.specs.Ops.{binary, is_true}
 use Rattle.sqlite_rules.specs.Lists.{Has}
 use Rattle.sqlite_keyed.proofs.RuleLemmas.{first_of_both, second_of_both}
-use Rattle.table_access.specs.Columns.{whole_at}
-use Rattle.table_access.proofs.Answered.{shown_of, pair_shown}
 use Rattle.table_access.proofs.SoundLemmas.{has_place}
-use Rattle.table_access.proofs.Steps.{shown_answers}
 use Rattle.broker_core.specs.declared.command.Version.{Version}
 use Rattle.broker_core.specs.State.{State as Broker}
 use Rattle.broker_tables.specs.Numbers.{number_of}
 use Rattle.broker_tables.specs.Holds.{Holds}
 use Rattle.broker_tables.proofs.NoVersion.{no_row}
 use Rattle.broker_tables.proofs.Placed.{contracts, contracts_there, latest, latest_there}
-use Rattle.contract_tables.proofs.ContractRows.{content_sql, content_means, numbers}
-use Rattle.contract_tables.proofs.ContractList.{own_sql, own_means}
+use Rattle.contract_tables.proofs.ContractRows.{content, numbers}
+use Rattle.contract_tables.proofs.ContractList.{own}
+use Rattle.broker_tables.proofs.Asked.{NoneFor, of_table, of_both}
 use Rattle.contract_tables.proofs.ResultRows.{versions}
-use Rattle.contract_tables.proofs.VerifiedList.{contents_sql, contents_means}
-use Rattle.contract_tables.proofs.VersionResults.{passes_sql, passes_means, marks_sql, marks_means}
-use Rattle.contract_tables.proofs.LatestNumber.{newest_sql, newest_means}
-use Rattle.contract_tables.proofs.LatestPass.{join_sql, join_means}
+use Rattle.contract_tables.proofs.VerifiedList.{verified}
+use Rattle.contract_tables.proofs.VersionResults.{passes, marks}
+use Rattle.contract_tables.proofs.LatestNumber.{newest}
+use Rattle.contract_tables.proofs.LatestPass.{join}
 
-module _ (old new : State) (s : Broker) (held : Holds old.now s) (n : ℕ) (none : (v : Version) → ¬ (number_of s.versions v ≡ Some n)) (rows : List Row) (row : Row) (has : Has rows row) where
-  contracts_here : Has old.now.schema.tables contracts
-  contracts_here = has_place _ 8 contracts (contracts_there old.now held.broker)
+module _ (db : Database) (s : Broker) (held : Holds db s) (n : ℕ) (none : (v : Version) → ¬ (number_of s.versions v ≡ Some n)) where
+  of_version : (r : Row) → Has (db.trees 15) r → is_true (binary (Compare Eq Binary) (column r 1) (Int (pos n))) ≡ true → ⊥
+  of_version r has = no_row db s held n none contracts (has_place _ 8 contracts (contracts_there db held.broker)) 1 (inl refl) r has ((numbers db held.broker).typed r has)
 
-  latest_here : Has old.now.schema.tables latest
-  latest_here = has_place _ 10 latest (latest_there old.now held.broker)
+  of_latest : (r : Row) → Has (db.trees 19) r → is_true (binary (Compare Eq Binary) (column r 2) (Int (pos n))) ≡ true → ⊥
+  of_latest r has = no_row db s held n none latest (has_place _ 10 latest (latest_there db held.broker)) 2 (inr (inl refl)) r has (versions db held.broker r has)
 
-  pub content_none : (p : List ℕ) → Shown content_sql (Int (pos n) ∷ SqlText p ∷ []) old new rows → ⊥
-  content_none p h =
-      let it = shown_of content_sql (Int (pos n) ∷ SqlText p ∷ []) old new 15 _ _ _ _ (content_means old.now held.broker) rows row h has in
-      no_row old.now s held n none contracts contracts_here 1 (inl refl) it.0 it.1 ((numbers old.now held.broker).typed it.0 it.1) (first_of_both _ _ it.2)
+pub content_none : (n : ℕ) (p : List ℕ) (db : Database) → NoneFor (content n p) db n
+content_none n p db s held none = of_table (content n p) db _ (λ r has kept. of_version db s held n none r has (first_of_both _ _ kept))
 
-  pub own_none : Shown own_sql (Int (pos n) ∷ []) old new rows → ⊥
-  own_none h =
-      let it = shown_of own_sql (Int (pos n) ∷ []) old new 15 _ _ _ _ (own_means old.now held.broker) rows row h has in
-      no_row old.now s held n none contracts contracts_here 1 (inl refl) it.0 it.1 ((numbers old.now held.broker).typed it.0 it.1) (first_of_both _ _ it.2)
+pub own_none : (n : ℕ) (db : Database) → NoneFor (own n) db n
+own_none n db s held none = of_table (own n) db _ (λ r has kept. of_version db s held n none r has (first_of_both _ _ kept))
 
-  pub newest_none : (c : ℕ) → Shown newest_sql (Int (pos c) ∷ Int (pos n) ∷ []) old new rows → ⊥
-  newest_none c h =
-      let it = shown_of newest_sql (Int (pos c) ∷ Int (pos n) ∷ []) old new 19 _ _ _ _ (newest_means old.now held.broker) rows row h has in
-      no_row old.now s held n none latest latest_here 2 (inr (inl refl)) it.0 it.1 (versions old.now held.broker it.0 it.1) (first_of_both _ _ (second_of_both _ _ it.2))
+pub newest_none : (c n : ℕ) (db : Database) → NoneFor (newest c n) db n
+newest_none c n db s held none = of_table (newest c n) db _ (λ r has kept. of_latest db s held n none r has (first_of_both _ _ (second_of_both _ _ kept)))
 
-  pub contents_none : Shown contents_sql (Int (pos n) ∷ []) old new rows → ⊥
-  contents_none h =
-      let it = shown_of contents_sql (Int (pos n) ∷ []) old new 19 _ _ _ _ (contents_means old.now held.broker) rows row h has in
-      no_row old.now s held n none latest latest_here 2 (inr (inl refl)) it.0 it.1 (versions old.now held.broker it.0 it.1) (first_of_both _ _ it.2)
+pub verified_none : (n : ℕ) (db : Database) → NoneFor (verified n) db n
+verified_none n db s held none = of_table (verified n) db _ (λ r has kept. of_latest db s held n none r has (first_of_both _ _ kept))
 
-  pub join_none : (c : ℕ) → Shown join_sql (Int (pos c) ∷ Int (pos n) ∷ []) old new rows → ⊥
-  join_none c h =
-      let params : Row = Int (pos c) ∷ Int (pos n) ∷ [] in
-      let it = pair_shown old.now params 19 17 _ _ _ rows (shown_answers join_sql params old new _ _ (join_means old.now held.broker) rows h) row has in
-      no_row old.now s held n none latest latest_here 2 (inr (inl refl)) it.0 it.2 (versions old.now held.broker it.0 it.2) (first_of_both _ _ (second_of_both _ _ (second_of_both _ _ it.5)))
+pub join_none : (c n : ℕ) (db : Database) → NoneFor (join c n) db n
+join_none c n db s held none =
+    of_both (join c n) db _ (λ l r hl hr kept. of_latest db s held n none l hl (first_of_both _ _ (second_of_both _ _ (second_of_both _ _ kept))))
 
-  pub passes_none : Shown passes_sql (Int (pos n) ∷ []) old new rows → ⊥
-  passes_none h =
-      let it = pair_shown old.now (Int (pos n) ∷ []) 19 17 _ _ _ rows (shown_answers passes_sql (Int (pos n) ∷ []) old new _ _ (passes_means old.now held.broker) rows h) row has in
-      no_row old.now s held n none latest latest_here 2 (inr (inl refl)) it.0 it.2 (versions old.now held.broker it.0 it.2) (first_of_both _ _ (second_of_both _ _ it.5))
+pub passes_none : (n : ℕ) (db : Database) → NoneFor (passes n) db n
+passes_none n db s held none = of_both (passes n) db _ (λ l r hl hr kept. of_latest db s held n none l hl (first_of_both _ _ (second_of_both _ _ kept)))
 
-  pub marks_none : Shown marks_sql (Int (pos n) ∷ []) old new rows → ⊥
-  marks_none h =
-      let it = pair_shown old.now (Int (pos n) ∷ []) 19 25 _ _ _ rows (shown_answers marks_sql (Int (pos n) ∷ []) old new _ _ (marks_means old.now held.broker) rows h) row has in
-      no_row old.now s held n none latest latest_here 2 (inr (inl refl)) it.0 it.2 (versions old.now held.broker it.0 it.2) (first_of_both _ _ (second_of_both _ _ it.5))
+pub marks_none : (n : ℕ) (db : Database) → NoneFor (marks n) db n
+marks_none n db s held none = of_both (marks n) db _ (λ l r hl hr kept. of_latest db s held n none l hl (first_of_both _ _ (second_of_both _ _ kept)))

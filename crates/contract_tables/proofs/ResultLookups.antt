@@ -10,8 +10,6 @@ use Rattle.std.proofs.lemmas.Option.{slice_get-map}
 use Rattle.sqlite.specs.declared.types.Value.TheVariants.{Int}
 use Rattle.sqlite.specs.Order.{Row, column}
 use Rattle.sqlite.specs.Term.{col}
-use Rattle.sqlite.specs.Command.{Command}
-use Rattle.sqlite.specs.Command.TheVariants.{Select}
 use Rattle.sqlite.specs.Effect.{Database}
 use Rattle.sqlite.specs.State.{State, Shown}
 use Rattle.sqlite.specs.Listing.{understood}
@@ -19,13 +17,12 @@ use Rattle.sqlite_tied.specs.Compute.{everything}
 use Rattle.table_access.specs.Columns.{whole_at}
 use Rattle.table_access.specs.Sound.{IsNumbered}
 use Rattle.table_access.specs.Statements.{from_table, up_to, newest, keeps}
-use Rattle.table_access.proofs.Steps.{Means, selects}
+use Rattle.table_access.proofs.Steps.{answered}
 use Rattle.table_access.proofs.Newest.{newest_number}
 use Rattle.table_access.proofs.Maps.{looks_up_at, find_has}
 use Rattle.table_access.proofs.Parts.{number_part, is_param, where_last, all_where, numbers_once}
 use Rattle.table_access.proofs.SoundLemmas.{at_has, has_place}
 use Rattle.broker_core.specs.State.{State as Broker, Verification}
-use Rattle.broker_tables.specs.Schema.{broker_schema}
 use Rattle.broker_tables.specs.Rows.{truth, truth_in, value_at, stands_at}
 use Rattle.broker_tables.specs.Holds.{Holds, IsBroker, ResultRow, result_in, result_of}
 use Rattle.broker_tables.proofs.Frames.{meant}
@@ -34,6 +31,7 @@ use Rattle.broker_tables.proofs.Placed.{results, results_there, checked_results,
 use Rattle.broker_tables.proofs.ByNumber.{by_number}
 use Rattle.broker_tables.proofs.Newest.{newest_result}
 use Rattle.contract_tables.specs.Verified.{result_with}
+use Rattle.broker_tables.proofs.Asked.{Asked, IsShown}
 
 module _ (db : Database) (broker : IsBroker db) where
   pub numbered_rows : IsNumbered (db.trees 17)
@@ -59,46 +57,33 @@ result_at db s n held = ap (find int_cmp (pos n)) held.results ∙ by_number (ma
 abbrev pub count_sql : List ℕ
 count_sql = codes "SELECT number FROM results ORDER BY number DESC LIMIT 1"
 
-abbrev pub count_command : Command
-count_command = Select (record { lets = []; body = up_to 1 (from_table 17 [] (col 1 0 ∷ []) newest) }) (codes "number" ∷ [])
-
-count_text : Means broker_schema count_sql count_command
+pub count : Asked count_sql [] (up_to 1 (from_table 17 [] (col 1 0 ∷ []) newest))
 unfolding understood everything
-count_text = record { is = refl; plain = (refl, refl); unlisted = refl }
-
-pub count_means : (db : Database) → IsBroker db → Means db.schema count_sql count_command
-count_means db broker = meant db broker count_sql count_text
+count = record { names = _; means = record { is = refl; plain = (refl, refl); unlisted = refl }; runs = record { whole = refl; typed = refl; sumless = refl } }
 
 pub results_counted : (old new : State) (rows : List Row) (s : Broker) (found : Option ℕ) → Holds old.now s → Shown count_sql [] old new rows → option_map (λ n. Int (pos n)) found ≡ option_map (λ row. column row 0) (slice_get rows 0)
     → unwrap_or found 0 ≡ length s.results
 results_counted old new rows s found held h read =
     newest_result s.versions s.results (old.now.trees 17) (old.now.trees 25) found held.results
-    (newest_number count_sql old new 17 _ (count_means old.now held.broker) (numbered_rows old.now held.broker) rows h found read)
+    (newest_number count_sql old new 17 _ (meant old.now held.broker count_sql count.means) (numbered_rows old.now held.broker) rows h found read)
 
 -- ---- whether it is a pass
 
-abbrev pub pass_sql : List ℕ
-pass_sql = codes "SELECT pass FROM results WHERE number = ?1"
-
-abbrev pub pass_command : Command
-pass_command = Select (record { lets = []; body = from_table 17 (is_param 0 0 ∷ []) (col 1 5 ∷ []) [] }) (codes "pass" ∷ [])
-
-pass_text : Means broker_schema pass_sql pass_command
+pub pass : (n : ℕ)
+    → Asked (codes "SELECT pass FROM results WHERE number = ?1")
+    (Int (pos n) ∷ []) (from_table 17 (is_param 0 0 ∷ []) (col 1 5 ∷ []) [])
 unfolding understood everything
-pass_text = record { is = refl; plain = (refl, refl); unlisted = refl }
+pass n = record { names = _; means = record { is = refl; plain = (refl, refl); unlisted = refl }; runs = record { whole = refl; typed = refl; sumless = refl } }
 
-pub pass_means : (db : Database) → IsBroker db → Means db.schema pass_sql pass_command
-pass_means db broker = meant db broker pass_sql pass_text
-
-pub pass_found : (n : ℕ) (old new : State) (rows : List Row) (s : Broker) (found : Option ℕ) → Holds old.now s → Shown pass_sql (Int (pos n) ∷ []) old new rows
+pub pass_found : (n : ℕ) (db : Database) (rows : List Row) (s : Broker) (found : Option ℕ) → Holds db s → IsShown (pass n) db rows
     → option_map (λ n. Int (pos n)) found ≡ option_map (λ row. column row 0) (slice_get rows 0) → option_map (λ n. n == 1) found ≡ option_map (λ (r : Verification). r.pass) (result_with s n)
-pass_found n old new rows s found held h read =
-    let all = old.now.trees 17 in
-    let rising = numbered_rows old.now held.broker in
+pass_found n db rows s found held h read =
+    let all = db.trees 17 in
+    let rising = numbered_rows db held.broker in
     let looked = looks_up_at int_cmp_total int_cmp-IsAntisymmetric (whole_at 0) (truth 5) _ (truth 0) (λ r. refl) (pos n) _ all rows (of_number all rising n) (numbers_once all rising)
-    (selects pass_sql (Int (pos n) ∷ []) old new 17 _ _ _ _ (pass_means old.now held.broker) rows h) in
-    one found ∙ ap (option_map truth_in) read ∙ two (slice_get rows 0) ∙ looked ∙ sym (value_map int_cmp (whole_at 0) (λ (r : ResultRow). r.pass) (result_in (old.now.trees 25)) all (pos n))
-    ∙ ap (option_map (λ (r : ResultRow). r.pass)) (result_at old.now s n held) ∙ three (result_with s n)
+    (answered db _ 17 _ _ _ rows h) in
+    one found ∙ ap (option_map truth_in) read ∙ two (slice_get rows 0) ∙ looked ∙ sym (value_map int_cmp (whole_at 0) (λ (r : ResultRow). r.pass) (result_in (db.trees 25)) all (pos n))
+    ∙ ap (option_map (λ (r : ResultRow). r.pass)) (result_at db s n held) ∙ three (result_with s n)
   where
     one : (o : Option ℕ) → option_map (λ n. n == 1) o ≡ option_map truth_in (option_map (λ n. Int (pos n)) o)
     one None = refl
@@ -114,25 +99,18 @@ pass_found n old new rows s found held h read =
 
 -- ---- whether the broker checked it
 
-abbrev pub checked_sql : List ℕ
-checked_sql = codes "SELECT result FROM checked_results WHERE result = ?1"
-
-abbrev pub checked_command : Command
-checked_command = Select (record { lets = []; body = from_table 25 (is_param 0 0 ∷ []) (col 1 0 ∷ []) [] }) (codes "result" ∷ [])
-
-checked_text : Means broker_schema checked_sql checked_command
+pub checked : (n : ℕ)
+    → Asked (codes "SELECT result FROM checked_results WHERE result = ?1")
+    (Int (pos n) ∷ []) (from_table 25 (is_param 0 0 ∷ []) (col 1 0 ∷ []) [])
 unfolding understood everything
-checked_text = record { is = refl; plain = (refl, refl); unlisted = refl }
+checked n = record { names = _; means = record { is = refl; plain = (refl, refl); unlisted = refl }; runs = record { whole = refl; typed = refl; sumless = refl } }
 
-pub checked_means : (db : Database) → IsBroker db → Means db.schema checked_sql checked_command
-checked_means db broker = meant db broker checked_sql checked_text
-
-pub checked_found : (n : ℕ) (old new : State) (rows : List Row) (s : Broker) (r : Verification) → Holds old.now s → result_with s n ≡ Some r → Shown checked_sql (Int (pos n) ∷ []) old new rows
+pub checked_found : (n : ℕ) (db : Database) (rows : List Row) (s : Broker) (r : Verification) → Holds db s → result_with s n ≡ Some r → IsShown (checked n) db rows
     → is_some (option_map (whole_at 0) (slice_get rows 0)) ≡ r.checked
-checked_found n old new rows s r held is h =
-    let marks = old.now.trees 25 in
-    let rising = marked_rows old.now held.broker in
-    let row = find_has int_cmp_total int_cmp-IsAntisymmetric (whole_at 0) (result_in marks) (pos n) (result_of s.versions r) (old.now.trees 17) (result_at old.now s n held ∙ ap (option_map (result_of s.versions)) is) in
+checked_found n db rows s r held is h =
+    let marks = db.trees 25 in
+    let rising = marked_rows db held.broker in
+    let row = find_has int_cmp_total int_cmp-IsAntisymmetric (whole_at 0) (result_in marks) (pos n) (result_of s.versions r) (db.trees 17) (result_at db s n held ∙ ap (option_map (result_of s.versions)) is) in
     ap is_some (looks_up_at int_cmp_total int_cmp-IsAntisymmetric (whole_at 0) (whole_at 0) _ (whole_at 0) (λ r. refl) (pos n) _ marks rows (of_number marks rising n) (numbers_once marks rising)
-    (selects checked_sql (Int (pos n) ∷ []) old new 25 _ _ _ _ (checked_means old.now held.broker) rows h))
+    (answered db _ 25 _ _ _ rows h))
     ∙ stands_found int_cmp (whole_at 0) (whole_at 0) marks (pos n) ∙ ap (stands_at int_cmp (whole_at 0) marks) row.2 ∙ ap (λ (x : ResultRow). x.checked) row.3

@@ -17,11 +17,8 @@ use Rattle.sqlite_sql.specs.declared.ops.CompareOp.TheVariants.{Eq}
 use Rattle.sqlite_sql.specs.Ops.{binary, is_true}
 use Rattle.sqlite_schema.specs.Rules.{agree, equal}
 use Rattle.sqlite_value.specs.Keys.{plain, first_key}
-use Rattle.sqlite.specs.Command.{Command}
-use Rattle.sqlite.specs.Command.TheVariants.{Select}
 use Rattle.sqlite.specs.Schema.{Schema}
 use Rattle.sqlite.specs.Effect.{Database}
-use Rattle.sqlite.specs.State.{State, Shown}
 use Rattle.sqlite.specs.Listing.{understood}
 use Rattle.sqlite_rules.specs.Lists.{Has}
 use Rattle.sqlite_keyed.proofs.ListLemmas.{filter-map, ascending-filter}
@@ -30,18 +27,17 @@ use Rattle.sqlite_tied.specs.Compute.{everything}
 use Rattle.table_access.specs.Columns.{text, text_cmp, whole_at}
 use Rattle.table_access.specs.Statements.{from_table, by_two, keeps, shows}
 use Rattle.table_access.proofs.Values.{same_texts}
-use Rattle.table_access.proofs.Steps.{Means, selects}
+use Rattle.table_access.proofs.Steps.{answered}
 use Rattle.table_access.proofs.Maps.{few_permuted}
 use Rattle.table_access.proofs.Keys.{apart_by}
 use Rattle.table_access.proofs.SoundLemmas.{text_at, has_place}
 use Rattle.broker_core.specs.Text.{same_text}
 use Rattle.broker_core.specs.Change.{is_text, result_of_run}
 use Rattle.broker_core.specs.State.{State as Broker, Verification}
-use Rattle.broker_tables.specs.Schema.{broker_schema}
 use Rattle.broker_tables.specs.Rows.{text_or_null}
 use Rattle.broker_tables.specs.Numbers.{number_of}
 use Rattle.broker_tables.specs.Holds.{Holds, IsBroker, ResultRow, result_in, result_of}
-use Rattle.broker_tables.proofs.Frames.{meant}
+use Rattle.broker_tables.proofs.Asked.{Asked, IsShown}
 use Rattle.broker_tables.proofs.Orders.{exact_texts}
 use Rattle.broker_tables.proofs.Ties.{two_tests}
 use Rattle.broker_tables.proofs.Placed.{results, results_there}
@@ -49,21 +45,14 @@ use Rattle.contract_tables.specs.Verified.{Cells, cells, cells_of, ByNumbers, by
 use Rattle.contract_tables.proofs.ContractRows.{named}
 use Rattle.contract_tables.proofs.LastRow.{last_stands}
 
-abbrev pub run_sql : List ℕ
-run_sql = codes "SELECT number, content, provider_version, pass FROM results WHERE provider = ?1 AND run = ?2"
-
-abbrev run_project : List Term
+abbrev pub run_project : List Term
 run_project = col 1 0 ∷ col 1 2 ∷ col 1 4 ∷ col 1 5 ∷ []
 
-abbrev pub run_command : Command
-run_command = Select (record { lets = []; body = from_table 17 (by_two 3 6) run_project [] }) (codes "number" ∷ codes "content" ∷ codes "provider_version" ∷ codes "pass" ∷ [])
-
-run_text : Means broker_schema run_sql run_command
+pub run : (p u : List ℕ)
+    → Asked (codes "SELECT number, content, provider_version, pass FROM results WHERE provider = ?1 AND run = ?2")
+    (Text p ∷ Text u ∷ []) (from_table 17 (by_two 3 6) run_project [])
 unfolding understood everything
-run_text = record { is = refl; plain = (refl, refl); unlisted = refl }
-
-pub run_means : (db : Database) → IsBroker db → Means db.schema run_sql run_command
-run_means db broker = meant db broker run_sql run_text
+run p u = record { names = _; means = record { is = refl; plain = (refl, refl); unlisted = refl }; runs = record { whole = refl; typed = refl; sumless = refl } }
 
 -- ---- a column that may be NULL, and a text
 
@@ -194,22 +183,22 @@ module _ (db : Database) (broker : IsBroker db) (p u : List ℕ) where
 abbrev shown_row : List ℕ → List ℕ → Row → Row
 shown_row p u r = shows run_project (Text p ∷ Text u ∷ []) r
 
-pub run_found : {X : Type 0} (number content version : X → ℕ) (pass : X → Bool) (p u : List ℕ) (old new : State) (rows : List Row) (s : Broker) (found : Option X) → Holds old.now s → Shown run_sql (Text p ∷ Text u ∷ []) old new rows
+pub run_found : {X : Type 0} (number content version : X → ℕ) (pass : X → Bool) (p u : List ℕ) (db : Database) (rows : List Row) (s : Broker) (found : Option X) → Holds db s → IsShown (run p u) db rows
     → option_map (λ x. cells_of (number x) (content x) (version x) (pass x)) found ≡ option_map cells (slice_get rows 0)
     → option_map (λ x. numbers_are (number x) (content x) (version x) (pass x)) found ≡ option_map (by_numbers s.versions) (result_of_run s p (Some u))
-run_found {X} number content version pass p u old new rows s found held h read =
-    go (slice_get (kept old.now held.broker p u) 0) found (result_of_run s p (Some u)) (read ∙ ap (λ l. option_map cells (slice_get l 0)) out ∙ first (kept old.now held.broker p u)) (kept_is old.now held.broker p u s held)
+run_found {X} number content version pass p u db rows s found held h read =
+    go (slice_get (kept db held.broker p u) 0) found (result_of_run s p (Some u)) (read ∙ ap (λ l. option_map cells (slice_get l 0)) out ∙ first (kept db held.broker p u)) (kept_is db held.broker p u s held)
   where
-    out : rows ≡ map (shown_row p u) (kept old.now held.broker p u)
-    out = few_permuted (map (shown_row p u) (kept old.now held.broker p u)) rows (subst (λ n. n ≤ 1) (sym (length-map (kept old.now held.broker p u) (shown_row p u))) (few old.now held.broker p u))
-        (selects run_sql (Text p ∷ Text u ∷ []) old new 17 _ _ _ _ (run_means old.now held.broker) rows h)
+    out : rows ≡ map (shown_row p u) (kept db held.broker p u)
+    out = few_permuted (map (shown_row p u) (kept db held.broker p u)) rows (subst (λ n. n ≤ 1) (sym (length-map (kept db held.broker p u) (shown_row p u))) (few db held.broker p u))
+        (answered db _ 17 _ _ _ rows h)
 
     first : (rs : List Row) → option_map cells (slice_get (map (shown_row p u) rs) 0) ≡ option_map (λ r. cells (shown_row p u r)) (slice_get rs 0)
     first [] = refl
     first (r ∷ rs) = refl
 
     go : (kept_row : Option Row) (x : Option X) (e : Option (ℕ × Verification)) → option_map (λ x. cells_of (number x) (content x) (version x) (pass x)) x ≡ option_map (λ r. cells (shown_row p u r)) kept_row
-        → option_map {U = ℤ × ResultRow} (λ r. (whole_at 0 r, result_in (old.now.trees 25) r)) kept_row ≡ option_map {U = ℤ × ResultRow} (λ e. (pos e.0, result_of s.versions e.1)) e
+        → option_map {U = ℤ × ResultRow} (λ r. (whole_at 0 r, result_in (db.trees 25) r)) kept_row ≡ option_map {U = ℤ × ResultRow} (λ e. (pos e.0, result_of s.versions e.1)) e
         → option_map (λ x. numbers_are (number x) (content x) (version x) (pass x)) x ≡ option_map (by_numbers s.versions) e
     go None None None one two = refl
     go None None (Some e) one two = absurd cc
@@ -218,7 +207,7 @@ run_found {X} number content version pass p u old new rows s found held h read =
     go (Some r) (Some x) None one two = absurd cc
     go (Some r) (Some x) (Some e) one two =
         let shown : cells_of (number x) (content x) (version x) (pass x) ≡ cells (shown_row p u r) = cc in
-        let held_row : ◌≡◌ {A = ℤ × ResultRow} (whole_at 0 r, result_in (old.now.trees 25) r) (pos e.0, result_of s.versions e.1) = cc in
+        let held_row : ◌≡◌ {A = ℤ × ResultRow} (whole_at 0 r, result_in (db.trees 25) r) (pos e.0, result_of s.versions e.1) = cc in
         let numbers : pos (number x) ≡ pos e.0 = ap (λ (c : Cells). id_in c.0) shown ∙ ap (λ (y : ℤ × ResultRow). y.0) held_row in
         let contents : pos (content x) ≡ pos e.1.content = ap (λ (c : Cells). id_in c.1) shown ∙ ap (λ (y : ℤ × ResultRow). y.1.content) held_row in
         let versions : Some (pos (version x)) ≡ option_map pos (number_of s.versions e.1.version) = ap (λ (c : Cells). Some (id_in c.2)) shown ∙ ap (λ (y : ℤ × ResultRow). y.1.version) held_row in

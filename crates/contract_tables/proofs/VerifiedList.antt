@@ -13,9 +13,7 @@ use Rattle.sqlite_sql.specs.declared.ops.BinaryOp.TheVariants.{Compare}
 use Rattle.sqlite_sql.specs.declared.ops.CompareOp.TheVariants.{Eq}
 use Rattle.sqlite_sql.specs.Ops.{binary, is_true}
 use Rattle.sqlite.specs.Collation.TheVariants.{Binary}
-use Rattle.sqlite.specs.Command.{Command}
-use Rattle.sqlite.specs.Command.TheVariants.{Select}
-use Rattle.sqlite.specs.Effect.{Database, Answers}
+use Rattle.sqlite.specs.Effect.{Database}
 use Rattle.sqlite.specs.Listing.{understood}
 use Rattle.sqlite_value.specs.declared.keys.Key.{Key}
 use Rattle.sqlite_value.specs.Keys.{ascending}
@@ -27,7 +25,6 @@ use Rattle.table_access.specs.Columns.{text, text_cmp, whole_at, by_both}
 use Rattle.table_access.specs.Sound.{text_in}
 use Rattle.table_access.specs.Statements.{from_table, from_both, keeps, keeps_both, pairs_kept}
 use Rattle.table_access.specs.Reading.{AreRead}
-use Rattle.table_access.proofs.Steps.{Means}
 use Rattle.table_access.proofs.Keys.{ascending_on}
 use Rattle.table_access.proofs.Maps.{find_has, has_find}
 use Rattle.table_access.proofs.Members.{has_filter, filter_has, has_pair, pair_has}
@@ -37,11 +34,10 @@ use Rattle.broker_core.specs.Listing.{Lists}
 use Rattle.broker_core.specs.Text.{Text as Words, version}
 use Rattle.broker_core.specs.State.{State as Broker, latest_result}
 use Rattle.broker_core.proofs.Order.{text_tied}
-use Rattle.broker_tables.specs.Schema.{broker_schema}
 use Rattle.broker_tables.specs.Rows.{value_at}
 use Rattle.broker_tables.specs.Numbers.{number_of}
-use Rattle.broker_tables.specs.Holds.{Holds, IsBroker}
-use Rattle.broker_tables.proofs.Frames.{meant}
+use Rattle.broker_tables.specs.Holds.{Holds}
+use Rattle.broker_tables.proofs.Asked.{Asked, IsShown}
 use Rattle.broker_tables.proofs.Listed.{sorts, lists_table, lists_join}
 use Rattle.broker_tables.proofs.VersionRows.{whole_test, text_test, all_three, by_number, version_number, owners, names, same_version, row_number, find_version, joined_apart}
 use Rattle.broker_tables.proofs.Orders.{numbers_total, exact_numbers}
@@ -64,27 +60,20 @@ held_latest db s v k content held is = sym (ap (option_and_then (λ n. latest_at
 
 -- ---- the versions of a provider
 
-abbrev pub versions_sql : List ℕ
-versions_sql = codes "SELECT l.result, v.version FROM latest l JOIN versions v ON v.number = l.provider_version WHERE l.content = ?1 AND v.pacticipant = ?2 ORDER BY v.version"
-
 abbrev terms : List Term
 terms = op2 (Compare Eq Binary) (col 2 0) (col 1 2) ∷ op2 (Compare Eq Binary) (col 1 1) (col 0 0) ∷ op2 (Compare Eq Binary) (col 2 2) (col 0 1) ∷ []
 
 abbrev order : List (Term × Key)
 order = (col 2 3, ascending Binary) ∷ []
 
-abbrev project : List Term
+abbrev pub project : List Term
 project = col 1 3 ∷ col 2 3 ∷ []
 
-abbrev pub versions_command : Command
-versions_command = Select (record { lets = []; body = from_both 19 6 terms project order }) (codes "result" ∷ codes "version" ∷ [])
-
-versions_text : Means broker_schema versions_sql versions_command
+pub verifiers : (c : ℕ) (p : List ℕ)
+    → Asked (codes "SELECT l.result, v.version FROM latest l JOIN versions v ON v.number = l.provider_version WHERE l.content = ?1 AND v.pacticipant = ?2 ORDER BY v.version")
+    (Int (pos c) ∷ Text p ∷ []) (from_both 19 6 terms project order)
 unfolding understood everything
-versions_text = record { is = refl; plain = (refl, refl); unlisted = refl }
-
-pub versions_means : (db : Database) → IsBroker db → Means db.schema versions_sql versions_command
-versions_means db broker = meant db broker versions_sql versions_text
+verifiers c p = record { names = _; means = record { is = refl; plain = (refl, refl); unlisted = refl }; runs = record { whole = refl; typed = refl; sumless = refl } }
 
 module _ (db : Database) (s : Broker) (held : Holds db s) (content : ℕ) (p : Words) where
   abbrev params : Row
@@ -157,13 +146,10 @@ module _ (db : Database) (s : Broker) (held : Holds db s) (content : ℕ) (p : W
             λ i. record { name = (sym (ap text_in read.1) ∙ v.3) i; result = result i },
       )
 
-  pub versions_listed : (rows : List Row) (items : List VerifiedVersion) → Answers db (record { lets = []; body = from_both 19 6 terms project order }) params rows → AreRead IsVerifiedRow rows items → Lists verified_cmp Is items
-  versions_listed = lists_join db params terms project order IsVerifiedRow verified_cmp Is 19 6 apart less sound whole
+  pub verifiers_listed : (rows : List Row) (items : List VerifiedVersion) → IsShown (verifiers content p) db rows → AreRead IsVerifiedRow rows items → Lists verified_cmp Is items
+  verifiers_listed = lists_join db params terms project order IsVerifiedRow verified_cmp Is 19 6 apart less sound whole
 
 -- ---- the contents of a version
-
-abbrev pub contents_sql : List ℕ
-contents_sql = codes "SELECT content, result FROM latest WHERE provider_version = ?1 ORDER BY content"
 
 abbrev content_terms : List Term
 content_terms = is_param 2 0 ∷ []
@@ -171,18 +157,14 @@ content_terms = is_param 2 0 ∷ []
 abbrev content_order : List (Term × Key)
 content_order = (col 1 1, ascending Binary) ∷ []
 
-abbrev content_project : List Term
+abbrev pub content_project : List Term
 content_project = col 1 1 ∷ col 1 3 ∷ []
 
-abbrev pub contents_command : Command
-contents_command = Select (record { lets = []; body = from_table 19 content_terms content_project content_order }) (codes "content" ∷ codes "result" ∷ [])
-
-contents_text : Means broker_schema contents_sql contents_command
+pub verified : (n : ℕ)
+    → Asked (codes "SELECT content, result FROM latest WHERE provider_version = ?1 ORDER BY content")
+    (Int (pos n) ∷ []) (from_table 19 content_terms content_project content_order)
 unfolding understood everything
-contents_text = record { is = refl; plain = (refl, refl); unlisted = refl }
-
-pub contents_means : (db : Database) → IsBroker db → Means db.schema contents_sql contents_command
-contents_means db broker = meant db broker contents_sql contents_text
+verified n = record { names = _; means = record { is = refl; plain = (refl, refl); unlisted = refl }; runs = record { whole = refl; typed = refl; sumless = refl } }
 
 pub less_nat : (a b : ℕ) → int_cmp (pos a) (pos b) ≡ Less → nat_cmp a b ≡ Less
 less_nat a b h = go (nat_lt a b) (nat_lt b a) (a == b) h
@@ -251,5 +233,5 @@ module _ (db : Database) (s : Broker) (held : Holds db s) (v : Version) (n : ℕ
             λ i. record { content = content i; result = result i },
       )
 
-  pub contents_listed : (rows : List Row) (items : List VerifiedContent) → Answers db (record { lets = []; body = from_table 19 content_terms content_project content_order }) content_params rows → AreRead IsContentRow rows items → Lists content_cmp IsVerified items
-  contents_listed = lists_table db content_params content_terms content_project content_order IsContentRow content_cmp IsVerified 19 content_apart content_less content_sound content_whole
+  pub verified_listed : (rows : List Row) (items : List VerifiedContent) → IsShown (verified n) db rows → AreRead IsContentRow rows items → Lists content_cmp IsVerified items
+  verified_listed = lists_table db content_params content_terms content_project content_order IsContentRow content_cmp IsVerified 19 content_apart content_less content_sound content_whole

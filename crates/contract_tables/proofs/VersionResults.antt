@@ -15,9 +15,7 @@ use Rattle.sqlite_sql.specs.declared.ops.BinaryOp.TheVariants.{Compare}
 use Rattle.sqlite_sql.specs.declared.ops.CompareOp.TheVariants.{Eq}
 use Rattle.sqlite_sql.specs.Ops.{binary, is_true}
 use Rattle.sqlite.specs.Collation.TheVariants.{Binary}
-use Rattle.sqlite.specs.Command.{Command}
-use Rattle.sqlite.specs.Command.TheVariants.{Select}
-use Rattle.sqlite.specs.Effect.{Database, Answers}
+use Rattle.sqlite.specs.Effect.{Database}
 use Rattle.sqlite.specs.Listing.{understood}
 use Rattle.sqlite_value.specs.declared.keys.Key.{Key}
 use Rattle.sqlite_value.specs.Keys.{ascending}
@@ -29,7 +27,6 @@ use Rattle.table_access.specs.Columns.{whole_at, by_both}
 use Rattle.table_access.specs.Sound.{IsNumbered}
 use Rattle.table_access.specs.Statements.{from_both, keeps_both, pairs_kept}
 use Rattle.table_access.specs.Reading.{AreRead}
-use Rattle.table_access.proofs.Steps.{Means}
 use Rattle.table_access.proofs.Keys.{ascending_on}
 use Rattle.table_access.proofs.Maps.{find_has, has_find}
 use Rattle.table_access.proofs.Members.{has_pair, pair_has, pairs_rise, any_has, contains_has, has_contains}
@@ -39,11 +36,10 @@ use Rattle.broker_core.specs.declared.command.Version.{Version}
 use Rattle.broker_core.specs.Listing.{Lists}
 use Rattle.broker_core.specs.State.{State as Broker, Verification, latest_result, latest, said_by}
 use Rattle.broker_core.specs.declared.need.Latest.{Latest}
-use Rattle.broker_tables.specs.Schema.{broker_schema}
 use Rattle.broker_tables.specs.Rows.{value_at, stands_at}
 use Rattle.broker_tables.specs.Numbers.{number_of}
-use Rattle.broker_tables.specs.Holds.{Holds, IsBroker, ResultRow, result_in, result_of}
-use Rattle.broker_tables.proofs.Frames.{meant}
+use Rattle.broker_tables.specs.Holds.{Holds, ResultRow, result_in, result_of}
+use Rattle.broker_tables.proofs.Asked.{Asked, IsShown}
 use Rattle.broker_tables.proofs.Listed.{sorts, lists_join, lists_read}
 use Rattle.broker_tables.proofs.Orders.{numbers_total, exact_numbers}
 use Rattle.broker_tables.proofs.Placed.{latest as latest_table, latest_there}
@@ -67,37 +63,23 @@ terms = op2 (Compare Eq Binary) (col 2 0) (col 1 3) ∷ op2 (Compare Eq Binary) 
 abbrev pub order : List (Term × Key)
 order = (col 1 1, ascending Binary) ∷ []
 
-abbrev pub passes_sql : List ℕ
-passes_sql = codes "SELECT l.content, r.pass FROM latest l JOIN results r ON r.number = l.result WHERE l.provider_version = ?1 ORDER BY l.content"
-
 abbrev pub passes_project : List Term
 passes_project = col 1 1 ∷ col 2 5 ∷ []
 
-abbrev pub passes_command : Command
-passes_command = Select (record { lets = []; body = from_both 19 17 terms passes_project order }) (codes "content" ∷ codes "pass" ∷ [])
-
-passes_text : Means broker_schema passes_sql passes_command
+pub passes : (n : ℕ)
+    → Asked (codes "SELECT l.content, r.pass FROM latest l JOIN results r ON r.number = l.result WHERE l.provider_version = ?1 ORDER BY l.content")
+    (Int (pos n) ∷ []) (from_both 19 17 terms passes_project order)
 unfolding understood everything
-passes_text = record { is = refl; plain = (refl, refl); unlisted = refl }
-
-pub passes_means : (db : Database) → IsBroker db → Means db.schema passes_sql passes_command
-passes_means db broker = meant db broker passes_sql passes_text
-
-abbrev pub marks_sql : List ℕ
-marks_sql = codes "SELECT l.content FROM latest l JOIN checked_results c ON c.result = l.result WHERE l.provider_version = ?1 ORDER BY l.content"
+passes n = record { names = _; means = record { is = refl; plain = (refl, refl); unlisted = refl }; runs = record { whole = refl; typed = refl; sumless = refl } }
 
 abbrev pub marks_project : List Term
 marks_project = col 1 1 ∷ []
 
-abbrev pub marks_command : Command
-marks_command = Select (record { lets = []; body = from_both 19 25 terms marks_project order }) (codes "content" ∷ [])
-
-marks_text : Means broker_schema marks_sql marks_command
+pub marks : (n : ℕ)
+    → Asked (codes "SELECT l.content FROM latest l JOIN checked_results c ON c.result = l.result WHERE l.provider_version = ?1 ORDER BY l.content")
+    (Int (pos n) ∷ []) (from_both 19 25 terms marks_project order)
 unfolding understood everything
-marks_text = record { is = refl; plain = (refl, refl); unlisted = refl }
-
-pub marks_means : (db : Database) → IsBroker db → Means db.schema marks_sql marks_command
-marks_means db broker = meant db broker marks_sql marks_text
+marks n = record { names = _; means = record { is = refl; plain = (refl, refl); unlisted = refl }; runs = record { whole = refl; typed = refl; sumless = refl } }
 
 -- ---- the rows that they join
 
@@ -209,7 +191,7 @@ module _ (db : Database) (s : Broker) (held : Holds db s) (v : Version) (n : ℕ
   abbrev pub IsPass : ContentPass → Type 0
   IsPass x = option_map (λ e. e.1.pass) (latest_result s x.content v) ≡ Some x.pass
 
-  pub passes_listed : (rows : List Row) (items : List ContentPass) → Answers db (record { lets = []; body = from_both 19 17 terms passes_project order }) params rows → AreRead IsPassRow rows items → Lists pass_cmp IsPass items
+  pub passes_listed : (rows : List Row) (items : List ContentPass) → IsShown (passes n) db rows → AreRead IsPassRow rows items → Lists pass_cmp IsPass items
   passes_listed = lists_join db params terms passes_project order IsPassRow pass_cmp IsPass 19 17 (apart 17 rising)
       (λ a b x y ha hb ra rb h. less 17 rising a b x.content y.content ra.0 rb.0 h)
       (λ q x has read.
@@ -234,7 +216,7 @@ module _ (db : Database) (s : Broker) (held : Holds db s) (v : Version) (n : ℕ
   abbrev pub IsChecked : ℕ → Type 0
   IsChecked content = option_map (λ e. e.1.checked) (latest_result s content v) ≡ Some true
 
-  pub marks_listed : (rows : List Row) (items : List ℕ) → Answers db (record { lets = []; body = from_both 19 25 terms marks_project order }) params rows → AreRead (λ row number. column row 0 ≡ Int (pos number)) rows items → Lists nat_cmp IsChecked items
+  pub marks_listed : (rows : List Row) (items : List ℕ) → IsShown (marks n) db rows → AreRead (λ row number. column row 0 ≡ Int (pos number)) rows items → Lists nat_cmp IsChecked items
   marks_listed = lists_join db params terms marks_project order (λ row number. column row 0 ≡ Int (pos number)) nat_cmp IsChecked 19 25 (apart 25 rising)
       (λ a b x y ha hb ra rb h. less 25 rising a b x y ra rb h)
       (λ q content has read.
@@ -260,7 +242,7 @@ read_self : {A B : Type 0} (f : A → B) (xs : List A) → AreRead (λ x y. y �
 read_self f [] = tt
 read_self f (x ∷ xs) = (refl, read_self f xs)
 
-module _ (s : Broker) (v : Version) (checked : List ℕ) (marks : Lists nat_cmp (λ content. option_map (λ e. e.1.checked) (latest_result s content v) ≡ Some true) checked) where
+module _ (s : Broker) (v : Version) (checked : List ℕ) (marked_are : Lists nat_cmp (λ content. option_map (λ e. e.1.checked) (latest_result s content v) ≡ Some true) checked) where
   -- a latest result was checked where its content is one of these
   among : (content : ℕ) (e : ℕ × Verification) → latest_result s content v ≡ Some e → is_among checked content ≡ e.1.checked
   among content e found = go (is_among checked content) e.1.checked refl refl
@@ -270,17 +252,17 @@ module _ (s : Broker) (v : Version) (checked : List ℕ) (marks : Lists nat_cmp 
       go false false here mark = refl
       go true false here mark =
           let it = any_has (λ c. c == content) checked here in
-          let there = (marks.exactly it.0).0 (has_contains checked it.0 it.1) in
+          let there = (marked_are.exactly it.0).0 (has_contains checked it.0 it.1) in
           let same : it.0 ≡ content = eqb-true it.0 content it.2 in
           let told : Some e.1.checked ≡ Some true = sym (ap (option_map (λ (e : ℕ × Verification). e.1.checked)) (ap (λ c. latest_result s c v) same ∙ found)) ∙ there in
           absurd (true≢false (sym (inside e.1.checked true told) ∙ mark))
       go false true here mark =
-          let there = contains_has checked content ((marks.exactly content).1 (ap (option_map (λ (e : ℕ × Verification). e.1.checked)) found ∙ ap Some mark)) in
+          let there = contains_has checked content ((marked_are.exactly content).1 (ap (option_map (λ (e : ℕ × Verification). e.1.checked)) found ∙ ap Some mark)) in
           absurd (true≢false (sym (any_of (λ c. c == content) checked content there (eq-eqb content content refl)) ∙ here))
 
-  pub latest_listed : (passes : List ContentPass) (found : List LatestResult) → Lists pass_cmp (λ x. option_map (λ e. e.1.pass) (latest_result s x.content v) ≡ Some x.pass) passes → (IsStrictlySortedBy nat_cmp checked → found ≡ map (marked checked) passes)
+  pub latest_listed : (given : List ContentPass) (found : List LatestResult) → Lists pass_cmp (λ x. option_map (λ e. e.1.pass) (latest_result s x.content v) ≡ Some x.pass) given → (IsStrictlySortedBy nat_cmp checked → found ≡ map (marked checked) given)
       → Lists latest_cmp (λ x. latest s x.content v ≡ Some x.latest) found
-  latest_listed passes found listed made =
+  latest_listed given found listed made =
       lists_read pass_cmp (λ x. option_map (λ e. e.1.pass) (latest_result s x.content v) ≡ Some x.pass) (λ x y. y ≡ marked checked x) latest_cmp (λ x. latest s x.content v ≡ Some x.latest)
       (λ a b x y ha hb is_x is_y less. (λ i. nat_cmp (is_x i).content (is_y i).content) ∙ less)
       (λ p x has is_x.
@@ -292,7 +274,7 @@ module _ (s : Broker) (v : Version) (checked : List ℕ) (marks : Lists nat_cmp 
         ap (option_map (λ (e : ℕ × Verification). e.1.pass)) e.1 ∙ ap (λ (l : Latest). Some l.pass) e.2,
         λ y is_y. is_y ∙ (λ i. record { content = x.content; latest = record { pass = x.latest.pass; checked = (among x.content e.0 e.1 ∙ ap (λ (l : Latest). l.checked) e.2) i } }),
       ))
-      passes found listed (subst (AreRead (λ x y. y ≡ marked checked x) passes) (sym (made marks.sorted)) (read_self (marked checked) passes))
+      given found listed (subst (AreRead (λ x y. y ≡ marked checked x) given) (sym (made marked_are.sorted)) (read_self (marked checked) given))
 
 -- ---- one of them
 

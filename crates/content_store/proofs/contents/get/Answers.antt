@@ -1,11 +1,12 @@
-use Rattle.std.proofs.Common.{◌≡◌, ℕ, pos, ◌<◌, ◌≤◌, ◌^◌, ◌∙◌, sym, subst, w64, SFits, refl, None, Ok, inl, arith}
+use Rattle.std.proofs.Common.{ℕ, pos, ◌≤◌, ◌^◌, ◌∙◌, sym, subst, w64, SFits, refl, None, Ok, arith}
 use Rattle.std.proofs.lemmas.Int.{to_z-of_z}
 use Rattle.sqlite.specs.Held.{state}
-use Rattle.table_access.proofs.Answered.{text_ends}
+use Rattle.table_access.proofs.Answered.{first_has}
 use Rattle.table_access.proofs.CallLemmas.{call_with, idle}
+use Rattle.broker_tables.proofs.Asked.{is_answer, still, why_text}
 use Rattle.broker_tables.proofs.QueryLemmas.{calm_by}
-use Rattle.content_store.proofs.ContentRows.{body_sql, body_means, body_found, read_same}
-use Rattle.content_store.proofs.ReadableRows.{body_runs, body_stands}
+use Rattle.content_store.proofs.ContentRows.{stored, body_found}
+use Rattle.content_store.proofs.ReadableRows.{stored_reads}
 use Rattle.content_store.proofs.contents.get.Goals as goal
 
 -- a number that fits is below 2^63
@@ -17,8 +18,12 @@ returns-in-Ok-clause-call g c =
     let old = state g.S.Store c.args.conn.now in
     let new = state g.S.Store c.text_of.new.conn in
     let is = c.in-Ok.ensures.1 in
-    call_with old new c.text_of.result _ _
-    (λ found h digest texts held. ((λ low. h.2 ∙ body_found digest _ c.args.number (to_z-of_z w64 c.in-Ok.number (subst (SFits w64) (sym is) c.in-Ok.ensures.0) ∙ is) old new h.0 texts held h.1, λ high. absurd (is_low c.args.number c.in-Ok.ensures.0 high)), read_same body_sql _ old new h.0 (body_means old.now held.broker) h.1))
+    let asked = stored _ in
+    let same = to_z-of_z w64 c.in-Ok.number (subst (SFits w64) (sym is) c.in-Ok.ensures.0) ∙ is in
+    call_with old new c.text_of.result _ _ (λ found h digest texts held. (
+      (λ low. h.2 ∙ body_found digest _ c.args.number same _ h.0 texts held (is_answer asked old new held.broker h.0 h.1), λ high. absurd (is_low c.args.number c.in-Ok.ensures.0 high)),
+      still asked old new held.broker h.0 h.1,
+    ))
     (rw c.params-to_sql.ensures at c.text_of.ensures.leaves)
 
 pub returns-in-Ok-clause-calm : goal.returns-in-Ok-clause-calm
@@ -26,7 +31,7 @@ returns-in-Ok-clause-calm g c =
     let old = state g.S.Store c.args.conn.now in
     let new = state g.S.Store c.text_of.new.conn in
     calm_by old new c.text_of.result _ _
-    (λ s here. text_ends _ _ old new _ _ (body_means old.now here.held.broker) (body_runs old.now here.held.broker _) here.unlimited (λ rows row h head. body_stands _ old new rows row s here.held here.readable h head))
+    (why_text (stored _) old new (λ s held readable rows h row head. stored_reads _ old.now s held readable rows h row (first_has rows row head)))
     (rw c.params-to_sql.ensures at c.text_of.ensures.cause)
 
 -- no row has a number that doesn't fit

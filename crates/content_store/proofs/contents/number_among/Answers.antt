@@ -1,4 +1,4 @@
-use Rattle.std.proofs.Common.{refl, subst, sym}
+use Rattle.std.proofs.Common.{subst, sym}
 use Rattle.sqlite_rules.specs.Lists.{Has}
 use Rattle.table_access.proofs.ReadLemmas.{has_get}
 use Rattle.content_store.proofs.contents.number_among.Goals as goal

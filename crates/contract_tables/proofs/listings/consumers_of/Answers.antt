@@ -1,20 +1,10 @@
-use Rattle.sqlite.specs.Held.{state}
-use Rattle.table_access.proofs.Answered.{list_ends}
-use Rattle.table_access.proofs.Steps.{shown_answers}
-use Rattle.broker_tables.proofs.Frames.{held_still}
-use Rattle.broker_tables.proofs.QueryLemmas.{read_out, else_memory}
-use Rattle.contract_tables.proofs.ContractList.{users_sql, users_means, users_listed}
-use Rattle.contract_tables.proofs.ReadableRows.{users_runs, users_stand}
+use Rattle.broker_tables.proofs.Asked.{lists}
+use Rattle.contract_tables.proofs.ContractList.{users, users_listed}
+use Rattle.contract_tables.proofs.ReadableRows.{users_reads}
 use Rattle.contract_tables.proofs.listings.consumers_of.Goals as goal
 
 pub returns : goal.returns
 returns g c =
-    let old = state g.S.Store c.args.conn.now in
-    let new = state g.S.Store c.list_of.new.conn in
     let said = rw (c.params-to_sql.ensures, c.params-to_sql-2.ensures) at c.list_of.ensures in
-    read_out old new c.list_of.result _ _ _ (λ items h s held. (
-      users_listed old.now s held c.args.content c.args.provider.now h.0 items.items (shown_answers users_sql _ old new _ _ (users_means old.now held.broker) h.0 h.1) h.2,
-      held_still users_sql _ old new h.0 s (users_means old.now held.broker) h.1 held,
-    ))
-    (λ s here. list_ends _ _ old new _ _ (users_means old.now here.held.broker) (users_runs old.now here.held.broker c.args.content c.args.provider.now) here.unlimited _ _
-    (λ rows row h has fault why. else_memory fault why.0 (users_stand c.args.content c.args.provider.now old new rows row s here.held here.readable h has))) said.leaves said.cause
+    lists (users c.args.content c.args.provider.now) _ _ (λ row fault why. why.0) (λ s held rows h list are. users_listed _ s held c.args.content c.args.provider.now rows list.items h are) (users_reads c.args.content c.args.provider.now _)
+    said.leaves said.cause

@@ -1,30 +1,15 @@
-use Rattle.sqlite.specs.Held.{state}
-use Rattle.table_access.proofs.Answered.{list_ends}
-use Rattle.table_access.proofs.Steps.{shown_answers}
-use Rattle.broker_tables.proofs.Frames.{held_still}
-use Rattle.broker_tables.proofs.QueryLemmas.{read_out, else_memory}
-use Rattle.contract_tables.proofs.ContractList.{own_sql, own_means, contracts_listed}
-use Rattle.contract_tables.proofs.ReadableRows.{own_runs, own_stand}
-use Rattle.std.proofs.lemmas.Result.{IfOk-weaker}
-use Rattle.broker_tables.proofs.NoVersion.{no_items}
+use Rattle.broker_tables.proofs.Asked.{lists, lists_none}
+use Rattle.contract_tables.proofs.ContractList.{own, contracts_listed}
+use Rattle.contract_tables.proofs.ReadableRows.{own_reads}
 use Rattle.contract_tables.proofs.NoVersion.{own_none}
 use Rattle.contract_tables.proofs.listings.contracts_of.Goals as goal
 
 pub returns-clause-answers : goal.returns-clause-answers
 returns-clause-answers g c =
-    let old = state g.S.Store c.args.conn.now in
-    let new = state g.S.Store c.list_of.new.conn in
     let said = rw c.params-to_sql.ensures at c.list_of.ensures in
-    read_out old new c.list_of.result _ _ _ (λ items h s held. (
-      λ v is. contracts_listed old.now s held v c.args.version_number is h.0 items.items (shown_answers own_sql _ old new _ _ (own_means old.now held.broker) h.0 h.1) h.2,
-      held_still own_sql _ old new h.0 s (own_means old.now held.broker) h.1 held,
-    ))
-    (λ s here. list_ends _ _ old new _ _ (own_means old.now here.held.broker) (own_runs old.now here.held.broker c.args.version_number) here.unlimited _ _
-    (λ rows row h has fault why. else_memory fault why.0 (own_stand c.args.version_number old new rows row s here.held here.readable h has))) said.leaves said.cause
+    lists (own c.args.version_number) _ _ (λ row fault why. why.0) (λ s held rows h list are v is. contracts_listed _ s held v c.args.version_number is rows list.items h are) (own_reads c.args.version_number _) said.leaves said.cause
 
 pub returns-clause-unknown : goal.returns-clause-unknown
-returns-clause-unknown g c clean s held none =
-    let old = state g.S.Store c.args.conn.now in
-    let new = state g.S.Store c.list_of.new.conn in
+returns-clause-unknown g c =
     let said = rw c.params-to_sql.ensures at c.list_of.ensures in
-    IfOk-weaker c.list_of.result _ _ (λ found h. no_items _ h.0 found.items (λ row has. own_none old new s held c.args.version_number none h.0 row has h.1) h.2) (said.leaves.ok clean)
+    lists_none (own c.args.version_number) _ _ (own_none c.args.version_number _) said.leaves

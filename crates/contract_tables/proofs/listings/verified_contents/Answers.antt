@@ -1,30 +1,15 @@
-use Rattle.sqlite.specs.Held.{state}
-use Rattle.table_access.proofs.Answered.{list_ends}
-use Rattle.table_access.proofs.Steps.{shown_answers}
-use Rattle.broker_tables.proofs.Frames.{held_still}
-use Rattle.broker_tables.proofs.QueryLemmas.{read_out}
-use Rattle.contract_tables.proofs.VerifiedList.{contents_sql, contents_means, contents_listed}
-use Rattle.contract_tables.proofs.ReadableRows.{contents_runs, contents_stand}
-use Rattle.std.proofs.lemmas.Result.{IfOk-weaker}
-use Rattle.broker_tables.proofs.NoVersion.{no_items}
-use Rattle.contract_tables.proofs.NoVersion.{contents_none}
+use Rattle.broker_tables.proofs.Asked.{lists, lists_none}
+use Rattle.contract_tables.proofs.VerifiedList.{verified, verified_listed}
+use Rattle.contract_tables.proofs.ReadableRows.{verified_reads}
+use Rattle.contract_tables.proofs.NoVersion.{verified_none}
 use Rattle.contract_tables.proofs.listings.verified_contents.Goals as goal
 
 pub returns-clause-answers : goal.returns-clause-answers
 returns-clause-answers g c =
-    let old = state g.S.Store c.args.conn.now in
-    let new = state g.S.Store c.list_of.new.conn in
     let said = rw c.params-to_sql.ensures at c.list_of.ensures in
-    read_out old new c.list_of.result _ _ _ (λ items h s held. (
-      λ v is. contents_listed old.now s held v c.args.version_number is h.0 items.items (shown_answers contents_sql _ old new _ _ (contents_means old.now held.broker) h.0 h.1) h.2,
-      held_still contents_sql _ old new h.0 s (contents_means old.now held.broker) h.1 held,
-    ))
-    (λ s here. list_ends _ _ old new _ _ (contents_means old.now here.held.broker) (contents_runs old.now here.held.broker c.args.version_number) here.unlimited _ _
-    (λ rows row h has fault why. absurd (why.1 (contents_stand c.args.version_number old new rows row s here.held here.readable h has)))) said.leaves said.cause
+    lists (verified c.args.version_number) _ _ (λ row fault why is. why.1) (λ s held rows h list are v is. verified_listed _ s held v c.args.version_number is rows list.items h are) (verified_reads c.args.version_number _) said.leaves said.cause
 
 pub returns-clause-unknown : goal.returns-clause-unknown
-returns-clause-unknown g c clean s held none =
-    let old = state g.S.Store c.args.conn.now in
-    let new = state g.S.Store c.list_of.new.conn in
+returns-clause-unknown g c =
     let said = rw c.params-to_sql.ensures at c.list_of.ensures in
-    IfOk-weaker c.list_of.result _ _ (λ found h. no_items _ h.0 found.items (λ row has. contents_none old new s held c.args.version_number none h.0 row has h.1) h.2) (said.leaves.ok clean)
+    lists_none (verified c.args.version_number) _ _ (verified_none c.args.version_number _) said.leaves

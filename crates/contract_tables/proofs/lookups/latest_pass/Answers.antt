@@ -1,10 +1,10 @@
+use Rattle.table_access.proofs.Answered.{first_has}
 use Rattle.std.proofs.lemmas.Result.{IfOk-weaker, IfErr-weaker}
 use Rattle.sqlite.specs.Held.{state}
-use Rattle.table_access.proofs.Answered.{refusal_ends}
 use Rattle.broker_tables.proofs.QueryLemmas.{looked_result, looked_err}
-use Rattle.broker_tables.proofs.Frames.{held_still}
-use Rattle.contract_tables.proofs.LatestPass.{join_means, join_found}
-use Rattle.contract_tables.proofs.ReadableRows.{join_runs, join_stands}
+use Rattle.broker_tables.proofs.Asked.{reads, why_refused}
+use Rattle.contract_tables.proofs.LatestPass.{join, join_found}
+use Rattle.contract_tables.proofs.ReadableRows.{join_reads}
 use Rattle.broker_tables.proofs.NoVersion.{no_answer}
 use Rattle.contract_tables.specs.Verified.{pass_of, pass_cells}
 use Rattle.contract_tables.proofs.NoVersion.{join_none}
@@ -14,27 +14,23 @@ pub returns-clause-answers : goal.returns-clause-answers
 returns-clause-answers g c =
     let old = state g.S.Store c.args.conn.now in
     let new = state g.S.Store c.select.new.conn in
+    let it = reads (join c.args.content c.args.provider_version) old new in
     looked_result old new c.in-Ok.value c.first_pass.result _ _
-    (IfOk-weaker c.first_pass.result _ _ (λ found read shown s held. (
-      λ v is. join_found (λ r. r.number) (λ r. r.pass) c.args.content c.args.provider_version old new c.in-Ok.value.items found s v held is shown read,
-      held_still _ _ old new c.in-Ok.value.items s (join_means old.now held.broker) shown held,
-    )) (rw c.deref.ensures.value at c.first_pass.ensures.ok))
+    (IfOk-weaker c.first_pass.result _ _ (λ found read shown s held. let was = it s held _ shown in
+    (λ v is. join_found (λ r. r.number) (λ r. r.pass) c.args.content c.args.provider_version _ c.in-Ok.value.items found s v held is was.0 read, was.1)) (rw c.deref.ensures.value at c.first_pass.ensures.ok))
     (IfErr-weaker c.first_pass.result _ _ (λ fault why. why.0) c.first_pass.ensures.cause)
-    (λ s here shown. IfErr-weaker c.first_pass.result _ _ (λ fault why. why.3 (join_stands c.args.content c.args.provider_version old new c.in-Ok.value.items why.1 s here.held here.readable shown why.2)) (rw c.deref.ensures.value at c.first_pass.ensures.cause))
+    (λ s here shown. IfErr-weaker c.first_pass.result _ _ (λ fault why. why.3 (join_reads c.args.content c.args.provider_version _ s here.held here.readable _ (it s here.held _ shown).0 why.1 (first_has _ why.1 why.2))) (rw c.deref.ensures.value at c.first_pass.ensures.cause))
     (rw (c.params-to_sql.ensures, c.params-to_sql-2.ensures) at c.in-Ok.ensures.leaves)
 
 pub returns-in-Err-clause-answers : goal.returns-in-Err-clause-answers
 returns-in-Err-clause-answers g c =
-    let old = state g.S.Store c.args.conn.now in
-    let new = state g.S.Store c.select.new.conn in
     let said = rw (c.params-to_sql.ensures, c.params-to_sql-2.ensures) at c.in-Err.ensures in
-    looked_err old new c.in-Err.fault _ _ _
-    (λ s here. refusal_ends _ _ old new _ _ (join_means old.now here.held.broker) (join_runs old.now here.held.broker c.args.content c.args.provider_version) here.unlimited) said.leaves said.cause
+    looked_err _ _ c.in-Err.fault _ _ _ (why_refused (join c.args.content c.args.provider_version) _ _) said.leaves said.cause
 
 pub returns-clause-unknown : goal.returns-clause-unknown
 returns-clause-unknown g c clean s held none =
     let old = state g.S.Store c.args.conn.now in
     let new = state g.S.Store c.select.new.conn in
     let said = rw (c.params-to_sql.ensures, c.params-to_sql-2.ensures) at c.in-Ok.ensures in
-    IfOk-weaker c.first_pass.result _ _ (λ found read. no_answer (λ r. pass_of r.number r.pass) pass_cells c.in-Ok.value.items found (λ row has. join_none old new s held c.args.provider_version none c.in-Ok.value.items row has c.args.content (said.leaves.call.ok clean)) read)
+    IfOk-weaker c.first_pass.result _ _ (λ found read. no_answer (λ r. pass_of r.number r.pass) pass_cells c.in-Ok.value.items found (join_none c.args.content c.args.provider_version old.now s held none _ (reads (join c.args.content c.args.provider_version) old new s held _ (said.leaves.call.ok clean)).0) read)
     (rw c.deref.ensures.value at c.first_pass.ensures.ok)

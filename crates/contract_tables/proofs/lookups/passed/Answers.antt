@@ -3,32 +3,28 @@ use Rattle.std.specs.Prelude.{option_map}
 use Rattle.std.proofs.lemmas.Result.{IfOk-weaker, IfErr-weaker}
 use Rattle.sqlite.specs.Held.{state}
 use Rattle.sqlite.specs.declared.types.Value.TheVariants.{Int}
-use Rattle.table_access.proofs.Answered.{number_ends}
+use Rattle.broker_tables.proofs.Asked.{reads, why_number}
 use Rattle.broker_tables.proofs.QueryLemmas.{looked_result, looked_err}
-use Rattle.broker_tables.proofs.Frames.{held_still}
 use Rattle.broker_tables.proofs.TruthLemmas.{mark_in_column}
-use Rattle.contract_tables.proofs.ResultLookups.{pass_means, pass_found}
-use Rattle.contract_tables.proofs.ReadableRows.{pass_runs, pass_stands, pass_true}
+use Rattle.contract_tables.proofs.ResultLookups.{pass, pass_found}
+use Rattle.contract_tables.proofs.ReadableRows.{pass_reads, pass_true}
 use Rattle.contract_tables.proofs.lookups.passed.Goals as goal
 
 pub returns-clause-answers : goal.returns-clause-answers
 returns-clause-answers g c =
     let old = state g.S.Store c.args.conn.now in
     let new = state g.S.Store c.number_of.new.conn in
+    let it = reads (pass c.args.number) old new in
     looked_result old new c.in-Ok.value c.truth_of.result _ _
-    (IfOk-weaker c.truth_of.result _ _ (λ truth is h s held. (is ∙ pass_found c.args.number old new h.0 s c.in-Ok.value held h.1 h.2, held_still _ _ old new h.0 s (pass_means old.now held.broker) h.1 held)) c.truth_of.ensures.ok)
+    (IfOk-weaker c.truth_of.result _ _ (λ truth is h s held. let was = it s held h.0 h.1 in (is ∙ pass_found c.args.number _ h.0 s c.in-Ok.value held was.0 h.2, was.1)) c.truth_of.ensures.ok)
     (IfErr-weaker c.truth_of.result _ _ (λ fault why. why.0) c.truth_of.ensures.cause)
-    (λ s here h. IfErr-weaker c.truth_of.result _ _ (λ fault why. pass_true c.args.number old new h.0 s c.in-Ok.value here.held here.readable h.1 h.2 why.1) c.truth_of.ensures.cause)
+    (λ s here h. IfErr-weaker c.truth_of.result _ _ (λ fault why. pass_true c.args.number _ h.0 s c.in-Ok.value here.held here.readable (it s here.held h.0 h.1).0 h.2 why.1) c.truth_of.ensures.cause)
     (rw c.params-to_sql.ensures at c.in-Ok.ensures.leaves)
 
 pub returns-in-Err-clause-answers : goal.returns-in-Err-clause-answers
 returns-in-Err-clause-answers g c =
-    let old = state g.S.Store c.args.conn.now in
-    let new = state g.S.Store c.number_of.new.conn in
     let said = rw c.params-to_sql.ensures at c.in-Err.ensures in
-    looked_err old new c.in-Err.fault _ _ _
-    (λ s here. number_ends _ _ old new _ _ (pass_means old.now here.held.broker) (pass_runs old.now here.held.broker c.args.number) here.unlimited (λ rows row h head. pass_stands c.args.number old new rows row s here.held here.readable h head))
-    said.leaves said.cause
+    looked_err _ _ c.in-Err.fault _ _ _ (why_number (pass c.args.number) _ _ (pass_reads c.args.number _)) said.leaves said.cause
 
 pub returns-clause-shown : goal.returns-clause-shown
 returns-clause-shown g c clean =

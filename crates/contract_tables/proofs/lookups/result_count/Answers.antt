@@ -1,24 +1,12 @@
 use Rattle.std.proofs.Common.{◌∙◌}
-use Rattle.sqlite.specs.Held.{state}
-use Rattle.table_access.proofs.Answered.{number_ends}
 use Rattle.broker_tables.proofs.QueryLemmas.{looked_ok, looked_err}
-use Rattle.broker_tables.proofs.Frames.{held_still}
-use Rattle.contract_tables.proofs.ResultLookups.{count_means, results_counted}
-use Rattle.contract_tables.proofs.ReadableRows.{count_runs, count_stands}
+use Rattle.broker_tables.proofs.Asked.{reads, why_number}
+use Rattle.contract_tables.proofs.ResultLookups.{count, results_counted}
+use Rattle.contract_tables.proofs.ReadableRows.{count_reads}
 use Rattle.contract_tables.proofs.lookups.result_count.Goals as goal
 
 pub returns : goal.returns
-returns g c =
-    let old = state g.S.Store c.args.conn.now in
-    let new = state g.S.Store c.number_of.new.conn in
-    looked_ok old new c.in-Ok.value _ _ _
-    (λ h s held. (c.unwrap_or.ensures ∙ results_counted old new h.0 s c.in-Ok.value held h.1 h.2, held_still _ _ old new h.0 s (count_means old.now held.broker) h.1 held))
-    c.in-Ok.ensures.leaves
+returns g c = looked_ok _ _ c.in-Ok.value _ _ _ (λ h s held. (c.unwrap_or.ensures ∙ results_counted _ _ h.0 s c.in-Ok.value held h.1 h.2, (reads count _ _ s held h.0 h.1).1)) c.in-Ok.ensures.leaves
 
 pub returns-in-Err : goal.returns-in-Err
-returns-in-Err g c =
-    let old = state g.S.Store c.args.conn.now in
-    let new = state g.S.Store c.number_of.new.conn in
-    looked_err old new c.in-Err.fault _ _ _
-    (λ s here. number_ends _ _ old new _ _ (count_means old.now here.held.broker) (count_runs old.now here.held.broker) here.unlimited (λ rows row h head. count_stands old new rows row s here.held here.readable h head))
-    c.in-Err.ensures.leaves c.in-Err.ensures.cause
+returns-in-Err g c = looked_err _ _ c.in-Err.fault _ _ _ (why_number count _ _ (count_reads _)) c.in-Err.ensures.leaves c.in-Err.ensures.cause

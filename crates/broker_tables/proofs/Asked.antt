@@ -1,0 +1,258 @@
+-- A query as a value: what a text asks of the broker's tables, and what a call that asks it answers, and why it fails.
+use Rattle.std.proofs.Common.{◌≡◌, ◌∙◌, inl, inr, ℕ, zero, suc, take, List, [], ◌∷◌, Option, Some, None, Result, IfErr, Bool, true, false, sym, ap, subst, pos, slice_get, map, filter, arith}
+use Rattle.std.specs.Prelude.{option_map, is_some, IsUtf8}
+use Rattle.std.specs.List.Sorted.{IsPermutation}
+use Rattle.std.proofs.lemmas.Result.{IfOk-weaker}
+use Rattle.sqlite.specs.declared.types.Value.TheVariants.{Int, Text}
+use Rattle.sqlite.specs.Order.{Row, column}
+use Rattle.sqlite.specs.Term.{Term, col, eval_all}
+use Rattle.sqlite.specs.Query.{Query}
+use Rattle.sqlite.specs.Command.TheVariants.{Select}
+use Rattle.sqlite.specs.Effect.{Database, Answers}
+use Rattle.sqlite.specs.State.{State, Shown, HasCleanDisk}
+use Rattle.sqlite_value.specs.declared.keys.Key.{Key}
+use Rattle.sqlite_rules.specs.Lists.{Has}
+use Rattle.table_access.specs.declared.StoreFault.{StoreFault}
+use Rattle.table_access.specs.declared.StoreFault.TheVariants.{Store}
+use Rattle.table_access.specs.Columns.{text, whole_at}
+use Rattle.table_access.specs.Calls.{CallsTablesBetween, CallsStoreBetween, IsEnded}
+use Rattle.table_access.specs.Reading.{AreRead, FailsToRead, FailsToTake, IsRefusedAs, TellsNumber, TellsText, BeginsWithText, IsNumberRow, IsTextAt}
+use Rattle.table_access.specs.Statements.{from_table, from_both, up_to, keeps, keeps_both, shows}
+use Rattle.table_access.proofs.Members.{map_has, filter_has}
+use Rattle.table_access.proofs.Newest.{first_rows}
+use Rattle.table_access.proofs.Steps.{Means, answered, shown_answers, shown_unchanged}
+use Rattle.table_access.proofs.Answered.{Runs, refusal_ends, list_ends, number_ends, text_ends, first_has, permuted_has, pair_shown, first_pair_shown}
+use Rattle.broker_core.specs.declared.command.Version.{Version}
+use Rattle.broker_core.specs.State.{State as Broker}
+use Rattle.broker_tables.specs.Schema.{broker_schema}
+use Rattle.broker_tables.specs.Numbers.{number_of}
+use Rattle.broker_tables.specs.Holds.{Holds, IsBroker, IsRead}
+use Rattle.broker_tables.specs.Calm.{Serves, IsEndedOrMemory, CalmQueriesBetween, CalmQueriesInPlaceBetween, IfNoVersionBetween}
+use Rattle.broker_tables.specs.Readable.{IsReadable}
+use Rattle.broker_tables.proofs.Frames.{meant, runs_here, held_still}
+use Rattle.broker_tables.proofs.NoVersion.{no_items, no_answer, no_first}
+use Rattle.broker_tables.proofs.QueryLemmas.{read_out, looked_up, else_memory}
+use Rattle.broker_tables.proofs.ReadableRows.{IsLow, number_cell}
+
+-- The text asks this query of the broker's tables, and can be run with these parameters: `refl` finds each field of both,
+-- under `unfolding understood everything`, also where the parameters are variables.
+pub record Asked (sql : List ℕ) (params : Row) (query : Query) : Type 0 where
+  pub names : List (List ℕ)
+  pub means : Means broker_schema sql (Select (record { lets = []; body = query }) names)
+  pub runs : Runs broker_schema sql params query
+
+-- these rows are its answer
+abbrev pub IsShown : {sql : List ℕ} {params : Row} {query : Query} → Asked sql params query → Database → List Row → Type 0
+IsShown {sql} {params} {query} asked db rows = Answers db (record { lets = []; body = query }) params rows
+
+-- whatever the rows of its answer are, each is such
+abbrev pub EachShown : {sql : List ℕ} {params : Row} {query : Query} → Asked sql params query → Database → (Row → Type 0) → Type 0
+EachShown asked db Is = (rows : List Row) → IsShown asked db rows → (row : Row) → Has rows row → Is row
+
+-- and the first one is
+abbrev pub FirstShown : {sql : List ℕ} {params : Row} {query : Query} → Asked sql params query → Database → (Row → Type 0) → Type 0
+FirstShown asked db Is = (rows : List Row) → IsShown asked db rows → (row : Row) → slice_get rows 0 ≡ Some row → Is row
+
+-- in each state that is held and can be read back
+abbrev pub EachReads : {sql : List ℕ} {params : Row} {query : Query} → Asked sql params query → Database → (Row → Type 0) → Type 0
+EachReads asked db Is = (s : Broker) → Holds db s → IsReadable s → EachShown asked db Is
+
+abbrev pub FirstReads : {sql : List ℕ} {params : Row} {query : Query} → Asked sql params query → Database → (Row → Type 0) → Type 0
+FirstReads asked db Is = (s : Broker) → Holds db s → IsReadable s → FirstShown asked db Is
+
+-- no row is, where no version has this number
+abbrev pub NoneFor : {sql : List ℕ} {params : Row} {query : Query} → Asked sql params query → Database → ℕ → Type 0
+NoneFor asked db number = (s : Broker) → Holds db s → ((v : Version) → ¬ (number_of s.versions v ≡ Some number)) → EachShown asked db (λ row. ⊥)
+
+-- a row fails so only where it isn't such: as Store
+abbrev pub FailsOnly : (Row → StoreFault → Type 0) → (Row → Type 0) → Type 0
+FailsOnly Fails Is = (row : Row) (fault : StoreFault) → Fails row fault → fault ≡ Store → ¬ Is row
+
+module _ {sql : List ℕ} {params : Row} {query : Query} (asked : Asked sql params query) (old new : State) where
+  here : IsBroker old.now → Means old.now.schema sql (Select (record { lets = []; body = query }) asked.names)
+  here broker = meant old.now broker sql asked.means
+
+  runs_there : IsBroker old.now → Runs old.now.schema sql params query
+  runs_there broker = runs_here old.now broker sql params query asked.runs
+
+  -- what is shown is its answer
+  pub is_answer : IsBroker old.now → (rows : List Row) → Shown sql params old new rows → IsShown asked old.now rows
+  is_answer broker rows h = shown_answers sql params old new _ asked.names (here broker) rows h
+
+  -- and the same state is held
+  pub reads : (s : Broker) → Holds old.now s → (rows : List Row) → Shown sql params old new rows → IsShown asked old.now rows × Holds new.now s
+  reads s held rows h = (is_answer held.broker rows h, held_still sql params old new rows s (here held.broker) h held)
+
+  -- nothing changes
+  pub still : IsBroker old.now → (rows : List Row) → Shown sql params old new rows → new.now ≡ old.now
+  still broker rows h = (shown_unchanged sql params old new rows (here broker).plain h).0.now_is
+
+  -- ---- why it fails
+
+  -- a failure has this cause only as that
+  abbrev Explains : (StoreFault → Type 0) → (StoreFault → Type 0) → Type 0
+  Explains Why Cause = (s : Broker) → Serves old s → (fault : StoreFault) → Cause fault → Why fault
+
+  pub why_refused : Explains (IsEnded old new) (IsRefusedAs sql params old new)
+  why_refused s at =
+      refusal_ends sql params old new query asked.names (here at.held.broker) (runs_there at.held.broker) at.unlimited
+
+  pub why_number : EachReads asked old.now IsNumberRow → Explains (IsEnded old new) (FailsToTake TellsNumber sql params old new)
+  why_number each s at =
+      number_ends sql params old new query asked.names (here at.held.broker) (runs_there at.held.broker) at.unlimited
+      (λ rows row h head. each s at.held at.readable rows (reads s at.held rows h).0 row (first_has rows row head))
+
+  pub why_text : FirstReads asked old.now (IsTextAt 0) → Explains (IsEndedOrMemory old new) (FailsToTake TellsText sql params old new)
+  why_text first s at =
+      text_ends sql params old new query asked.names (here at.held.broker) (runs_there at.held.broker) at.unlimited
+      (λ rows row h head. first s at.held at.readable rows (reads s at.held rows h).0 row head)
+
+  pub why_list : {B : Type 0} {Reads : Row → B → Type 0} {Fails : Row → StoreFault → Type 0} {Is : Row → Type 0} → FailsOnly Fails Is
+      → EachReads asked old.now Is → Explains (IsEndedOrMemory old new) (FailsToRead Reads Fails sql params old new)
+  why_list only each s at =
+      list_ends sql params old new query asked.names (here at.held.broker) (runs_there at.held.broker) at.unlimited _ _
+      (λ rows row h has fault why. else_memory fault (only row fault why) (each s at.held at.readable rows (reads s at.held rows h).0 row has))
+
+  -- where no row is shown, it isn't the first row that wasn't read
+  pub why_unread : (s : Broker) → Serves old s → FirstShown asked old.now (λ row. ⊥) → (fault : StoreFault) → FailsToTake TellsText sql params old new fault
+      → IsEnded old new fault
+  why_unread s at none fault (inl refused) = why_refused s at fault refused
+  why_unread s at none fault (inr (rows, shown, row, head, tells)) = absurd (none rows (reads s at.held rows shown).0 row head)
+
+  -- ---- a call that answers what was read of the rows
+
+  -- what was read of them
+  abbrev Was : {A : Type 0} → (A → List Row → Type 0) → A → Type 0
+  Was Read a = (rows : List Row) × Shown sql params old new rows × Read a rows
+
+  -- and what that tells of a state
+  abbrev Tells : {A : Type 0} → (A → List Row → Type 0) → (A → Broker → Type 0) → Type 0
+  Tells {A} Read P = (s : Broker) → Holds old.now s → (rows : List Row) → IsShown asked old.now rows → (a : A) → Read a rows → P a s
+
+  told : {A : Type 0} (Read : A → List Row → Type 0) (P : A → Broker → Type 0) → Tells Read P → (a : A) → Was Read a → IsRead old new P a
+  told Read P tells a h s held = let it = reads s held h.0 h.1 in (tells s held h.0 it.0 a h.2, it.1)
+
+  -- the call fails for this cause
+  abbrev FailsFor : {A : Type 0} → Result A StoreFault → (StoreFault → Type 0) → Type 0
+  FailsFor r Cause = HasCleanDisk new → IfErr r Cause
+
+  -- a list
+  pub lists : {A B : Type 0} {items : A → List B} {Reads : Row → B → Type 0} {FailsAs : Row → StoreFault → Type 0} {r : Result A StoreFault}
+      {P : A → Broker → Type 0} {Is : Row → Type 0} → FailsOnly FailsAs Is → Tells (λ list rows. AreRead Reads rows (items list)) P
+      → EachReads asked old.now Is → CallsTablesBetween old new r (Was (λ list rows. AreRead Reads rows (items list)))
+      → FailsFor r (FailsToRead Reads FailsAs sql params old new) → CalmQueriesBetween old new r P
+  lists {r = r} {P = P} only tells each = read_out old new r _ P _ (told _ P tells) (why_list only each)
+
+  -- a number, or none without a row
+  abbrev IsFirst : Option ℕ → List Row → Type 0
+  IsFirst found rows = (option_map (λ n. Int (pos n)) found ≡ option_map (λ row. column row 0) (slice_get rows 0))
+
+  pub looks_up : {r : Result (Option ℕ) StoreFault} {P : Option ℕ → Broker → Type 0} → Tells IsFirst P → EachReads asked old.now IsNumberRow
+      → CallsStoreBetween old new r (Was IsFirst) → FailsFor r (FailsToTake TellsNumber sql params old new) → CalmQueriesInPlaceBetween old new r P
+  looks_up {r = r} {P = P} tells each = looked_up old new r _ P _ (told IsFirst P tells) (why_number each)
+
+  -- a text, or none without a row
+  abbrev IsFirstText : {A : Type 0} → (A → List ℕ) → Option A → List Row → Type 0
+  IsFirstText view found rows = (option_map view found ≡ option_map (text 0) (slice_get rows 0))
+
+  pub looks_up_text : {A : Type 0} {view : A → List ℕ} {r : Result (Option A) StoreFault} {P : Option A → Broker → Type 0} → Tells (IsFirstText view) P
+      → FirstReads asked old.now (IsTextAt 0)
+      → CallsTablesBetween old new r (λ found. (rows : List Row) × Shown sql params old new rows × IsFirstText view found rows × BeginsWithText rows)
+      → FailsFor r (FailsToTake TellsText sql params old new) → CalmQueriesBetween old new r P
+  looks_up_text {view = view} {r = r} {P = P} tells first =
+      read_out old new r _ P _ (λ found h. told (IsFirstText view) P tells found (h.0, h.1, h.2)) (why_text first)
+
+  -- whether there is a row
+  abbrev IsThere : Bool → List Row → Type 0
+  IsThere has rows = (has ≡ is_some (slice_get rows 0))
+
+  pub looks_for : {r : Result Bool StoreFault} {P : Bool → Broker → Type 0} → Tells IsThere P → CallsStoreBetween old new r (Was IsThere)
+      → FailsFor r (IsRefusedAs sql params old new) → CalmQueriesInPlaceBetween old new r P
+  looks_for {r = r} {P = P} tells = looked_up old new r _ P _ (told _ P tells) why_refused
+
+  -- ---- where no version has the number
+
+  pub lists_none : {A B : Type 0} {items : A → List B} {Reads : Row → B → Type 0} {r : Result A StoreFault} {number : ℕ} → NoneFor asked old.now number
+      → CallsTablesBetween old new r (Was (λ list rows. AreRead Reads rows (items list))) → IfNoVersionBetween old new r number (λ list. items list ≡ [])
+  lists_none {items = items} {r = r} none call clean s held free =
+      IfOk-weaker r _ _ (λ list h. no_items _ h.0 (items list) (none s held free h.0 (reads s held h.0 h.1).0) h.2) (call.ok clean)
+
+  pub looks_up_none : {r : Result (Option ℕ) StoreFault} {number : ℕ} → NoneFor asked old.now number → CallsStoreBetween old new r (Was IsFirst)
+      → IfNoVersionBetween old new r number (λ found. found ≡ None)
+  looks_up_none {r = r} none call clean s held free =
+      IfOk-weaker r _ _ (λ found h. no_answer (λ k. Int (pos k)) (λ row. column row 0) h.0 found (none s held free h.0 (reads s held h.0 h.1).0) h.2)
+      (call.call.ok clean)
+
+  pub looks_for_none : {r : Result Bool StoreFault} {number : ℕ} → NoneFor asked old.now number → CallsStoreBetween old new r (Was IsThere)
+      → IfNoVersionBetween old new r number (λ has. has ≡ false)
+  looks_for_none {r = r} none call clean s held free =
+      IfOk-weaker r _ _ (λ has h. h.2 ∙ ap is_some (no_first h.0 (none s held free h.0 (reads s held h.0 h.1).0))) (call.call.ok clean)
+
+-- ---- what is so of each row that is shown
+
+take_has : {X : Type 0} (n : ℕ) (xs : List X) (x : X) → Has (take n xs) x → Has xs x
+take_has zero xs x has = absurd has
+take_has (suc n) [] x has = absurd has
+take_has (suc n) (y ∷ xs) x (inl same) = inl same
+take_has (suc n) (y ∷ xs) x (inr later) = inr (take_has n xs x later)
+
+-- what is shown of a row that WHERE keeps is such
+abbrev EachKept : Row → List Term → List Term → ℕ → Database → (Row → Type 0) → Type 0
+EachKept params terms project t db Is = (r : Row) → Has (db.trees t) r → keeps terms params r ≡ true → Is (shows project params r)
+
+-- and of two rows that ON and WHERE keep
+abbrev EachPair : Row → List Term → List Term → ℕ → ℕ → Database → (Row → Type 0) → Type 0
+EachPair params terms project t u db Is =
+    (r q : Row) → Has (db.trees t) r → Has (db.trees u) q → keeps_both terms params r q ≡ true → Is (eval_all project (params ∷ r ∷ q ∷ []))
+
+of_kept : (params : Row) (terms project : List Term) (t : ℕ) (db : Database) (Is : Row → Type 0) → EachKept params terms project t db Is
+    → (rows : List Row) (row : Row) → Has rows row → IsPermutation (map (shows project params) (filter (keeps terms params) (db.trees t))) rows → Is row
+of_kept params terms project t db Is is rows row has same =
+    let one = map_has (shows project params) (filter (keeps terms params) (db.trees t)) row (permuted_has _ rows row same has) in
+    let it = filter_has (keeps terms params) (db.trees t) one.0 one.1 in
+    subst Is (sym one.2) (is one.0 it.0 it.1)
+
+module _ {sql : List ℕ} {params : Row} {terms project : List Term} {order : List (Term × Key)} where
+  -- of one table
+  pub of_table : {t : ℕ} (asked : Asked sql params (from_table t terms project order)) (db : Database) (Is : Row → Type 0)
+      → EachKept params terms project t db Is → EachShown asked db Is
+  of_table {t} asked db Is is rows h row has =
+      of_kept params terms project t db Is is rows row has (answered db params t terms project order rows h)
+
+  -- of two
+  pub of_both : {t u : ℕ} (asked : Asked sql params (from_both t u terms project order)) (db : Database) (Is : Row → Type 0)
+      → EachPair params terms project t u db Is → EachShown asked db Is
+  of_both {t} {u} asked db Is is rows h row has =
+      let it = pair_shown db params t u terms project order rows h row has in
+      subst Is (sym it.4) (is it.0 it.1 it.2 it.3 it.5)
+
+  -- of the first rows
+  pub of_first : {t most : ℕ} (asked : Asked sql params (up_to most (from_table t terms project order))) (db : Database) (Is : Row → Type 0)
+      → EachKept params terms project t db Is → EachShown asked db Is
+  of_first {t} {most} asked db Is is rows h row has =
+      let all = first_rows db params t terms project order most rows h in
+      of_kept params terms project t db Is is all.0 row (take_has most all.0 row (subst (λ xs. Has xs row) all.2 has))
+      (answered db params t terms project order all.0 all.1)
+
+  pub of_first_both : {t u most : ℕ} (asked : Asked sql params (up_to most (from_both t u terms project order))) (db : Database) (Is : Row → Type 0)
+      → EachPair params terms project t u db Is → EachShown asked db Is
+  of_first_both {t} {u} {most} asked db Is is rows h row has =
+      let it = first_pair_shown db params most t u terms project order rows h row has in
+      subst Is (sym it.4) (is it.0 it.1 it.2 it.3 it.5)
+
+-- ---- what is shown of one column
+
+module _ {sql : List ℕ} {params : Row} {t place : ℕ} {terms : List Term} {order : List (Term × Key)} where
+  -- a number, where each row of the table has a low one there
+  pub number_reads : (asked : Asked sql params (from_table t terms (col 1 place ∷ []) order)) (db : Database)
+      → ((r : Row) → Has (db.trees t) r → (column r place ≡ Int (whole_at place r)) × IsLow (whole_at place r)) → EachShown asked db IsNumberRow
+  number_reads asked db low =
+      of_table asked db _ (λ r has kept. let it = low r has in number_cell (shows (col 1 place ∷ []) params r) 0 (whole_at place r) (omega arith) it.0 it.1)
+
+  -- a text, where each row has one and what is shown first is UTF-8
+  pub text_reads : (asked : Asked sql params (from_table t terms (col 1 place ∷ []) order)) (db : Database)
+      → ((r : Row) → Has (db.trees t) r → column r place ≡ Text (text place r)) → FirstShown asked db (λ row. IsUtf8 (text 0 row))
+      → FirstShown asked db (IsTextAt 0)
+  text_reads asked db typed utf8 rows h row head =
+      of_table asked db (λ x. IsUtf8 (text 0 x) → IsTextAt 0 x) (λ r has kept is_utf8. (omega arith, (text place r, typed r has, is_utf8)))
+      rows h row (first_has rows row head) (utf8 rows h row head)
