@@ -1,4 +1,5 @@
 mod JournalLemmas
+mod WaitLemmas
 mod ModeLemmas
 mod OneReading
 mod StreamHeadline

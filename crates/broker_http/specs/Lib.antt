@@ -1,5 +1,6 @@
 pub mod Faults
 pub mod Stream
+pub mod Waits
 pub mod Exchange
 pub mod Serving
 pub mod Journal

@@ -3,11 +3,13 @@
 //! A broker serves one peer at a time, so each may keep it only so long. A message that has begun has to be whole, and
 //! an answer to be taken, within a limit. A peer that has sent nothing of its next message has to go if another waits;
 //! by itself it may stay. Only the time that is spent waiting counts, not that of the broker's own work.
-ghost use Rattle.std.specs.Prelude.{ℕ, List, Option, None};
+ghost use Rattle.std.specs.Prelude.{◌≡◌, ◌+◌, ◌-◌, ◌≤◌, min, max, ℕ, List, Option, None, IfOk, IfErr};
+ghost use Rattle.std.specs.Duration.{as_nanos, max_nanos};
 ghost use Rattle.std.specs.Io.{ReadsAtMost, WritesAtMost};
 ghost use Rattle.std.specs.Io.KnownBytes.{ReadConsumes, WriteAppends};
 ghost use Rattle.sqlite.specs.Held.{state};
 ghost use Rattle.broker_http.specs.Calls.{IsServed};
+ghost use Rattle.broker_http.specs.Waits.{IsVain, Waits, millis};
 
 use crate::served::{ServeFault, Served};
 use crate::serving::serve;
@@ -50,10 +52,14 @@ pub trait PeerReader {
     /// The bytes that are still to come, where they are known.
     ghost remaining: { Self → Option (List ℕ) } = { λ _. None };
 
+    /// How long it was waited for in vain, in nanoseconds, where that is known.
+    ghost waited: { Self → ℕ } = { λ _. 0 };
+
     /// Reads once, and waits for the first byte no longer than that: it fails with `WouldBlock` then.
     fn receive(&mut self, buf: &mut [u8], within: Duration) -> io::Result<usize>
         ensures bound { ReadsAtMost result buf.new }
-        ensures bytes { ReadConsumes (remaining self.old) (remaining self.new) result buf.new };
+        ensures bytes { ReadConsumes (remaining self.old) (remaining self.new) result buf.new }
+        ensures wait { Waits (waited self.old) (waited self.new) result (as_nanos within) };
 }
 
 /// What the other end of a connection takes.
@@ -61,10 +67,14 @@ pub trait PeerWriter {
     /// The bytes that it has taken, where they are known.
     ghost contents: { Self → Option (List ℕ) } = { λ _. None };
 
+    /// How long it was waited for in vain, in nanoseconds, where that is known.
+    ghost waited: { Self → ℕ } = { λ _. 0 };
+
     /// Writes once, and waits for room no longer than that: it fails with `WouldBlock` then.
     fn send(&mut self, buf: &[u8], within: Duration) -> io::Result<usize>
         ensures bound { WritesAtMost result buf.now }
-        ensures bytes { WriteAppends (contents self.old) (contents self.new) result buf.now };
+        ensures bytes { WriteAppends (contents self.old) (contents self.new) result buf.now }
+        ensures wait { Waits (waited self.old) (waited self.new) result (as_nanos within) };
 }
 
 impl PeerReader for &TcpStream {
@@ -98,23 +108,55 @@ enum Wait {
     Answer(Duration),
 }
 
+/// The shorter one of the two.
+fn shorter(a: Duration, b: Duration) -> Duration
+    ensures { as_nanos result ≡ min (as_nanos a) (as_nanos b) }
+{
+    if a.saturating_sub(b).is_zero() { a } else { b }
+}
+
+/// The longer one of the two.
+fn longer(a: Duration, b: Duration) -> Duration
+    ensures { as_nanos result ≡ max (as_nanos a) (as_nanos b) }
+{
+    if a.saturating_sub(b).is_zero() { b } else { a }
+}
+
 /// How long to wait at once: what is left of a limit, but no longer than a look. `TimedOut` if nothing is left.
-fn next_look(limit: u64, look: u64, spent: Duration) -> io::Result<Duration> {
+fn next_look(limit: u64, look: u64, spent: Duration) -> io::Result<Duration>
+    ensures look { IfOk result (λ within. as_nanos within ≤ millis look) }
+    ensures left { IfOk result (λ within. as_nanos spent + as_nanos within ≤ millis limit) }
+    ensures over { IfErr result (λ _. millis limit ≤ as_nanos spent) }
+    ensures fits { millis limit ≤ max_nanos }
+{
     let left = Duration::from_millis(limit).saturating_sub(spent);
     if left.is_zero() {
         Err(io::Error::from(ErrorKind::TimedOut))
     } else {
-        Ok(left.min(Duration::from_millis(look)))
+        Ok(shorter(left, Duration::from_millis(look)))
     }
 }
 
-/// How long a wait that began then counts: as long as it took, but no longer than twice what it was to last. A wait
-/// takes some milliseconds more than that, by the ticks of the system's clock; a process that is stopped meanwhile finds
-/// that the clock went on. If the clock fails, it counts what it was to last.
-fn waited_since<C: Clock>(clock: &C, asked: Instant, within: Duration) -> Duration {
-    match asked.elapsed(clock) {
-        Ok(waited) => waited.min(within.saturating_add(within)),
+/// How long a wait that began then counts, and ended so: as long as it took, but no longer than twice what it was to
+/// last, and if it was in vain, as long as it was to last at least. A wait takes some milliseconds more than that, by
+/// the ticks of the system's clock; a process that is stopped meanwhile finds that the clock went on. If the clock
+/// fails, it counts what it was to last.
+fn counted<A, C: Clock>(
+    clock: &C,
+    asked: Instant,
+    within: Duration,
+    ended: &io::Result<A>,
+) -> Duration
+    ensures least { IsVain ended.now → as_nanos within ≤ as_nanos result }
+    ensures most { as_nanos result ≤ as_nanos within + as_nanos within }
+{
+    let waited = match asked.elapsed(clock) {
+        Ok(waited) => shorter(waited, within.saturating_add(within)),
         Err(_) => within,
+    };
+    match ended {
+        Err(error) if error.kind() == ErrorKind::WouldBlock => longer(waited, within),
+        _ => waited,
     }
 }
 
@@ -134,17 +176,20 @@ struct Incoming<'a, 'w, R: PeerReader, D: Door, C: Clock> {
 }
 
 impl<R: PeerReader, D: Door, C: Clock> Incoming<'_, '_, R, D, C> {
-    /// Waits for more of a message.
+    /// Waits for more of a message, of whose limit so much is spent: in vain no longer than what is left.
     fn read_on(&mut self, buf: &mut [u8], spent: Duration) -> io::Result<usize>
         ensures bound { ReadsAtMost result buf.new }
         ensures bytes { ReadConsumes (R.remaining self.old.peer) (R.remaining self.new.peer) result buf.new }
+        ensures wait { R.waited self.new.peer
+            ≤ R.waited self.old.peer + (millis self.old.limits.message - as_nanos spent) }
     {
+        let limits = self.limits;
         let mut spent = spent;
         for _ in 0..u64::MAX {
-            let within = next_look(self.limits.message, self.limits.look, spent)?;
+            let within = next_look(limits.message, limits.look, spent)?;
             let asked = Instant::now(self.clock)?;
             let received = self.peer.receive(buf, within);
-            spent = spent.saturating_add(waited_since(self.clock, asked, within));
+            spent = spent.saturating_add(counted(self.clock, asked, within, &received));
             match received {
                 Ok(count) => {
                     self.wait.set(Wait::Message(spent));
@@ -210,19 +255,21 @@ struct Outgoing<'a, 'w, W: PeerWriter, C: Clock> {
     wait: &'w Cell<Wait>,
 }
 
-impl<W: PeerWriter, C: Clock> Write for Outgoing<'_, '_, W, C> {
-    ghost contents = { λ outgoing. W.contents outgoing.peer };
-
-    fn write(&mut self, buf: &[u8]) -> io::Result<usize> {
-        let mut spent = match self.wait.get() {
-            Wait::Answer(spent) => spent,
-            Wait::First | Wait::Message(_) => Duration::ZERO,
-        };
+impl<W: PeerWriter, C: Clock> Outgoing<'_, '_, W, C> {
+    /// Waits for room for more of an answer, of whose limit so much is spent: in vain no longer than what is left.
+    fn write_on(&mut self, buf: &[u8], spent: Duration) -> io::Result<usize>
+        ensures bound { WritesAtMost result buf.now }
+        ensures bytes { WriteAppends (W.contents self.old.peer) (W.contents self.new.peer) result buf.now }
+        ensures wait { W.waited self.new.peer
+            ≤ W.waited self.old.peer + (millis self.old.limit - as_nanos spent) }
+    {
+        let (limit, look) = (self.limit, self.look);
+        let mut spent = spent;
         for _ in 0..u64::MAX {
-            let within = next_look(self.limit, self.look, spent)?;
+            let within = next_look(limit, look, spent)?;
             let asked = Instant::now(self.clock)?;
             let sent = self.peer.send(buf, within);
-            spent = spent.saturating_add(waited_since(self.clock, asked, within));
+            spent = spent.saturating_add(counted(self.clock, asked, within, &sent));
             match sent {
                 Ok(count) => {
                     self.wait.set(Wait::Answer(spent));
@@ -236,6 +283,17 @@ impl<W: PeerWriter, C: Clock> Write for Outgoing<'_, '_, W, C> {
             }
         }
         Err(io::Error::from(ErrorKind::TimedOut))
+    }
+}
+
+impl<W: PeerWriter, C: Clock> Write for Outgoing<'_, '_, W, C> {
+    ghost contents = { λ outgoing. W.contents outgoing.peer };
+
+    fn write(&mut self, buf: &[u8]) -> io::Result<usize> {
+        match self.wait.get() {
+            Wait::Answer(spent) => self.write_on(buf, spent),
+            Wait::First | Wait::Message(_) => self.write_on(buf, Duration::ZERO),
+        }
     }
 
     fn flush(&mut self) -> io::Result<()> {

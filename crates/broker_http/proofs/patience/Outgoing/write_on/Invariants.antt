@@ -1,0 +1,12 @@
+use Rattle.std.proofs.Common.{◌+◌, ◌-◌, ◌≤◌}
+use Rattle.std.specs.Duration.{as_nanos}
+use Rattle.std.specs.Io.KnownBytes.{Keeps}
+use Rattle.broker_http.specs.Waits.{millis}
+use Rattle.broker_http.proofs.patience.Outgoing.write_on.Given as goal
+
+-- The peer has taken nothing so far, and was waited for in vain no longer than counts as spent, nor than was left.
+abbrev pub invariant-loop : goal.invariant-loop
+invariant-loop g l =
+    Keeps (g.W.PeerWriter.contents l.fn.self.peer) (g.W.PeerWriter.contents l.self.peer)
+    × (g.W.PeerWriter.waited l.self.peer + as_nanos l.fn.spent ≤ g.W.PeerWriter.waited l.fn.self.peer + as_nanos l.spent)
+    × (g.W.PeerWriter.waited l.self.peer ≤ g.W.PeerWriter.waited l.fn.self.peer + (millis l.fn.self.limit - as_nanos l.fn.spent))
