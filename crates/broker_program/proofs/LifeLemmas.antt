@@ -20,17 +20,8 @@ use Rattle.broker_service.specs.Life.{Kept, Period, PeriodLeads, PeriodLeaves, A
 use Rattle.broker_service.specs.Life.Kept.{Blank}
 use Rattle.broker_service.specs.Sessions.{IsOpenedOn}
 use Rattle.broker_service.specs.SessionFiles.{IsGivenBack}
-use Rattle.broker_service.proofs.LifeLemmas.{periods_lead}
+use Rattle.broker_service.proofs.LifeLemmas.{blank_trees, found_empty, periods_lead}
 use Rattle.broker_program.specs.Files.{StartsFrom}
-
--- trees without an entry have no tables
-no_tables : (trees : Trees) → IsEmpty trees → IsOnDisk IsBlank trees
-no_tables trees none = let sound = empty_is_sound trees none.1 in record { schema = no_schema; sound = sound; has = record { schema = refl; sound = sound } }
-
--- an empty file has no entry
-none_found : (image : Image) (trees : Trees) → image.db ≡ [] → AreFoundIn image trees → IsEmpty trees
-none_found image trees none (inl found) = absurd (let some : 0 < length image.db = found.3.found.present in let never : 0 < 0 = subst (λ (bytes : List ℕ). 0 < length bytes) none some in omega (arith, never))
-none_found image trees none (inr found) = found.1
 
 module _ {D : Type 0} (g : Ghosts D) where
   -- what a connection found that was opened on files which held this
@@ -42,7 +33,7 @@ module _ {D : Type 0} (g : Ghosts D) where
     | inl some ↦ let r : Found old conn = (some.0, some.2, record { opens = starts.opened.0; live = starts.opened.1; found = starts.found.holds some.0 some.1 }) in r
     | inr none ↦
         let trees = (file_state {D = D} {g = g} conn).committed.trees in
-        let blank = subst (λ (k : Kept). AreTreesOf k trees) (sym none.0) (no_tables trees (none_found held trees none.1 starts.found.reads)) in
+        let blank = subst (λ (k : Kept). AreTreesOf k trees) (sym none.0) (blank_trees trees (found_empty held trees none.1 starts.found.reads)) in
         let r : Found old conn = (trees, blank, record { opens = starts.opened.0; live = starts.opened.1; found = refl }) in r
   ])
 
