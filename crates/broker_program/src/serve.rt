@@ -92,11 +92,10 @@ impl Connections {
     }
 }
 
-/// The address that the text says, if it is one of loopback.
-fn loopback_of(listen: &str) -> Option<SocketAddr>
-    ensures { IfSome result (IsLoopback listen.now) }
+/// The address, if it is one of loopback.
+fn if_loopback(address: SocketAddr) -> Option<SocketAddr>
+    ensures { IfSome result (λ found. (found ≡ address) × IsOfLoopback found) }
 {
-    let address = listen.parse::<SocketAddr>().ok()?;
     if address.ip().is_loopback() {
         Some(address)
     } else {
@@ -104,16 +103,18 @@ fn loopback_of(listen: &str) -> Option<SocketAddr>
     }
 }
 
+/// The address that the text says, if it is one of loopback.
+fn loopback_of(listen: &str) -> Option<SocketAddr>
+    ensures { IfSome result (IsLoopback listen.now) }
+{
+    if_loopback(listen.parse::<SocketAddr>().ok()?)
+}
+
 /// The address on which the system says that this listens, if it is one of loopback.
 fn bound_to(listener: &TcpListener) -> Option<SocketAddr>
     ensures { IfSome result IsOfLoopback }
 {
-    let bound = listener.local_addr().ok()?;
-    if bound.ip().is_loopback() {
-        Some(bound)
-    } else {
-        None
-    }
+    if_loopback(listener.local_addr().ok()?)
 }
 
 /// A listener on an address of loopback, and that address as the system says it.

@@ -21,7 +21,7 @@ use Rattle.table_access.specs.Statements.{from_table, from_both, up_to, keeps, k
 use Rattle.table_access.proofs.Members.{map_has, filter_has}
 use Rattle.table_access.proofs.Newest.{first_rows}
 use Rattle.table_access.proofs.Steps.{Means, answered, shown_answers, shown_unchanged}
-use Rattle.table_access.proofs.Answered.{Runs, refusal_ends, list_ends, number_ends, text_ends, first_has, permuted_has, pair_shown, first_pair_shown}
+use Rattle.table_access.proofs.Answered.{Runs, refusal_ends, list_ends, number_ends, text_ends, first_has, permuted_has, take_has, pair_shown, first_pair_shown}
 use Rattle.broker_core.specs.declared.command.Version.{Version}
 use Rattle.broker_core.specs.State.{State as Broker}
 use Rattle.broker_tables.specs.Schema.{broker_schema}
@@ -189,12 +189,6 @@ module _ {sql : List ℕ} {params : Row} {query : Query} (asked : Asked sql para
       IfOk-weaker r _ _ (λ has h. h.2 ∙ ap is_some (no_first h.0 (none s held free h.0 (reads s held h.0 h.1).0))) (call.call.ok clean)
 
 -- ---- what is so of each row that is shown
-
-take_has : {X : Type 0} (n : ℕ) (xs : List X) (x : X) → Has (take n xs) x → Has xs x
-take_has zero xs x has = absurd has
-take_has (suc n) [] x has = absurd has
-take_has (suc n) (y ∷ xs) x (inl same) = inl same
-take_has (suc n) (y ∷ xs) x (inr later) = inr (take_has n xs x later)
 
 -- what is shown of a row that WHERE keeps is such
 abbrev EachKept : Row → List Term → List Term → ℕ → Database → (Row → Type 0) → Type 0

@@ -1,17 +1,17 @@
 -- A query whose text is understood, and whose parameters are of the right kinds, fails only as the store fails.
-use Rattle.std.proofs.Common.{◌≡◌, ◌⊎◌, inl, inr, ℕ, zero, suc, take, List, [], ◌∷◌, ◌++◌, map, filter, length, slice_get, Bool, true, false, nat_le, ◌==◌, ◌&&◌, Some, None, Option, Ok, Err, Result, refl, sym, ap, subst, subst₂, ◌∙◌, append-nil, ◌<◌, ◌^◌, pos, arith}
+use Rattle.std.proofs.Common.{◌≡◌, ◌⊎◌, inl, inr, ℕ, zero, suc, take, List, [], ◌∷◌, map, filter, length, slice_get, Bool, true, false, nat_le, ◌==◌, ◌&&◌, Some, None, Option, Ok, Err, Result, refl, sym, ap, subst, subst₂, ◌∙◌, append-nil, ◌<◌, ◌^◌, pos, arith}
 use Rattle.std.specs.List.Sorted.{IsPermutation}
 use Rattle.std.proofs.lemmas.Bool.{leb-true, eqb-true}
 use Rattle.std.proofs.lemmas.List.Sorted.{Contains-permutation, IsPermutation-sym}
 use Rattle.sqlite_keyed.proofs.RuleLemmas.{first_of_both, second_of_both}
 use Rattle.sqlite.specs.Order.{Row, column}
-use Rattle.sqlite.specs.declared.types.Value.TheVariants.{Int, Text}
+use Rattle.sqlite.specs.declared.types.Value.TheVariants.{Int}
 use Rattle.sqlite.specs.Tree.{Trees}
 use Rattle.sqlite.specs.Schema.{Schema}
 use Rattle.sqlite.specs.Command.TheVariants.{Select}
 use Rattle.sqlite.specs.Term.{Term, Env, col, eval_all}
 use Rattle.sqlite_sql.specs.Query.{Query, Join, end, inner, left, counted, made, folded, first, has_no_fold, FoldOverflows}
-use Rattle.sqlite_sql.specs.Program.{QueryOverflows, overlay}
+use Rattle.sqlite_sql.specs.Program.{QueryOverflows}
 use Rattle.sqlite_sql.specs.Group.{Grouping, Overflows}
 use Rattle.sqlite_typing.specs.Types.{accepts_program}
 use Rattle.sqlite_value.specs.declared.keys.Key.{Key}
@@ -21,21 +21,20 @@ use Rattle.sqlite.specs.declared.error.Error.{Error}
 use Rattle.std.specs.List.{flat_map}
 use Rattle.sqlite.specs.Effect.{Database, Answers, RefusesQuery, RefusesToRead}
 use Rattle.sqlite.specs.Listing.{understood, IsSourceOf}
-use Rattle.sqlite.specs.State.{State, Shown, FailsToQuery, FailsToShow, IsNotRun, IsNoStatement, Fails}
-use Rattle.sqlite.specs.Clock.{timed}
+use Rattle.sqlite.specs.State.{State, Shown, FailsToQuery, IsNotRun, IsNoStatement, Fails}
 use Rattle.sqlite.proofs.Callers.{IsPlain, command_of}
 use Rattle.sqlite_rules.specs.Lists.{Has}
-use Rattle.std.specs.Prelude.{⊤, IsUtf8}
+use Rattle.std.specs.Prelude.{⊤}
 use Rattle.table_access.specs.declared.StoreFault.{StoreFault}
-use Rattle.table_access.specs.declared.StoreFault.TheVariants.{Memory, Store}
+use Rattle.table_access.specs.declared.StoreFault.TheVariants.{Memory}
 use Rattle.table_access.specs.Calls.{IsEnded, fault_of}
-use Rattle.table_access.specs.Reading.{IsRefusedAs, FailsToRead, FailsToReadRow, FailsToTake, TellsText, TellsNumber, IsTextAt, IsNumberRow}
-use Rattle.table_access.specs.Columns.{text, whole_at}
+use Rattle.table_access.specs.Reading.{IsRefusedAs, FailsToRead, FailsToTake, TellsText, TellsNumber, IsTextAt, IsNumberRow}
+use Rattle.table_access.specs.Columns.{whole_at}
 use Rattle.table_access.specs.Statements.{from_table, from_both, up_to, keeps, keeps_both, shows}
 use Rattle.table_access.proofs.Members.{has_either, contains_has, has_contains, map_has, filter_has}
-use Rattle.table_access.proofs.Newest.{first_rows, first_joined}
+use Rattle.table_access.proofs.Newest.{first_joined}
 use Rattle.table_access.proofs.Joins.{joined}
-use Rattle.table_access.proofs.Steps.{Means, selects, answered, shown_answers}
+use Rattle.table_access.proofs.Steps.{Means, selects}
 use Rattle.table_access.proofs.Texts.{caused}
 
 -- the whole text is one statement, with so many parameters
@@ -146,21 +145,11 @@ shown_of sql params old new t terms project order names means rows row shown has
     (one.0, it.0, it.1, one.2)
 
 -- LIMIT shows no other rows
-take_has : {X : Type 0} (n : ℕ) (xs : List X) (x : X) → Has (take n xs) x → Has xs x
+pub take_has : {X : Type 0} (n : ℕ) (xs : List X) (x : X) → Has (take n xs) x → Has xs x
 take_has zero xs x has = absurd has
 take_has (suc n) [] x has = absurd has
 take_has (suc n) (y ∷ xs) x (inl same) = inl same
 take_has (suc n) (y ∷ xs) x (inr later) = inr (take_has n xs x later)
-
-pub first_shown_of : (sql : List ℕ) (params : Row) (old new : State) (n t : ℕ) (terms project : List Term) (order : List (Term × Key)) (names : List (List ℕ))
-    → Means old.now.schema sql (Select (record { lets = []; body = up_to n (from_table t terms project order) }) names) → (rows : List Row) (row : Row) → Shown sql params old new rows → Has rows row
-    → (r : Row) × Has (old.now.trees t) r × (keeps terms params r ≡ true) × (row ≡ shows project params r)
-first_shown_of sql params old new n t terms project order names means rows row shown has =
-    let all = first_rows old.now params t terms project order n rows (shown_answers sql params old new _ names means rows shown) in
-    let kept = filter (keeps terms params) (old.now.trees t) in
-    let one = map_has (shows project params) kept row (permuted_has _ all.0 row (answered old.now params t terms project order all.0 all.1) (take_has n all.0 row (subst (λ xs. Has xs row) all.2 has))) in
-    let it = filter_has (keeps terms params) (old.now.trees t) one.0 one.1 in
-    (one.0, it.0, it.1, one.2)
 
 -- a row that is shown of two tables is what is shown of a row of each
 flat_map_has : {X Y : Type 0} (f : X → List Y) (xs : List X) (y : Y) → Has (flat_map f xs) y → (x : X) × Has xs x × Has (f x) y
@@ -183,20 +172,11 @@ first_pair_shown db params n t u terms project order rows h row has =
 
 -- ---- what can be read of a row that is shown of one column
 
-pub text_shown : (params r row : Row) (place : ℕ) → column r place ≡ Text (text place r) → row ≡ shows (col 1 place ∷ []) params r → IsUtf8 (text 0 row) → IsTextAt 0 row
-text_shown params r row place typed is utf8 = subst (IsTextAt 0) (sym is) (omega arith, (text place r, typed, subst (λ x. IsUtf8 (text 0 x)) is utf8))
-
 pub number_shown : (params r row : Row) (place : ℕ) → column r place ≡ Int (whole_at place r) → row ≡ shows (col 1 place ∷ []) params r → (n : ℕ) → whole_at place r ≡ pos n → n < 2 ^ 32 → IsNumberRow row
 number_shown params r row place typed is n number low = subst IsNumberRow (sym is) (omega arith, (n, typed ∙ ap Int number, low))
 
 module _ (sql : List ℕ) (params : Row) (old new : State) (t place : ℕ) (terms : List Term) (order : List (Term × Key)) (names : List (List ℕ))
     (means : Means old.now.schema sql (Select (record { lets = []; body = from_table t terms (col 1 place ∷ []) order }) names)) where
-  -- a text, where each row of the table has one there
-  pub text_stands : ((r : Row) → Has (old.now.trees t) r → column r place ≡ Text (text place r)) → (rows : List Row) (row : Row) → Shown sql params old new rows → slice_get rows 0 ≡ Some row → IsUtf8 (text 0 row) → IsTextAt 0 row
-  text_stands texts rows row shown head utf8 =
-      let it = shown_of sql params old new t terms (col 1 place ∷ []) order names means rows row shown (first_has rows row head) in
-      text_shown params it.0 row place (texts it.0 it.1) it.3 utf8
-
   -- a number, where each row of the table has a low one there
   pub number_stands : ((r : Row) → Has (old.now.trees t) r → column r place ≡ Int (whole_at place r)) → ((r : Row) → Has (old.now.trees t) r → (n : ℕ) × (whole_at place r ≡ pos n) × (n < 2 ^ 32))
       → (rows : List Row) (row : Row) → Shown sql params old new rows → slice_get rows 0 ≡ Some row → IsNumberRow row
