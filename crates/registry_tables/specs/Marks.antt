@@ -1,5 +1,5 @@
--- What SQLite shows of an environment's mark, in any database, however its tables are declared.
-use Rattle.std.specs.Prelude.{◌≡◌, ℕ, pos, Bool, List, [], ◌∷◌, codes, Option, option_map, slice_get}
+-- What SQLite shows of an environment's marks, in any database, however its tables are declared.
+use Rattle.std.specs.Prelude.{◌≡◌, ◌⊎◌, ℕ, pos, Bool, List, [], ◌∷◌, codes, Option, Some, option_map, slice_get}
 use Rattle.sqlite.specs.declared.types.Value.TheVariants as value
 use Rattle.sqlite.specs.Order.{Row, column}
 use Rattle.sqlite.specs.State.{State, Shown}
@@ -7,7 +7,7 @@ use Rattle.sqlite.specs.Given.{IsPlain}
 use Rattle.sqlite.specs.Listing.{understood}
 use Rattle.table_access.specs.declared.StoreFault.{StoreFault}
 use Rattle.table_access.specs.declared.StoreFault.TheVariants.{Store}
-use Rattle.table_access.specs.Reading.{FailsToTake}
+use Rattle.table_access.specs.Reading.{FailsToTake, IsRefusedAs}
 use Rattle.broker_core.specs.Text.{Text}
 use Rattle.broker_tables.specs.Rows.{mark_of, IsTruthAt}
 
@@ -34,3 +34,14 @@ TellsNoMark row fault = (fault ≡ Store) × (¬ IsTruthAt 0 row)
 abbrev pub FailsAsMark : Text → State → State → StoreFault → Type 0
 FailsAsMark environment old new fault =
     FailsToTake TellsNoMark gate_question (value.Text environment ∷ []) old new fault
+
+-- the question whether the environment is strict
+abbrev pub strict_question : List ℕ
+strict_question = codes "SELECT environment FROM strict_environments WHERE environment = ?1"
+
+-- The first mark couldn't be read; or it was, and the question for the second was refused.
+abbrev pub FailsAsMarks : Text → State → State → StoreFault → Type 0
+FailsAsMarks environment old new fault =
+    FailsAsMark environment old new fault
+    ⊎ ((gated : Bool) × (mid : State) × IsMarkShown environment old mid (Some gated)
+    × IsRefusedAs strict_question (value.Text environment ∷ []) mid new fault)

@@ -1,11 +1,13 @@
 //! Environments and their two marks: whether the gate judges what comes in, and whether it trusts only checked results.
-ghost use Rattle.std.specs.Prelude.{◌≡◌, ◌==◌, false, Some, IfOk, IfErr, option_map};
+ghost use Rattle.std.specs.Prelude.{◌≡◌, ◌==◌, Bool, false, [], ◌∷◌, Option, Some, IfOk, IfErr, option_map, is_some};
 ghost use Rattle.sqlite.specs.Held.{state};
 ghost use Rattle.sqlite.specs.State.{HasCleanDisk};
+ghost use Rattle.sqlite.specs.declared.types.Value.TheVariants as value;
+ghost use Rattle.table_access.specs.Reading.{IsRefusedAs};
 ghost use Rattle.broker_core.specs.declared.command.Marks.{Marks as MarksModel};
 ghost use Rattle.broker_tables.specs.Holds.{Changes};
 ghost use Rattle.broker_tables.specs.Calm.{CalmQueriesInPlace};
-ghost use Rattle.registry_tables.specs.Marks.{IsMarkShown, IsMarkKnown, FailsAsMark};
+ghost use Rattle.registry_tables.specs.Marks.{IsMarkShown, IsMarkKnown, FailsAsMark, FailsAsMarks, strict_question};
 ghost use Rattle.registry_tables.specs.Registry.{AddsEnvironment, marks, MakesStrict};
 
 use broker_core::command::Marks;
@@ -40,8 +42,11 @@ pub fn gated<S: Alter>(
 
 /// Whether an environment that is there is strict.
 fn is_strict<S: Alter>(conn: &mut Connection<S>, environment: &str) -> Result<bool, StoreFault>
-    ensures { CalmQueriesInPlace S.Store conn.old conn.new result
+    ensures answers { CalmQueriesInPlace S.Store conn.old conn.new result
         (λ strict s. (m : MarksModel) → s.environments environment.now ≡ Some m → strict ≡ m.strict) }
+    ensures cause { HasCleanDisk (state S.Store conn.new) →
+        IfErr result (IsRefusedAs strict_question (value.Text environment.now ∷ [])
+        (state S.Store conn.old) (state S.Store conn.new)) }
 {
     has_row(
         conn,
@@ -55,7 +60,7 @@ fn is_strict<S: Alter>(conn: &mut Connection<S>, environment: &str) -> Result<bo
 ///
 /// # Errors
 /// `StoreFault::Memory` if the database is out of memory; `StoreFault::Store` if it refused a query or holds no truth
-/// value there.
+/// value there, and only then.
 pub fn marks_of<S: Alter>(
     conn: &mut Connection<S>,
     environment: &str,
@@ -64,6 +69,8 @@ pub fn marks_of<S: Alter>(
         (λ found s. found ≡ s.environments environment.now) }
     ensures known { HasCleanDisk (state S.Store conn.new) → IfOk result
         (λ found. IsMarkKnown environment.now (state S.Store conn.old) (option_map (λ m. m.gated) found)) }
+    ensures cause { HasCleanDisk (state S.Store conn.new) →
+        IfErr result (FailsAsMarks environment.now (state S.Store conn.old) (state S.Store conn.new)) }
 {
     match done!(gated(conn, environment)) {
         Some(gated) => {
@@ -74,17 +81,22 @@ pub fn marks_of<S: Alter>(
     }
 }
 
-/// Whether the environment is strict, or `None` if there is no such environment.
+/// Whether the environment is strict, or `None` if there is no such environment. Of one whose mark `gated` is neither 0
+/// nor 1 it isn't said.
 ///
 /// # Errors
 /// `StoreFault::Memory` if the database is out of memory; `StoreFault::Store` if it refused a query or holds no truth
-/// value there.
+/// value as the mark `gated`, and only then.
 pub fn strict_of<S: Alter>(
     conn: &mut Connection<S>,
     environment: &str,
 ) -> Result<Option<bool>, StoreFault>
-    ensures { CalmQueriesInPlace S.Store conn.old conn.new result
+    ensures answers { CalmQueriesInPlace S.Store conn.old conn.new result
         (λ found s. found ≡ option_map (λ m. m.strict) (s.environments environment.now)) }
+    ensures known { HasCleanDisk (state S.Store conn.new) → IfOk result (λ found. (gated : Option Bool)
+        × IsMarkKnown environment.now (state S.Store conn.old) gated × (is_some gated ≡ is_some found)) }
+    ensures cause { HasCleanDisk (state S.Store conn.new) →
+        IfErr result (FailsAsMarks environment.now (state S.Store conn.old) (state S.Store conn.new)) }
 {
     match done!(marks_of(conn, environment)) {
         Some(marks) => Ok(Some(marks.strict)),
