@@ -8,3 +8,4 @@ pub mod PathReading
 pub mod Readings
 pub mod Asked
 pub mod AskedView
+pub mod Laws
