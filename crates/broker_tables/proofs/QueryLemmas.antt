@@ -6,7 +6,7 @@ use Rattle.sqlite.specs.State.{State, HasCleanDisk}
 use Rattle.table_access.specs.declared.StoreFault.{StoreFault}
 use Rattle.table_access.specs.declared.StoreFault.TheVariants.{Memory, Store}
 use Rattle.table_access.specs.Calls.{CallsTablesBetween, CallsStoreBetween, GoesOn, IsEnded}
-use Rattle.table_access.proofs.CallLemmas.{call_with, then_ok, then_err, then_stop, then_result, seq, ended_since, statement_with, statement_ok, statement_err, statement_result, statement_seq}
+use Rattle.table_access.proofs.CallLemmas.{call_with, then_ok, then_err, then_stop, seq, ended_since, statement_with, statement_ok, statement_err, statement_result, statement_seq}
 use Rattle.broker_core.specs.State.{State as Broker}
 use Rattle.broker_tables.specs.Holds.{IsRead}
 use Rattle.broker_tables.specs.Calm.{Serves, FailsOnlyBy, IsEndedOrMemory, CalmQueriesBetween, CalmQueriesInPlaceBetween}
@@ -84,13 +84,6 @@ read_never old new a e Q P never call = record { call = then_stop old new a e Q 
 pub place_ok : {A B : Type 0} (old new : State) (a : A) (b : B) (P : A → Broker → Type 0) (Q : B → Broker → Type 0) → (IsRead old new P a → IsRead old new Q b) → CalmQueriesInPlaceBetween old new (Ok a) P → CalmQueriesInPlaceBetween old new (Ok b) Q
 place_ok old new a b P Q more it = in_calm old new (Ok b) Q (statement_ok old new a b _ _ more (in_store old new (Ok a) P it)) (λ clean s here. tt)
 
--- the failure of a query, handed on
-pub place_err : {A B : Type 0} (old new : State) (e : StoreFault) (P : A → Broker → Type 0) (Q : B → Broker → Type 0) → CalmQueriesInPlaceBetween old new (Err e) P → CalmQueriesInPlaceBetween old new (Err e) Q
-place_err old new e P Q it = in_calm old new (Err e) Q (statement_err old new e _ _ (in_store old new (Err e) P it)) it.calm
-
-pub place_with : {A : Type 0} (old new : State) (r : Result A StoreFault) (P Q : A → Broker → Type 0) → ((a : A) → IsRead old new P a → IsRead old new Q a) → CalmQueriesInPlaceBetween old new r P → CalmQueriesInPlaceBetween old new r Q
-place_with old new r P Q more it = in_calm old new r Q (statement_with old new r _ _ more (in_store old new r P it)) it.calm
-
 -- one after another
 pub place_seq : {A B : Type 0} (old mid new : State) (a : A) (r : Result B StoreFault) (P : A → Broker → Type 0) (Q R : B → Broker → Type 0) → (IsRead old mid P a → (b : B) → IsRead mid new Q b → IsRead old new R b)
     → CalmQueriesInPlaceBetween old mid (Ok a) P → CalmQueriesInPlaceBetween mid new r Q → CalmQueriesInPlaceBetween old new r R
@@ -112,17 +105,9 @@ query_ok old new a b P Q more it = record { call = then_ok old new a b _ _ more 
 pub query_err : {A B : Type 0} (old new : State) (e : StoreFault) (P : A → Broker → Type 0) (Q : B → Broker → Type 0) → CalmQueriesBetween old new (Err e) P → CalmQueriesBetween old new (Err e) Q
 query_err old new e P Q it = record { call = then_err old new e _ _ it.call; calm = it.calm }
 
-pub query_with : {A : Type 0} (old new : State) (r : Result A StoreFault) (P Q : A → Broker → Type 0) → ((a : A) → IsRead old new P a → IsRead old new Q a) → CalmQueriesBetween old new r P → CalmQueriesBetween old new r Q
-query_with old new r P Q more it = record { call = call_with old new r _ _ more it.call; calm = it.calm }
-
 -- a growth that is refused, after a query
 pub query_stop : {A B : Type 0} (old new : State) (a : A) (e : StoreFault) (P : A → Broker → Type 0) (Q : B → Broker → Type 0) → e ≡ Memory → CalmQueriesBetween old new (Ok a) P → CalmQueriesBetween old new (Err e) Q
 query_stop old new a e P Q room it = record { call = then_stop old new a e _ _ it.call; calm = λ clean s here. inr room }
-
--- a computation that fails only as a growth is refused, after a query
-pub query_result : {A B : Type 0} (old new : State) (a : A) (r : Result B StoreFault) (P : A → Broker → Type 0) (Q : B → Broker → Type 0) → IfOk r (λ b. IsRead old new P a → IsRead old new Q b) → IfErr r (λ e. e ≡ Memory)
-    → CalmQueriesBetween old new (Ok a) P → CalmQueriesBetween old new r Q
-query_result old new a r P Q more room it = record { call = then_result old new a r _ _ more it.call; calm = λ clean s here. IfErr-weaker r _ _ (λ e is. inr is) room }
 
 pub query_seq : {A B : Type 0} (old mid new : State) (a : A) (r : Result B StoreFault) (P : A → Broker → Type 0) (Q R : B → Broker → Type 0) → (IsRead old mid P a → (b : B) → IsRead mid new Q b → IsRead old new R b)
     → CalmQueriesBetween old mid (Ok a) P → CalmQueriesBetween mid new r Q → CalmQueriesBetween old new r R

@@ -1,5 +1,5 @@
 -- The calls on contents, where all were stored by SHA-256 and the database holds a state of the broker.
-use Rattle.std.proofs.Common.{◌≡◌, ℕ, Option, Some, None, List, [], ◌∷◌, ◌++◌, map, Bool, true, false, not, ◌||◌, cond, codes, refl, sym, ap, subst, ◌∙◌, Result}
+use Rattle.std.proofs.Common.{◌≡◌, ℕ, Option, Some, None, List, [], ◌∷◌, ◌++◌, map, Bool, true, false, not, ◌||◌, cond, codes, refl, sym, subst, ◌∙◌, Result}
 use Rattle.std.specs.Prelude.{⊤}
 use Rattle.std.specs.List.{AllByRecursion}
 use Rattle.sqlite.specs.Table.{Table}
@@ -14,18 +14,13 @@ use Rattle.broker_core.specs.State.{State as Broker}
 use Rattle.broker_core.specs.Change.{is_stored, content_number, stored}
 use Rattle.broker_tables.specs.Schema.{broker_schema}
 use Rattle.broker_tables.specs.Rows.{rows_of}
-use Rattle.broker_tables.specs.Numbers.{numbered}
-use Rattle.broker_tables.specs.Holds.{Holds, with_digest, IsRead, QueriesBetween, QueriesInPlaceBetween, ChangesAndAnswersBetween}
+use Rattle.broker_tables.specs.Holds.{Holds, IsRead, QueriesBetween, ChangesAndAnswersBetween}
 use Rattle.broker_tables.proofs.Frames.{Frame, is_other, contents_change}
-use Rattle.content_store.specs.Contents.{hex_of, ContentsBy, IsReadBy, IsReadByAny, IsPut, IsPutBy, IsPutIfRoom, StoresIfRoom}
+use Rattle.content_store.specs.Contents.{hex_of, ContentsBy, IsReadBy, IsReadByAny, IsPut, IsPutIfRoom, StoresIfRoom}
 
 -- what a state says of contents is that they are stored by SHA-256
 pub contents_held : (db : Database) (s : Broker) → Holds db s → ContentsBy (hex_of sha256) db s.contents
 contents_held db s held = record { broker = held.broker; are = held.contents }
-
--- where there are no contents yet, all were stored by any digest
-pub no_contents : (digest : Text → Text) (db : Database) (s : Broker) → Holds db s → s.contents ≡ [] → ContentsBy digest db []
-no_contents digest db s held none = record { broker = held.broker; are = held.contents ∙ ap (λ texts. numbered (map with_digest texts)) none }
 
 -- ---- a read
 
@@ -35,14 +30,6 @@ read_held old new P a read s held = let it = read s.contents (contents_held old.
 -- a query about the contents, by whatever digest, answers of those of the state that the database holds
 pub reads_held : {A : Type 0} (old new : State) (r : Result A StoreFault) (P : A → List Text → Type 0) → CallsTablesBetween old new r (IsReadByAny old new P) → QueriesBetween old new r (λ a s. P a s.contents)
 reads_held old new r P = call_with old new r _ _ (λ a read. read_held old new P a (read (hex_of sha256)))
-
--- the same of a query whose answer takes no memory
-pub counts_held : {A : Type 0} (old new : State) (r : Result A StoreFault) (P : A → List Text → Type 0) → CallsStoreBetween old new r (IsReadByAny old new P) → QueriesInPlaceBetween old new r (λ a s. P a s.contents)
-counts_held old new r P = statement_with old new r _ _ (λ a read. read_held old new P a (read (hex_of sha256)))
-
--- the same of one that needs the contents to be stored by SHA-256
-pub finds_held : {A : Type 0} (old new : State) (r : Result A StoreFault) (P : A → List Text → Type 0) → CallsStoreBetween old new r (IsReadBy (hex_of sha256) old new P) → QueriesInPlaceBetween old new r (λ a s. P a s.contents)
-finds_held old new r P = statement_with old new r _ _ (λ a read. read_held old new P a read)
 
 -- ---- a text is put
 
@@ -72,11 +59,7 @@ put_held old new s body number held put = (put.number_is, go (is_stored s body) 
     go true e are = subst (λ d. Holds d s) (sym (put.same e)) held
     go false e are = contents_change old new s (s.contents ++ body ∷ []) held (put_frame (hex_of sha256) body s.contents number old new (contents_held old s held) put) are.are
 
--- a text that is put gets its number in the state, and the state with this text stored is held afterwards
-pub puts_held : (old new : State) (r : Result ℕ StoreFault) (body : Text) → CallsStoreBetween old new r (IsPutBy (hex_of sha256) body old new) → ChangesAndAnswersBetween old new r (λ s. ⊤) (λ number s t. (number ≡ content_number s body) × (t ≡ stored s body))
-puts_held old new r body = statement_with old new r _ _ (λ number puts s held free. let it = put_held old.now new.now s body number held (puts s.contents (contents_held old.now s held)) in (stored s body, (it.0, refl), it.1))
-
--- the same where there may be no room for it
+-- a text that is put, if there is room for it, gets its number in the state, and the state with it stored is held afterwards
 pub puts_if_room_held : (old new : State) (r : Result (Option ℕ) StoreFault) (body : Text) → CallsStoreBetween old new r (IsPutIfRoom (hex_of sha256) body old new) → ChangesAndAnswersBetween old new r (λ s. ⊤) (StoresIfRoom body)
 puts_if_room_held old new r body = statement_with old new r _ _ by_found
   where

@@ -52,11 +52,6 @@ pub rest_text-last : (bytes : List ℕ) (n : ℕ) → lines_of bytes ≡ take n 
     → rest_text true bytes ≡ Some (take n bytes)
 rest_text-last bytes n first blank = rw (first, blank) (ap Some (append-nil (take n bytes)))
 
--- no line
-pub rest_text-none : (started : Bool) (bytes : List ℕ) → lines_of bytes ≡ [] → rest_text started bytes ≡ None
-rest_text-none false bytes none = rw none refl
-rest_text-none true bytes none = rw none refl
-
 -- fronts add up
 pub behind-behind : (a b : List ℕ) (found : Option (List ℕ)) → behind a (behind b found) ≡ behind (a ++ b) found
 behind-behind a b None = refl

@@ -1,6 +1,6 @@
 -- One read behind another.
 use Rattle.std.proofs.Common.{◌≡◌, ℕ, ◌+◌, ◌<◌, ◌≤◌, List, [], ◌∷◌, ◌++◌, Option, Result, Ok, Err, OnErr, length, take, refl, sym, ap, ◌∙◌, subst, append_assoc, append-nil, length-append, arith, inr}
-use Rattle.std.proofs.KnownBytes.{Consumes-nil, Consumes-trans}
+use Rattle.std.proofs.KnownBytes.{Consumes-trans}
 use Rattle.std.proofs.lemmas.List.{take-append-le}
 use Rattle.std.specs.Io.KnownBytes.{Consumes}
 use Rattle.std.specs.Result.{result_unwrap_or}
@@ -14,10 +14,6 @@ use Rattle.http_messages.specs.declared.reading.ReadFault.{ReadFault}
 use Rattle.http_messages.specs.declared.reading.ReadFault.TheVariants.{Reader, Memory}
 use Rattle.http_messages.specs.declared.reading.ReadOutcome.TheVariants.{Message}
 use Rattle.http_messages.proofs.MessagesLemmas.{IsHeadOf-more, BeginsWithMessage-of, none_short}
-
--- nothing was read
-pub Gains-nil : (known : Option (List ℕ)) (bytes : List ℕ) → Gains known known bytes bytes
-Gains-nil known bytes = ([], Consumes-nil known, sym (append-nil bytes))
 
 -- one read, and then others
 pub Gains-trans : (a b c : Option (List ℕ)) (old mid new : List ℕ) → Gains a b old mid → Gains b c mid new → Gains a c old new

@@ -30,12 +30,6 @@ read_is reads show same [] (x ∷ items) all = absurd all
 read_is reads show same (r ∷ rows) [] all = absurd all
 read_is reads show same (r ∷ rows) (x ∷ items) all = ap₂ (λ v vs. v ∷ vs) (same r x all.0) (read_is reads show same rows items all.1)
 
-pub read_length : {A B : Type 0} (reads : A → B → Type 0) (rows : List A) (items : List B) → AreRead reads rows items → length items ≡ length rows
-read_length reads [] [] all = refl
-read_length reads [] (x ∷ items) all = absurd all
-read_length reads (r ∷ rows) [] all = absurd all
-read_length reads (r ∷ rows) (x ∷ items) all = ap suc (read_length reads rows items all.1)
-
 -- an item at a place of a list stands in it
 pub has_get : {X : Type 0} (xs : List X) (at : ℕ) (d : X) → at < length xs → Has xs (get_or xs at d)
 has_get [] at d low = absurd (omega arith)
