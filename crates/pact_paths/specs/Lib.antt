@@ -8,4 +8,3 @@ pub mod PathReading
 pub mod Readings
 pub mod Asked
 pub mod AskedView
-pub mod Laws

@@ -2,7 +2,6 @@
 #![tactic(auto)]
 
 mod asked;
-pub mod laws;
 mod path;
 mod path_reader;
 mod path_writer;

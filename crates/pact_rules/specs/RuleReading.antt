@@ -61,7 +61,6 @@ abbrev pub path_or_fault : Result (List Token) PathFault → Result (List Token)
 path_or_fault (Ok path) = Ok path
 path_or_fault (Err fault) = Err BadPath
 
--- the reading of a path expression, as it is computed: `one_path_reading` of `pact_paths` says that this is the one reading
 abbrev pub path_at : List ℕ → Result (List Token) RuleFault
 path_at k = path_or_fault (path_in k)
 
