@@ -86,13 +86,14 @@ is_statement sql params old plain is_it e (inr (c, is, why)) =
       | inr more ↦ elim more [ inl count ↦ count.0 (eqb-true (length params) (length c.names) (second_of_both _ _ whole)) | inr clock ↦ clock.0 (subst IsPlain is plain).1 ]
     ]
 
+-- a query that can be run, with no limit of steps, is refused by nothing
+pub never_refused : (sql : List ℕ) (params : Row) (db : Database) (q : Query) → Runs db.schema sql params q → (limit : Option ℕ) → limit ≡ None → (e : Error) → ¬ RefusesQuery limit db (record { lets = []; body = q }) params e
+never_refused sql params db q runs limit unlimited e (inl kind) = let clash : true ≡ false = sym runs.typed ∙ kind.1 in cc
+never_refused sql params db q runs limit unlimited e (inr (inl sum)) = no_sum _ params q runs.sumless sum.1
+never_refused sql params db q runs limit unlimited e (inr (inr stopped)) = let some = rw unlimited at stopped.1 in cc
+
 module _ (sql : List ℕ) (params : Row) (old new : State) (q : Query) (names : List (List ℕ)) (means : Means old.now.schema sql (Select (record { lets = []; body = q }) names)) (runs : Runs old.now.schema sql params q)
     (unlimited : old.step_limit ≡ None) where
-  is_answered : (e : Error) → ¬ RefusesQuery old.step_limit old.now (record { lets = []; body = q }) params e
-  is_answered e (inl kind) = let clash : true ≡ false = sym runs.typed ∙ kind.1 in cc
-  is_answered e (inr (inl sum)) = no_sum _ params q runs.sumless sum.1
-  is_answered e (inr (inr stopped)) = let some = rw unlimited at stopped.1 in cc
-
   -- a failure is one of the store
   fails : (e : Error) → FailsToQuery sql params old new e → Fails old new ⊤ e
   unfolding FailsToQuery IsNotRun
@@ -102,7 +103,7 @@ module _ (sql : List ℕ) (params : Row) (old new : State) (q : Query) (names : 
       let bare = subst IsPlain h.1.is means.plain in
       let it = rw (bare.0, bare.1, append-nil params) at h.2 in
       let db : it.0 ≡ old.now = subst (λ b. IsSourceOf b old.now it.0) means.unlisted it.1 in
-      absurd (is_answered e (subst₂ (λ k d. RefusesToRead old.step_limit k d params e) (ap command_of (sym h.1.is) ∙ means.is) db it.2))
+      absurd (never_refused sql params old.now q runs old.step_limit unlimited e (subst₂ (λ k d. RefusesToRead old.step_limit k d params e) (ap command_of (sym h.1.is) ∙ means.is) db it.2))
 
   -- the transaction is over
   pub refusal_ends : (fault : StoreFault) → IsRefusedAs sql params old new fault → IsEnded old new fault
