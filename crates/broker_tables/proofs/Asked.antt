@@ -15,7 +15,7 @@ use Rattle.sqlite_rules.specs.Lists.{Has}
 use Rattle.table_access.specs.declared.StoreFault.{StoreFault}
 use Rattle.table_access.specs.declared.StoreFault.TheVariants.{Store}
 use Rattle.table_access.specs.Columns.{text, whole_at}
-use Rattle.table_access.specs.Calls.{CallsTablesBetween, CallsStoreBetween, IsEnded}
+use Rattle.table_access.specs.Calls.{CallsTablesBetween, CallsStoreBetween, HasFailed}
 use Rattle.table_access.specs.Reading.{AreRead, FailsToRead, FailsToTake, IsRefusedAs, TellsNumber, TellsText, BeginsWithText, IsNumberRow, IsTextAt}
 use Rattle.table_access.specs.Statements.{from_table, from_both, up_to, keeps, keeps_both, shows}
 use Rattle.table_access.proofs.Members.{map_has, filter_has}
@@ -93,11 +93,11 @@ module _ {sql : List ℕ} {params : Row} {query : Query} (asked : Asked sql para
   abbrev Explains : (StoreFault → Type 0) → (StoreFault → Type 0) → Type 0
   Explains Why Cause = (s : Broker) → Serves old s → (fault : StoreFault) → Cause fault → Why fault
 
-  pub why_refused : Explains (IsEnded old new) (IsRefusedAs sql params old new)
+  pub why_refused : Explains (HasFailed old new) (IsRefusedAs sql params old new)
   why_refused s at =
       refusal_ends sql params old new query asked.names (here at.held.broker) (runs_there at.held.broker) at.unlimited
 
-  pub why_number : EachReads asked old.now IsNumberRow → Explains (IsEnded old new) (FailsToTake TellsNumber sql params old new)
+  pub why_number : EachReads asked old.now IsNumberRow → Explains (HasFailed old new) (FailsToTake TellsNumber sql params old new)
   why_number each s at =
       number_ends sql params old new query asked.names (here at.held.broker) (runs_there at.held.broker) at.unlimited
       (λ rows row h head. each s at.held at.readable rows (reads s at.held rows h).0 row (first_has rows row head))
@@ -115,7 +115,7 @@ module _ {sql : List ℕ} {params : Row} {query : Query} (asked : Asked sql para
 
   -- where no row is shown, it isn't the first row that wasn't read
   pub why_unread : (s : Broker) → Serves old s → FirstShown asked old.now (λ row. ⊥) → (fault : StoreFault) → FailsToTake TellsText sql params old new fault
-      → IsEnded old new fault
+      → HasFailed old new fault
   why_unread s at none fault (inl refused) = why_refused s at fault refused
   why_unread s at none fault (inr (rows, shown, row, head, tells)) = absurd (none rows (reads s at.held rows shown).0 row head)
 

@@ -5,7 +5,7 @@ use Rattle.std.proofs.lemmas.Result.{IfErr-weaker}
 use Rattle.sqlite.specs.State.{State, HasCleanDisk}
 use Rattle.table_access.specs.declared.StoreFault.{StoreFault}
 use Rattle.table_access.specs.declared.StoreFault.TheVariants.{Memory, Store}
-use Rattle.table_access.specs.Calls.{CallsTablesBetween, CallsStoreBetween, GoesOn, IsEnded}
+use Rattle.table_access.specs.Calls.{CallsTablesBetween, CallsStoreBetween, GoesOn, HasFailed}
 use Rattle.table_access.proofs.CallLemmas.{call_with, then_ok, then_err, then_stop, seq, ended_since, statement_with, statement_ok, statement_err, statement_result, statement_seq}
 use Rattle.broker_core.specs.State.{State as Broker}
 use Rattle.broker_tables.specs.Holds.{IsRead}
@@ -35,13 +35,13 @@ else_memory Store only reads = absurd (only refl reads)
 pub in_store : {A : Type 0} (old new : State) (r : Result A StoreFault) (P : A → Broker → Type 0) → CalmQueriesInPlaceBetween old new r P → CallsStoreBetween old new r (IsRead old new P)
 in_store old new r P it = record { call = it.call; memory = it.memory }
 
-pub in_calm : {A : Type 0} (old new : State) (r : Result A StoreFault) (P : A → Broker → Type 0) → CallsStoreBetween old new r (IsRead old new P) → FailsOnlyBy old new r (IsEnded old new) → CalmQueriesInPlaceBetween old new r P
+pub in_calm : {A : Type 0} (old new : State) (r : Result A StoreFault) (P : A → Broker → Type 0) → CallsStoreBetween old new r (IsRead old new P) → FailsOnlyBy old new r (HasFailed old new) → CalmQueriesInPlaceBetween old new r P
 in_calm old new r P it calm = record { call = it.call; memory = it.memory; calm = calm }
 
 -- ---- one statement
 
 -- what a statement answers is read of the state, and where that is served it fails for this cause alone
-pub looked_up : {A : Type 0} (old new : State) (r : Result A StoreFault) (Q : A → Type 0) (P : A → Broker → Type 0) (Cause : StoreFault → Type 0) → ((a : A) → Q a → IsRead old new P a) → ((s : Broker) → Serves old s → (e : StoreFault) → Cause e → IsEnded old new e)
+pub looked_up : {A : Type 0} (old new : State) (r : Result A StoreFault) (Q : A → Type 0) (P : A → Broker → Type 0) (Cause : StoreFault → Type 0) → ((a : A) → Q a → IsRead old new P a) → ((s : Broker) → Serves old s → (e : StoreFault) → Cause e → HasFailed old new e)
     → CallsStoreBetween old new r Q → (HasCleanDisk new → IfErr r Cause) → CalmQueriesInPlaceBetween old new r P
 looked_up old new r Q P Cause more why call cause = in_calm old new r P (statement_with old new r Q _ more call) (λ clean s here. IfErr-weaker r _ _ (why s here) (cause clean))
 
@@ -57,7 +57,7 @@ calm_by old new r Cause Why why cause clean s here = IfErr-weaker r _ _ (why s h
 pub looked_ok : {A B : Type 0} (old new : State) (a : A) (b : B) (Q : A → Type 0) (P : B → Broker → Type 0) → (Q a → IsRead old new P b) → CallsStoreBetween old new (Ok a) Q → CalmQueriesInPlaceBetween old new (Ok b) P
 looked_ok old new a b Q P more call = in_calm old new (Ok b) P (statement_ok old new a b Q _ more call) (λ clean s here. tt)
 
-pub looked_err : {A B : Type 0} (old new : State) (e : StoreFault) (Q : A → Type 0) (P : B → Broker → Type 0) (Cause : StoreFault → Type 0) → ((s : Broker) → Serves old s → (e : StoreFault) → Cause e → IsEnded old new e)
+pub looked_err : {A B : Type 0} (old new : State) (e : StoreFault) (Q : A → Type 0) (P : B → Broker → Type 0) (Cause : StoreFault → Type 0) → ((s : Broker) → Serves old s → (e : StoreFault) → Cause e → HasFailed old new e)
     → CallsStoreBetween old new (Err e) Q → (HasCleanDisk new → Cause e) → CalmQueriesInPlaceBetween old new (Err e) P
 looked_err old new e Q P Cause why call cause = in_calm old new (Err e) P (statement_err old new e Q _ call) (λ clean s here. why s here e (cause clean))
 

@@ -5,7 +5,7 @@ use Rattle.sqlite.specs.State.{State, HasCleanDisk}
 use Rattle.sqlite_trees.specs.declared.store.Store.{Ghosts}
 use Rattle.table_access.specs.declared.StoreFault.{StoreFault}
 use Rattle.table_access.specs.declared.StoreFault.TheVariants.{Memory}
-use Rattle.table_access.specs.Calls.{IsEnded, TellsMemory}
+use Rattle.table_access.specs.Calls.{HasFailed, TellsMemory}
 use Rattle.broker_core.specs.declared.command.Version.{Version}
 use Rattle.broker_core.specs.State.{State as Broker}
 use Rattle.broker_tables.specs.Numbers.{number_of}
@@ -25,7 +25,7 @@ FailsOnlyBy old new r Cause = HasCleanDisk new → (s : Broker) → Serves old s
 
 -- the store failed, which ended the transaction, or a growth was refused
 abbrev pub IsEndedOrMemory : State → State → StoreFault → Type 0
-IsEndedOrMemory old new fault = IsEnded old new fault ⊎ (fault ≡ Memory)
+IsEndedOrMemory old new fault = HasFailed old new fault ⊎ (fault ≡ Memory)
 
 -- a query, where there may be no room for its answer
 pub record CalmQueriesBetween {A : Type 0} (old new : State) (r : Result A StoreFault) (P : A → Broker → Type 0)
@@ -43,7 +43,7 @@ pub record CalmQueriesInPlaceBetween {A : Type 0} (old new : State) (r : Result 
   -- only the store is ever out of memory
   pub memory : TellsMemory old new r
   -- why it fails
-  pub calm : FailsOnlyBy old new r (IsEnded old new)
+  pub calm : FailsOnlyBy old new r (HasFailed old new)
 
 -- ---- of a version's number
 
@@ -69,4 +69,4 @@ module _ {X : Type 0} (store : Ghosts X) (old new : Held X) where
   IsCalm r = FailsOnlyBy (state store old) (state store new) r (IsEndedOrMemory (state store old) (state store new))
 
   abbrev pub IsCalmInPlace : {A : Type 0} → Result A StoreFault → Type 0
-  IsCalmInPlace r = FailsOnlyBy (state store old) (state store new) r (IsEnded (state store old) (state store new))
+  IsCalmInPlace r = FailsOnlyBy (state store old) (state store new) r (HasFailed (state store old) (state store new))

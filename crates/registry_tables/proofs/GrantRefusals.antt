@@ -1,4 +1,5 @@
--- A new grant is refused by no rule of its table, if there is a number for its row.
+-- A new grant is refused by no rule of its table, if there is a number for its row; and that one is taken back is refused
+-- by nothing.
 use Rattle.std.proofs.Common.{◌≡◌, ◌≢◌, ◌⊎◌, inl, inr, ℕ, ℤ, List, [], ◌∷◌, Bool, true, false, not, ◌&&◌, ◌||◌, nat_lt, refl, sym, ap, subst, ◌∙◌, cond, ◌==◌, ◌<◌, arith, Some, None, Option, codes, length, Ok, Err, subst₂, append-nil, Ordering, Less, Equal, Greater}
 use Rattle.std.specs.Prelude.{⊤}
 use Rattle.sqlite.specs.declared.types.Value.TheVariants.{Null}
@@ -13,15 +14,16 @@ use Rattle.sqlite.specs.State.{State, Executes, Fails, mode_of}
 use Rattle.sqlite_rules.specs.Edit.{edit_of, with_rowid}
 use Rattle.sqlite_typing.specs.Types.{accepts_terms}
 use Rattle.table_access.specs.declared.StoreFault.{StoreFault}
-use Rattle.table_access.specs.Calls.{IsEnded, FailsToRun, fault_of}
+use Rattle.table_access.specs.Calls.{IsEnded, HasFailed, FailsToRun, fault_of}
 use Rattle.table_access.proofs.Values.{cast_null}
-use Rattle.table_access.proofs.Answered.{is_whole}
+use Rattle.table_access.proofs.Answered.{is_whole, Runs}
+use Rattle.table_access.proofs.Deleted.{IsLeaf, leads_elsewhere, delete_fails}
 use Rattle.table_access.proofs.Refused.{insert_fails}
 use Rattle.table_access.proofs.Steps.{went, same_value, put_one}
-use Rattle.broker_tables.proofs.Frames.{meant}
+use Rattle.broker_tables.proofs.Frames.{meant, runs_here}
 use Rattle.registry_tables.specs.Registry.{AddsGrant}
 use Rattle.registry_tables.specs.Refusals.{HasNumbers}
-use Rattle.registry_tables.proofs.GrantRows.{add_sql, add_text}
+use Rattle.registry_tables.proofs.GrantRows.{add_sql, add_text, remove_sql, remove_text}
 use Rattle.std.specs.List.{AllByRecursion, list_all}
 use Rattle.std.specs.Ordering.{eq_by_cmp, is_eq, is_ne, int_cmp}
 use Rattle.std.specs.Cmp.{Equal-is, eq_by_cmp_equiv, int_cmp_total}
@@ -38,13 +40,13 @@ use Rattle.sqlite_sql.specs.Ops.{fits_i64, binary, is_true, from_truth}
 use Rattle.sqlite_schema.specs.declared.schema.Keys.{Keys}
 use Rattle.sqlite_schema.specs.declared.schema.Keys.TheVariants.{Enforced, Deferred, Off}
 use Rattle.sqlite_schema.specs.declared.schema.Constraint.TheVariants.{Datatype, NotNull, Check, PrimaryKey, Unique, ForeignKey}
-use Rattle.sqlite_schema.specs.Rules.{ParentKey, passes, agree, differ, clashes, equal, Keeps, Refers, has_parent, has_null, is_held, parent_key}
+use Rattle.sqlite_schema.specs.Rules.{ParentKey, passes, agree, differ, clashes, equal, Keeps, Refers, has_parent, has_null, is_held, parent_key, references_fit}
 use Rattle.sqlite_schema.specs.declared.schema.Reference.{Reference}
 use Rattle.sqlite_schema.specs.declared.schema.Among.TheVariants.{All}
 use Rattle.sqlite_value.specs.declared.keys.Order.{Order}
 use Rattle.std.specs.Prelude.{IsTrue, is_some}
 use Rattle.std.specs.Cmp.Lexicographic.{nat_list_cmp_total}
-use Rattle.table_access.specs.Statements.{IsAdded}
+use Rattle.table_access.specs.Statements.{IsAdded, IsCalm, from_table, by_two}
 use Rattle.table_access.proofs.Members.{has_either, has_left, has_right}
 use Rattle.table_access.proofs.Maps.{find_has}
 use Rattle.broker_core.specs.State.{State as Broker}
@@ -69,7 +71,7 @@ use Rattle.broker_tables.specs.Schema.{broker_schema, to}
 use Rattle.broker_tables.specs.Rows.{stands_at, rows_of}
 use Rattle.broker_tables.specs.Holds.{IsBroker, Holds, marks_in}
 use Rattle.broker_tables.proofs.Orders.{exact_texts, pairs_total}
-use Rattle.broker_tables.proofs.Placed.{teams, teams_there, environments, environments_there, grants, grants_there}
+use Rattle.broker_tables.proofs.Placed.{teams, teams_there, environments, environments_there, grants, grants_there, calm}
 
 abbrev made : ℤ → List ℕ → List ℕ → Row
 made n team e = Int n ∷ Text team ∷ Text e ∷ []
@@ -353,3 +355,31 @@ module _ (team e : List ℕ) (old new : State) (s t : Broker) (held : Holds old.
 
   pub grant_ends : old.step_limit ≡ None → (fault : StoreFault) → FailsToRun add_sql (Text team ∷ Text e ∷ []) old new fault → IsEnded old new fault
   grant_ends unlimited fault (error, is, h) = let it = grant_fits unlimited error h in record { cause = it.0; fault_is = is ∙ ap fault_of it.1; has = it.2; over = it.3.autocommit; blamed = it.4 }
+
+-- ---- that a grant is taken back fails only as the store fails
+
+remove_runs : (team e : List ℕ) → Runs broker_schema remove_sql (Text team ∷ Text e ∷ []) (from_table 12 (by_two 1 2) (col 1 0 ∷ []) [])
+unfolding understood everything
+remove_runs team e = record { whole = refl; typed = refl; sumless = refl }
+
+alone : list_all (λ t. list_all (λ ref. leads_elsewhere 12 (parent_key broker_schema.tables ref)) t.references) broker_schema.tables ≡ true
+unfolding everything
+alone = refl
+
+refers_fit : (removes : Bool) → references_fit broker_schema grants false removes ≡ true
+unfolding everything
+refers_fit true = refl
+refers_fit false = refl
+
+leaf : IsCalm broker_schema.tables → IsLeaf (codes "grants") 12 grants.columns None (1 ∷ 2 ∷ []) grants.uniques grants.orders [] grants.references broker_schema
+leaf calm = record { apart = apart; calm = calm; alone = alone; fits = refers_fit }
+
+pub removal_ends : (team e : List ℕ) (old new : State) (s : Broker) → Holds old.now s → old.step_limit ≡ None → (fault : StoreFault) → FailsToRun remove_sql (Text team ∷ Text e ∷ []) old new fault → HasFailed old new fault
+removal_ends team e old new s held unlimited fault (error, is, h) =
+    let broker = held.broker in
+    let here = has_place _ 6 grants (grants_there old.now broker) in
+    let it = delete_fails (codes "grants") 12 grants.columns None (1 ∷ 2 ∷ []) grants.uniques grants.orders [] grants.references remove_sql (Text team ∷ Text e ∷ []) old new 6 (grants_there old.now broker) (by_two 1 2)
+    (meant old.now broker remove_sql remove_text) (runs_here old.now broker remove_sql (Text team ∷ Text e ∷ []) _ (remove_runs team e)) unlimited
+    (subst (IsLeaf (codes "grants") 12 grants.columns None (1 ∷ 2 ∷ []) grants.uniques grants.orders [] grants.references) (sym broker.schema) (leaf (subst (λ (c : Schema). IsCalm c.tables) broker.schema (calm old.now broker))))
+    here (at_has _ old.now.schema.tables grants broker.kept.numbered here).0 broker.kept.sound.obeys.rules error h in
+    record { cause = it.0; fault_is = is ∙ ap fault_of it.1; has = it.2; over = it.3.autocommit; blamed = it.4 }

@@ -91,10 +91,10 @@ grant_added team e old new count s held h =
 abbrev pub remove_sql : List ℕ
 remove_sql = codes "DELETE FROM grants WHERE team = ?1 AND environment = ?2"
 
-abbrev remove_command : Command
+abbrev pub remove_command : Command
 remove_command = Delete 6 (record { lets = []; body = from_table 12 (by_two 1 2) (col 1 0 ∷ []) [] })
 
-remove_text : Means broker_schema remove_sql remove_command
+pub remove_text : Means broker_schema remove_sql remove_command
 unfolding understood everything
 remove_text = record { is = refl; plain = (refl, refl); unlisted = refl }
 

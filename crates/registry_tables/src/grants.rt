@@ -1,7 +1,7 @@
 //! Grants: the teams that may change what is in an environment.
 ghost use Rattle.std.specs.Prelude.{◌≡◌};
 ghost use Rattle.broker_tables.specs.Holds.{Changes};
-ghost use Rattle.broker_tables.specs.Calm.{CalmQueriesInPlace};
+ghost use Rattle.broker_tables.specs.Calm.{CalmQueriesInPlace, IsCalmInPlace};
 ghost use Rattle.registry_tables.specs.Refusals.{IsCalmChange};
 ghost use Rattle.registry_tables.specs.Registry.{AddsGrant, RemovesGrant};
 
@@ -46,7 +46,8 @@ pub fn add_grant<S: Alter>(
     )
 }
 
-/// Takes back a grant that is there. All other grants stay.
+/// Takes back a grant that is there. All other grants stay. In a state that can be read back only a failure of the
+/// store keeps a grant.
 ///
 /// # Errors
 /// `StoreFault::Memory` if the database is out of memory; `StoreFault::Store` if it refused the statement.
@@ -55,7 +56,8 @@ pub fn remove_grant<S: Alter>(
     team: &str,
     environment: &str,
 ) -> Result<(), StoreFault>
-    ensures { Changes S.Store conn.old conn.new result (RemovesGrant team.now environment.now) }
+    ensures changes { Changes S.Store conn.old conn.new result (RemovesGrant team.now environment.now) }
+    ensures calm { IsCalmInPlace S.Store conn.old conn.new result }
 {
     change(
         conn,

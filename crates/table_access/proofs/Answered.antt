@@ -27,7 +27,7 @@ use Rattle.sqlite_rules.specs.Lists.{Has}
 use Rattle.std.specs.Prelude.{⊤}
 use Rattle.table_access.specs.declared.StoreFault.{StoreFault}
 use Rattle.table_access.specs.declared.StoreFault.TheVariants.{Memory}
-use Rattle.table_access.specs.Calls.{IsEnded, fault_of}
+use Rattle.table_access.specs.Calls.{HasFailed, fault_of}
 use Rattle.table_access.specs.Reading.{IsRefusedAs, FailsToRead, FailsToTake, TellsText, TellsNumber, IsTextAt, IsNumberRow}
 use Rattle.table_access.specs.Columns.{whole_at}
 use Rattle.table_access.specs.Statements.{from_table, from_both, up_to, keeps, keeps_both, shows}
@@ -35,7 +35,6 @@ use Rattle.table_access.proofs.Members.{has_either, contains_has, has_contains, 
 use Rattle.table_access.proofs.Newest.{first_joined}
 use Rattle.table_access.proofs.Joins.{joined}
 use Rattle.table_access.proofs.Steps.{Means, selects}
-use Rattle.table_access.proofs.Texts.{caused}
 
 -- the whole text is one statement, with so many parameters
 abbrev pub is_whole : List ℕ → ℕ → Result Compiled CompileError → Bool
@@ -86,41 +85,42 @@ is_statement sql params old plain is_it e (inr (c, is, why)) =
       | inr more ↦ elim more [ inl count ↦ count.0 (eqb-true (length params) (length c.names) (second_of_both _ _ whole)) | inr clock ↦ clock.0 (subst IsPlain is plain).1 ]
     ]
 
+-- a query that can be run, with no limit of steps, is refused by nothing
+pub never_refused : (sql : List ℕ) (params : Row) (db : Database) (q : Query) → Runs db.schema sql params q → (limit : Option ℕ) → limit ≡ None → (e : Error) → ¬ RefusesQuery limit db (record { lets = []; body = q }) params e
+never_refused sql params db q runs limit unlimited e (inl kind) = let clash : true ≡ false = sym runs.typed ∙ kind.1 in cc
+never_refused sql params db q runs limit unlimited e (inr (inl sum)) = no_sum _ params q runs.sumless sum.1
+never_refused sql params db q runs limit unlimited e (inr (inr stopped)) = let some = rw unlimited at stopped.1 in cc
+
 module _ (sql : List ℕ) (params : Row) (old new : State) (q : Query) (names : List (List ℕ)) (means : Means old.now.schema sql (Select (record { lets = []; body = q }) names)) (runs : Runs old.now.schema sql params q)
     (unlimited : old.step_limit ≡ None) where
-  is_answered : (e : Error) → ¬ RefusesQuery old.step_limit old.now (record { lets = []; body = q }) params e
-  is_answered e (inl kind) = let clash : true ≡ false = sym runs.typed ∙ kind.1 in cc
-  is_answered e (inr (inl sum)) = no_sum _ params q runs.sumless sum.1
-  is_answered e (inr (inr stopped)) = let some = rw unlimited at stopped.1 in cc
-
   -- a failure is one of the store
-  fails : (e : Error) → FailsToQuery sql params old new e → Fails old new ⊤ e
+  fails : (e : Error) → FailsToQuery sql params old new e → Fails old new ⊥ e
   unfolding FailsToQuery IsNotRun
   fails e (inl (inl h)) = absurd (is_statement sql params old means.plain runs.whole e h.0)
-  fails e (inl (inr h)) = (h.0, h.1, caused old new _ h.0 h.2, h.3, h.4)
+  fails e (inl (inr h)) = h
   fails e (inr h) =
       let bare = subst IsPlain h.1.is means.plain in
       let it = rw (bare.0, bare.1, append-nil params) at h.2 in
       let db : it.0 ≡ old.now = subst (λ b. IsSourceOf b old.now it.0) means.unlisted it.1 in
-      absurd (is_answered e (subst₂ (λ k d. RefusesToRead old.step_limit k d params e) (ap command_of (sym h.1.is) ∙ means.is) db it.2))
+      absurd (never_refused sql params old.now q runs old.step_limit unlimited e (subst₂ (λ k d. RefusesToRead old.step_limit k d params e) (ap command_of (sym h.1.is) ∙ means.is) db it.2))
 
   -- the transaction is over
-  pub refusal_ends : (fault : StoreFault) → IsRefusedAs sql params old new fault → IsEnded old new fault
+  pub refusal_ends : (fault : StoreFault) → IsRefusedAs sql params old new fault → HasFailed old new fault
   refusal_ends fault (e, is, h) = let it = fails e h in record { cause = it.0; fault_is = is ∙ ap fault_of it.1; has = it.2; over = it.3.autocommit; blamed = it.4 }
 
   -- where the first row has a text, a text isn't read only where the store failed, or where there was no room for it
-  pub text_ends : ((rows : List Row) (row : Row) → Shown sql params old new rows → slice_get rows 0 ≡ Some row → IsTextAt 0 row) → (fault : StoreFault) → FailsToTake TellsText sql params old new fault → IsEnded old new fault ⊎ (fault ≡ Memory)
+  pub text_ends : ((rows : List Row) (row : Row) → Shown sql params old new rows → slice_get rows 0 ≡ Some row → IsTextAt 0 row) → (fault : StoreFault) → FailsToTake TellsText sql params old new fault → HasFailed old new fault ⊎ (fault ≡ Memory)
   text_ends stands fault (inl refused) = inl (refusal_ends fault refused)
   text_ends stands fault (inr (rows, shown, row, head, tells)) = elim tells [ inl none ↦ absurd (none.1 (stands rows row shown head)) | inr room ↦ inr room.0 ]
 
   -- where the first row has a number, a number isn't read only where the store failed
-  pub number_ends : ((rows : List Row) (row : Row) → Shown sql params old new rows → slice_get rows 0 ≡ Some row → IsNumberRow row) → (fault : StoreFault) → FailsToTake TellsNumber sql params old new fault → IsEnded old new fault
+  pub number_ends : ((rows : List Row) (row : Row) → Shown sql params old new rows → slice_get rows 0 ≡ Some row → IsNumberRow row) → (fault : StoreFault) → FailsToTake TellsNumber sql params old new fault → HasFailed old new fault
   number_ends stands fault (inl refused) = refusal_ends fault refused
   number_ends stands fault (inr (rows, shown, row, head, tells)) = absurd (tells.1 (stands rows row shown head))
 
   -- where no row fails for another cause than want of memory, a list isn't read only where the store failed, or for that
   pub list_ends : {A : Type 0} (Reads : Row → A → Type 0) (Fails : Row → StoreFault → Type 0) → ((rows : List Row) (row : Row) → Shown sql params old new rows → Has rows row → (fault : StoreFault) → Fails row fault → fault ≡ Memory) → (fault : StoreFault)
-      → FailsToRead Reads Fails sql params old new fault → IsEnded old new fault ⊎ (fault ≡ Memory)
+      → FailsToRead Reads Fails sql params old new fault → HasFailed old new fault ⊎ (fault ≡ Memory)
   list_ends Reads Fails reads fault (inl refused) = inl (refusal_ends fault refused)
   list_ends Reads Fails reads fault (inr (rows, shown, row, has, why)) = inr (elim why [ inl failed ↦ reads rows row shown has fault failed | inr room ↦ room.0 ])
 

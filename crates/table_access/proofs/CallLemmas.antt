@@ -14,7 +14,7 @@ use Rattle.sqlite_trees.specs.declared.error.StoreError.TheVariants.{OutOfMemory
 use Rattle.table_access.specs.Unit.{IsLeft}
 use Rattle.table_access.specs.declared.StoreFault.{StoreFault}
 use Rattle.table_access.specs.declared.StoreFault.TheVariants.{Memory, Store}
-use Rattle.table_access.specs.Calls.{KeepsLastCommit, CallsTablesBetween, GoesOn, IsEnded, FailsAs, TellsMemory, CallsStoreBetween, fault_of}
+use Rattle.table_access.specs.Calls.{KeepsLastCommit, CallsTablesBetween, GoesOn, EndsBy, IsEnded, FailsAs, TellsMemory, CallsStoreBetween, fault_of}
 use Rattle.table_access.proofs.Refusals.{read_told}
 use Rattle.table_access.proofs.Texts.{IsRefused, caused, no_statement_told, command_told}
 
@@ -119,16 +119,16 @@ pub commits_then : (a b c : State) → KeepsLastCommit a b → KeepsLastCommit b
 commits_then a b c one two = record { was_open = λ now. one.was_open (two.was_open now); committed = λ now. two.committed now ∙ one.committed (two.was_open now) }
 
 -- a cause of a later call is one of both
-has_since : (a b c : State) (cause : StoreError) → (IsTrue a.is_open → IsTrue b.is_open) → a.faults ≤ b.faults → HasCause b c ⊤ cause → HasCause a c ⊤ cause
-has_since a b c OutOfMemory stays up h = tt
-has_since a b c Io stays up h = omega (arith, up, h)
-has_since a b c Corrupt stays up h = omega (arith, up, h)
-has_since a b c Full stays up h = omega (arith, up, h)
-has_since a b c Broken stays up h = was_shut a b stays h
-has_since a b c Unstorable stays up h = tt
+has_since : (TooBig : Type 0) (a b c : State) (cause : StoreError) → (IsTrue a.is_open → IsTrue b.is_open) → a.faults ≤ b.faults → HasCause b c TooBig cause → HasCause a c TooBig cause
+has_since TooBig a b c OutOfMemory stays up h = tt
+has_since TooBig a b c Io stays up h = omega (arith, up, h)
+has_since TooBig a b c Corrupt stays up h = omega (arith, up, h)
+has_since TooBig a b c Full stays up h = omega (arith, up, h)
+has_since TooBig a b c Broken stays up h = was_shut a b stays h
+has_since TooBig a b c Unstorable stays up h = h
 
-pub ended_since : (a b c : State) (e : StoreFault) → GoesOn a b → a.faults ≤ b.faults → IsEnded b c e → IsEnded a c e
-ended_since a b c e on up ended = record { cause = ended.cause; fault_is = ended.fault_is; has = has_since a b c ended.cause on.1 up ended.has; over = ended.over; blamed = ended.blamed }
+pub ended_since : {TooBig : Type 0} (a b c : State) (e : StoreFault) → GoesOn a b → a.faults ≤ b.faults → EndsBy TooBig b c e → EndsBy TooBig a c e
+ended_since {TooBig} a b c e on up ended = record { cause = ended.cause; fault_is = ended.fault_is; has = has_since TooBig a b c ended.cause on.1 up ended.has; over = ended.over; blamed = ended.blamed }
 
 fails_since : (a b c : State) (e : StoreFault) → GoesOn a b → a.faults ≤ b.faults → FailsAs b c e → FailsAs a c e
 fails_since a b c e on up (inl goes) = inl (goes.0, λ h. goes.1 (on.1 h))

@@ -1,4 +1,5 @@
--- Why an INSERT of one row is refused while the store works: a rule of its table, or a row that it refers to isn't there.
+-- Why a statement that changes rows is refused while the store works; an INSERT of one row: a rule of its table, or a row
+-- that it refers to isn't there.
 use Rattle.std.proofs.Common.{◌≡◌, ◌⊎◌, inl, inr, ℕ, zero, suc, List, [], ◌∷◌, ◌++◌, length, slice_get, Bool, true, false, not, ◌&&◌, ◌||◌, Some, None, Option, option_map, Ok, Err, Result, refl, sym, ap, subst, subst₂, ◌∙◌, append-nil, length-append, ◌/◌, arith}
 use Rattle.std.specs.Prelude.{⊤, is_some, MatchBool}
 use Rattle.std.proofs.lemmas.Bool.{cases_Bool}
@@ -27,21 +28,69 @@ use Rattle.sqlite.specs.Effect.{Database, value_rows, edit_error}
 use Rattle.sqlite.specs.Rows.{Part, Then, Written, Task, Edited, Inserts}
 use Rattle.sqlite.specs.Does.{Tally, OnTable, OnRows, AtPlace, WritesRows, Does, due}
 use Rattle.sqlite.specs.Listing.{understood}
-use Rattle.sqlite.specs.State.{State, Executes, ExecutesIn, IsNotRun, IsMisplaced, Fails, RunsCommand, shows_rows, is_pragma, text_of, mode_of}
+use Rattle.sqlite.specs.State.{State, Executes, ExecutesIn, IsNotRun, IsMisplaced, Fails, HasCause, RunsCommand, shows_rows, is_pragma, text_of, mode_of}
+use Rattle.sqlite_trees.specs.declared.error.StoreError.{StoreError}
+use Rattle.sqlite_trees.specs.declared.error.StoreError.TheVariants.{OutOfMemory, Io, Corrupt, Full, Broken, Unstorable}
 use Rattle.sqlite.specs.Effect.{is_query}
 use Rattle.sqlite.specs.Clock.{timed}
 use Rattle.sqlite.proofs.Callers.{IsPlain, command_of}
 use Rattle.table_access.specs.Statements.{plain_table}
 use Rattle.table_access.proofs.Answered.{is_whole, is_statement}
 use Rattle.table_access.proofs.Steps.{Means, no_works}
-use Rattle.table_access.proofs.Texts.{caused}
+
+-- ---- a statement that changes rows
+
+-- what is so where a row is too big is so of more
+pub caused_by : {A B : Type 0} (old new : State) (e : Error) → (A → B) → Fails old new A e → Fails old new B e
+caused_by {A} {B} old new e more fails = (fails.0, fails.1, go fails.0 fails.2, fails.3, fails.4)
+  where
+    go : (cause : StoreError) → HasCause old new A cause → HasCause old new B cause
+    go OutOfMemory h = tt
+    go Io h = h
+    go Corrupt h = h
+    go Full h = h
+    go Broken h = h
+    go Unstorable h = more h
+
+-- it shows no rows
+none_shown : (a b : Bool) → a ≡ false → b ≡ false → (a || (not false && (b || false))) ≡ true → ⊥
+none_shown a b quiet plain h = let e : false ≡ true = subst₂ (λ x y. (x || (not false && (y || false))) ≡ true) quiet plain h in cc
+
+module _ (sql : List ℕ) (params : Row) (old new : State) (command : Command) (Unfit : Error → Type 0) where
+  -- what it does with these parameters, whatever its text
+  abbrev pub Ends : Option Error → Type 0
+  Ends stop = (text : List ℕ) × Does old.step_limit (mode_of old) params old.now text None command (Err stop)
+
+  -- A statement that is whole and in its place fails as the store fails, where a value was too big among it, or as its
+  -- command does.
+  pub change_fails : Means old.now.schema sql command → is_whole sql (length params) (understood old.now.schema sql) ≡ true → is_query command ≡ false → is_pragma command ≡ false → ((e : Error) → IsMisplaced old command e → ⊥)
+      → ((text : List ℕ) (e : Error) → Does old.step_limit (mode_of old) params old.now text None command (Err (Some e)) → Unfit e) → (e : Error) → Executes sql params old new (Err e) → Fails old new (Ends None) e ⊎ Unfit e
+  unfolding ExecutesIn IsNotRun
+  change_fails means whole quiet plain placed unfit e (inl (inl h)) = absurd (is_statement sql params old means.plain whole e h.0)
+  change_fails means whole quiet plain placed unfit e (inl (inr h)) = inl (caused_by old new e (λ none. absurd none) h)
+  change_fails means whole quiet plain placed unfit e (inr h) =
+      let bare = subst IsPlain h.1.is means.plain in
+      let known : h.0.command ≡ command = ap command_of (sym h.1.is) ∙ means.is in
+      let same : (stop : Option Error) → Does old.step_limit (mode_of old) (timed params h.0.formats h.1.now) old.now (text_of sql h.0) h.0.returning h.0.command (Err stop) → Does old.step_limit (mode_of old) params old.now (text_of sql h.0) None command (Err stop) =
+      λ stop does. subst₂ (λ k r. Does old.step_limit (mode_of old) params old.now (text_of sql h.0) r k (Err stop)) known bare.0
+      (subst (λ ps. Does old.step_limit (mode_of old) ps old.now (text_of sql h.0) h.0.returning h.0.command (Err stop)) (ap (λ formats. timed params formats h.1.now) bare.1 ∙ append-nil params) does) in
+      elim (cases_Bool (shows_rows false h.0)) [
+        | inl shows ↦ absurd (none_shown (is_query command) (is_pragma command) quiet plain (subst₂ (λ k r. (is_query k || (not false && (is_pragma k || is_some r))) ≡ true) known bare.0 shows))
+        | inr runs ↦ elim (rw runs at h.2) [
+          | inl is ↦ elim is.0 [
+            | inl misplaced ↦ absurd (subst (λ k. IsMisplaced old k e → ⊥) (sym known) (placed e) misplaced)
+            | inr does ↦ inr (unfit (text_of sql h.0) e (same (Some e) does.1))
+          ]
+          | inr fails ↦ inl (caused_by old new e (λ big. (text_of sql h.0, same None big)) fails)
+        ]
+      ]
 
 -- it ends as this part stopped
-abbrev EndsAs : (B : Type 0) → Result B (Option Error) → Option Error → Type 0
+abbrev pub EndsAs : (B : Type 0) → Result B (Option Error) → Option Error → Type 0
 EndsAs B out stop = out ≡ Err stop
 
 -- a part that stopped, or the next that did
-stopped : {B R : Type 0} {Stops : Option Error → Type 0} (stop : Option Error) → ((s : Option Error) × Stops s × EndsAs B (Err stop) s) ⊎ R → Stops stop ⊎ R
+pub stopped : {B R : Type 0} {Stops : Option Error → Type 0} (stop : Option Error) → ((s : Option Error) × Stops s × EndsAs B (Err stop) s) ⊎ R → Stops stop ⊎ R
 stopped {B} {R} {Stops} stop (inl h) = let same : h.0 ≡ stop = (let is = h.2 in cc) in inl (subst Stops same h.1)
 stopped stop (inr h) = inr h
 
@@ -101,23 +150,7 @@ module _ (name : List ℕ) (tree : ℕ) (columns : List Column) (key : Option �
 
     -- an INSERT of one row fails as the store fails, or since the row is unfit
     pub insert_fails : (e : Error) → Executes sql params old new (Err e) → Fails old new ⊤ e ⊎ IsUnfit e
-    unfolding ExecutesIn IsNotRun
-    insert_fails e (inl (inl h)) = absurd (is_statement sql params old means.plain whole e h.0)
-    insert_fails e (inl (inr h)) = inl (h.0, h.1, caused old new _ h.0 h.2, h.3, h.4)
-    insert_fails e (inr h) =
-        let bare = subst IsPlain h.1.is means.plain in
-        let known : h.0.command ≡ Insert at (Values terms width) = ap command_of (sym h.1.is) ∙ means.is in
-        elim (cases_Bool (shows_rows false h.0)) [
-          | inl shows ↦ absurd (let e2 : false ≡ true = subst₂ (λ k r. (is_query k || (not false && (is_pragma k || is_some r))) ≡ true) known bare.0 shows in cc)
-          | inr runs ↦ elim (rw runs at h.2) [
-            | inl same ↦ elim same.0 [
-              | inl misplaced ↦ absurd (subst (λ k. IsMisplaced old k e → ⊥) (sym known) (placed e) misplaced)
-              | inr does ↦ inr (row_refused e (subst (λ o. AtPlace (λ table. OnRows (record task { table = table }) (mode_of old) None (Insert at (Values terms width)) old.now.trees) o (Err (Some e))) found
-                  (subst₂ (λ k r. Does old.step_limit (mode_of old) params old.now (text_of sql h.0) r k (Err (Some e))) known bare.0 (subst (λ ps. Does old.step_limit (mode_of old) ps old.now (text_of sql h.0) h.0.returning h.0.command (Err (Some e))) (ap (λ formats. timed params formats h.1.now) bare.1 ∙ append-nil params) does.1))))
-            ]
-            | inr fails ↦ inl (fails.0, fails.1, caused old new _ fails.0 fails.2, fails.3, fails.4)
-          ]
-        ]
+    insert_fails e h = elim (change_fails sql params old new (Insert at (Values terms width)) IsUnfit means whole refl refl placed unfit e h) [ inl fails ↦ inl (caused_by old new e (λ big. tt) fails) | inr is ↦ inr is ]
       where
         placed : (e : Error) → IsMisplaced old (Insert at (Values terms width)) e → ⊥
         placed e (inl (is, inl begins)) = let k = begins.0 in cc
@@ -125,3 +158,6 @@ module _ (name : List ℕ) (tree : ℕ) (columns : List Column) (key : Option �
         placed e (inl (is, inr (inr rolls, outside))) = let k = rolls in cc
         placed e (inr (is, name, inl releases, none)) = let k = releases in cc
         placed e (inr (is, name, inr back, none)) = let k = back in cc
+
+        unfit : (text : List ℕ) (e : Error) → Does old.step_limit (mode_of old) params old.now text None (Insert at (Values terms width)) (Err (Some e)) → IsUnfit e
+        unfit text e h = row_refused e (subst (λ o. AtPlace (λ table. OnRows (record task { table = table }) (mode_of old) None (Insert at (Values terms width)) old.now.trees) o (Err (Some e))) found h)

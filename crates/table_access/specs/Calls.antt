@@ -30,13 +30,23 @@ pub record KeepsLastCommit (old new : State) : Type 0 where
 abbrev pub GoesOn : State → State → Type 0
 GoesOn old new = IsTrue new.in_transaction × (IsTrue old.is_open → IsTrue new.is_open)
 
--- the store failed, which ended the transaction, and the fault stands for its cause
-pub record IsEnded (old new : State) (fault : StoreFault) : Type 0 where
+-- The store failed, which ended the transaction, and the fault stands for its cause: of a fault of the disk there is
+-- one more, and of a connection that was shut before it was. Of want of memory nothing is seen. TooBig is what is so
+-- where a row was too big to be stored.
+pub record EndsBy (TooBig : Type 0) (old new : State) (fault : StoreFault) : Type 0 where
   pub cause : StoreError
   pub fault_is : fault ≡ fault_of (store_error cause)
-  pub has : HasCause old new ⊤ cause
+  pub has : HasCause old new TooBig cause
   pub over : new.in_transaction ≡ false
   pub blamed : Tells new.blamed cause
+
+-- of any call: a row may have been too big
+abbrev pub IsEnded : State → State → StoreFault → Type 0
+IsEnded = EndsBy ⊤
+
+-- of a query, which stores none: Store stands for a fault of the disk or a connection that was shut
+abbrev pub HasFailed : State → State → StoreFault → Type 0
+HasFailed = EndsBy ⊥
 
 -- A statement was refused, a row broke the rules or an allocation failed, and the transaction is still open; or
 -- the store failed.
