@@ -4,6 +4,7 @@ pub mod QueryLemmas
 pub mod Asked
 pub mod TruthLemmas
 pub mod ReadableRows
+pub mod ReadableSteps
 pub mod Placed
 pub mod Orders
 pub mod Standing

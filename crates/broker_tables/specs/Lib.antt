@@ -5,5 +5,6 @@ pub mod Numbers
 pub mod Readable
 pub mod Holds
 pub mod Calm
+pub mod Laws
 pub mod Making
 pub mod Former

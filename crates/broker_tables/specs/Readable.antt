@@ -1,5 +1,6 @@
--- What of a state can be read back from the tables: a row is read as texts in UTF-8, and as numbers below 2^32. The
--- states that the machine reaches are such, since its commands carry names and texts, and its numbers have a limit.
+-- What of a state can be read back from the tables: a row is read as texts in UTF-8, and as numbers below 2^32. Each
+-- state to which a run leads from the opening state is such (the law `readable_stays`): commands bring in names in UTF-8
+-- and normal texts of pacts, digests are letters and digits, and versions, contents and results have a limit.
 use Rattle.std.specs.Prelude.{◌≡◌, ◌<◌, ◌^◌, List, length, Some, IsUtf8, All}
 use Rattle.broker_core.specs.Text.{Text}
 use Rattle.broker_core.specs.Name.{IsName}

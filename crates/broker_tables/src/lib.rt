@@ -6,12 +6,15 @@
 #![tactic(auto)]
 
 pub mod create;
+pub mod laws;
 mod making;
 mod names;
 mod numbers;
+mod readable;
 mod truths;
 
 pub use making::make_each;
 pub use names::{has_name, name_in, text_in};
 pub use numbers::next_number;
+pub use readable::has_readable_names;
 pub use truths::{truth_at, truth_of};
