@@ -18,7 +18,6 @@ use Rattle.broker_service.specs.Causes.{HasReason, answer_of}
 use Rattle.broker_service.specs.Ends.{Applies, AppliesOrFails, IsAsBefore, IsUnchangedUnlessDone, IsNoFailure, CommitsAtMostOnce, LeavesNoTransaction}
 use Rattle.broker_service.specs.Stored.{HoldsState}
 use Rattle.broker_service.proofs.EndLemmas.{deployed_exactly, released_exactly}
-use Rattle.broker_service.proofs.LeavingLemmas.{command_leaves, stopped_leaves}
 use Rattle.broker_service.proofs.Transaction.{outlives_itself}
 
 -- the answer that a transaction's end is told as
@@ -77,7 +76,6 @@ module _ {X : Type 0} (shown : Held X → State) where
     stopped = λ stopped. absurd (cc);
     runs = λ _. subst (λ (a : Answer). a ≢ answers.Stopped) (sym is) (runs_told r answered);
     survives = survives;
-    leaves = command_leaves shown old (record { token = token; command = command }) answer new applies stops running survives.1.clean;
   }
     where
       applies : HasCleanDisk (shown new.connection) → (s : Broker) → HoldsState s (shown old.connection) → Applies s token command (shown new.connection) answer
@@ -97,5 +95,4 @@ module _ {X : Type 0} (shown : Held X → State) where
     stopped = λ _. (refl, refl);
     runs = λ running. absurd (cc);
     survives = ((shown b.connection).now.trees, outlives_itself (shown b.connection));
-    leaves = stopped_leaves shown b (record { token = token; command = command }) is;
   }

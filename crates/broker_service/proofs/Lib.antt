@@ -2,11 +2,9 @@ pub mod Transaction
 pub mod TransactLemmas
 pub mod Sound
 pub mod EndLemmas
-pub mod LeavingLemmas
 pub mod AppliedLemmas
 pub mod SchemaLemmas
 pub mod SessionLemmas
-pub mod FileLemmas
 pub mod Blank
 pub mod Judgements
 pub mod MigrationLemmas

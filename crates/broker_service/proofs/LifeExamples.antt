@@ -5,8 +5,7 @@ use Rattle.broker_core.specs.declared.command.Command.TheVariants.{GetEnvironmen
 use Rattle.broker_core.specs.declared.answer.Answer.TheVariants.{Denied}
 use Rattle.broker_core.specs.declared.policy.Rule.TheVariants.{A1}
 use Rattle.broker_core.specs.Machine.{Request, Step}
-use Rattle.broker_core.specs.Laws.{Exit}
-use Rattle.broker_core.specs.Laws.Exit.{Stepped, NoStep, WasCut}
+use Rattle.broker_core.specs.Laws.Exit.{Stepped, WasCut}
 use Rattle.broker_core.specs.State.{State as Broker, opening}
 use Rattle.broker_core.specs.Text.{Text}
 use Rattle.command_facts.specs.Primitives.{broker_primitives}
@@ -31,7 +30,7 @@ made_at_the_second_try office =
 pub a_broker_is_made_once : (office : Text) → LifeLeads Blank (made_at_the_second_try office) (OfToday (opening office))
 a_broker_is_made_once office =
     let s = opening office in
-    (Blank, inl (refl, refl), (OfToday s, inr (s, tt, (s, denied s, refl), refl), (OfToday s, refl, (OfToday s, (s, tt, (s, denied s, (s, inl refl, refl)), refl), refl))))
+    (Blank, inl (refl, refl), (OfToday s, inr (s, tt, (s, denied s, refl), refl), (OfToday s, (refl, refl), (OfToday s, (s, tt, (s, denied s, (s, inl refl, refl)), refl), refl))))
 
 -- or the making that was stopped had made it, and the next one is refused
 pub a_stopped_making_may_have_made_it : (office : Text) → LifeLeads Blank (Making office [] ∷ Making office [] ∷ []) (OfToday (opening office))
@@ -39,7 +38,7 @@ a_stopped_making_may_have_made_it office = let s = opening office in (OfToday s,
 
 -- without a making there is no broker, and nothing is served
 stays_blank : (old new : Kept) → old ≡ Blank → PeriodLeads old Migrating new → new ≡ Blank
-stays_blank Blank new is it = it
+stays_blank Blank new is it = it.1
 stays_blank (OfFormer s) new is it = absurd (cc)
 stays_blank (OfToday s) new is it = absurd (cc)
 
@@ -49,4 +48,4 @@ no_broker_without_a_making s it = let end = stays_blank it.0 it.2.0 it.1.1 it.2.
 -- A database of format 1 isn't served; it is migrated at the second try, a third one is refused, and then it is served.
 pub migrated_at_the_second_try : (s : Broker) → LifeLeads (OfFormer s) (Serving [] ∷ Migrating ∷ Migrating ∷ Migrating ∷ Serving ((asks, Stepped (Denied A1)) ∷ []) ∷ []) (OfToday s)
 migrated_at_the_second_try s =
-    (OfFormer s, (refl, refl), (OfFormer s, inl refl, (OfToday s, inr refl, (OfToday s, refl, (OfToday s, (s, tt, (s, denied s, refl), refl), refl)))))
+    (OfFormer s, (refl, refl), (OfFormer s, inl refl, (OfToday s, inr refl, (OfToday s, (refl, refl), (OfToday s, (s, tt, (s, denied s, refl), refl), refl)))))

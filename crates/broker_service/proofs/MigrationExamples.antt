@@ -1,6 +1,6 @@
 -- worked examples of a migration: what the rows of format 1 say of results, and what its gate said
-use Rattle.std.proofs.Common.{◌≡◌, inl, inr, refl, Bool, true, false, List, [], ◌∷◌, pos, if◌then◌else◌}
-use Rattle.std.specs.Prelude.{codes, Option, Some, None}
+use Rattle.std.proofs.Common.{◌≡◌, refl, Bool, true, false, List, [], ◌∷◌, pos, if◌then◌else◌}
+use Rattle.std.specs.Prelude.{codes, Some, None}
 use Rattle.sqlite.specs.declared.types.Value.TheVariants.{Null, Int, Text as Words}
 use Rattle.sqlite.specs.Order.{Row}
 use Rattle.broker_core.specs.declared.answer.Answer.TheVariants.{Shown}

@@ -1,5 +1,5 @@
 -- What a migration finds, and what it leaves of a state.
-use Rattle.std.proofs.Common.{◌≡◌, ◌≢◌, ◌==◌, ◌⊎◌, ◌++◌, ◌∷◌, [], inl, inr, ℕ, List, Bool, true, false, not, ◌&&◌, refl, sym, ap, subst, ◌∙◌, drop, Option, Some, None, Result, Ok, Err}
+use Rattle.std.proofs.Common.{◌≡◌, ◌≢◌, ◌==◌, ◌∷◌, [], inl, inr, ℕ, List, Bool, true, false, not, ◌&&◌, refl, sym, ap, subst, ◌∙◌, drop, Option, Some, None, Result, Ok, Err}
 use Rattle.std.specs.Prelude.{if◌then◌else◌, option_map, IsTrue, ◌↔◌, IsSomeAnd, Result, Ok, Err, OnOk, IfErr}
 use Rattle.std.proofs.lemmas.Bool.{eqb-true, eqb-false}
 use Rattle.std.specs.Option.{option_map_or}
@@ -13,14 +13,13 @@ use Rattle.broker_core.specs.declared.answer.Shown.TheVariants.{Gate}
 use Rattle.broker_core.specs.declared.command.Command.TheVariants.{CanIDeploy}
 use Rattle.broker_core.specs.declared.command.Marks.{Marks}
 use Rattle.broker_core.specs.declared.command.Version.{Version}
-use Rattle.broker_core.specs.declared.need.Kind.{Kind}
-use Rattle.broker_core.specs.declared.need.Kind.TheVariants.{Absent, Missing, Failed, Claimed}
+use Rattle.broker_core.specs.declared.need.Kind.TheVariants.{Failed, Claimed}
 use Rattle.broker_core.specs.declared.need.Latest.{Latest}
 use Rattle.broker_core.specs.declared.need.Need.{Need}
 use Rattle.broker_core.specs.declared.need.PairFault.{PairFault}
 use Rattle.broker_core.specs.Change.{Transition, unchanged_with}
 use Rattle.broker_core.specs.Faults.{fault_of, kind_of}
-use Rattle.broker_core.specs.Gate.{IsNeed, IsGood, IsPermitted, IsFault, Judges}
+use Rattle.broker_core.specs.Gate.{IsGood, IsPermitted, IsFault, Judges}
 use Rattle.broker_core.specs.Machine.{TakesEffect}
 use Rattle.broker_core.specs.State.{State as Broker, is_strict}
 use Rattle.broker_core.specs.Text.{Text}

@@ -1,5 +1,5 @@
 -- What the transaction of a command leaves.
-use Rattle.std.proofs.Common.{◌≡◌, ◌↔◌, inl, inr, Option, Result, Ok, Err, IsOkAnd, IfErr, Bool, true, false, IsTrue, refl, sym, subst}
+use Rattle.std.proofs.Common.{◌↔◌, inr, Option, Result, Ok, Err, IsOkAnd, IfErr, Bool, true, false, IsTrue, refl, sym, subst}
 use Rattle.std.specs.Prelude.{if◌then◌else◌}
 use Rattle.sqlite.specs.Held.{Held}
 use Rattle.sqlite.specs.State.{State, HasCleanDisk, Survives}
@@ -17,7 +17,6 @@ use Rattle.command_facts.specs.Performs.{PerformsBetween, TokensStep}
 use Rattle.broker_service.specs.Causes.{Concludes, HasReason}
 use Rattle.broker_service.specs.Ends.{AppliesOrFails, HoldsNext, IsAsBefore, IsUnchangedUnlessDone, CommitsAtMostOnce}
 use Rattle.broker_service.specs.Stored.{Stores, HoldsState}
-use Rattle.broker_service.specs.Transaction.{Finishes}
 use Rattle.broker_service.proofs.Transaction.{IsTransaction, done_clean, seen, kept, as_before, unsure, last_commit, keeps_on, commits_once, finished_over}
 use Rattle.broker_service.proofs.EndLemmas.{done_steps, next_stored, steps_on, undone_keeps}
 

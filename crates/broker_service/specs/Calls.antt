@@ -26,7 +26,6 @@ use Rattle.broker_service.specs.Handed.{left_by, verdict}
 use Rattle.broker_service.specs.Headline.{RecordsExactly}
 use Rattle.broker_service.specs.Migration.{StoresFormer, HoldsFormerState, MigratesOrRefuses, IsFormer}
 use Rattle.broker_service.specs.Opening.{Refuses, MakesNew, RefusesNew, IsUnchangedUnlessStore, OpensOrRefuses, Judged}
-use Rattle.broker_service.specs.Sessions.{CommandLeaves, MakingLeaves, OpeningLeaves}
 use Rattle.broker_service.specs.Stored.{Stores, HoldsState}
 use Rattle.broker_service.specs.declared.broker.Refused.{Refused}
 use Rattle.broker_service.specs.declared.opening.OpenFault.{OpenFault}
@@ -71,8 +70,6 @@ module _ {X : Type 0} (shown : Held X → State) where
     pub runs : old.is_stopped ≡ false → answer ≢ answers.Stopped
     -- on a disk that fails, and when the program is stopped in the call: at most one commit
     pub survives : CommitsAtMostOnce (shown old.connection) (shown new.connection)
-    -- the same in the words of sessions
-    pub leaves : CommandLeaves shown old (record { token = token; command = command }) answer new
 
   -- What the making of a broker leaves of a connection, and what it hands back. Its office's token has this digest.
   pub record Created (old : Held X) (office : Text) (given : Result (BrokerView X) (Refused X)) : Type 0 where
@@ -93,8 +90,6 @@ module _ {X : Type 0} (shown : Held X → State) where
     pub over : LeavesNoTransaction (shown old) (shown (left_by given))
     -- on a disk that fails, and when the program is stopped in the call: at most one commit
     pub survives : CommitsAtMostOnce (shown old) (shown (left_by given))
-    -- the same in the words of sessions
-    pub leaves : MakingLeaves shown old office given
 
   -- What the opening of a broker leaves of a connection, and what it hands back.
   pub record Opened (old : Held X) (given : Result (BrokerView X) (Refused X)) : Type 0 where
@@ -120,8 +115,6 @@ module _ {X : Type 0} (shown : Held X → State) where
     pub over : LeavesNoTransaction (shown old) (shown (left_by given))
     -- on a disk that fails, and when the program is stopped in the call: what a crash leaves, it left before
     pub survives : Survives (shown old) (shown (left_by given)) (λ _. ⊥)
-    -- the same in the words of sessions
-    pub leaves : OpeningLeaves shown old given
 
 -- What a migration leaves of a connection, and what it answers.
 pub record Migrated (old new : State) (given : Result (Unit {0}) OpenFault) : Type 0 where

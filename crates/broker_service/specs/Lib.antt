@@ -6,7 +6,6 @@ pub mod Opening
 pub mod Migration
 pub mod Handed
 pub mod Sessions
-pub mod SessionFiles
 pub mod Laws
 pub mod Calls
 pub mod Causes

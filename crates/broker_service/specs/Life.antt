@@ -1,7 +1,7 @@
 -- The files of a broker from the first byte to the last: what is found in them after a program has opened them any
 -- number of times, made a broker or migrated one, served and ended, or was stopped anywhere on the way (this project's
 -- own).
-use Rattle.std.specs.Prelude.{◌≡◌, ◌⊎◌, List, [], ◌∷◌, IsTrue, Result}
+use Rattle.std.specs.Prelude.{◌≡◌, ◌⊎◌, ◌++◌, List, [], ◌∷◌, map, IsTrue, Result, codes}
 use Rattle.sqlite_disk.specs.declared.Disk.{Ghosts}
 use Rattle.sqlite_disk.specs.declared.Files.{Files}
 use Rattle.sqlite.specs.Closing.{IsCopied}
@@ -10,25 +10,28 @@ use Rattle.sqlite.specs.Recovery.{Image}
 use Rattle.sqlite.specs.declared.FileStore.{FileStore}
 use Rattle.sqlite.specs.declared.file.Leftover.{Leftover}
 use Rattle.sqlite.specs.declared.file.Leftover.TheVariants as left
-use Rattle.sqlite_store.specs.FileStore.{state as store_state, view}
+use Rattle.sqlite_store.specs.FileStore.{state as store_state, view, recovers}
 use Rattle.sqlite_store.specs.Unopened.{state_of}
 use Rattle.sqlite.specs.WalFiles.{outcomes}
-use Rattle.sqlite.specs.Held.{Held}
+use Rattle.sqlite.specs.Held.{Held, AreDatabases}
 use Rattle.sqlite.specs.State.{State, HasCleanDisk}
 use Rattle.sqlite.specs.Files.{HoldsDatabase, Finds, IsOpened, IsEmpty, IsNothing, LeavesFiles, file_state, image_of}
 use Rattle.table_access.specs.Durability.{IsOnDisk}
 use Rattle.broker_core.specs.Text.{Text}
 use Rattle.broker_core.specs.State.{State as Broker, opening}
-use Rattle.broker_core.specs.Machine.{Request}
-use Rattle.broker_core.specs.Laws.{Exit, IsSession, LeavesAll}
+use Rattle.broker_core.specs.Machine.{Request, Run}
+use Rattle.broker_core.specs.Laws.{Exit, IsSession, LeavesAll, Session, Sessions, sessions_of, ComeAgain, all_answered}
+use Rattle.broker_core.specs.Sessions.{RunsDone}
+use Rattle.broker_core.specs.declared.answer.Answer.{Answer}
+use Rattle.broker_tables.specs.Holds.{AreLatest}
 use Rattle.broker_tables.specs.Making.{IsBlank}
+use Rattle.broker_tables.specs.Rows.{rows_of}
 use Rattle.command_facts.specs.Primitives.{broker_primitives}
 use Rattle.broker_service.specs.BrokerView.{BrokerView}
 use Rattle.broker_service.specs.Calls.{Created, Opened, Migrated}
 use Rattle.broker_service.specs.Migration.{StoresFormer}
-use Rattle.broker_service.specs.Sessions.{IsOpenedOn, GivenRuns, GivenLeaves}
-use Rattle.broker_service.specs.SessionFiles.{IsGivenBack}
-use Rattle.broker_service.specs.Stored.{Stores}
+use Rattle.broker_service.specs.Sessions.{IsOpenedOn, GivenRuns}
+use Rattle.broker_service.specs.Stored.{Stores, HoldsState}
 use Rattle.broker_service.specs.declared.broker.Refused.{Refused}
 use Rattle.broker_service.specs.declared.opening.OpenFault.{OpenFault}
 
@@ -51,7 +54,14 @@ pub data Period : Type 0 where
   -- it can't open the files, or is stopped before they are open
   NotOpened : Period
 
--- these commands were run from this state, or a beginning of them
+-- the commands that are run in it
+abbrev pub calls_of : Period → List (Request × Exit)
+calls_of (Serving calls) = calls
+calls_of (Making office calls) = calls
+calls_of _ = []
+
+-- These commands were run from this state, one after another. One that was answered by a step took it, one that was
+-- answered by no step didn't; and one that was cut, behind which none is a step, took its step or didn't.
 abbrev pub RunsFrom : Broker → List (Request × Exit) → Kept → Type 0
 RunsFrom s calls new = (t : Broker) × IsSession calls × LeavesAll broker_primitives s calls t × (new ≡ OfToday t)
 
@@ -60,25 +70,46 @@ abbrev pub LeavesAsWas : Kept → List (Request × Exit) → Kept → Type 0
 LeavesAsWas old calls new = (calls ≡ []) × (new ≡ old)
 
 -- what is kept after a period: a broker's commands are run, where there is one; on files without tables a broker is
--- made, or not; one of format 1 is migrated, or not; and nothing else changes anything
+-- made, or not; one of format 1 is migrated, or not; and nothing else runs or changes anything
 abbrev pub PeriodLeads : Kept → Period → Kept → Type 0
 PeriodLeads (OfToday s) (Serving calls) new = RunsFrom s calls new
-PeriodLeads (OfFormer s) (Serving calls) new = LeavesAsWas (OfFormer s) calls new
-PeriodLeads Blank (Serving calls) new = LeavesAsWas Blank calls new
-PeriodLeads (OfToday s) (Making office calls) new = LeavesAsWas (OfToday s) calls new
-PeriodLeads (OfFormer s) (Making office calls) new = LeavesAsWas (OfFormer s) calls new
 PeriodLeads Blank (Making office calls) new = LeavesAsWas Blank calls new ⊎ RunsFrom (opening office) calls new
-PeriodLeads (OfToday s) Migrating new = new ≡ OfToday s
 PeriodLeads (OfFormer s) Migrating new = (new ≡ OfFormer s) ⊎ (new ≡ OfToday s)
-PeriodLeads Blank Migrating new = new ≡ Blank
-PeriodLeads old NotOpened new = new ≡ old
+PeriodLeads old period new = LeavesAsWas old (calls_of period) new
 
 -- one period after another
 abbrev pub LifeLeads : Kept → List Period → Kept → Type 0
 LifeLeads old [] new = new ≡ old
 LifeLeads old (period ∷ life) new = (mid : Kept) × PeriodLeads old period mid × LifeLeads mid life new
 
--- ---- what the calls say
+-- the state from which the commands of a life are run: the one that was kept, or that of a broker which was made
+abbrev pub BeginsFrom : Kept → List Period → Broker → Type 0
+BeginsFrom (OfToday s) life first = first ≡ s
+BeginsFrom (OfFormer s) life first = first ≡ s
+BeginsFrom Blank life first =
+    (before : List Period) × (office : Text) × (calls : List (Request × Exit)) × (after : List Period)
+    × (life ≡ before ++ Making office calls ∷ after) × (first ≡ opening office)
+
+abbrev pub sessions_in : List Period → List Session
+sessions_in life = sessions_of (map calls_of life)
+
+-- The commands of a life have led to this state of a broker.
+pub record HasRun (old : Kept) (life : List Period) (last : Broker) : Type 0 where
+  pub first : Broker
+  pub begins : BeginsFrom old life first
+  -- it is one of the states after the sessions of the periods
+  pub sessions : Sessions broker_primitives first (sessions_in life) last
+  -- so it is that of a run over what is done of them: of each a prefix, which has every command answered by a step
+  pub done : RunsDone broker_primitives first (sessions_in life) last
+  -- where each cut command comes first in the next session and is answered by a step there, it is that of a run over
+  -- all commands, each once
+  pub again : ComeAgain (sessions_in life)
+      → (answers : List Answer) × Run broker_primitives first (all_answered (sessions_in life)) answers last
+
+abbrev pub LivesRun : Type 0
+LivesRun = (old : Kept) (life : List Period) (last : Broker) → LifeLeads old life (OfToday last) → HasRun old life last
+
+-- ---- the calls of a period
 
 -- these trees keep it
 abbrev pub AreTreesOf : Kept → Trees → Type 0
@@ -86,28 +117,33 @@ AreTreesOf Blank = IsOnDisk IsBlank
 AreTreesOf (OfFormer s) = IsOnDisk (λ db. StoresFormer db s)
 AreTreesOf (OfToday s) = IsOnDisk (λ db. Stores db s)
 
+-- the latest results that are kept are right: for each content and each version of its provider the result with the
+-- greatest number
+abbrev pub KeepsLatest : Type 0
+KeepsLatest =
+    (s : Broker) (trees : Trees) → AreTreesOf (OfToday s) trees
+    → IsOnDisk (λ db. AreLatest s (rows_of db (codes "latest"))) trees
+
 -- shown is what a connection shows of its store
 module _ {X : Type 0} (shown : Held X → State) where
-  -- A period from a connection that is open to the trees that a crash may leave of it at its end.
-  abbrev pub PeriodLeaves : Trees → Period → Trees → Type 0
-  PeriodLeaves first (Serving calls) last =
-      (conn : Held X) × (given : Result (BrokerView X) (Refused X)) × IsOpenedOn first (shown conn)
-      × Opened shown conn given × GivenLeaves shown given calls last
-  PeriodLeaves first (Making office calls) last =
-      (conn : Held X) × (given : Result (BrokerView X) (Refused X)) × IsOpenedOn first (shown conn)
-      × Created shown conn office given × GivenLeaves shown given calls last
-  PeriodLeaves first Migrating last =
-      (old : Held X) × (new : Held X) × (given : Result (Unit {0}) OpenFault) × IsOpenedOn first (shown old)
-      × Migrated (shown old) (shown new) given × HasCleanDisk (shown new) × (shown new).may_leave last
-  PeriodLeaves first NotOpened last = last ≡ first
+  -- from the connection that was opened to what is left of it
+  abbrev pub PeriodRuns : Period → Held X → Held X → Type 0
+  PeriodRuns (Serving calls) old new =
+      (given : Result (BrokerView X) (Refused X)) × Opened shown old given × GivenRuns shown given calls new
+  PeriodRuns (Making office calls) old new =
+      (given : Result (BrokerView X) (Refused X)) × Created shown old office given × GivenRuns shown given calls new
+  PeriodRuns Migrating old new = (given : Result (Unit {0}) OpenFault) × Migrated (shown old) (shown new) given
+  PeriodRuns NotOpened old new = ⊥
 
-  -- After a period the trees keep what it leads to.
+  -- Over any store: whatever a crash leaves of that connection keeps what the period leads to.
   abbrev pub PeriodsLead : Type 0
   PeriodsLead =
-      (old : Kept) (period : Period) (first last : Trees) → AreTreesOf old first → PeriodLeaves first period last
-      → (new : Kept) × PeriodLeads old period new × AreTreesOf new last
+      (old : Kept) (period : Period) (first last : Held X) (trees end : Trees)
+      → AreTreesOf old trees → IsOpenedOn trees (shown first) → PeriodRuns period first last
+      → HasCleanDisk (shown last) → (shown last).may_leave end
+      → (new : Kept) × PeriodLeads old period new × AreTreesOf new end
 
--- ---- the same of the files
+-- ---- the files
 
 module _ {D : Type 0} (g : Ghosts D) where
   -- what a crash may leave: of files; of files whose opening failed; of a store
@@ -131,11 +167,17 @@ module _ {D : Type 0} (g : Ghosts D) where
   abbrev pub IsOpenedAfter : Leftover D g → Held (FileStore D g) → Type 0
   IsOpenedAfter rest conn = (files : Files D) × AreAfter rest files × IsOpened conn × Finds files conn
 
+  -- the store of a connection that is over, as the connection gave it back
+  pub record IsGivenBack (conn : Held (FileStore D g)) (store : FileStore D g) : Type 0 where
+    pub numbered : IsTrue (view store).is_numbered
+    pub sound : AreDatabases (recovers store)
+    pub outcomes : (trees : Trees) → recovers store trees → (file_state conn).may_leave trees
+
   -- A connection is over: its files were closed, or it gave its store back, as after a stop or a failure.
   abbrev pub EndsAs : Held (FileStore D g) → Leftover D g → Type 0
   EndsAs conn (left.Files files) = IsCopied conn files
   EndsAs conn (left.Unopened it) = ⊥
-  EndsAs conn (left.Store store) = IsGivenBack g conn store
+  EndsAs conn (left.Store store) = IsGivenBack conn store
 
   -- the database that was there is, or where the database file was empty there is one without tables
   pub record HoldsAsBefore (old new : Image) : Type 0 where
@@ -148,25 +190,12 @@ module _ {D : Type 0} (g : Ghosts D) where
       (image : Image) → MayLeave rest image
       → outcomes g files.log files.db image ⊎ HoldsAsBefore (image_of g files) image
 
-  abbrev pub GivenEnds : Result (BrokerView (FileStore D g)) (Refused (FileStore D g)) → List (Request × Exit)
-      → Leftover D g → Type 0
-  GivenEnds given calls rest =
-      (last : Held (FileStore D g)) × GivenRuns file_state given calls last × HasCleanDisk (file_state last)
-      × EndsAs last rest
-
-  -- A period on files, from what was left before to what it leaves.
+  -- a period on files, from what was left before to what it leaves
   abbrev pub PeriodOnFiles : Leftover D g → Period → Leftover D g → Type 0
-  PeriodOnFiles first (Serving calls) last =
-      (conn : Held (FileStore D g)) × (given : Result (BrokerView (FileStore D g)) (Refused (FileStore D g)))
-      × IsOpenedAfter first conn × Opened file_state conn given × GivenEnds given calls last
-  PeriodOnFiles first (Making office calls) last =
-      (conn : Held (FileStore D g)) × (given : Result (BrokerView (FileStore D g)) (Refused (FileStore D g)))
-      × IsOpenedAfter first conn × Created file_state conn office given × GivenEnds given calls last
-  PeriodOnFiles first Migrating last =
-      (old : Held (FileStore D g)) × (new : Held (FileStore D g)) × (given : Result (Unit {0}) OpenFault)
-      × IsOpenedAfter first old × Migrated (file_state old) (file_state new) given
-      × HasCleanDisk (file_state new) × EndsAs new last
   PeriodOnFiles first NotOpened last = (files : Files D) × AreAfter first files × LeavesUnopened files last
+  PeriodOnFiles first period last =
+      (old : Held (FileStore D g)) × (new : Held (FileStore D g)) × IsOpenedAfter first old
+      × PeriodRuns file_state period old new × HasCleanDisk (file_state new) × EndsAs new last
 
   abbrev pub LifeOnFiles : Leftover D g → List Period → Leftover D g → Type 0
   LifeOnFiles first [] last = last ≡ first
@@ -175,13 +204,20 @@ module _ {D : Type 0} (g : Ghosts D) where
 
   -- ---- the law
 
-  -- Whatever a crash leaves of the files at the end keeps something to which their life leads.
+  -- Whatever a crash leaves at the end keeps what the periods lead to.
   abbrev pub LivesLead : Type 0
   LivesLead =
       (old : Kept) (first last : Leftover D g) (life : List Period)
       → ((image : Image) → MayLeave first image → AreFilesOf old image) → LifeOnFiles first life last
       → (image : Image) → MayLeave last image
       → ∥ ((new : Kept) × LifeLeads old life new × AreFilesOf new image) ∥₁
+
+  -- a connection that was opened on files with trees that keep a broker's state holds it
+  abbrev pub OpenedFilesHold : Type 0
+  OpenedFilesHold =
+      (s : Broker) (files : Files D) (trees : Trees) (conn : Held (FileStore D g))
+      → ∥ HoldsDatabase (image_of g files) trees ∥₁ → AreTreesOf (OfToday s) trees
+      → IsOpened conn → Finds files conn → HoldsState s (file_state conn)
 
   -- What an opening that failed promises of the files (`unharmed` of the kit's `open_files`) doesn't say this: that the
   -- size of a page that it took is the database's, sums included; that it left no half of a first page; that the trees

@@ -1,4 +1,4 @@
-use Rattle.std.proofs.Common.{inl, inr, refl}
+use Rattle.std.proofs.Common.{inl, inr}
 use Rattle.sqlite.specs.Held.{state}
 use Rattle.broker_service.proofs.Transaction.{outlives_as}
 use Rattle.broker_service.proofs.ending.finish.Goals as goal

@@ -1,15 +1,15 @@
-use Rattle.sqlite.specs.Held.{state}
-use Rattle.broker_service.proofs.SessionLemmas.{from_found, from_new, keeps_latest, opened_holds_found}
+use Rattle.sqlite_store.specs.Laws.{settled_at, stays_at}
+use Rattle.broker_service.proofs.LifeLemmas.{lives_lead, keeps_latest, opened_files_hold, opening_spares}
 use Rattle.broker_service.proofs.laws.sessions.Goals as goal
 
-pub returns-clause-found : goal.returns-clause-found
-returns-clause-found g c = from_found (state g.S.Store) (λ conn db now may. g.met.S.Store.settled conn.store db now may)
-
-pub returns-clause-new : goal.returns-clause-new
-returns-clause-new g c = from_new (state g.S.Store) (λ conn db now may. g.met.S.Store.settled conn.store db now may)
+pub returns-clause-files : goal.returns-clause-files
+returns-clause-files g c = lives_lead g.D.Disk (λ conn now. stays_at conn.store g.met.D.Disk.seen_may_stay now) (λ conn trees now may. settled_at conn.store g.met.D.Disk.seen_may_stay trees now may)
 
 pub returns-clause-latest : goal.returns-clause-latest
-returns-clause-latest g c = keeps_latest (state g.S.Store)
+returns-clause-latest g c = keeps_latest
 
 pub returns-clause-opened : goal.returns-clause-opened
-returns-clause-opened g c = opened_holds_found (state g.S.Store) (λ conn db now may. g.met.S.Store.settled conn.store db now may)
+returns-clause-opened g c = opened_files_hold g.D.Disk (λ conn now. stays_at conn.store g.met.D.Disk.seen_may_stay now) (λ conn trees now may. settled_at conn.store g.met.D.Disk.seen_may_stay trees now may)
+
+pub returns-clause-unopened : goal.returns-clause-unopened
+returns-clause-unopened g c = opening_spares g.D.Disk

@@ -1,7 +1,7 @@
 use Rattle.std.proofs.Common.{true, false}
 use Rattle.sqlite.specs.Held.{state}
 use Rattle.registry_tables.specs.Format.{FindsFormer}
-use Rattle.broker_service.proofs.Transaction.{IsTransaction, adds_nothing, commits_once, once_at_most, not_begun, left_over, finished_over}
+use Rattle.broker_service.proofs.Transaction.{adds_nothing, commits_once, once_at_most, not_begun, left_over, finished_over}
 use Rattle.broker_service.proofs.MakeLemmas.{finds, migration_ends, migration_unchanged, migration_spares, migrates_as_before}
 use Rattle.broker_service.proofs.migration.run.Goals as goal
 

@@ -1,7 +1,7 @@
 use Rattle.std.proofs.Common.{true, false, refl}
 use Rattle.sqlite.specs.Held.{state}
 use Rattle.registry_tables.specs.Format.{Finds}
-use Rattle.broker_service.proofs.Transaction.{IsTransaction, commits_nothing, not_begun, left_over, finished_over, as_before}
+use Rattle.broker_service.proofs.Transaction.{commits_nothing, not_begun, left_over, finished_over, as_before}
 use Rattle.broker_service.proofs.MakeLemmas.{finds}
 use Rattle.broker_service.proofs.opening.find_format.Goals as goal
 

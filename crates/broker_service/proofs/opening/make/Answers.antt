@@ -6,8 +6,8 @@ use Rattle.broker_service.specs.Stored.{Stores}
 use Rattle.broker_service.specs.Transaction.{Finishes}
 use Rattle.broker_service.proofs.Sound.{opens_sound}
 use Rattle.table_access.proofs.CallLemmas.{call_with}
-use Rattle.broker_service.proofs.Transaction.{IsTransaction, commits_once, once_at_most, not_begun, left_over, finished_over}
-use Rattle.broker_service.proofs.MakeLemmas.{make_ends, make_unchanged, creates_as_before, unmade_as_before}
+use Rattle.broker_service.proofs.Transaction.{commits_once, once_at_most, not_begun, left_over, finished_over}
+use Rattle.broker_service.proofs.MakeLemmas.{make_ends, make_unchanged, creates_as_before}
 use Rattle.broker_service.proofs.opening.make.Goals as goal
 
 pub returns-then-finish-clause-ends : goal.returns-then-finish-clause-ends

@@ -1,7 +1,7 @@
 use Rattle.std.proofs.Common.{inl, sym, subst, refl, Ok, Some}
 use Rattle.sqlite.specs.Held.{state}
 use Rattle.broker_core.specs.declared.command.Command.{Command}
-use Rattle.broker_core.specs.declared.command.Command.TheVariants.{PutTeam, PutPacticipant, PutEnvironment, PutGrant, DeleteGrant, PutVersion, PutPact, GetPact, GetBranchPact, PostResult, PostReplies, GetEnvironment, Deploy, Undeploy, Release, EndSupport, CanIDeploy, GetMatrix, Malformed}
+use Rattle.broker_core.specs.declared.command.Command.TheVariants.{PutTeam, PutPacticipant, PutEnvironment, PutGrant, DeleteGrant, PutVersion, PutPact, GetPact, GetBranchPact, PostResult, GetEnvironment, Deploy, Undeploy, Release, EndSupport, CanIDeploy, GetMatrix, Malformed}
 use Rattle.broker_core.specs.declared.answer.Answer.{Answer}
 use Rattle.broker_core.specs.declared.answer.Answer.TheVariants.{BadForm}
 use Rattle.command_facts.specs.Performs.{PerformsBetween, CallersStep}

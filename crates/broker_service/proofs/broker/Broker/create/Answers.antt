@@ -1,7 +1,4 @@
-use Rattle.std.proofs.Common.{◌≡◌, Ok, Err, refl, ap}
-use Rattle.sqlite.specs.Held.{state}
-use Rattle.broker_service.specs.declared.opening.OpenFault.TheVariants.{NotEmpty}
-use Rattle.broker_service.proofs.LeavingLemmas.{making_made, making_refused}
+use Rattle.std.proofs.Common.{Err, refl, ap}
 use Rattle.broker_service.proofs.broker.Broker.create.Goals as goal
 
 pub returns-in-Ok : goal.returns-in-Ok
@@ -14,7 +11,6 @@ returns-in-Ok g c = record {
   runs = refl;
   over = c.create.ensures.over;
   survives = c.create.ensures.survives;
-  leaves = making_made (state g.S.Store) c.args.conn _ _ refl c.in-Ok.ensures.made c.create.ensures.survives.1.clean;
 }
 
 pub returns-in-Err : goal.returns-in-Err
@@ -27,5 +23,4 @@ returns-in-Err g c = record {
   runs = tt;
   over = c.create.ensures.over;
   survives = c.create.ensures.survives;
-  leaves = making_refused (state g.S.Store) c.args.conn _ _ c.in-Err.ensures.refuses c.create.ensures.survives.1.clean;
 }

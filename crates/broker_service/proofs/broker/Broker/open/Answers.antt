@@ -1,7 +1,5 @@
 use Rattle.std.proofs.Common.{refl}
-use Rattle.sqlite.specs.Held.{state}
-use Rattle.broker_service.proofs.LeavingLemmas.{opening_opened, opening_refused}
-use Rattle.broker_service.proofs.Transaction.{keeps_on, adds_nothing}
+use Rattle.broker_service.proofs.Transaction.{keeps_on}
 use Rattle.broker_service.proofs.broker.Broker.open.Goals as goal
 
 pub returns-in-Ok : goal.returns-in-Ok
@@ -15,7 +13,6 @@ returns-in-Ok g c = record {
   runs = refl;
   over = c.open.ensures.over;
   survives = c.open.ensures.survives;
-  leaves = opening_opened (state g.S.Store) c.args.conn _ refl c.in-Ok.ensures.kept c.open.ensures.survives.clean;
 }
 
 pub returns-in-Err : goal.returns-in-Err
@@ -29,5 +26,4 @@ returns-in-Err g c = record {
   runs = tt;
   over = c.open.ensures.over;
   survives = c.open.ensures.survives;
-  leaves = opening_refused (state g.S.Store) c.args.conn _ (adds_nothing _ _ c.open.ensures.survives) c.open.ensures.survives.clean;
 }
