@@ -1,5 +1,6 @@
 -- What a change of some tables leaves of the others, and a read of all.
-use Rattle.std.proofs.Common.{◌≡◌, ◌≢◌, ◌==◌, ℕ, List, [], ◌∷◌, ◌++◌, map, codes, Bool, true, false, not, ◌||◌, refl, sym, ap, subst, subst₂, ◌∙◌, Some, Option}
+use Rattle.std.proofs.Common.{◌≡◌, ◌≢◌, ◌==◌, ℕ, List, [], ◌∷◌, ◌++◌, map, codes, Bool, true, false, not, ◌&&◌, ◌||◌, refl, sym, ap, subst, subst₂, ◌∙◌, Some, Option}
+use Rattle.std.specs.Prelude.{MatchBool}
 use Rattle.std.specs.List.{AllByRecursion, list_any, list_all}
 use Rattle.sqlite.specs.Schema.{Schema}
 use Rattle.sqlite.specs.Order.{Row}
@@ -110,234 +111,117 @@ frame_then one two old mid new first second = record {
 pub still_broker : (changed : List (List ℕ)) (old new : Database) → Frame changed old new → IsBroker old → IsBroker new
 still_broker changed old new frame broker = record { schema = frame.schema ∙ broker.schema; kept = frame.kept broker.kept }
 
--- ---- each field of the state that is held, where its tables are as they were
+-- ---- the state that is held after a change
 
-module _ (changed : List (List ℕ)) (new : Database) (s : Broker) where
-  abbrev IsOther : List ℕ → Type 0
-  IsOther name = is_other changed name ≡ true
+module _ (changed : List (List ℕ)) (old new : Database) where
+  -- what is known of a field: if its table is as it was, that the rows tell the next value where they told the old one;
+  -- else that they tell it now
+  abbrev Known : List ℕ → (List Row → Type 0) → (List Row → Type 0) → Type 0
+  Known name Was Is = MatchBool (is_other changed name) (Was (rows_of old name) → Is (rows_of old name)) (Is (rows_of new name))
 
-  pub record Still : Type 0 where
-    pub broker : IsBroker new
-    pub meta : IsOther (codes "meta") → IsMeta format s.office (rows_of new (codes "meta"))
-    pub teams : IsOther (codes "teams") → AreTeams s.teams (rows_of new (codes "teams"))
-    pub pacticipants : IsOther (codes "pacticipants") → ArePacticipants s.pacticipants (rows_of new (codes "pacticipants"))
-    pub versions : IsOther (codes "versions") → AreVersions s.versions (rows_of new (codes "versions"))
-    pub branches : IsOther (codes "branches") → AreBranches s.versions s.branches (rows_of new (codes "branches"))
-    pub environments : IsOther (codes "environments") → IsOther (codes "strict_environments") → AreEnvironments s.environments (rows_of new (codes "environments")) (rows_of new (codes "strict_environments"))
-    pub grants : IsOther (codes "grants") → AreGrants s.grants (rows_of new (codes "grants"))
-    pub contents : IsOther (codes "contents") → AreContents s.contents (rows_of new (codes "contents"))
-    pub contracts : IsOther (codes "contracts") → AreContracts s.versions s.contracts (rows_of new (codes "contracts"))
-    pub results : IsOther (codes "results") → IsOther (codes "checked_results") → AreResults s.versions s.results (rows_of new (codes "results")) (rows_of new (codes "checked_results"))
-    pub latest : IsOther (codes "latest") → AreLatest s (rows_of new (codes "latest"))
-    pub deployed : IsOther (codes "deployed") → AreDeployed s.versions s.deployed (rows_of new (codes "deployed"))
-    pub released : IsOther (codes "released") → AreReleased s.versions s.released (rows_of new (codes "released"))
+  -- the same of a field that two tables tell
+  abbrev KnownOfBoth : List ℕ → List ℕ → (List Row → List Row → Type 0) → (List Row → List Row → Type 0) → Type 0
+  KnownOfBoth one two Was Is = MatchBool (is_other changed one && is_other changed two) (Was (rows_of old one) (rows_of old two) → Is (rows_of old one) (rows_of old two)) (Is (rows_of new one) (rows_of new two))
 
-  pub still : (old : Database) → Holds old s → Frame changed old new → Still
-  still old held frame = let all = frame.others in record {
+  abbrev Stays : List ℕ → Type 0
+  Stays name = is_other changed name ≡ true → rows_of new name ≡ rows_of old name
+
+  known : (name : List ℕ) (Was Is : List Row → Type 0) (b : Bool) → is_other changed name ≡ b → MatchBool b (Was (rows_of old name) → Is (rows_of old name)) (Is (rows_of new name)) → Stays name → Was (rows_of old name) → Is (rows_of new name)
+  known name Was Is true other told stays was = subst Is (sym (stays other)) (told was)
+  known name Was Is false other told stays was = told
+
+  known_of_both : (one two : List ℕ) (Was Is : List Row → List Row → Type 0) (b : Bool) → (is_other changed one && is_other changed two) ≡ b → MatchBool b (Was (rows_of old one) (rows_of old two) → Is (rows_of old one) (rows_of old two)) (Is (rows_of new one) (rows_of new two))
+      → Stays one → Stays two → Was (rows_of old one) (rows_of old two) → Is (rows_of new one) (rows_of new two)
+  known_of_both one two Was Is true other told first second was = subst₂ Is (sym (first (first_of_both _ _ other))) (sym (second (second_of_both _ _ other))) (told was)
+  known_of_both one two Was Is false other told first second was = told
+
+  -- all fields of the next state
+  abbrev pub Next : Broker → Broker → Type 0
+  Next s t =
+      Known (codes "meta") (IsMeta format s.office) (IsMeta format t.office)
+      × Known (codes "teams") (AreTeams s.teams) (AreTeams t.teams)
+      × Known (codes "pacticipants") (ArePacticipants s.pacticipants) (ArePacticipants t.pacticipants)
+      × Known (codes "versions") (AreVersions s.versions) (AreVersions t.versions)
+      × Known (codes "branches") (AreBranches s.versions s.branches) (AreBranches t.versions t.branches)
+      × KnownOfBoth (codes "environments") (codes "strict_environments") (AreEnvironments s.environments) (AreEnvironments t.environments)
+      × Known (codes "grants") (AreGrants s.grants) (AreGrants t.grants)
+      × Known (codes "contents") (AreContents s.contents) (AreContents t.contents)
+      × Known (codes "contracts") (AreContracts s.versions s.contracts) (AreContracts t.versions t.contracts)
+      × KnownOfBoth (codes "results") (codes "checked_results") (AreResults s.versions s.results) (AreResults t.versions t.results)
+      × Known (codes "latest") (AreLatest s) (AreLatest t)
+      × Known (codes "deployed") (AreDeployed s.versions s.deployed) (AreDeployed t.versions t.deployed)
+      × Known (codes "released") (AreReleased s.versions s.released) (AreReleased t.versions t.released)
+
+  pub held_next : (s t : Broker) → Holds old s → Frame changed old new → Next s t → Holds new t
+  held_next s t held frame next = let all = frame.others in record {
     broker = still_broker changed old new frame held.broker;
-    meta = λ o. subst (IsMeta format s.office) (sym (all.0 o)) held.meta;
-    teams = λ o. subst (AreTeams s.teams) (sym (all.1.0 o)) held.teams;
-    pacticipants = λ o. subst (ArePacticipants s.pacticipants) (sym (all.1.1.0 o)) held.pacticipants;
-    versions = λ o. subst (AreVersions s.versions) (sym (all.1.1.1.0 o)) held.versions;
-    branches = λ o. subst (AreBranches s.versions s.branches) (sym (all.1.1.1.1.0 o)) held.branches;
-    environments = λ o p. subst₂ (AreEnvironments s.environments) (sym (all.1.1.1.1.1.0 o)) (sym (all.1.1.1.1.1.1.1.1.1.1.1.1.1.1.0 p)) held.environments;
-    grants = λ o. subst (AreGrants s.grants) (sym (all.1.1.1.1.1.1.0 o)) held.grants;
-    contents = λ o. subst (AreContents s.contents) (sym (all.1.1.1.1.1.1.1.0 o)) held.contents;
-    contracts = λ o. subst (AreContracts s.versions s.contracts) (sym (all.1.1.1.1.1.1.1.1.0 o)) held.contracts;
-    results = λ o p. subst₂ (AreResults s.versions s.results) (sym (all.1.1.1.1.1.1.1.1.1.0 o)) (sym (all.1.1.1.1.1.1.1.1.1.1.1.1.1.0 p)) held.results;
-    latest = λ o. subst (AreLatest s) (sym (all.1.1.1.1.1.1.1.1.1.1.0 o)) held.latest;
-    deployed = λ o. subst (AreDeployed s.versions s.deployed) (sym (all.1.1.1.1.1.1.1.1.1.1.1.0 o)) held.deployed;
-    released = λ o. subst (AreReleased s.versions s.released) (sym (all.1.1.1.1.1.1.1.1.1.1.1.1.0 o)) held.released;
+    meta = known (codes "meta") (IsMeta format s.office) (IsMeta format t.office) _ refl next.0 all.0 held.meta;
+    teams = known (codes "teams") (AreTeams s.teams) (AreTeams t.teams) _ refl next.1 all.1.0 held.teams;
+    pacticipants = known (codes "pacticipants") (ArePacticipants s.pacticipants) (ArePacticipants t.pacticipants) _ refl next.2 all.1.1.0 held.pacticipants;
+    versions = known (codes "versions") (AreVersions s.versions) (AreVersions t.versions) _ refl next.3 all.1.1.1.0 held.versions;
+    branches = known (codes "branches") (AreBranches s.versions s.branches) (AreBranches t.versions t.branches) _ refl next.4 all.1.1.1.1.0 held.branches;
+    environments = known_of_both (codes "environments") (codes "strict_environments") (AreEnvironments s.environments) (AreEnvironments t.environments) _ refl next.5 all.1.1.1.1.1.0 all.1.1.1.1.1.1.1.1.1.1.1.1.1.1.0 held.environments;
+    grants = known (codes "grants") (AreGrants s.grants) (AreGrants t.grants) _ refl next.6 all.1.1.1.1.1.1.0 held.grants;
+    contents = known (codes "contents") (AreContents s.contents) (AreContents t.contents) _ refl next.7 all.1.1.1.1.1.1.1.0 held.contents;
+    contracts = known (codes "contracts") (AreContracts s.versions s.contracts) (AreContracts t.versions t.contracts) _ refl next.8 all.1.1.1.1.1.1.1.1.0 held.contracts;
+    results = known_of_both (codes "results") (codes "checked_results") (AreResults s.versions s.results) (AreResults t.versions t.results) _ refl next.9 all.1.1.1.1.1.1.1.1.1.0 all.1.1.1.1.1.1.1.1.1.1.1.1.1.0 held.results;
+    latest = known (codes "latest") (AreLatest s) (AreLatest t) _ refl next.10 all.1.1.1.1.1.1.1.1.1.1.0 held.latest;
+    deployed = known (codes "deployed") (AreDeployed s.versions s.deployed) (AreDeployed t.versions t.deployed) _ refl next.11 all.1.1.1.1.1.1.1.1.1.1.1.0 held.deployed;
+    released = known (codes "released") (AreReleased s.versions s.released) (AreReleased t.versions t.released) _ refl next.12 all.1.1.1.1.1.1.1.1.1.1.1.1.0 held.released;
   }
+
+-- the field has the value that it had
+pub stays : {A : Type 0} → A → A
+stays h = h
 
 -- ---- one field of the state is another: a lemma for each table that is changed
 
 -- where only the table teams changed, the state is held with the teams that its rows tell now
 pub teams_change : (old new : Database) (s : Broker) (next : Text → Option Text) → Holds old s → Frame (codes "teams" ∷ []) old new → AreTeams next (rows_of new (codes "teams")) → Holds new (record s { teams = next })
-teams_change old new s next held frame is = let k = still (codes "teams" ∷ []) new s old held frame in record {
-  broker = k.broker;
-  meta = k.meta refl;
-  teams = is;
-  pacticipants = k.pacticipants refl;
-  versions = k.versions refl;
-  branches = k.branches refl;
-  environments = k.environments refl refl;
-  grants = k.grants refl;
-  contents = k.contents refl;
-  contracts = k.contracts refl;
-  results = k.results refl refl;
-  latest = k.latest refl;
-  deployed = k.deployed refl;
-  released = k.released refl;
-}
+teams_change old new s next held frame is =
+    held_next (codes "teams" ∷ []) old new s _ held frame (stays, is, stays, stays, stays, stays, stays, stays, stays, stays, stays, stays, stays)
 
 -- where only the table pacticipants changed, the state is held with the pacticipants that its rows tell now
 pub pacticipants_change : (old new : Database) (s : Broker) (next : Text → Option Text) → Holds old s → Frame (codes "pacticipants" ∷ []) old new → ArePacticipants next (rows_of new (codes "pacticipants")) → Holds new (record s { pacticipants = next })
-pacticipants_change old new s next held frame is = let k = still (codes "pacticipants" ∷ []) new s old held frame in record {
-  broker = k.broker;
-  meta = k.meta refl;
-  teams = k.teams refl;
-  pacticipants = is;
-  versions = k.versions refl;
-  branches = k.branches refl;
-  environments = k.environments refl refl;
-  grants = k.grants refl;
-  contents = k.contents refl;
-  contracts = k.contracts refl;
-  results = k.results refl refl;
-  latest = k.latest refl;
-  deployed = k.deployed refl;
-  released = k.released refl;
-}
+pacticipants_change old new s next held frame is =
+    held_next (codes "pacticipants" ∷ []) old new s _ held frame (stays, stays, is, stays, stays, stays, stays, stays, stays, stays, stays, stays, stays)
 
 -- where only the table branches changed, the state is held with the branches that its rows tell now
 pub branches_change : (old new : Database) (s : Broker) (next : Version × Text → Bool) → Holds old s → Frame (codes "branches" ∷ []) old new → AreBranches s.versions next (rows_of new (codes "branches")) → Holds new (record s { branches = next })
-branches_change old new s next held frame is = let k = still (codes "branches" ∷ []) new s old held frame in record {
-  broker = k.broker;
-  meta = k.meta refl;
-  teams = k.teams refl;
-  pacticipants = k.pacticipants refl;
-  versions = k.versions refl;
-  branches = is;
-  environments = k.environments refl refl;
-  grants = k.grants refl;
-  contents = k.contents refl;
-  contracts = k.contracts refl;
-  results = k.results refl refl;
-  latest = k.latest refl;
-  deployed = k.deployed refl;
-  released = k.released refl;
-}
+branches_change old new s next held frame is =
+    held_next (codes "branches" ∷ []) old new s _ held frame (stays, stays, stays, stays, is, stays, stays, stays, stays, stays, stays, stays, stays)
 
 -- where only environments and strict_environments changed, the state is held with the environments they tell now
 pub environments_change : (old new : Database) (s : Broker) (next : Text → Option Marks) → Holds old s → Frame (codes "environments" ∷ codes "strict_environments" ∷ []) old new → AreEnvironments next (rows_of new (codes "environments")) (rows_of new (codes "strict_environments")) → Holds new (record s { environments = next })
-environments_change old new s next held frame is = let k = still (codes "environments" ∷ codes "strict_environments" ∷ []) new s old held frame in record {
-  broker = k.broker;
-  meta = k.meta refl;
-  teams = k.teams refl;
-  pacticipants = k.pacticipants refl;
-  versions = k.versions refl;
-  branches = k.branches refl;
-  environments = is;
-  grants = k.grants refl;
-  contents = k.contents refl;
-  contracts = k.contracts refl;
-  results = k.results refl refl;
-  latest = k.latest refl;
-  deployed = k.deployed refl;
-  released = k.released refl;
-}
+environments_change old new s next held frame is =
+    held_next (codes "environments" ∷ codes "strict_environments" ∷ []) old new s _ held frame (stays, stays, stays, stays, stays, is, stays, stays, stays, stays, stays, stays, stays)
 
 -- where only the table grants changed, the state is held with the grants that its rows tell now
 pub grants_change : (old new : Database) (s : Broker) (next : Text × Text → Bool) → Holds old s → Frame (codes "grants" ∷ []) old new → AreGrants next (rows_of new (codes "grants")) → Holds new (record s { grants = next })
-grants_change old new s next held frame is = let k = still (codes "grants" ∷ []) new s old held frame in record {
-  broker = k.broker;
-  meta = k.meta refl;
-  teams = k.teams refl;
-  pacticipants = k.pacticipants refl;
-  versions = k.versions refl;
-  branches = k.branches refl;
-  environments = k.environments refl refl;
-  grants = is;
-  contents = k.contents refl;
-  contracts = k.contracts refl;
-  results = k.results refl refl;
-  latest = k.latest refl;
-  deployed = k.deployed refl;
-  released = k.released refl;
-}
+grants_change old new s next held frame is =
+    held_next (codes "grants" ∷ []) old new s _ held frame (stays, stays, stays, stays, stays, stays, is, stays, stays, stays, stays, stays, stays)
 
 -- where only the table contents changed, the state is held with the contents that its rows tell now
 pub contents_change : (old new : Database) (s : Broker) (next : List Text) → Holds old s → Frame (codes "contents" ∷ []) old new → AreContents next (rows_of new (codes "contents")) → Holds new (record s { contents = next })
-contents_change old new s next held frame is = let k = still (codes "contents" ∷ []) new s old held frame in record {
-  broker = k.broker;
-  meta = k.meta refl;
-  teams = k.teams refl;
-  pacticipants = k.pacticipants refl;
-  versions = k.versions refl;
-  branches = k.branches refl;
-  environments = k.environments refl refl;
-  grants = k.grants refl;
-  contents = is;
-  contracts = k.contracts refl;
-  results = k.results refl refl;
-  latest = k.latest refl;
-  deployed = k.deployed refl;
-  released = k.released refl;
-}
+contents_change old new s next held frame is =
+    held_next (codes "contents" ∷ []) old new s _ held frame (stays, stays, stays, stays, stays, stays, stays, is, stays, stays, stays, stays, stays)
 
 -- where only the table contracts changed, the state is held with the contracts that its rows tell now
 pub contracts_change : (old new : Database) (s : Broker) (next : Version × Text → Option ℕ) → Holds old s → Frame (codes "contracts" ∷ []) old new → AreContracts s.versions next (rows_of new (codes "contracts")) → Holds new (record s { contracts = next })
-contracts_change old new s next held frame is = let k = still (codes "contracts" ∷ []) new s old held frame in record {
-  broker = k.broker;
-  meta = k.meta refl;
-  teams = k.teams refl;
-  pacticipants = k.pacticipants refl;
-  versions = k.versions refl;
-  branches = k.branches refl;
-  environments = k.environments refl refl;
-  grants = k.grants refl;
-  contents = k.contents refl;
-  contracts = is;
-  results = k.results refl refl;
-  latest = k.latest refl;
-  deployed = k.deployed refl;
-  released = k.released refl;
-}
+contracts_change old new s next held frame is =
+    held_next (codes "contracts" ∷ []) old new s _ held frame (stays, stays, stays, stays, stays, stays, stays, stays, is, stays, stays, stays, stays)
 
 -- where only results, checked_results and latest changed, the state is held with the results they tell now
 pub results_change : (old new : Database) (s : Broker) (next : List Verification) → Holds old s → Frame (codes "results" ∷ codes "checked_results" ∷ codes "latest" ∷ []) old new → AreResults s.versions next (rows_of new (codes "results")) (rows_of new (codes "checked_results")) → AreLatest (record s { results = next }) (rows_of new (codes "latest")) → Holds new (record s { results = next })
-results_change old new s next held frame are newest = let k = still (codes "results" ∷ codes "checked_results" ∷ codes "latest" ∷ []) new s old held frame in record {
-  broker = k.broker;
-  meta = k.meta refl;
-  teams = k.teams refl;
-  pacticipants = k.pacticipants refl;
-  versions = k.versions refl;
-  branches = k.branches refl;
-  environments = k.environments refl refl;
-  grants = k.grants refl;
-  contents = k.contents refl;
-  contracts = k.contracts refl;
-  results = are;
-  latest = newest;
-  deployed = k.deployed refl;
-  released = k.released refl;
-}
+results_change old new s next held frame are newest =
+    held_next (codes "results" ∷ codes "checked_results" ∷ codes "latest" ∷ []) old new s _ held frame (stays, stays, stays, stays, stays, stays, stays, stays, stays, are, newest, stays, stays)
 
 -- where only the table deployed changed, the state is held with the deployments that its rows tell now
 pub deployed_change : (old new : Database) (s : Broker) (next : Text × Text × Text → Option Text) → Holds old s → Frame (codes "deployed" ∷ []) old new → AreDeployed s.versions next (rows_of new (codes "deployed")) → Holds new (record s { deployed = next })
-deployed_change old new s next held frame is = let k = still (codes "deployed" ∷ []) new s old held frame in record {
-  broker = k.broker;
-  meta = k.meta refl;
-  teams = k.teams refl;
-  pacticipants = k.pacticipants refl;
-  versions = k.versions refl;
-  branches = k.branches refl;
-  environments = k.environments refl refl;
-  grants = k.grants refl;
-  contents = k.contents refl;
-  contracts = k.contracts refl;
-  results = k.results refl refl;
-  latest = k.latest refl;
-  deployed = is;
-  released = k.released refl;
-}
+deployed_change old new s next held frame is =
+    held_next (codes "deployed" ∷ []) old new s _ held frame (stays, stays, stays, stays, stays, stays, stays, stays, stays, stays, stays, is, stays)
 
 -- where only the table released changed, the state is held with the releases that its rows tell now
 pub released_change : (old new : Database) (s : Broker) (next : Text × Version → Bool) → Holds old s → Frame (codes "released" ∷ []) old new → AreReleased s.versions next (rows_of new (codes "released")) → Holds new (record s { released = next })
-released_change old new s next held frame is = let k = still (codes "released" ∷ []) new s old held frame in record {
-  broker = k.broker;
-  meta = k.meta refl;
-  teams = k.teams refl;
-  pacticipants = k.pacticipants refl;
-  versions = k.versions refl;
-  branches = k.branches refl;
-  environments = k.environments refl refl;
-  grants = k.grants refl;
-  contents = k.contents refl;
-  contracts = k.contracts refl;
-  results = k.results refl refl;
-  latest = k.latest refl;
-  deployed = k.deployed refl;
-  released = is;
-}
+released_change old new s next held frame is =
+    held_next (codes "released" ∷ []) old new s _ held frame (stays, stays, stays, stays, stays, stays, stays, stays, stays, stays, stays, stays, is)

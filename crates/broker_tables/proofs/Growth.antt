@@ -1,5 +1,5 @@
 -- What a new version leaves of the state that the database holds.
-use Rattle.std.proofs.Common.{◌≡◌, ℕ, ℤ, pos, ◌+◌, List, [], ◌∷◌, ◌++◌, map, length, false, cond, ◌||◌, refl, sym, ap, subst, subst₂, ◌∙◌, Some, None, Option, codes, inl, inr, Ordering, Less, Equal, Greater}
+use Rattle.std.proofs.Common.{◌≡◌, ℕ, ℤ, pos, ◌+◌, List, [], ◌∷◌, ◌++◌, map, length, false, cond, ◌||◌, refl, sym, ap, ◌∙◌, Some, None, Option, codes, inl, inr, Ordering, Less, Equal, Greater}
 use Rattle.std.specs.Prelude.{option_map, option_and_then}
 use Rattle.std.specs.Option.{option_map_or}
 use Rattle.std.specs.List.{enumerate_from}
@@ -16,7 +16,7 @@ use Rattle.broker_core.specs.Request.{is_known}
 use Rattle.broker_tables.specs.Rows.{rows_of, value_at, stands_at}
 use Rattle.broker_tables.specs.Numbers.{numbered, number_of}
 use Rattle.broker_tables.specs.Holds.{Holds, AreVersions, AreBranches, AreContracts, AreResults, AreLatest, AreDeployed, AreReleased, ResultRow, result_in, result_of}
-use Rattle.broker_tables.proofs.Frames.{Frame, still}
+use Rattle.broker_tables.proofs.Frames.{Frame, held_next, stays}
 use Rattle.broker_tables.proofs.NumberLemmas.{grown, still_numbered as stays_numbered}
 use Rattle.broker_tables.proofs.References.{not_next}
 use Rattle.broker_tables.proofs.Placed.{branches, branches_there, contracts, contracts_there, latest, latest_there, released, released_there}
@@ -144,23 +144,18 @@ module _ (db : Database) (s : Broker) (held : Holds db s) (v : Version) (free : 
 -- a version that wasn't there gets the next number, and nothing else changes
 pub versions_grow : (old new : Database) (s : Broker) (v : Version) → Holds old s → is_known s v ≡ false → Frame (codes "versions" ∷ []) old new → AreVersions (s.versions ++ v ∷ []) (rows_of new (codes "versions"))
     → Holds new (record s { versions = s.versions ++ v ∷ [] })
-versions_grow old new s v held free frame is =
-    let k = still (codes "versions" ∷ []) new s old held frame in
-    let all = frame.others in
-    let more = s.versions ++ v ∷ [] in
-    record {
-      broker = k.broker;
-      meta = k.meta refl;
-      teams = k.teams refl;
-      pacticipants = k.pacticipants refl;
-      environments = k.environments refl refl;
-      grants = k.grants refl;
-      contents = k.contents refl;
-      versions = is;
-      branches = subst (AreBranches more s.branches) (sym (all.1.1.1.1.0 refl)) (branches_grow old s held v free);
-      contracts = subst (AreContracts more s.contracts) (sym (all.1.1.1.1.1.1.1.1.0 refl)) (contracts_grow old s held v free);
-      results = subst₂ (AreResults more s.results) (sym (all.1.1.1.1.1.1.1.1.1.0 refl)) (sym (all.1.1.1.1.1.1.1.1.1.1.1.1.1.0 refl)) (results_grow old s held v free);
-      latest = subst (AreLatest (record s { versions = more })) (sym (all.1.1.1.1.1.1.1.1.1.1.0 refl)) (latest_grow old s held v free);
-      deployed = subst (AreDeployed more s.deployed) (sym (all.1.1.1.1.1.1.1.1.1.1.1.0 refl)) (deployed_grow old s held v free);
-      released = subst (AreReleased more s.released) (sym (all.1.1.1.1.1.1.1.1.1.1.1.1.0 refl)) (released_grow old s held v free);
-    }
+versions_grow old new s v held free frame is = held_next (codes "versions" ∷ []) old new s _ held frame (
+  stays,
+  stays,
+  stays,
+  is,
+  λ h. branches_grow old s held v free,
+  stays,
+  stays,
+  stays,
+  λ h. contracts_grow old s held v free,
+  λ h. results_grow old s held v free,
+  λ h. latest_grow old s held v free,
+  λ h. deployed_grow old s held v free,
+  λ h. released_grow old s held v free,
+)
