@@ -1,4 +1,5 @@
 pub mod WeightLemmas
+pub mod Checked
 pub mod PathLemmas
 pub mod Spellings
 pub mod ReadingLemmas

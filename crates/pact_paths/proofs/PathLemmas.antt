@@ -6,6 +6,7 @@ use Rattle.std.specs.Str.{all_ascii_digits}
 use Rattle.std.proofs.lemmas.List.Sums.{prefix_len-le-length}
 use Rattle.std.proofs.lemmas.List.{append-nil}
 use Rattle.pact_paths.specs.Paths.{Token}
+use Rattle.pact_paths.specs.Outcome.{checked}
 use Rattle.pact_paths.specs.PathReading.{behind, cut, token_in, tokens_in, first_of_more, with_front, with_all}
 use Rattle.pact_paths.specs.declared.path_reader.PathFault.{PathFault}
 use Rattle.pact_paths.specs.declared.path_reader.PathFault.TheVariants.{BadToken, TooManyTokens}
@@ -52,6 +53,11 @@ with_all-front front x (Err e) = refl
 
 pub with_all-none : (front : List Token) → with_all front (Ok []) ≡ Ok front
 with_all-none front = ap (λ ts. Ok ts) (append-nil front)
+
+-- a token in front changes no fault
+pub checked-with_front : (x : Token) (r : Result (List Token) PathFault) → checked (with_front x r) ≡ checked r
+checked-with_front x (Ok ts) = refl
+checked-with_front x (Err e) = refl
 
 pub with_no_front : (r : Result (List Token) PathFault) → with_all [] r ≡ r
 with_no_front (Ok ts) = refl

@@ -5,12 +5,13 @@ use Rattle.std.proofs.lemmas.Option.{none-some, some_pair_parts}
 use Rattle.std.proofs.lemmas.List.{nil_from_length}
 use Rattle.pact_paths.specs.Paths.{Token}
 use Rattle.pact_paths.specs.Spelling.{IsSpelled, AreSpelled, IsPath, token_text, path_text}
-use Rattle.pact_paths.specs.PathReading.{Read, behind, token_in, tokens_in, first_of_more, with_front, from_root, path_in}
-use Rattle.pact_paths.specs.Outcome.{Gives}
+use Rattle.pact_paths.specs.PathReading.{Read, behind, token_in, tokens_in, first_of_more, with_front, with_all, from_root, path_in}
+use Rattle.pact_paths.specs.Outcome.{Gives, GivesChecked, checked}
 use Rattle.pact_paths.specs.Readings.{IsFront, IsLongestFront, IsReading, IsTheReading}
 use Rattle.pact_paths.specs.declared.path_reader.PathFault.{PathFault}
 use Rattle.pact_paths.specs.declared.path_reader.PathFault.TheVariants.{NoRoot, BadToken, TooManyTokens, Memory}
-use Rattle.pact_paths.proofs.PathLemmas.{tokens_end, tokens_more}
+use Rattle.pact_paths.proofs.Checked.{fault_of, no_fault}
+use Rattle.pact_paths.proofs.PathLemmas.{tokens_end, tokens_more, with_no_front}
 use Rattle.pact_paths.proofs.Spellings.{ends_names, spelled_reads, next_ends, are_spelled_end, behind_some, found_takes, spelled_are_tokens, canonical_are_spelled}
 
 found_some : (t : List ℕ) (x : Token × List ℕ) → token_in t ≡ Some x → 0 < length t
@@ -303,12 +304,34 @@ outcome text (Err (BadToken offset)) h = inr (let P : Result (List Token) PathFa
 outcome text (Err TooManyTokens) h = inr (let P : Result (List Token) PathFault → Type 0 = IsTheReading text in subst P (h (λ e. cc)) (path_in_is text))
 outcome text (Err Memory) h = inl refl
 
--- a text with a root in front isn't read as one that lacks it
-pub has_root : (text rest : List ℕ) (r : Result (List Token) PathFault) → behind 36 text ≡ Some rest → Gives Memory (λ p. p) r (path_in text) → (r ≡ Err NoRoot) ↔ IsReading text (Err NoRoot)
-has_root text rest r e gives = (
-  λ lacks. let P : Result (List Token) PathFault → Type 0 = IsReading text in ⊎_elim (λ m. let clash : Err NoRoot ≡ Err Memory = sym lacks ∙ m in absurd cc) (λ reads. subst P lacks reads.0) (outcome text r gives),
-  λ none. absurd (none rest (behind_some 36 text rest e)),
-)
+-- ---- what reading promises, from what it computes
+
+abbrev Computes : List ℕ → Result (List Token) PathFault → Type 0
+Computes text r = GivesChecked Memory (λ (p : List Token). p) r (path_in text)
+
+pub each_fault : (text : List ℕ) (r : Result (List Token) PathFault) → Computes text r → (e : PathFault) → IsReading text (Err e) → r ≡ Err e
+each_fault text r h e reads = h.1 e (sym (reading_is text (Err e) reads))
+
+-- a text without a root, or one that is refused as it is checked
+pub computes_fault : (text : List ℕ) (e : PathFault) (r : Result (List Token) PathFault) → r ≡ Err e → path_in text ≡ Err e → Computes text r
+computes_fault text e r is h = subst (Computes text) (sym is) (λ memory. h, λ f k. sym h ∙ k)
+
+pub refused : (text rest : List ℕ) (e : PathFault) → behind 36 text ≡ Some rest → Err e ≡ checked (tokens_in (length text) 60 rest) → path_in text ≡ Err e
+refused text rest e root h = ap (from_root (length text)) root ∙ fault_of (tokens_in (length text) 60 rest) e h
+
+-- one without a fault
+module _ (text rest : List ℕ) (front : List Token) (root : behind 36 text ≡ Some rest) (none : front ≡ []) where
+  kept_at : path_in text ≡ with_all front (tokens_in (length text) 60 rest)
+  kept_at = ap (from_root (length text)) root ∙ sym (with_no_front (tokens_in (length text) 60 rest)) ∙ ap (λ ts. with_all ts (tokens_in (length text) 60 rest)) (sym none)
+
+  pub computes_none : (e : PathFault) (r : Result (List Token) PathFault) → r ≡ Err e → Ok tt ≡ checked (tokens_in (length text) 60 rest)
+      → (¬ (e ≡ Memory) → with_all front (tokens_in (length text) 60 rest) ≡ Err e) → Computes text r
+  computes_none e r is ok gives =
+      subst (Computes text) (sym is)
+      (λ memory. kept_at ∙ gives memory, λ f k. absurd (no_fault (tokens_in (length text) 60 rest) f ok (sym (ap (from_root (length text)) root) ∙ k)))
+
+  pub computes_tokens : (ts : List Token) → with_all front (tokens_in (length text) 60 rest) ≡ Ok ts → Computes text (Ok ts)
+  computes_tokens ts h = let is = kept_at ∙ h in (is, λ f k. let clash : Ok ts ≡ Err f = sym is ∙ k in absurd cc)
 
 -- ---- the canonical text
 

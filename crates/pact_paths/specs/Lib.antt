@@ -7,4 +7,5 @@ pub mod Spelling
 pub mod PathReading
 pub mod Readings
 pub mod Asked
+pub mod Laws
 pub mod AskedView

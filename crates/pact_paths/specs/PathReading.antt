@@ -1,5 +1,5 @@
--- The reading of a text, computed from left to right as the code does it: each token takes what it can. `Path::read`
--- proves that this is the one reading of `Readings`, where the meaning is stated.
+-- The reading of a text, computed from left to right as the code does it: each token takes what it can. The law
+-- `laws::computed_reading` says that this is the one reading of `Readings`, where the meaning is stated.
 use Rattle.std.specs.Prelude.{ℕ, zero, suc, ◌-◌, List, [], ◌∷◌, ◌++◌, length, take, drop, ◌==◌, nat_lt, Option, Some, None, option_map, option_and_then, Result, Ok, Err, if◌then◌else◌}
 use Rattle.std.specs.Option.{option_or}
 use Rattle.std.specs.List.{position_or_len, before_first, after_first}

@@ -2,6 +2,7 @@
 #![tactic(auto)]
 
 mod asked;
+pub mod laws;
 mod path;
 mod path_reader;
 mod path_writer;

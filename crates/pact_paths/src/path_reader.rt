@@ -3,16 +3,17 @@
 ghost use Rattle.std.specs.Prelude.{◌≡◌, ◌⊎◌, ◌↔◌, ◌<◌, IsTrue, ◌≤◌, IfOk, option_map, length, map, IsCharBoundary};
 ghost use Rattle.std.specs.Prelude.{IfSome, Some, None, if◌then◌else◌};
 ghost use Rattle.std.specs.List.{position_or_len};
-ghost use Rattle.pact_paths.specs.TokenView.{token_view};
+ghost use Rattle.pact_paths.specs.TokenView.{token_view, seen_view};
 ghost use Rattle.pact_paths.specs.Spelling.{is_special, is_index};
 ghost use Rattle.pact_paths.specs.PathReading.{token_in, dotted as dotted_in, bracketed as bracketed_in};
 ghost use Rattle.pact_paths.specs.PathReading.{plain as plain_in, quoted as quoted_in, index as index_in};
 ghost use Rattle.pact_paths.specs.PathReading.{behind as behind_of, cut as cut_of, closed_star as closed_star_in};
 ghost use Rattle.pact_paths.specs.PathReading.{tokens_in, path_in, with_all};
-ghost use Rattle.pact_paths.specs.Outcome.{Gives};
+ghost use Rattle.pact_paths.specs.Outcome.{Gives, GivesChecked, checked};
 ghost use Rattle.pact_paths.specs.Readings.{IsReading, IsTheReading};
 ghost use Rattle.pact_paths.specs.Paths.{named, indexed, any};
-ghost use Rattle.pact_paths.specs.declared.path_reader.PathFault.TheVariants.{Memory, NoRoot};
+ghost use Rattle.pact_paths.specs.declared.path_reader.PathFault.{PathFault as PathFaultModel};
+ghost use Rattle.pact_paths.specs.declared.path_reader.PathFault.TheVariants.{Memory};
 ghost use Rattle.std.specs.Str.Parse.{digits_value};
 ghost use Rattle.std.specs.Str.{all_ascii_digits};
 
@@ -60,22 +61,40 @@ impl Path {
     /// Reads a path: the root `$`, and then at most 60 tokens, each `.name`, `['name']`, `[n]`, `.*` or `[*]`. A name
     /// after a dot has one or more characters, none of them `.` `[` `]` `'` `*`; a name in quotes has any but `'`, or
     /// none; an index has one to nine digits. Each token takes what it can, and the error is the first fault from the
-    /// left.
+    /// left. Memory may run out only for a text that has no fault.
     pub fn read(alloc: Global, text: &str) -> Result<Path, PathFault>
         // The result is the one reading of the text, unless memory runs out.
         ensures reading { (result ≡ Err Memory) ⊎ IsTheReading text.now result }
 
-        // The same, computed.
-        ensures computed { Gives Memory (λ p. p) result (path_in text.now) }
+        // A fault is found before any memory is taken.
+        ensures faults { (e : PathFaultModel) → IsReading text.now (Err e) → result ≡ Err e }
 
-        // A missing root is found before any memory is taken.
-        ensures rootless { (result ≡ Err NoRoot) ↔ IsReading text.now (Err NoRoot) }
+        // Both, computed.
+        ensures computed { GivesChecked Memory (λ p. p) result (path_in text.now) }
     {
         let Some(rest) = behind(text, '$') else {
             return Err(PathFault::NoRoot);
         };
+        check_tokens(text.len(), MAX_TOKENS, rest)?;
         let tokens = tokens_of(alloc, text.len(), MAX_TOKENS, rest, Vec::new(alloc))?;
         Ok(Path { tokens })
+    }
+}
+
+/// Whether what is left of a text of `total` bytes is at most so many tokens, or the first fault. Takes no memory.
+fn check_tokens(total: usize, limit: usize, text: &str) -> Result<(), PathFault>
+    requires { length text.now ≤ total }
+    ensures { result ≡ checked (tokens_in total limit text.now) }
+{
+    if text.is_empty() {
+        return Ok(());
+    }
+    if limit == 0 {
+        return Err(PathFault::TooManyTokens);
+    }
+    match token_at(text) {
+        Some((_, rest)) => check_tokens(total, limit - 1, rest),
+        None => Err(PathFault::BadToken(total - text.len())),
     }
 }
 
@@ -97,61 +116,76 @@ fn tokens_of(
     if limit == 0 {
         return Err(PathFault::TooManyTokens);
     }
-    match token_at(alloc, text)? {
-        Some((token, rest)) => {
+    match token_at(text) {
+        Some((seen, rest)) => {
             let mut tokens = tokens;
-            tokens.push(token)?;
+            tokens.push(kept(alloc, seen)?)?;
             tokens_of(alloc, total, limit - 1, rest, tokens)
         }
         None => Err(PathFault::BadToken(total - text.len())),
     }
 }
 
-/// The token at the front, and what follows it.
-fn token_at(alloc: Global, text: &str) -> Result<Option<(Token, &str)>, AllocError>
-    ensures value { IfOk result (λ o.
-        option_map (λ x. (token_view x.0, x.1.now)) o ≡ token_in text.now) }
-    ensures no_longer { IfOk result (λ o. IfSome o (λ x. length x.1.now ≤ length text.now)) }
-{
-    if let Some(rest) = behind(text, '.') {
-        return dotted(alloc, rest);
-    }
-    if let Some(rest) = behind(text, '[') {
-        return bracketed(alloc, rest);
-    }
-    Ok(None)
+/// A token as it is written in a text.
+#[derive(Clone, Copy)]
+pub(crate) enum Seen<'a> {
+    Name(&'a str),
+    Index(u64),
+    Any,
 }
 
-fn dotted(alloc: Global, text: &str) -> Result<Option<(Token, &str)>, AllocError>
-    ensures value { IfOk result (λ o.
-        option_map (λ x. (token_view x.0, x.1.now)) o ≡ dotted_in text.now) }
-    ensures no_longer { IfOk result (λ o. IfSome o (λ x. length x.1.now ≤ length text.now)) }
+fn kept(alloc: Global, seen: Seen<'_>) -> Result<Token, AllocError>
+    ensures { IfOk result (λ token. token_view token ≡ seen_view seen.entry) }
+{
+    match seen {
+        Seen::Name(name) => Ok(Token::Name(String::from_str(alloc, name)?)),
+        Seen::Index(index) => Ok(Token::Index(index)),
+        Seen::Any => Ok(Token::Any),
+    }
+}
+
+/// The token at the front, and what follows it.
+fn token_at(text: &str) -> Option<(Seen<'_>, &str)>
+    ensures value { option_map (λ x. (seen_view x.0, x.1.now)) result ≡ token_in text.now }
+    ensures no_longer { IfSome result (λ x. length x.1.now ≤ length text.now) }
+{
+    if let Some(rest) = behind(text, '.') {
+        return dotted(rest);
+    }
+    if let Some(rest) = behind(text, '[') {
+        return bracketed(rest);
+    }
+    None
+}
+
+fn dotted(text: &str) -> Option<(Seen<'_>, &str)>
+    ensures value { option_map (λ x. (seen_view x.0, x.1.now)) result ≡ dotted_in text.now }
+    ensures no_longer { IfSome result (λ x. length x.1.now ≤ length text.now) }
 {
     if let Some(rest) = behind(text, '*') {
-        return Ok(Some((Token::Any, rest)));
+        return Some((Seen::Any, rest));
     }
     let end = plain_len(text);
     if end == 0 {
-        return Ok(None);
+        return None;
     }
     let (name, rest) = text.split_at(end);
-    Ok(Some((Token::Name(String::from_str(alloc, name)?), rest)))
+    Some((Seen::Name(name), rest))
 }
 
-fn bracketed(alloc: Global, text: &str) -> Result<Option<(Token, &str)>, AllocError>
-    ensures value { IfOk result (λ o.
-        option_map (λ x. (token_view x.0, x.1.now)) o ≡ bracketed_in text.now) }
-    ensures no_longer { IfOk result (λ o. IfSome o (λ x. length x.1.now ≤ length text.now)) }
+fn bracketed(text: &str) -> Option<(Seen<'_>, &str)>
+    ensures value { option_map (λ x. (seen_view x.0, x.1.now)) result ≡ bracketed_in text.now }
+    ensures no_longer { IfSome result (λ x. length x.1.now ≤ length text.now) }
 {
     if let Some(rest) = closed_star(text) {
-        return Ok(Some((Token::Any, rest)));
+        return Some((Seen::Any, rest));
     }
     if let Some((name, rest)) = quoted(text) {
-        return Ok(Some((Token::Name(String::from_str(alloc, name)?), rest)));
+        return Some((Seen::Name(name), rest));
     }
     match index(text) {
-        Some((index, rest)) => Ok(Some((Token::Index(index), rest))),
-        None => Ok(None),
+        Some((index, rest)) => Some((Seen::Index(index), rest)),
+        None => None,
     }
 }
 

@@ -1,6 +1,6 @@
-use Rattle.std.proofs.Common.{◌≡◌, ◌<◌, ◌∙◌, ◌-◌, map, length, option_map, Some, None, sym, ap, subst, arith}
+use Rattle.std.proofs.Common.{◌≡◌, ◌<◌, ◌∙◌, ◌-◌, ◌++◌, ◌∷◌, [], map, length, Some, None, sym, ap, subst, arith}
 use Rattle.std.proofs.lemmas.List.{map_push}
-use Rattle.pact_paths.specs.TokenView.{token_view}
+use Rattle.pact_paths.specs.TokenView.{token_view, seen_view}
 use Rattle.pact_paths.specs.PathReading.{token_in, tokens_in, with_all}
 use Rattle.pact_paths.specs.Outcome.{Gives}
 use Rattle.pact_paths.specs.declared.path_reader.PathFault.TheVariants.{Memory}
@@ -21,13 +21,14 @@ returns-then-limit-eq0 t c =
 pub returns-in_ok-push-in-Some : goal.returns-in_ok-push-in-Some
 returns-in_ok-push-in-Some t c =
     let front = map token_view c.args.tokens.items in
-    let x = token_view c.in-Some.token in
+    let x = seen_view c.in-Some.seen in
     let rest = c.in-Some.rest.now in
     let some : 0 < length c.args.text.now = grind (arith, c.is_empty.ensures, c.if-is_empty.false) in
-    let found : token_in c.args.text.now ≡ Some (x, rest) = sym (ap (option_map (λ y. (token_view y.0, y.1.now))) (sym c.in-Some.is) ∙ c.in_ok-token.ensures.value) in
+    let found : token_in c.args.text.now ≡ Some (x, rest) = sym c.in-Some.ensures.value in
     let more = tokens_more c.args.total c.args.limit c.args.text.now x rest some (omega arith) found in
     subst (Gives Memory (λ v. map token_view v.items) c.tokens_of.result)
-    (ap (λ ts. with_all ts (tokens_in c.args.total (c.args.limit - 1) rest)) (ap (map token_view) c.in_ok-push-in-Some.ensures.items ∙ map_push token_view c.args.tokens.items c.in-Some.token)
+    (ap (λ ts. with_all ts (tokens_in c.args.total (c.args.limit - 1) rest))
+    (ap (map token_view) c.in_ok-push-in-Some.ensures.items ∙ map_push token_view c.args.tokens.items c.in_ok-kept-in-Some.field-0 ∙ ap (λ y. front ++ y ∷ []) c.in_ok-kept-in-Some.ensures)
     ∙ sym (with_all-front front x (tokens_in c.args.total (c.args.limit - 1) rest)) ∙ ap (with_all front) (sym more))
     c.tokens_of.ensures
 
@@ -35,5 +36,5 @@ pub returns-in-None : goal.returns-in-None
 returns-in-None t c =
     let front = map token_view c.args.tokens.items in
     let some : 0 < length c.args.text.now = grind (arith, c.is_empty.ensures, c.if-is_empty.false) in
-    let none : token_in c.args.text.now ≡ None = sym (ap (option_map (λ y. (token_view y.0, y.1.now))) (sym c.in-None.is) ∙ c.in_ok-token.ensures.value) in
+    let none : token_in c.args.text.now ≡ None = sym c.in-None.ensures.value in
     λ ne. ap (with_all front) (tokens_bad c.args.total c.args.limit c.args.text.now some (omega arith) none)
