@@ -1,7 +1,7 @@
 -- what a command does to the tables, inside its transaction
-use Rattle.std.specs.Prelude.{◌⊎◌, Result, Option}
+use Rattle.std.specs.Prelude.{◌⊎◌, Result, Option, IfErr}
 use Rattle.sqlite.specs.Held.{Held, state}
-use Rattle.sqlite.specs.State.{State}
+use Rattle.sqlite.specs.State.{State, HasCleanDisk}
 use Rattle.sqlite_trees.specs.declared.store.Store.{Ghosts}
 use Rattle.table_access.specs.declared.StoreFault.{StoreFault}
 use Rattle.table_access.specs.Calls.{CallsTablesBetween}
@@ -9,10 +9,13 @@ use Rattle.broker_core.specs.Contents.{HasSoundContents}
 use Rattle.broker_core.specs.State.{State as Broker}
 use Rattle.broker_core.specs.Change.{Transition}
 use Rattle.broker_core.specs.declared.answer.Answer.{Answer}
+use Rattle.broker_core.specs.declared.answer.Answer.TheVariants.{Done}
+use Rattle.broker_core.specs.declared.answer.Detail.{Detail}
 use Rattle.broker_core.specs.declared.command.Command.{Command}
 use Rattle.broker_core.specs.declared.policy.Caller.{Caller}
 use Rattle.broker_core.specs.Machine.{StepOfCaller, Step}
 use Rattle.broker_core.specs.Text.{Text}
+use Rattle.broker_tables.specs.Calm.{Serves, IsEndedOrMemory}
 use Rattle.broker_tables.specs.Holds.{Holds}
 use Rattle.command_facts.specs.Primitives.{broker_primitives}
 use Rattle.command_facts.specs.Patterns.{RefusesPattern, ComparesPattern, AsksPattern}
@@ -48,6 +51,20 @@ PerformsWhereBetween old new Allows P r =
     CallsTablesBetween old new r (λ answer. (s : Broker) → Holds old.now s → Allows s → (t : Broker)
     × P s (record { answer = answer; state = t }) × Holds new.now t)
 
+-- a step of the command from this state changes something
+abbrev pub IsToChange : (Broker → Transition → Type 0) → Broker → Type 0
+IsToChange P s = (detail : Detail) × (t : Broker) × P s (record { answer = Done detail; state = t })
+
+-- Why a call fails, in a transaction that shows a state which can be read back: as the store failed, or since a growth
+-- was refused. Only at such states it may fail for another cause.
+abbrev pub FailsOnlyAtBetween : {A : Type 0} → State → State → (Broker → Type 0) → Result A StoreFault → Type 0
+FailsOnlyAtBetween old new At r = HasCleanDisk new → (s : Broker) → Serves old s
+    → IfErr r (λ fault. IsEndedOrMemory old new fault ⊎ At s)
+
+-- why a command fails: only of one that was to change something the change may be refused
+abbrev pub FailsToChangeBetween : State → State → (Broker → Transition → Type 0) → Result Answer StoreFault → Type 0
+FailsToChangeBetween old new P r = FailsOnlyAtBetween old new (IsToChange P) r
+
 -- ---- the same of a connection over this store
 
 module _ {X : Type 0} (store : Ghosts X) (old new : Held X) where
@@ -56,3 +73,9 @@ module _ {X : Type 0} (store : Ghosts X) (old new : Held X) where
 
   abbrev pub PerformsWhere : Result Answer StoreFault → (Broker → Type 0) → (Broker → Transition → Type 0) → Type 0
   PerformsWhere r Allows P = PerformsWhereBetween (state store old) (state store new) Allows P r
+
+  abbrev pub FailsToChange : Result Answer StoreFault → (Broker → Transition → Type 0) → Type 0
+  FailsToChange r P = FailsToChangeBetween (state store old) (state store new) P r
+
+  abbrev pub FailsOnlyAt : {A : Type 0} → Result A StoreFault → (Broker → Type 0) → Type 0
+  FailsOnlyAt r At = FailsOnlyAtBetween (state store old) (state store new) At r
