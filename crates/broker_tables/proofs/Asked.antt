@@ -27,7 +27,7 @@ use Rattle.broker_core.specs.State.{State as Broker}
 use Rattle.broker_tables.specs.Schema.{broker_schema}
 use Rattle.broker_tables.specs.Numbers.{number_of}
 use Rattle.broker_tables.specs.Holds.{Holds, IsBroker, IsRead}
-use Rattle.broker_tables.specs.Calm.{Serves, IsEndedOrMemory, CalmQueriesBetween, CalmQueriesInPlaceBetween, IfNoVersionBetween}
+use Rattle.broker_tables.specs.Calm.{Serves, HasFailedOrMemory, CalmQueriesBetween, CalmQueriesInPlaceBetween, IfNoVersionBetween}
 use Rattle.broker_tables.specs.Readable.{IsReadable}
 use Rattle.broker_tables.proofs.Frames.{meant, runs_here, held_still}
 use Rattle.broker_tables.proofs.NoVersion.{no_items, no_answer, no_first}
@@ -102,13 +102,13 @@ module _ {sql : List ℕ} {params : Row} {query : Query} (asked : Asked sql para
       number_ends sql params old new query asked.names (here at.held.broker) (runs_there at.held.broker) at.unlimited
       (λ rows row h head. each s at.held at.readable rows (reads s at.held rows h).0 row (first_has rows row head))
 
-  pub why_text : FirstReads asked old.now (IsTextAt 0) → Explains (IsEndedOrMemory old new) (FailsToTake TellsText sql params old new)
+  pub why_text : FirstReads asked old.now (IsTextAt 0) → Explains (HasFailedOrMemory old new) (FailsToTake TellsText sql params old new)
   why_text first s at =
       text_ends sql params old new query asked.names (here at.held.broker) (runs_there at.held.broker) at.unlimited
       (λ rows row h head. first s at.held at.readable rows (reads s at.held rows h).0 row head)
 
   pub why_list : {B : Type 0} {Reads : Row → B → Type 0} {Fails : Row → StoreFault → Type 0} {Is : Row → Type 0} → FailsOnly Fails Is
-      → EachReads asked old.now Is → Explains (IsEndedOrMemory old new) (FailsToRead Reads Fails sql params old new)
+      → EachReads asked old.now Is → Explains (HasFailedOrMemory old new) (FailsToRead Reads Fails sql params old new)
   why_list only each s at =
       list_ends sql params old new query asked.names (here at.held.broker) (runs_there at.held.broker) at.unlimited _ _
       (λ rows row h has fault why. else_memory fault (only row fault why) (each s at.held at.readable rows (reads s at.held rows h).0 row has))

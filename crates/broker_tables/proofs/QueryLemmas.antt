@@ -9,7 +9,7 @@ use Rattle.table_access.specs.Calls.{CallsTablesBetween, CallsStoreBetween, Goes
 use Rattle.table_access.proofs.CallLemmas.{call_with, then_ok, then_err, then_stop, seq, ended_since, statement_with, statement_ok, statement_err, statement_result, statement_seq}
 use Rattle.broker_core.specs.State.{State as Broker}
 use Rattle.broker_tables.specs.Holds.{IsRead}
-use Rattle.broker_tables.specs.Calm.{Serves, FailsOnlyBy, IsEndedOrMemory, CalmQueriesBetween, CalmQueriesInPlaceBetween}
+use Rattle.broker_tables.specs.Calm.{Serves, FailsOnlyBy, HasFailedOrMemory, CalmQueriesBetween, CalmQueriesInPlaceBetween}
 
 -- what served a query serves the next one
 pub serves_on : {A : Type 0} (old mid : State) (a : A) (P : A → Broker → Type 0) → HasCleanDisk mid → CallsTablesBetween old mid (Ok a) (IsRead old mid P) → (s : Broker) → Serves old s → Serves mid s
@@ -21,7 +21,7 @@ serves_on old mid a P clean one s it = record {
 }
 
 -- a later failure of the store is one of both
-ended_or_memory : (old mid new : State) (e : StoreFault) → GoesOn old mid → old.faults ≤ mid.faults → IsEndedOrMemory mid new e → IsEndedOrMemory old new e
+ended_or_memory : (old mid new : State) (e : StoreFault) → GoesOn old mid → old.faults ≤ mid.faults → HasFailedOrMemory mid new e → HasFailedOrMemory old new e
 ended_or_memory old mid new e on up (inl ended) = inl (ended_since old mid new e on up ended)
 ended_or_memory old mid new e on up (inr room) = inr room
 
@@ -45,7 +45,7 @@ pub looked_up : {A : Type 0} (old new : State) (r : Result A StoreFault) (Q : A 
     → CallsStoreBetween old new r Q → (HasCleanDisk new → IfErr r Cause) → CalmQueriesInPlaceBetween old new r P
 looked_up old new r Q P Cause more why call cause = in_calm old new r P (statement_with old new r Q _ more call) (λ clean s here. IfErr-weaker r _ _ (why s here) (cause clean))
 
-pub read_out : {A : Type 0} (old new : State) (r : Result A StoreFault) (Q : A → Type 0) (P : A → Broker → Type 0) (Cause : StoreFault → Type 0) → ((a : A) → Q a → IsRead old new P a) → ((s : Broker) → Serves old s → (e : StoreFault) → Cause e → IsEndedOrMemory old new e)
+pub read_out : {A : Type 0} (old new : State) (r : Result A StoreFault) (Q : A → Type 0) (P : A → Broker → Type 0) (Cause : StoreFault → Type 0) → ((a : A) → Q a → IsRead old new P a) → ((s : Broker) → Serves old s → (e : StoreFault) → Cause e → HasFailedOrMemory old new e)
     → CallsTablesBetween old new r Q → (HasCleanDisk new → IfErr r Cause) → CalmQueriesBetween old new r P
 read_out old new r Q P Cause more why call cause = record { call = call_with old new r Q _ more call; calm = λ clean s here. IfErr-weaker r _ _ (why s here) (cause clean) }
 
@@ -70,7 +70,7 @@ looked_result old new a r Q P more store never call =
 pub read_ok : {A B : Type 0} (old new : State) (a : A) (b : B) (Q : A → Type 0) (P : B → Broker → Type 0) → (Q a → IsRead old new P b) → CallsTablesBetween old new (Ok a) Q → CalmQueriesBetween old new (Ok b) P
 read_ok old new a b Q P more call = record { call = then_ok old new a b Q _ more call; calm = λ clean s here. tt }
 
-pub read_err : {A B : Type 0} (old new : State) (e : StoreFault) (Q : A → Type 0) (P : B → Broker → Type 0) (Cause : StoreFault → Type 0) → ((s : Broker) → Serves old s → (e : StoreFault) → Cause e → IsEndedOrMemory old new e)
+pub read_err : {A B : Type 0} (old new : State) (e : StoreFault) (Q : A → Type 0) (P : B → Broker → Type 0) (Cause : StoreFault → Type 0) → ((s : Broker) → Serves old s → (e : StoreFault) → Cause e → HasFailedOrMemory old new e)
     → CallsTablesBetween old new (Err e) Q → (HasCleanDisk new → Cause e) → CalmQueriesBetween old new (Err e) P
 read_err old new e Q P Cause why call cause = record { call = then_err old new e Q _ call; calm = λ clean s here. why s here e (cause clean) }
 

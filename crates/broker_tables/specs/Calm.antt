@@ -24,8 +24,8 @@ abbrev pub FailsOnlyBy : {A : Type 0} → State → State → Result A StoreFaul
 FailsOnlyBy old new r Cause = HasCleanDisk new → (s : Broker) → Serves old s → IfErr r Cause
 
 -- the store failed, which ended the transaction, or a growth was refused
-abbrev pub IsEndedOrMemory : State → State → StoreFault → Type 0
-IsEndedOrMemory old new fault = HasFailed old new fault ⊎ (fault ≡ Memory)
+abbrev pub HasFailedOrMemory : State → State → StoreFault → Type 0
+HasFailedOrMemory old new fault = HasFailed old new fault ⊎ (fault ≡ Memory)
 
 -- a query, where there may be no room for its answer
 pub record CalmQueriesBetween {A : Type 0} (old new : State) (r : Result A StoreFault) (P : A → Broker → Type 0)
@@ -33,7 +33,7 @@ pub record CalmQueriesBetween {A : Type 0} (old new : State) (r : Result A Store
   -- what it answers
   pub call : QueriesBetween old new r P
   -- why it fails
-  pub calm : FailsOnlyBy old new r (IsEndedOrMemory old new)
+  pub calm : FailsOnlyBy old new r (HasFailedOrMemory old new)
 
 -- a query whose answer takes no memory
 pub record CalmQueriesInPlaceBetween {A : Type 0} (old new : State) (r : Result A StoreFault)
@@ -66,7 +66,7 @@ module _ {X : Type 0} (store : Ghosts X) (old new : Held X) where
 
   -- why a call fails whose answer is stated otherwise, if there may be no room for it, or if it takes no memory
   abbrev pub IsCalm : {A : Type 0} → Result A StoreFault → Type 0
-  IsCalm r = FailsOnlyBy (state store old) (state store new) r (IsEndedOrMemory (state store old) (state store new))
+  IsCalm r = FailsOnlyBy (state store old) (state store new) r (HasFailedOrMemory (state store old) (state store new))
 
   abbrev pub IsCalmInPlace : {A : Type 0} → Result A StoreFault → Type 0
   IsCalmInPlace r = FailsOnlyBy (state store old) (state store new) r (HasFailed (state store old) (state store new))

@@ -15,7 +15,7 @@ use Rattle.broker_core.specs.declared.command.Command.{Command}
 use Rattle.broker_core.specs.declared.policy.Caller.{Caller}
 use Rattle.broker_core.specs.Machine.{StepOfCaller, Step}
 use Rattle.broker_core.specs.Text.{Text}
-use Rattle.broker_tables.specs.Calm.{Serves, IsEndedOrMemory}
+use Rattle.broker_tables.specs.Calm.{Serves, HasFailedOrMemory}
 use Rattle.broker_tables.specs.Holds.{Holds}
 use Rattle.command_facts.specs.Primitives.{broker_primitives}
 use Rattle.command_facts.specs.Patterns.{RefusesPattern, ComparesPattern, AsksPattern}
@@ -59,7 +59,7 @@ IsToChange P s = (detail : Detail) × (t : Broker) × P s (record { answer = Don
 -- was refused. Only at such states it may fail for another cause.
 abbrev pub FailsOnlyAtBetween : {A : Type 0} → State → State → (Broker → Type 0) → Result A StoreFault → Type 0
 FailsOnlyAtBetween old new At r = HasCleanDisk new → (s : Broker) → Serves old s
-    → IfErr r (λ fault. IsEndedOrMemory old new fault ⊎ At s)
+    → IfErr r (λ fault. HasFailedOrMemory old new fault ⊎ At s)
 
 -- why a command fails: only of one that was to change something the change may be refused
 abbrev pub FailsToChangeBetween : State → State → (Broker → Transition → Type 0) → Result Answer StoreFault → Type 0

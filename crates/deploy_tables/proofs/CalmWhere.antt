@@ -6,7 +6,7 @@ use Rattle.table_access.specs.declared.StoreFault.{StoreFault}
 use Rattle.table_access.proofs.CallLemmas.{ended_since}
 use Rattle.broker_core.specs.State.{State as Broker}
 use Rattle.broker_tables.specs.Holds.{QueriesBetween}
-use Rattle.broker_tables.specs.Calm.{Serves, IsEndedOrMemory, CalmQueriesBetween}
+use Rattle.broker_tables.specs.Calm.{Serves, HasFailedOrMemory, CalmQueriesBetween}
 use Rattle.broker_tables.proofs.QueryLemmas.{serves_on, query_failed}
 use Rattle.deploy_tables.specs.CalmWhere.{IsCalmWhereBetween}
 
@@ -23,5 +23,5 @@ where_then old mid new a r P Q First Then more one two why clean s here may =
 
 -- the failure of a query after another
 pub where_failed : {A B : Type 0} (old mid new : State) (a : A) (e : StoreFault) (P : A → Broker → Type 0) (Q : B → Broker → Type 0) → CalmQueriesBetween old mid (Ok a) P → CalmQueriesBetween mid new (Err e) Q
-    → HasCleanDisk new → (s : Broker) → Serves old s → IsEndedOrMemory old new e
+    → HasCleanDisk new → (s : Broker) → Serves old s → HasFailedOrMemory old new e
 where_failed {A} {B} old mid new a e P Q one two = (query_failed {A = A} {B = B} {C = B} old mid new a e P Q Q one two).calm
