@@ -177,7 +177,7 @@ module _ (name : List ℕ) (tree : ℕ) (columns : List Column) (key : Option �
 
     -- it fails only as the store fails, and no row is too big
     pub delete_fails : (e : Error) → Executes sql params old new (Err e) → Fails old new ⊥ e
-    delete_fails e h = elim (change_fails sql params old new (Delete at query) (λ e. ⊥) means runs.whole refl refl placed (λ text e. does text (Some e)) e h) [ inl fails ↦ caused_by old new e (λ big. does big.0 None big.1) fails | inr no ↦ absurd no ]
+    delete_fails e h = elim (change_fails sql params old new (Delete at query) (λ e. ⊥) means runs.whole refl refl placed (λ text e. does text (Some e)) e h) [ inl fails ↦ caused_by old new e (λ big. does big.0 None big.1) fails | inr never ↦ absurd never ]
       where
         placed : (e : Error) → IsMisplaced old (Delete at query) e → ⊥
         placed e (inl (is, inl begins)) = let k = begins.0 in cc
