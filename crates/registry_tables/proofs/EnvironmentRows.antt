@@ -53,7 +53,7 @@ use Rattle.broker_tables.proofs.Growth.{none_stands}
 use Rattle.broker_tables.proofs.References.{refers_environment}
 use Rattle.broker_tables.proofs.Standing.{stands_found, stands_put, value_map}
 use Rattle.broker_tables.proofs.Placed.{environments, environments_there, strict_environments, strict_environments_there}
-use Rattle.registry_tables.specs.Marks.{gate_question, strict_question, IsMarkShown, IsMarkKnown}
+use Rattle.registry_tables.specs.Marks.{gate_question, IsMarkShown, IsMarkKnown}
 use Rattle.registry_tables.specs.Registry.{marks}
 use Rattle.std.proofs.Common.{inl}
 
@@ -177,7 +177,7 @@ gate_known e old new gated h plain = (h.0, shown_again gate_question (Text e ∷
 -- ---- the mark strict
 
 abbrev pub strict_sql : List ℕ
-strict_sql = strict_question
+strict_sql = codes "SELECT environment FROM strict_environments WHERE environment = ?1"
 
 abbrev pub strict_query : Query
 strict_query = from_table 26 (op2 (Compare Eq Binary) (col 1 1) (col 0 0) ∷ []) (col 1 1 ∷ []) []

@@ -7,7 +7,7 @@ use Rattle.sqlite.specs.Given.{IsPlain}
 use Rattle.sqlite.specs.Listing.{understood}
 use Rattle.table_access.specs.declared.StoreFault.{StoreFault}
 use Rattle.table_access.specs.declared.StoreFault.TheVariants.{Store}
-use Rattle.table_access.specs.Reading.{FailsToTake, IsRefusedAs}
+use Rattle.table_access.specs.Reading.{FailsToTake}
 use Rattle.broker_core.specs.Text.{Text}
 use Rattle.broker_tables.specs.Rows.{mark_of, IsTruthAt}
 
@@ -35,13 +35,7 @@ abbrev pub FailsAsMark : Text → State → State → StoreFault → Type 0
 FailsAsMark environment old new fault =
     FailsToTake TellsNoMark gate_question (value.Text environment ∷ []) old new fault
 
--- the question whether the environment is strict
-abbrev pub strict_question : List ℕ
-strict_question = codes "SELECT environment FROM strict_environments WHERE environment = ?1"
-
--- The first mark couldn't be read; or it was, and the question for the second was refused.
+-- The first mark couldn't be read; or it is known, and only the second wasn't read.
 abbrev pub FailsAsMarks : Text → State → State → StoreFault → Type 0
 FailsAsMarks environment old new fault =
-    FailsAsMark environment old new fault
-    ⊎ ((gated : Bool) × (mid : State) × IsMarkShown environment old mid (Some gated)
-    × IsRefusedAs strict_question (value.Text environment ∷ []) mid new fault)
+    FailsAsMark environment old new fault ⊎ ((gated : Bool) × IsMarkKnown environment old (Some gated))

@@ -1,13 +1,11 @@
 //! Environments and their two marks: whether the gate judges what comes in, and whether it trusts only checked results.
-ghost use Rattle.std.specs.Prelude.{◌≡◌, ◌==◌, Bool, false, [], ◌∷◌, Option, Some, IfOk, IfErr, option_map, is_some};
+ghost use Rattle.std.specs.Prelude.{◌≡◌, ◌==◌, false, Option, Bool, Some, IfOk, IfErr, option_map, is_some};
 ghost use Rattle.sqlite.specs.Held.{state};
 ghost use Rattle.sqlite.specs.State.{HasCleanDisk};
-ghost use Rattle.sqlite.specs.declared.types.Value.TheVariants as value;
-ghost use Rattle.table_access.specs.Reading.{IsRefusedAs};
 ghost use Rattle.broker_core.specs.declared.command.Marks.{Marks as MarksModel};
 ghost use Rattle.broker_tables.specs.Holds.{Changes};
 ghost use Rattle.broker_tables.specs.Calm.{CalmQueriesInPlace};
-ghost use Rattle.registry_tables.specs.Marks.{IsMarkShown, IsMarkKnown, FailsAsMark, FailsAsMarks, strict_question};
+ghost use Rattle.registry_tables.specs.Marks.{IsMarkShown, IsMarkKnown, FailsAsMark, FailsAsMarks};
 ghost use Rattle.registry_tables.specs.Registry.{AddsEnvironment, marks, MakesStrict};
 
 use broker_core::command::Marks;
@@ -42,11 +40,8 @@ pub fn gated<S: Alter>(
 
 /// Whether an environment that is there is strict.
 fn is_strict<S: Alter>(conn: &mut Connection<S>, environment: &str) -> Result<bool, StoreFault>
-    ensures answers { CalmQueriesInPlace S.Store conn.old conn.new result
+    ensures { CalmQueriesInPlace S.Store conn.old conn.new result
         (λ strict s. (m : MarksModel) → s.environments environment.now ≡ Some m → strict ≡ m.strict) }
-    ensures cause { HasCleanDisk (state S.Store conn.new) →
-        IfErr result (IsRefusedAs strict_question (value.Text environment.now ∷ [])
-        (state S.Store conn.old) (state S.Store conn.new)) }
 {
     has_row(
         conn,

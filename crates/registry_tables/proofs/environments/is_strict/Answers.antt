@@ -8,8 +8,8 @@ use Rattle.broker_tables.proofs.Frames.{held_still}
 use Rattle.registry_tables.proofs.EnvironmentRows.{strict_means, strict_runs, strict_found}
 use Rattle.registry_tables.proofs.environments.is_strict.Goals as goal
 
-pub returns-clause-answers : goal.returns-clause-answers
-returns-clause-answers g c =
+pub returns : goal.returns
+returns g c =
     let old = state g.S.Store c.args.conn.now in
     let new = state g.S.Store c.has_row.new.conn in
     let said = rw c.params-to_sql.ensures at c.has_row.ensures in
@@ -18,6 +18,3 @@ returns-clause-answers g c =
       held_still _ _ old new h.0 s (strict_means old.now held.broker) h.1 held,
     ))
     (λ s here. refusal_ends _ _ old new _ _ (strict_means old.now here.held.broker) (strict_runs old.now here.held.broker c.args.environment.now) here.unlimited) said.leaves said.cause
-
-pub returns-clause-cause : goal.returns-clause-cause
-returns-clause-cause g c = rw c.params-to_sql.ensures at c.has_row.ensures.cause

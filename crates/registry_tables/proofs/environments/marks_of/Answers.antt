@@ -6,7 +6,7 @@ use Rattle.registry_tables.proofs.environments.marks_of.Goals as goal
 
 pub returns-in-Ok-is_strict-clause-known : goal.returns-in-Ok-is_strict-clause-known
 returns-in-Ok-is_strict-clause-known g c clean =
-    let mid_clean : HasCleanDisk (state g.S.Store c.gated.new.conn) = omega (arith, c.is_strict.ensures.answers.call.survives.clean, clean) in
+    let mid_clean : HasCleanDisk (state g.S.Store c.gated.new.conn) = omega (arith, c.is_strict.ensures.call.survives.clean, clean) in
     gate_known c.args.environment.now (state g.S.Store c.args.conn.now) (state g.S.Store c.gated.new.conn) (Some c.in-Some.gated) (rw c.in-Some.is at (c.in-Ok.ensures.shown mid_clean))
 
 pub returns-in-None-clause-known : goal.returns-in-None-clause-known
@@ -15,8 +15,3 @@ returns-in-None-clause-known g c clean =
 
 pub returns-in-Err-clause-cause : goal.returns-in-Err-clause-cause
 returns-in-Err-clause-cause g c clean = inl (c.in-Err.ensures.cause clean)
-
-pub returns-in-Ok-is_strict-in-Err-clause-cause : goal.returns-in-Ok-is_strict-in-Err-clause-cause
-returns-in-Ok-is_strict-in-Err-clause-cause g c clean =
-    let mid_clean : HasCleanDisk (state g.S.Store c.gated.new.conn) = omega (arith, c.is_strict.ensures.answers.call.survives.clean, clean) in
-    inr (c.in-Some.gated, state g.S.Store c.gated.new.conn, rw c.in-Some.is at (c.in-Ok.ensures.shown mid_clean), c.is_strict-in-Err.ensures.cause clean)
