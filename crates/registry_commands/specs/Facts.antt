@@ -1,6 +1,6 @@
 -- what the registry's commands read of a state and decide of it, for the clauses of private functions: no public clause
 -- cites it
-use Rattle.std.specs.Prelude.{◌≡◌, ℕ, List, Option, Some, None, is_some, false, true, IsTrue, length, option_map, string_bytes}
+use Rattle.std.specs.Prelude.{◌≡◌, ℕ, Option, Some, None, is_some, false, true, IsTrue, length, option_map, string_bytes}
 use Rattle.sqlite.specs.Effect.{Database}
 use Rattle.broker_core.specs.Text.{Text, put_at, same_text, same_pair}
 use Rattle.broker_core.specs.State.{State as Broker}

@@ -2,7 +2,7 @@
 ghost use Rattle.std.specs.Prelude.{◌≡◌, None, IfOk, IfErr, IfSome, IfNone};
 ghost use Rattle.broker_core.specs.Machine.{fault_of_marks};
 ghost use Rattle.broker_core.specs.declared.command.Command.TheVariants.{PutEnvironment};
-ghost use Rattle.command_facts.specs.Performs.{Performs, IsStepOf};
+ghost use Rattle.command_facts.specs.Performs.{Performs, FailsToChange, IsStepOf};
 ghost use Rattle.registry_commands.specs.Facts.{RefusesMarks, AnswersPutEnvironment, AddsNewEnvironment};
 
 use broker_core::answer::{Answer, Clash, Detail};
@@ -62,7 +62,9 @@ fn put_marks<S: Alter>(
     marks: Marks,
 ) -> Result<Answer, StoreFault>
     requires { fault_of_marks marks ≡ None }
-    ensures { Performs S.Store conn.old conn.new result
+    ensures answers { Performs S.Store conn.old conn.new result
+        (IsStepOf caller.now (PutEnvironment environment.now marks)) }
+    ensures calm { FailsToChange S.Store conn.old conn.new result
         (IsStepOf caller.now (PutEnvironment environment.now marks)) }
 {
     let old = done!(marks_of(conn, environment.as_str()));
@@ -87,7 +89,9 @@ pub fn put_environment<S: Alter>(
     environment: &Name,
     marks: Marks,
 ) -> Result<Answer, StoreFault>
-    ensures { Performs S.Store conn.old conn.new result
+    ensures answers { Performs S.Store conn.old conn.new result
+        (IsStepOf caller.now (PutEnvironment environment.now marks)) }
+    ensures calm { FailsToChange S.Store conn.old conn.new result
         (IsStepOf caller.now (PutEnvironment environment.now marks)) }
 {
     match done!(form_of_marks(alloc, marks)) {

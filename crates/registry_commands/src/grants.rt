@@ -1,8 +1,8 @@
 //! PUT and DELETE of a grant.
 ghost use Rattle.std.specs.Prelude.{IfSome, IfNone};
 ghost use Rattle.broker_core.specs.declared.command.Command.TheVariants.{PutGrant, DeleteGrant};
-ghost use Rattle.broker_tables.specs.Holds.{Queries};
-ghost use Rattle.command_facts.specs.Performs.{Performs, IsStepOf};
+ghost use Rattle.broker_tables.specs.Calm.{CalmQueriesInPlace};
+ghost use Rattle.command_facts.specs.Performs.{Performs, FailsToChange, IsStepOf};
 ghost use Rattle.registry_commands.specs.Facts.{IsGrantRead, AnswersPutGrant, AddsNewGrant, AnswersDeleteGrant, TakesGrant};
 
 use broker_core::answer::{Answer, Detail, Missing};
@@ -31,7 +31,8 @@ fn read_grant_facts<S: Alter>(
     team: &Name,
     environment: &Name,
 ) -> Result<GrantFacts, StoreFault>
-    ensures { Queries S.Store conn.old conn.new result (λ found s. IsGrantRead s team.now environment.now found) }
+    ensures { CalmQueriesInPlace S.Store conn.old conn.new result
+        (λ found s. IsGrantRead s team.now environment.now found) }
 {
     let has_team = done!(has_team(conn, team.as_str()));
     let gated = done!(gated(conn, environment.as_str()));
@@ -95,7 +96,9 @@ pub fn put_grant<S: Alter>(
     team: &Name,
     environment: &Name,
 ) -> Result<Answer, StoreFault>
-    ensures { Performs S.Store conn.old conn.new result
+    ensures answers { Performs S.Store conn.old conn.new result
+        (IsStepOf caller.now (PutGrant team.now environment.now)) }
+    ensures calm { FailsToChange S.Store conn.old conn.new result
         (IsStepOf caller.now (PutGrant team.now environment.now)) }
 {
     let facts = done!(read_grant_facts(conn, team, environment));
@@ -120,7 +123,9 @@ pub fn delete_grant<S: Alter>(
     team: &Name,
     environment: &Name,
 ) -> Result<Answer, StoreFault>
-    ensures { Performs S.Store conn.old conn.new result
+    ensures answers { Performs S.Store conn.old conn.new result
+        (IsStepOf caller.now (DeleteGrant team.now environment.now)) }
+    ensures calm { FailsToChange S.Store conn.old conn.new result
         (IsStepOf caller.now (DeleteGrant team.now environment.now)) }
 {
     let facts = done!(read_grant_facts(conn, team, environment));

@@ -1,8 +1,8 @@
 //! PUT of a pacticipant.
 
 ghost use Rattle.std.specs.Prelude.{IfSome, IfNone};
-ghost use Rattle.broker_tables.specs.Holds.{Queries};
-ghost use Rattle.command_facts.specs.Performs.{Performs, IsStepOf};
+ghost use Rattle.broker_tables.specs.Calm.{CalmQueries};
+ghost use Rattle.command_facts.specs.Performs.{Performs, FailsToChange, IsStepOf};
 ghost use Rattle.registry_commands.specs.Facts.{IsPacticipantRead, AnswersPutPacticipant, AddsNewPacticipant};
 ghost use Rattle.broker_core.specs.declared.command.Command.TheVariants.{PutPacticipant};
 
@@ -30,7 +30,7 @@ fn read_pacticipant_facts<S: Alter>(
     pacticipant: &Name,
     team: &Name,
 ) -> Result<PacticipantFacts, StoreFault>
-    ensures { Queries S.Store conn.old conn.new result
+    ensures { CalmQueries S.Store conn.old conn.new result
         (λ found s. IsPacticipantRead s pacticipant.now team.now found) }
 {
     let has_team = done!(has_team(conn, team.as_str()));
@@ -76,7 +76,9 @@ pub fn put_pacticipant<S: Alter>(
     pacticipant: &Name,
     team: &Name,
 ) -> Result<Answer, StoreFault>
-    ensures { Performs S.Store conn.old conn.new result
+    ensures answers { Performs S.Store conn.old conn.new result
+        (IsStepOf caller.now (PutPacticipant pacticipant.now team.now)) }
+    ensures calm { FailsToChange S.Store conn.old conn.new result
         (IsStepOf caller.now (PutPacticipant pacticipant.now team.now)) }
 {
     let facts = done!(read_pacticipant_facts(conn, pacticipant, team));

@@ -3,8 +3,8 @@
 ghost use Rattle.std.specs.Prelude.{◌≡◌, ℕ, List, Some, IfSome, IfNone};
 ghost use Rattle.broker_core.specs.State.{State as BrokerState};
 ghost use Rattle.broker_core.specs.Machine.{IsCallerOfDigest};
-ghost use Rattle.broker_tables.specs.Holds.{Queries};
-ghost use Rattle.command_facts.specs.Performs.{Performs, IsStepOf};
+ghost use Rattle.broker_tables.specs.Calm.{CalmQueries};
+ghost use Rattle.command_facts.specs.Performs.{Performs, FailsToChange, IsStepOf};
 ghost use Rattle.registry_commands.specs.Facts.{IsTeamRead, PutsTeam, AnswersPutTeam, AddsNewTeam};
 ghost use Rattle.broker_core.specs.declared.command.Command.TheVariants.{PutTeam};
 
@@ -34,7 +34,7 @@ fn read_team_facts<S: Alter>(
     team: &Name,
     digest: &str,
 ) -> Result<TeamFacts, StoreFault>
-    ensures { Queries S.Store conn.old conn.new result (λ found s. IsTeamRead s team.now digest.now found) }
+    ensures { CalmQueries S.Store conn.old conn.new result (λ found s. IsTeamRead s team.now digest.now found) }
 {
     let old = done!(registry_tables::digest_of(conn, team.as_str()));
     let holder = done!(holder_of(alloc, conn, digest));
@@ -80,7 +80,10 @@ fn put_digest<S: Alter>(
     team: &Name,
     digest: &str,
 ) -> Result<Answer, StoreFault>
-    ensures { Performs S.Store conn.old conn.new result (λ s out. PutsTeam s caller.now team.now digest.now out) }
+    ensures answers { Performs S.Store conn.old conn.new result
+        (λ s out. PutsTeam s caller.now team.now digest.now out) }
+    ensures calm { FailsToChange S.Store conn.old conn.new result
+        (λ s out. PutsTeam s caller.now team.now digest.now out) }
 {
     let facts = done!(read_team_facts(alloc, conn, team, digest));
     match decide_put_team(alloc, caller, &facts, digest) {
@@ -104,7 +107,9 @@ pub fn put_team<S: Alter>(
     team: &Name,
     token: &Token,
 ) -> Result<Answer, StoreFault>
-    ensures { Performs S.Store conn.old conn.new result (IsStepOf caller.now (PutTeam team.now token.now)) }
+    ensures answers { Performs S.Store conn.old conn.new result (IsStepOf caller.now (PutTeam team.now token.now)) }
+    ensures calm { FailsToChange S.Store conn.old conn.new result
+        (IsStepOf caller.now (PutTeam team.now token.now)) }
 {
     let digest = done!(digest_of(alloc, token.as_str()));
     put_digest(alloc, conn, caller, team, digest.as_str())

@@ -4,10 +4,11 @@ ghost use Rattle.table_access.specs.Calls.{CallsStore};
 ghost use Rattle.broker_core.specs.Change.{named, on_branch};
 ghost use Rattle.broker_core.specs.declared.command.Command.TheVariants.{PutVersion};
 ghost use Rattle.broker_core.specs.declared.command.Version.{Version as VersionModel};
-ghost use Rattle.broker_tables.specs.Holds.{Queries, ChangesAndAnswers};
+ghost use Rattle.broker_tables.specs.Calm.{CalmQueries, CalmQueriesInPlace};
+ghost use Rattle.broker_tables.specs.Holds.{ChangesAndAnswers};
 ghost use Rattle.broker_tables.specs.Numbers.{number_of};
 ghost use Rattle.registry_tables.specs.Registry.{AllowsVersion, AddsVersion};
-ghost use Rattle.command_facts.specs.Performs.{Performs, IsStepOf};
+ghost use Rattle.command_facts.specs.Performs.{Performs, FailsToChange, IsStepOf};
 ghost use Rattle.registry_commands.specs.Facts.{IsNumberRead, IsRoomRead, IsNamingRead, CanJoin, AnswersPutVersion, NamesOrJoins, IsNamedApart, JoinsTable, RecordsVersion};
 
 use broker_core::answer::{Answer, Detail, Missing};
@@ -54,7 +55,7 @@ fn read_branch<S: Alter>(
     number: u32,
     branch: &Option<Name>,
 ) -> Result<bool, StoreFault>
-    ensures { Queries S.Store conn.old conn.new result
+    ensures { CalmQueriesInPlace S.Store conn.old conn.new result
         (λ on s. (v : VersionModel) → number_of s.versions v ≡ Some number
         → on_branch s v branch.now ≡ on) }
 {
@@ -70,7 +71,8 @@ fn read_number<S: Alter>(
     version: &Version,
     branch: &Option<Name>,
 ) -> Result<NumberFacts, StoreFault>
-    ensures { Queries S.Store conn.old conn.new result (λ found s. IsNumberRead s version.now branch.now found) }
+    ensures { CalmQueriesInPlace S.Store conn.old conn.new result
+        (λ found s. IsNumberRead s version.now branch.now found) }
 {
     match done!(version_of(conn, version.pacticipant.as_str(), version.name.as_str())) {
         Some(number) => Ok(NumberFacts {
@@ -86,7 +88,7 @@ fn read_number<S: Alter>(
 
 /// How many versions there are, and whether there is room for one more.
 fn read_room<S: Alter>(conn: &mut Connection<S>) -> Result<RoomFacts, StoreFault>
-    ensures { Queries S.Store conn.old conn.new result (λ found s. IsRoomRead s found) }
+    ensures { CalmQueriesInPlace S.Store conn.old conn.new result (λ found s. IsRoomRead s found) }
 {
     let count = done!(version_count(conn));
     Ok(RoomFacts {
@@ -103,7 +105,7 @@ fn read_naming_facts<S: Alter>(
     version: &Version,
     branch: &Option<Name>,
 ) -> Result<NamingFacts, StoreFault>
-    ensures { Queries S.Store conn.old conn.new result
+    ensures { CalmQueries S.Store conn.old conn.new result
         (λ found s. IsNamingRead s caller.now version.now branch.now found) }
 {
     let owner = done!(read_owner(alloc, conn, caller, Rule::A3, &version.pacticipant, false));
@@ -220,7 +222,10 @@ pub fn put_version<S: Alter>(
     version: &Version,
     branch: &Option<Name>,
 ) -> Result<Answer, StoreFault>
-    ensures { Performs S.Store conn.old conn.new result (IsStepOf caller.now (PutVersion version.now branch.now)) }
+    ensures answers { Performs S.Store conn.old conn.new result
+        (IsStepOf caller.now (PutVersion version.now branch.now)) }
+    ensures calm { FailsToChange S.Store conn.old conn.new result
+        (IsStepOf caller.now (PutVersion version.now branch.now)) }
 {
     let facts = done!(read_naming_facts(alloc, conn, caller, version, branch));
     match decide_put_version(facts) {

@@ -1,4 +1,4 @@
-use Rattle.std.proofs.Common.{◌≡◌, true, false, sym, ◌∙◌, ap}
+use Rattle.std.proofs.Common.{Err, ◌≡◌, true, false, sym, ◌∙◌, ap}
 use Rattle.std.specs.Option.{is_some}
 use Rattle.sqlite.specs.Held.{state}
 use Rattle.broker_core.specs.Text.{put_at, same_text, same_pair, Text}
@@ -7,11 +7,12 @@ use Rattle.broker_core.specs.declared.command.Command.TheVariants.{PutGrant}
 use Rattle.broker_core.specs.declared.answer.Answer.TheVariants.{Done}
 use Rattle.broker_core.specs.declared.answer.Detail.TheVariants.{Plain}
 use Rattle.command_facts.specs.Primitives.{broker_primitives}
+use Rattle.command_facts.proofs.FailLemmas.{change_fails}
 use Rattle.command_facts.proofs.PerformLemmas.{changed_then}
 use Rattle.registry_commands.proofs.grants.put_grant.Goals as goal
 
-pub returns-in-Ok-add_grant : goal.returns-in-Ok-add_grant
-returns-in-Ok-add_grant g c =
+pub returns-in-Ok-add_grant-clause-answers : goal.returns-in-Ok-add_grant-clause-answers
+returns-in-Ok-add_grant-clause-answers g c =
     changed_then (state g.S.Store c.args.conn.now) (state g.S.Store c.read_grant_facts.new.conn) (state g.S.Store c.add_grant.new.conn) c.in-Ok.value c.in-Ok-add_grant.value (Done Plain) _ _
     (λ s out. StepOfCaller broker_primitives s c.args.caller.now (PutGrant c.args.team.now c.args.environment.now) out)
     (λ s h. let it = c.in-None.ensures.changes s c.args.team.now c.args.environment.now h in
@@ -21,4 +22,9 @@ returns-in-Ok-add_grant g c =
       record s { grants = put_at (same_pair same_text same_text) s.grants (c.args.team.now, c.args.environment.now) true },
       (team_is, environment_is, grant_is, λ i. record s { grants = put_at (same_pair same_text same_text) s.grants (sym c.as_str.ensures i, sym c.as_str-in-None.ensures i) true }),
       it.3,
-    )) c.in-Ok.ensures c.in-Ok-add_grant.ensures.changes
+    )) c.in-Ok.ensures.call c.in-Ok-add_grant.ensures.changes
+
+pub returns-in-Err-add_grant-clause-calm : goal.returns-in-Err-add_grant-clause-calm
+returns-in-Err-add_grant-clause-calm g c =
+    change_fails (state g.S.Store c.args.conn.now) (state g.S.Store c.read_grant_facts.new.conn) (state g.S.Store c.add_grant.new.conn) c.in-Ok.value (Err c.in-Err-add_grant.fault) _ _ _
+    (λ s h. (Plain, _, (c.in-None.ensures.changes s c.args.team.now c.args.environment.now h).3)) c.in-Ok.ensures.call c.in-Err-add_grant.ensures.changes.call

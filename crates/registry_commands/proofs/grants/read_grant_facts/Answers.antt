@@ -1,7 +1,7 @@
 use Rattle.sqlite.specs.Held.{state}
-use Rattle.table_access.proofs.CallLemmas.{failed_then}
+use Rattle.command_facts.proofs.CalmLemmas.{place_failed}
 use Rattle.registry_commands.proofs.grants.read_grant_facts.Goals as goal
 
 pub returns-in-Err-gated : goal.returns-in-Err-gated
 returns-in-Err-gated g c =
-    failed_then (state g.S.Store c.args.conn.now) (state g.S.Store c.has_team.new.conn) (state g.S.Store c.gated.new.conn) c.in-Ok.value c.in-Err-gated.fault _ _ _ c.in-Ok.ensures.call c.in-Err-gated.ensures.answers.call
+    place_failed (state g.S.Store c.args.conn.now) (state g.S.Store c.has_team.new.conn) (state g.S.Store c.gated.new.conn) c.in-Ok.value c.in-Err-gated.fault _ _ _ c.in-Ok.ensures c.in-Err-gated.ensures.answers

@@ -1,4 +1,4 @@
-use Rattle.std.proofs.Common.{Some, sym, ◌∙◌, ap}
+use Rattle.std.proofs.Common.{Err, Some, sym, ◌∙◌, ap}
 use Rattle.std.specs.Option.{is_some}
 use Rattle.sqlite.specs.Held.{state}
 use Rattle.broker_core.specs.Text.{put_at, same_text}
@@ -7,20 +7,26 @@ use Rattle.broker_core.specs.declared.command.Command.TheVariants.{PutPacticipan
 use Rattle.broker_core.specs.declared.answer.Answer.TheVariants.{Done}
 use Rattle.broker_core.specs.declared.answer.Detail.TheVariants.{Plain}
 use Rattle.command_facts.specs.Primitives.{broker_primitives}
+use Rattle.command_facts.proofs.FailLemmas.{change_fails}
 use Rattle.command_facts.proofs.PerformLemmas.{answered_then, changed_then}
 use Rattle.registry_commands.proofs.put_pacticipant.put_pacticipant.Goals as goal
 
-pub returns-in-Some : goal.returns-in-Some
-returns-in-Some g c =
+pub returns-in-Some-clause-answers : goal.returns-in-Some-clause-answers
+returns-in-Some-clause-answers g c =
     answered_then (state g.S.Store c.args.conn.now) (state g.S.Store c.read_pacticipant_facts.new.conn) _ c.in-Some.answer _ (λ s out. StepOfCaller broker_primitives s c.args.caller.now (PutPacticipant c.args.pacticipant.now c.args.team.now) out)
-    (λ s h. c.in-Some.ensures.unchanged s c.args.pacticipant.now h) c.in-Ok.ensures
+    (λ s h. c.in-Some.ensures.unchanged s c.args.pacticipant.now h) c.in-Ok.ensures.call
 
-pub returns : goal.returns
-returns g c =
+pub returns-clause-answers : goal.returns-clause-answers
+returns-clause-answers g c =
     changed_then (state g.S.Store c.args.conn.now) (state g.S.Store c.read_pacticipant_facts.new.conn) (state g.S.Store c.add_pacticipant.new.conn) _ c.in-Ok-add_pacticipant.value (Done Plain) _ _
     (λ s out. StepOfCaller broker_primitives s c.args.caller.now (PutPacticipant c.args.pacticipant.now c.args.team.now) out)
     (λ s h. let it = c.in-None.ensures.changes s c.args.pacticipant.now h in (
       record s { pacticipants = put_at same_text s.pacticipants c.args.pacticipant.now (Some c.args.team.now) },
       (ap s.pacticipants c.as_str.ensures ∙ it.0, ap (λ t. is_some (s.teams t)) c.as_str-in-None.ensures ∙ it.1, λ i. record s { pacticipants = put_at same_text s.pacticipants (sym c.as_str.ensures i) (Some (sym c.as_str-in-None.ensures i)) }),
       it.2,
-    )) c.in-Ok.ensures c.in-Ok-add_pacticipant.ensures
+    )) c.in-Ok.ensures.call c.in-Ok-add_pacticipant.ensures
+
+pub returns-in-Err-add_pacticipant-clause-calm : goal.returns-in-Err-add_pacticipant-clause-calm
+returns-in-Err-add_pacticipant-clause-calm g c =
+    change_fails (state g.S.Store c.args.conn.now) (state g.S.Store c.read_pacticipant_facts.new.conn) (state g.S.Store c.add_pacticipant.new.conn) c.in-Ok.value (Err c.in-Err-add_pacticipant.fault) _ _ _
+    (λ s h. (Plain, _, (c.in-None.ensures.changes s c.args.pacticipant.now h).2)) c.in-Ok.ensures.call c.in-Err-add_pacticipant.ensures.call

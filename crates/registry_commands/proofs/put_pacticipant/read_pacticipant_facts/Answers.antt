@@ -1,10 +1,11 @@
-use Rattle.std.proofs.Common.{sym, ◌∙◌, ap}
+use Rattle.std.proofs.Common.{Ok, sym, ◌∙◌, ap}
 use Rattle.std.specs.Option.{is_some}
 use Rattle.sqlite.specs.Held.{state}
-use Rattle.command_facts.proofs.PerformLemmas.{read_both}
+use Rattle.broker_tables.proofs.QueryLemmas.{in_place}
+use Rattle.command_facts.proofs.CalmLemmas.{calm_both}
 use Rattle.registry_commands.proofs.put_pacticipant.read_pacticipant_facts.Goals as goal
 
 pub returns : goal.returns
 returns g c =
-    read_both (state g.S.Store c.args.conn.now) (state g.S.Store c.has_team.new.conn) (state g.S.Store c.owner_of.new.conn) c.in-Ok.value c.in-Ok-owner_of.value (record { has_team = c.in-Ok.value; owner = c.in-Ok-owner_of.value }) _ _ _
-    (λ s has owner. record { team_is = has ∙ ap (λ t. is_some (s.teams t)) c.as_str.ensures; owner_is = sym (ap s.pacticipants c.as_str-2.ensures) ∙ sym owner }) c.in-Ok.ensures.call c.in-Ok-owner_of.ensures.answers.call
+    calm_both (state g.S.Store c.args.conn.now) (state g.S.Store c.has_team.new.conn) (state g.S.Store c.owner_of.new.conn) c.in-Ok.value c.in-Ok-owner_of.value (record { has_team = c.in-Ok.value; owner = c.in-Ok-owner_of.value }) _ _ _
+    (λ s has owner. record { team_is = has ∙ ap (λ t. is_some (s.teams t)) c.as_str.ensures; owner_is = sym (ap s.pacticipants c.as_str-2.ensures) ∙ sym owner }) (in_place (state g.S.Store c.args.conn.now) (state g.S.Store c.has_team.new.conn) (Ok c.in-Ok.value) _ c.in-Ok.ensures) c.in-Ok-owner_of.ensures.answers
