@@ -1,9 +1,10 @@
 -- Look-ups that fail only as the store fails, or if there is no memory: another answer of one, and an answer of two.
-use Rattle.std.proofs.Common.{Ok}
+use Rattle.std.proofs.Common.{Ok, Err, Result}
 use Rattle.sqlite.specs.State.{State}
+use Rattle.table_access.specs.declared.StoreFault.{StoreFault}
 use Rattle.broker_core.specs.State.{State as Broker}
-use Rattle.broker_tables.specs.Calm.{CalmQueriesBetween}
-use Rattle.broker_tables.proofs.QueryLemmas.{query_ok}
+use Rattle.broker_tables.specs.Calm.{CalmQueriesBetween, CalmQueriesInPlaceBetween}
+use Rattle.broker_tables.proofs.QueryLemmas.{query_ok, query_seq, place_err, place_seq}
 use Rattle.command_facts.proofs.PerformLemmas.{read_both}
 
 -- another answer of a query
@@ -13,3 +14,12 @@ calm_answers old new x y P Q f = query_ok old new x y P Q (λ h s held. let it =
 -- two queries, and an answer from both
 pub calm_both : {A B C : Type 0} (old mid new : State) (x : A) (y : B) (z : C) (P : A → Broker → Type 0) (Q : B → Broker → Type 0) (R : C → Broker → Type 0) → ((s : Broker) → P x s → Q y s → R z s) → CalmQueriesBetween old mid (Ok x) P → CalmQueriesBetween mid new (Ok y) Q → CalmQueriesBetween old new (Ok z) R
 calm_both old mid new x y z P Q R f one two = record { call = read_both old mid new x y z P Q R f one.call two.call; calm = λ clean s here. tt }
+
+-- one query after another
+pub calm_then : {A B : Type 0} (old mid new : State) (x : A) (r : Result B StoreFault) (P : A → Broker → Type 0) (Q R : B → Broker → Type 0) → ((s : Broker) → P x s → (b : B) → Q b s → R b s) → CalmQueriesBetween old mid (Ok x) P → CalmQueriesBetween mid new r Q → CalmQueriesBetween old new r R
+calm_then old mid new x r P Q R f = query_seq old mid new x r P Q R (λ p b q s held. let first = p s held in let second = q s first.1 in (f s first.0 b second.0, second.1))
+
+-- the failure of a query after another, where neither takes memory
+pub place_failed : {A B C : Type 0} (old mid new : State) (x : A) (e : StoreFault) (P : A → Broker → Type 0) (Q : B → Broker → Type 0) (R : C → Broker → Type 0) → CalmQueriesInPlaceBetween old mid (Ok x) P → CalmQueriesInPlaceBetween mid new (Err e) Q → CalmQueriesInPlaceBetween old new (Err e) R
+place_failed {A} {B} {C} old mid new x e P Q R one two =
+    place_err old new e (λ (b : B) (s : Broker). Q b s) R (place_seq old mid new x (Err e) P Q Q (λ p b q s held. let first = p s held in (q s first.1)) one two)

@@ -1,4 +1,5 @@
 pub mod CallerLemmas
 pub mod CalmLemmas
 pub mod CallerSteps
+pub mod FailLemmas
 pub mod PerformLemmas

@@ -55,11 +55,15 @@ PerformsWhereBetween old new Allows P r =
 abbrev pub IsToChange : (Broker → Transition → Type 0) → Broker → Type 0
 IsToChange P s = (detail : Detail) × (t : Broker) × P s (record { answer = Done detail; state = t })
 
--- Why a command fails, in a transaction that shows a state which can be read back: as the store failed, or since a
--- growth was refused. Only of a command that was to change something the change may be refused.
+-- Why a call fails, in a transaction that shows a state which can be read back: as the store failed, or since a growth
+-- was refused. Only at such states it may fail for another cause.
+abbrev pub FailsOnlyAtBetween : {A : Type 0} → State → State → (Broker → Type 0) → Result A StoreFault → Type 0
+FailsOnlyAtBetween old new At r = HasCleanDisk new → (s : Broker) → Serves old s
+    → IfErr r (λ fault. IsEndedOrMemory old new fault ⊎ At s)
+
+-- why a command fails: only of one that was to change something the change may be refused
 abbrev pub FailsToChangeBetween : State → State → (Broker → Transition → Type 0) → Result Answer StoreFault → Type 0
-FailsToChangeBetween old new P r = HasCleanDisk new → (s : Broker) → Serves old s
-    → IfErr r (λ fault. IsEndedOrMemory old new fault ⊎ IsToChange P s)
+FailsToChangeBetween old new P r = FailsOnlyAtBetween old new (IsToChange P) r
 
 -- ---- the same of a connection over this store
 
@@ -72,3 +76,6 @@ module _ {X : Type 0} (store : Ghosts X) (old new : Held X) where
 
   abbrev pub FailsToChange : Result Answer StoreFault → (Broker → Transition → Type 0) → Type 0
   FailsToChange r P = FailsToChangeBetween (state store old) (state store new) P r
+
+  abbrev pub FailsOnlyAt : {A : Type 0} → Result A StoreFault → (Broker → Type 0) → Type 0
+  FailsOnlyAt r At = FailsOnlyAtBetween (state store old) (state store new) At r

@@ -3,7 +3,6 @@
 ghost use Rattle.std.specs.Prelude.{◌≡◌, ◌↔◌, IfErr, ℕ, List, Some, false, IsTrue, MatchOption, IfOk, string_bytes};
 ghost use Rattle.broker_core.specs.Machine.{IsCallerOfDigest, IsCallerOfToken};
 ghost use Rattle.broker_core.specs.Name.{IsName};
-ghost use Rattle.broker_tables.specs.Holds.{Queries};
 ghost use Rattle.broker_tables.specs.Calm.{CalmQueries};
 ghost use Rattle.command_facts.specs.Callers.{token_of};
 ghost use Rattle.command_facts.specs.Primitives.{broker_primitives};
@@ -87,7 +86,7 @@ pub fn caller_of<S: Alter>(
     conn: &mut Connection<S>,
     token: Option<&str>,
 ) -> Result<Option<Caller>, StoreFault>
-    ensures { Queries S.Store conn.old conn.new result
+    ensures { CalmQueries S.Store conn.old conn.new result
         (λ who s. IsCallerOfToken broker_primitives s (token_of token.entry) who) }
 {
     match token {
