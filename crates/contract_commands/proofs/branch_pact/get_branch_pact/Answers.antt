@@ -5,7 +5,7 @@ use Rattle.command_facts.specs.Primitives.{broker_primitives}
 use Rattle.contract_commands.specs.Failures.{CanNumberNext}
 use Rattle.contract_commands.specs.Pacts.{HasReachedContent}
 use Rattle.contract_commands.proofs.ContentThere.{branch_text}
-use Rattle.contract_commands.proofs.FailLemmas.{calmly, calm_after}
+use Rattle.contract_commands.proofs.FailLemmas.{calm_after}
 use Rattle.contract_commands.proofs.BranchLast.{branch_shown}
 use Rattle.command_facts.proofs.PerformLemmas.{shown_then}
 use Rattle.contract_commands.proofs.branch_pact.get_branch_pact.Goals as goal
@@ -22,4 +22,4 @@ returns-clause-calm g c =
     let mid = state g.S.Store c.read_branch_to_show.new.conn in
     calm_after old mid (state g.S.Store c.show_pact.new.conn) c.in-Ok.value c.show_pact.result _ _ CanNumberNext (λ s. HasReachedContent s c.in-Ok.value)
     (λ s held few reach. branch_text old.now s held c.args.caller.now c.args.provider.now c.args.consumer.now c.args.branch.now c.in-Ok.value reach)
-    (calmly old mid c.in-Ok.value _ c.in-Ok.ensures.answers) c.show_pact.ensures.answers c.show_pact.ensures.calm
+    c.in-Ok.ensures.answers c.show_pact.ensures.answers c.show_pact.ensures.calm

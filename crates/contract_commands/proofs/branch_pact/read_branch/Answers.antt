@@ -2,7 +2,7 @@ use Rattle.std.specs.Prelude.{⊤}
 use Rattle.sqlite.specs.Held.{state}
 use Rattle.broker_tables.proofs.QueryLemmas.{in_place}
 use Rattle.contract_commands.specs.Failures.{CanNumberNext}
-use Rattle.contract_commands.proofs.FailLemmas.{calmly, calm_after}
+use Rattle.contract_commands.proofs.FailLemmas.{calm_after}
 use Rattle.contract_commands.specs.BranchPact.{IsBranchContent}
 use Rattle.contract_commands.proofs.BranchLast.{above_all}
 use Rattle.command_facts.proofs.PerformLemmas.{reads_then}
@@ -18,5 +18,5 @@ pub returns-clause-calm : goal.returns-clause-calm
 returns-clause-calm g c =
     let mid = state g.S.Store c.read_bound.new.conn in
     let new = state g.S.Store c.content_below.new.conn in
-    calm_after (state g.S.Store c.args.conn.now) mid new c.in-Ok.value c.content_below.result _ _ CanNumberNext (λ s. ⊤) (λ s held few bound. tt) (calmly _ mid c.in-Ok.value _ c.in-Ok.ensures.answers) c.content_below.ensures.call
+    calm_after (state g.S.Store c.args.conn.now) mid new c.in-Ok.value c.content_below.result _ _ CanNumberNext (λ s. ⊤) (λ s held few bound. tt) c.in-Ok.ensures.answers c.content_below.ensures.call
     (λ clean s here free. (in_place mid new c.content_below.result _ c.content_below.ensures).calm clean s here)

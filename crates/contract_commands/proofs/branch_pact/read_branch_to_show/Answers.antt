@@ -17,4 +17,4 @@ returns-clause-answers g c =
 pub returns-in-Err-read_branch-clause-calm : goal.returns-in-Err-read_branch-clause-calm
 returns-in-Err-read_branch-clause-calm g c =
     calm_after (state g.S.Store c.args.conn.now) (state g.S.Store c.read_sides_to_show.new.conn) (state g.S.Store c.read_branch.new.conn) c.in-Ok.value (Err c.in-Err-read_branch.fault) _ _ CanNumberNext CanNumberNext (λ s held few sides. few)
-    c.in-Ok.ensures c.in-Err-read_branch.ensures.answers c.in-Err-read_branch.ensures.calm
+    c.in-Ok.ensures.call c.in-Err-read_branch.ensures.answers c.in-Err-read_branch.ensures.calm

@@ -20,4 +20,4 @@ pub returns-clause-calm : goal.returns-clause-calm
 returns-clause-calm g c = λ clean s here.
     let old = state g.S.Store c.args.conn.now in
     calm_after old (state g.S.Store c.read_contract_to_show.new.conn) (state g.S.Store c.show_pact.new.conn) c.in-Ok.value c.show_pact.result _ _ (λ s. ⊤) (λ s. HasReachedContent s c.in-Ok.value)
-    (λ s held free reach. text_reached old.now s held c.args.caller.now c.args.path.now _ _ c.in-Ok.value reach) c.in-Ok.ensures c.show_pact.ensures.answers c.show_pact.ensures.calm clean s here tt
+    (λ s held free reach. text_reached old.now s held c.args.caller.now c.args.path.now _ _ c.in-Ok.value reach) c.in-Ok.ensures.call c.show_pact.ensures.answers c.show_pact.ensures.calm clean s here tt

@@ -45,4 +45,4 @@ returns-in-None-clause-calm g c =
       ((h.provider_is ∙ both.0, h.consumer_is ∙ both.1), room),
       λ made. (made.0, made.1, publishes s caller path text _ (λ file. publication_refused s caller path text file sides h ∙ sym (c.refuse_sides.ensures (PutPact path file) refl) ∙ c.in-None.is) made.2),
     ))
-    c.in-Ok.ensures c.publish_between.ensures.answers c.publish_between.ensures.calm
+    c.in-Ok.ensures.call c.publish_between.ensures.answers c.publish_between.ensures.calm

@@ -1,8 +1,7 @@
-use Rattle.std.proofs.Common.{◌≡◌, Ok, None, Option, ℕ, true, subst, ◌∙◌}
+use Rattle.std.proofs.Common.{◌≡◌, Option, ℕ, true, subst, ◌∙◌}
 use Rattle.sqlite.specs.Held.{state}
 use Rattle.broker_core.specs.Limit.{has_room}
 use Rattle.broker_core.specs.Request.{consumer_version}
-use Rattle.broker_tables.proofs.QueryLemmas.{in_place}
 use Rattle.command_facts.specs.Performs.{IsToChange}
 use Rattle.contract_commands.specs.Failures.{HasContent}
 use Rattle.contract_commands.specs.Pacts.{HasSides, HasNoContract, IsContractRead, PutsPact}
@@ -19,7 +18,7 @@ returns-in-Some-clause-calm g c =
     calm_fails old new c.publish_again.result (λ s. HasSides s path × (has_room s.contents ≡ true)) (IsToChange (PutsPact path c.args.text.now))
     (calm_after old mid new c.in-Ok.value c.publish_again.result _ _ (λ s. HasSides s path × (has_room s.contents ≡ true)) (λ s. HasContent s c.in-Some.content)
     (λ s held may read. contract_text old.now s held (consumer_version path) path.provider c.in-Some.content (read.content_is ∙ c.in-Some.is))
-    (in_place old mid (Ok c.in-Ok.value) _ c.in-Ok.ensures) c.publish_again.ensures.answers c.publish_again.ensures.calm)
+    c.in-Ok.ensures.call c.publish_again.ensures.answers c.publish_again.ensures.calm)
 
 pub returns-in-None-clause-calm : goal.returns-in-None-clause-calm
 returns-in-None-clause-calm g c =
@@ -30,4 +29,4 @@ returns-in-None-clause-calm g c =
     let to = IsToChange (PutsPact path c.args.text.now) in
     fails_after old mid (state g.S.Store c.publish_first.new.conn) c.in-Ok.value c.publish_first.result _ _ (λ s. HasSides s path × (has_room s.contents ≡ true)) (λ s. HasNoContract path version s × (has_room s.contents ≡ true)) to to
     (λ s held may read. (((may.0, subst (λ (o : Option ℕ). IsContractRead s (consumer_version path) path.provider version o) c.in-None.is read), may.1), λ made. made))
-    (in_place old mid (Ok c.in-Ok.value) _ c.in-Ok.ensures) c.publish_first.ensures.answers c.publish_first.ensures.calm
+    c.in-Ok.ensures.call c.publish_first.ensures.answers c.publish_first.ensures.calm

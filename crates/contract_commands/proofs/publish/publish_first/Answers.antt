@@ -1,10 +1,9 @@
-use Rattle.std.proofs.Common.{◌≡◌, Ok, None, Some, false, true, ap, ◌&&◌, ◌||◌}
+use Rattle.std.proofs.Common.{◌≡◌, None, Some, false, true, ap, ◌&&◌, ◌||◌}
 use Rattle.sqlite.specs.Held.{state}
 use Rattle.broker_core.specs.Change.{put_pact, is_stored}
 use Rattle.broker_core.specs.Limit.{has_room}
 use Rattle.broker_core.specs.Request.{consumer_version}
 use Rattle.broker_core.specs.declared.answer.Answer.TheVariants.{Full}
-use Rattle.broker_tables.proofs.QueryLemmas.{in_place}
 use Rattle.command_facts.specs.Performs.{IsToChange}
 use Rattle.command_facts.proofs.PerformLemmas.{where_answered, where_then}
 use Rattle.contract_commands.specs.Numbering.{IsNumberFor}
@@ -42,4 +41,4 @@ returns-in-Some-clause-calm g c =
     let to = IsToChange (PutsPact path c.args.text.now) in
     fails_after old mid (state g.S.Store c.publish_numbered.new.conn) (Some version) c.publish_numbered.result (λ found s. IsNumberFor s.versions c.args.number found) _ (λ s. HasNoContract path c.args.number s × (has_room s.contents ≡ true)) (λ s. CanPublish path version s × (has_room s.contents ≡ true)) to to
     (λ s held may it. (((as_numbered s (consumer_version path) c.args.number version may.0.1.number_is may.0.1.known_is may.0.0.1 it, may.0.1.content_is, may.0.0), may.1), λ made. made))
-    (in_place old mid (Ok (Some version)) _ (rw c.in-Some.is at c.in-Ok.ensures)) c.publish_numbered.ensures.answers c.publish_numbered.ensures.calm
+    (rw c.in-Some.is at c.in-Ok.ensures.call) c.publish_numbered.ensures.answers c.publish_numbered.ensures.calm

@@ -1,15 +1,10 @@
-use Rattle.std.proofs.Common.{◌≡◌, subst, sym, ap, ◌∙◌, Some, inl}
+use Rattle.std.proofs.Common.{subst, inl}
 use Rattle.sqlite.specs.Held.{state}
-use Rattle.broker_core.specs.State.{State}
-use Rattle.broker_core.specs.Text.{Text}
-use Rattle.reply_check.specs.Recorded.{Reply}
 use Rattle.pact_reading.specs.Readings.{Tells}
-use Rattle.pact_reading.specs.declared.checking.Comparison.{Comparison}
-use Rattle.pact_reading.specs.declared.checking.Comparison.TheVariants.{NoPact}
 use Rattle.command_facts.specs.Performs.{IsToChange}
 use Rattle.contract_commands.specs.Checks.{Leads, Checks, CanLead, CanCheck}
 use Rattle.contract_commands.proofs.CheckLemmas.{pact_told}
-use Rattle.contract_commands.proofs.FailLemmas.{calmly, fails_after}
+use Rattle.contract_commands.proofs.FailLemmas.{fails_after}
 use Rattle.command_facts.proofs.PerformLemmas.{where_then}
 use Rattle.contract_commands.proofs.replies.check_content.Goals as goal
 
@@ -36,7 +31,7 @@ returns-in-Ok-compare-clause-calm g c =
     fails_after old mid (state g.S.Store c.tell_compared.new.conn) text c.tell_compared.result _ _ (CanCheck provider content) (CanLead provider told)
     (IsToChange (λ s out. Checks s provider r content replies out)) (IsToChange (λ s out. Leads s provider r content told out))
     (λ s held can stored. ((can.0, pact_told s content text replies told stored can.1 tells), λ made. (made.0, made.1, (text, stored, (told, tells, made.2)))))
-    (calmly old mid text _ c.in-Ok.ensures.answers) c.tell_compared.ensures.answers c.tell_compared.ensures.calm
+    c.in-Ok.ensures.answers c.tell_compared.ensures.answers c.tell_compared.ensures.calm
 
 pub returns-in-Err-clause-calm : goal.returns-in-Err-clause-calm
 returns-in-Err-clause-calm g c = λ clean s here can. inl (c.in-Err.ensures.calm clean s here (can.1.0, can.1.1))

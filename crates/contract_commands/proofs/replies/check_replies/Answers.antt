@@ -42,7 +42,7 @@ returns-in-Ok-2-clause-calm g c = λ body reads.
     let reached = subst (λ q. Reaches s caller path A4 (path.provider ∷ []) q) c.in-Ok-2.is reach in
     let none = reached.1 command asks in
     ((provider_there s caller path command asks none, pact_there s path content sound reached.0), λ made. (made.0, made.1, step_checked s caller path r body replies reads made.0 made.1 content sound reached.0 none made.2)))
-    c.in-Ok.ensures c.check_content.ensures.answers c.check_content.ensures.calm
+    c.in-Ok.ensures.call c.check_content.ensures.answers c.check_content.ensures.calm
 
 pub returns-in-Err-2-clause-answers : goal.returns-in-Err-2-clause-answers
 returns-in-Err-2-clause-answers g c = λ body reads.

@@ -6,7 +6,7 @@ use Rattle.broker_core.specs.declared.answer.Answer.TheVariants.{BadForm, Patter
 use Rattle.broker_core.specs.declared.command.FormFault.TheVariants.{UnknownReply}
 use Rattle.command_facts.specs.Performs.{PerformsWhereBetween, IsToChange}
 use Rattle.contract_commands.specs.Results.{HasPacticipant}
-use Rattle.contract_commands.specs.Checks.{Leads, CanLead}
+use Rattle.contract_commands.specs.Checks.{Leads}
 use Rattle.contract_commands.specs.Failures.{FailsFromBetween}
 use Rattle.contract_commands.proofs.replies.tell_compared.Goals as goal
 

@@ -40,7 +40,7 @@ returns-in-Ok-2-clause-calm g c = λ clean s here.
     let reached = subst (λ r. Reaches s caller path A4 (path.provider ∷ []) r) c.in-Ok-2.is reach in
     let none = reached.1 command asks in
     (provider_there s caller path command asks none, λ made. (made.0, made.1, acts s caller command refl _ none (c.in-Ok-2.content, reached.0, made.2))))
-    c.in-Ok.ensures c.claim.ensures.answers c.claim.ensures.calm clean s here tt
+    c.in-Ok.ensures.call c.claim.ensures.answers c.claim.ensures.calm clean s here tt
 
 pub returns-in-Err-2-clause-answers : goal.returns-in-Err-2-clause-answers
 returns-in-Err-2-clause-answers g c =

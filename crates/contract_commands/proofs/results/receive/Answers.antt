@@ -10,7 +10,7 @@ use Rattle.broker_core.specs.Request.{is_known}
 use Rattle.broker_core.specs.declared.command.Report.{Report}
 use Rattle.broker_tables.specs.Calm.{CalmQueriesInPlaceBetween}
 use Rattle.broker_tables.specs.Numbers.{number_of}
-use Rattle.broker_tables.proofs.QueryLemmas.{in_place, in_store, place_seq}
+use Rattle.broker_tables.proofs.QueryLemmas.{in_store, place_seq}
 use Rattle.contract_tables.specs.Verified.{told_of}
 use Rattle.contract_tables.specs.declared.lookups.ResultRow.{ResultRow}
 use Rattle.contract_commands.specs.Results.{HasPacticipant, IsToReport, IsUnused, reported_version, IsNumbered, told_row}
@@ -78,5 +78,5 @@ returns-in-None-clause-calm g c =
     let to = IsToReport provider report c.args.found in
     fails_after old two new found c.receive_new.result (IsFound provider report number) _ (λ s. HasPacticipant s provider) (λ s. IsUnused s provider report number) to to
     (λ s held has first. (record { version = first.0; owned = has; unused = none_told s (result_of_run s provider report.run) found c.in-None.is first.1 }, λ made. made))
-    (in_place old two (Ok found) (IsFound provider report number) (found_both old one two provider report _ _ number found c.as_str.ensures c.as_str-2.ensures c.in-Ok.ensures c.in-Ok-read_run.ensures))
+    (found_both old one two provider report _ _ number found c.as_str.ensures c.as_str-2.ensures c.in-Ok.ensures c.in-Ok-read_run.ensures).call
     c.receive_new.ensures.answers.call c.receive_new.ensures.calm

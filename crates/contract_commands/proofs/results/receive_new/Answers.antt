@@ -1,7 +1,7 @@
 use Rattle.std.proofs.Common.{◌&&◌, Ok, None, Some, ap}
 use Rattle.sqlite.specs.Held.{state}
 use Rattle.table_access.proofs.CallLemmas.{statement_ok, statement_seq}
-use Rattle.broker_tables.proofs.QueryLemmas.{in_place, in_store}
+use Rattle.broker_tables.proofs.QueryLemmas.{in_store}
 use Rattle.broker_core.specs.Limit.{has_room}
 use Rattle.contract_commands.specs.Results.{reported_version, reported_result, CanReport, IsUnused, IsToReport}
 use Rattle.contract_commands.specs.declared.results.Reported.TheVariants.{Full}
@@ -40,4 +40,4 @@ returns-in-Some-clause-calm g c =
     let to = IsToReport provider report c.args.found in
     fails_after old mid (state g.S.Store c.receive_numbered.new.conn) (Some version) c.receive_numbered.result _ _ (λ s. IsUnused s provider report c.args.number) (CanReport provider report version) to to
     (λ s held unused first. ((as_numbered s (reported_version provider report) c.args.number version unused.version.number_is unused.version.known_is unused.owned first, unused.unused), λ made. made))
-    (in_place old mid (Ok (Some version)) _ (rw c.in-Some.is at c.in-Ok.ensures)) c.receive_numbered.ensures.answers.call c.receive_numbered.ensures.calm
+    (rw c.in-Some.is at c.in-Ok.ensures.call) c.receive_numbered.ensures.answers.call c.receive_numbered.ensures.calm

@@ -1,7 +1,7 @@
 use Rattle.std.proofs.Common.{◌&&◌, Ok, Err, None, Some, refl}
 use Rattle.sqlite.specs.Held.{state}
 use Rattle.table_access.proofs.CallLemmas.{statement_ok, statement_seq}
-use Rattle.broker_tables.proofs.QueryLemmas.{in_place, in_store}
+use Rattle.broker_tables.proofs.QueryLemmas.{in_store}
 use Rattle.broker_core.specs.State.{State}
 use Rattle.broker_tables.specs.Holds.{Holds}
 use Rattle.contract_commands.specs.Results.{reported_version, reported_result, recorded, Reports, CanReport, IsToReport}
@@ -48,4 +48,4 @@ returns-in-Err-record_report-clause-calm g c =
     let next = c.in-Some.next in
     fails_changing old mid (state g.S.Store c.record_report.new.conn) (Some next) (Err c.in-Err-record_report.fault) _ _ (CanReport provider report c.args.version) (IsToReport provider report c.args.found)
     (λ s held can first. (next, recorded s r, newly_recorded s r can.1 next (recorded s r) (λ i. may_be_named s (reported_version provider report) c.args.version can.0 i && first.0 i) first.1 refl))
-    (in_place old mid (Ok (Some next)) _ (rw c.in-Some.is at c.in-Ok.ensures)) c.in-Err-record_report.ensures.call
+    (rw c.in-Some.is at c.in-Ok.ensures.call) c.in-Err-record_report.ensures.call
