@@ -1,5 +1,5 @@
 -- What replies that are well formed lead to, from what was read.
-use Rattle.std.proofs.Common.{◌≡◌, ◌==◌, ℕ, suc, false, arith, List, [], ◌∷◌, length, Some, None, Result, Ok, Err, refl, ap, ◌∙◌, inl, inr}
+use Rattle.std.proofs.Common.{◌≡◌, ◌==◌, ℕ, suc, false, arith, List, [], ◌∷◌, length, Some, None, Result, Ok, Err, refl, ap, sym, subst, ◌∙◌, inl, inr}
 use Rattle.std.proofs.lemmas.Bool.Decides.{nat_tests}
 use Rattle.std.specs.Prelude.{option_and_then}
 use Rattle.broker_core.specs.Text.{Text}
@@ -7,7 +7,7 @@ use Rattle.broker_core.specs.State.{State}
 use Rattle.broker_core.specs.Contents.{HasSoundContents}
 use Rattle.broker_core.specs.Change.{Transition, text_of, unchanged_with}
 use Rattle.broker_core.specs.Request.{consumer_version, refusal}
-use Rattle.broker_core.specs.Machine.{FindsFault, is_empty}
+use Rattle.broker_core.specs.Machine.{FindsFault, StepOfCaller, is_empty}
 use Rattle.broker_core.specs.Machine.Reading.{IsPact}
 use Rattle.broker_core.specs.declared.policy.Caller.{Caller}
 use Rattle.broker_core.specs.declared.command.Command.TheVariants.{PostReplies}
@@ -15,7 +15,9 @@ use Rattle.broker_core.specs.declared.command.FormFault.{FormFault}
 use Rattle.broker_core.specs.declared.command.PactPath.{PactPath}
 use Rattle.broker_core.specs.declared.command.Report.{Report}
 use Rattle.broker_core.specs.declared.answer.Answer.{Answer}
-use Rattle.broker_core.specs.declared.answer.Answer.TheVariants.{BadForm}
+use Rattle.broker_core.specs.declared.answer.Answer.TheVariants.{BadForm, Done}
+use Rattle.broker_core.specs.declared.answer.Answer.TheVariants as answer
+use Rattle.broker_core.specs.declared.answer.Detail.{Detail}
 use Rattle.pact_file.specs.Normal.{Normal}
 use Rattle.pact_file.specs.Pact.{Pact}
 use Rattle.pact_file.specs.declared.fault.PactFault.{PactFault}
@@ -60,6 +62,31 @@ module _ (s : State) (caller : Caller) (path : PactPath) (r : Report) (body : Te
     pub replies_checked : (out : Transition) (content : ℕ) → s.contracts (consumer_version path, path.provider) ≡ Some content → refusal s caller (PostReplies path r body) ≡ None → Checks s path.provider r content replies out
         → CallersStep caller (PostReplies path r body) s out
     replies_checked out content is none it = by_told out content it.0 it.2.0 is none it.1 it.2.1 it.2.2
+
+    -- where something is to change, it is a step
+    pub step_checked : (detail : Detail) (t : State) (content : ℕ) → HasSoundContents broker_primitives s → s.contracts (consumer_version path, path.provider) ≡ Some content → refusal s caller (PostReplies path r body) ≡ None
+        → Checks s path.provider r content replies (record { answer = Done detail; state = t }) → StepOfCaller broker_primitives s caller (PostReplies path r body) (record { answer = Done detail; state = t })
+    step_checked detail t content sound is none it = elim (replies_checked (record { answer = Done detail; state = t }) content is none it sound) [
+      | inl step ↦ step
+      | inr refuses ↦ absurd (let clash : Done detail ≡ answer.Pattern = ap (λ (out : Transition). out.answer) refuses.0 in cc)
+    ]
+
+-- a content with a text that is read as a pact, as that of each contract is
+pub pact_there : (s : State) (path : PactPath) (content : ℕ) → HasSoundContents broker_primitives s → s.contracts (consumer_version path, path.provider) ≡ Some content → (text : Text) × (text_of s content ≡ Some text) × ((p : Pact) × Normal text (Ok p))
+pact_there s path content sound is =
+    let it = sound.contracts (consumer_version path) path.provider content is in
+    (it.0, it.1, by_answer it.2.0 it.2.1 it.2.2)
+  where
+    by_answer : {text consumer provider : Text} (answer : Result Pact PactFault) → Normal text answer → IsPact consumer provider text ≡ reading_of answer → (p : Pact) × Normal text (Ok p)
+    by_answer (Ok p) reads is = (p, reads)
+    by_answer (Err found) reads is = absurd cc
+
+-- a comparison with it doesn't tell that it is none
+pub pact_told : (s : State) (content : ℕ) (text : Text) (replies : List Reply) (told : Comparison) → text_of s content ≡ Some text → ((old : Text) × (text_of s content ≡ Some old) × ((p : Pact) × Normal old (Ok p))) → Tells text replies told → ¬ (told ≡ NoPact)
+pact_told s content text replies told stored has tells is =
+    let both : Some has.0 ≡ Some text = sym has.1 ∙ stored in
+    let same : has.0 ≡ text = cc in
+    subst (λ (c : Comparison). Tells text replies c) is tells has.2.0 (subst (λ t. Normal t (Ok has.2.0)) same has.2.1)
 
 -- no interaction fails where the list of those that do is empty
 pub empty_is : (failing : List ℕ) → (length failing == 0) ≡ is_empty failing

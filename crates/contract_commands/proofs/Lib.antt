@@ -1,5 +1,7 @@
 pub mod BranchLast
 pub mod CheckLemmas
+pub mod ContentThere
+pub mod FailLemmas
 pub mod NumberingLemmas
 pub mod PactLemmas
 pub mod ResultLemmas

@@ -8,7 +8,7 @@ use Rattle.broker_core.specs.Change.{can_name}
 use Rattle.broker_core.specs.Request.{is_known}
 use Rattle.broker_core.specs.State.{State}
 use Rattle.broker_core.specs.declared.command.Version.{Version}
-use Rattle.broker_tables.specs.Holds.{QueriesInPlaceBetween, ChangesAndAnswersBetween}
+use Rattle.broker_tables.specs.Holds.{ChangesAndAnswersBetween}
 use Rattle.broker_tables.specs.Numbers.{number_of}
 use Rattle.registry_tables.specs.Registry.{AddsVersion, AllowsVersionAs}
 use Rattle.content_store.proofs.TextNumbers.{room_is}
@@ -17,9 +17,6 @@ use Rattle.contract_commands.specs.declared.numbers.VersionNumber.{VersionNumber
 use Rattle.contract_commands.specs.declared.numbers.VersionNumber.TheVariants.{Old, New}
 
 -- ---- calls that ask nothing
-
-pub answered_in_place : {A : Type 0} (c : Connection) (a : A) (P : A → State → Type 0) → ((s : State) → P a s) → QueriesInPlaceBetween c c (Ok a) P
-answered_in_place c a P f = record { call = idle c (Ok a) _ (λ s held. (f s, held)); memory = memory_ok c c a }
 
 pub stays_with : {A : Type 0} (c : Connection) (a : A) (Allows : State → Type 0) (Next : A → State → State → Type 0) → ((s : State) → Allows s → Next a s s) → ChangesAndAnswersBetween c c (Ok a) Allows Next
 stays_with c a Allows Next f = record { call = idle c (Ok a) _ (λ s held allowed. (s, f s allowed, held)); memory = memory_ok c c a }

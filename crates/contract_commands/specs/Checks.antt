@@ -1,17 +1,19 @@
 -- what replies that are compared with a stored pact lead to, for the clauses of private functions: no public clause
 -- cites it
-use Rattle.std.specs.Prelude.{◌≡◌, ℕ, List, Some, None}
+use Rattle.std.specs.Prelude.{◌≡◌, ℕ, List, Some, None, Ok}
 use Rattle.broker_core.specs.Text.{Text}
 use Rattle.broker_core.specs.State.{State}
 use Rattle.broker_core.specs.Change.{Transition, text_of}
 use Rattle.broker_core.specs.Machine.{report_replies}
 use Rattle.broker_core.specs.declared.command.Report.{Report}
 use Rattle.reply_check.specs.Recorded.{Reply}
+use Rattle.pact_file.specs.Pact.{Pact}
+use Rattle.pact_file.specs.Normal.{Normal}
 use Rattle.pact_reading.specs.Readings.{Tells}
 use Rattle.pact_reading.specs.declared.checking.Comparison.{Comparison}
 use Rattle.pact_reading.specs.declared.checking.Comparison.TheVariants.{Failing, UnknownReply, Pattern, NoPact}
 use Rattle.command_facts.specs.Patterns.{RefusesPattern}
-use Rattle.contract_commands.specs.Results.{reported_version}
+use Rattle.contract_commands.specs.Results.{HasPacticipant, reported_version}
 
 -- the result comes in, or the replies are at fault, or a pattern was refused
 abbrev pub Leads : State → Text → Report → ℕ → Comparison → Transition → Type 0
@@ -27,3 +29,12 @@ abbrev pub Checks : State → Text → Report → ℕ → List Reply → Transit
 Checks s provider r content replies out =
     (text : Text) × (text_of s content ≡ Some text)
     × ((told : Comparison) × Tells text replies told × Leads s provider r content told out)
+
+-- the provider is there, and a pact was read
+abbrev pub CanLead : Text → Comparison → State → Type 0
+CanLead provider told s = HasPacticipant s provider × (¬ (told ≡ NoPact))
+
+-- the provider is there, and the content has a text that is read as a pact
+abbrev pub CanCheck : Text → ℕ → State → Type 0
+CanCheck provider content s = HasPacticipant s provider
+    × ((text : Text) × (text_of s content ≡ Some text) × ((p : Pact) × Normal text (Ok p)))

@@ -1,5 +1,6 @@
 pub mod BranchPact
 pub mod Checks
+pub mod Failures
 pub mod Numbering
 pub mod Pacts
 pub mod Results

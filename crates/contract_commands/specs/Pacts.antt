@@ -1,5 +1,5 @@
 -- what the commands on contracts read of a state, for the clauses of private functions: no public clause cites it
-use Rattle.std.specs.Prelude.{◌≡◌, ◌≤◌, ℕ, Option, Some, None, List, Bool, is_some, IsTrue, length, filter_map, Result, Ok, Err}
+use Rattle.std.specs.Prelude.{◌≡◌, ◌≤◌, ⊤, ℕ, Option, Some, None, List, Bool, is_some, IsTrue, length, filter_map, Result, Ok, Err}
 use Rattle.broker_core.specs.Text.{Text, same_pair, same_version, same_text, put_at}
 use Rattle.broker_core.specs.State.{State as Broker}
 use Rattle.broker_core.specs.Policy.{allows}
@@ -24,6 +24,7 @@ use Rattle.broker_core.specs.declared.policy.Caller.{Caller}
 use Rattle.broker_core.specs.declared.policy.Rule.{Rule}
 use Rattle.broker_tables.specs.Numbers.{number_of}
 use Rattle.command_facts.specs.Primitives.{broker_primitives}
+use Rattle.contract_commands.specs.Failures.{HasContent}
 use Rattle.contract_commands.specs.Numbering.{CanName}
 use Rattle.contract_commands.specs.declared.numbers.VersionNumber.{VersionNumber}
 use Rattle.contract_commands.specs.declared.sides.ContractPlace.{ContractPlace}
@@ -132,6 +133,11 @@ abbrev pub ShowsReached : Broker → Result ℕ Answer → Answer → Type 0
 ShowsReached s (Ok content) answer =
     (text : Text) × (text_of s content ≡ Some text) × (answer ≡ Shown (shown.Pact text))
 ShowsReached s (Err refusal) answer = answer ≡ refusal
+
+-- the content of the contract that was reached has a text
+abbrev pub HasReachedContent : Broker → Result ℕ Answer → Type 0
+HasReachedContent s (Ok content) = HasContent s content
+HasReachedContent s (Err refusal) = ⊤
 
 -- what is told of a file that wasn't read
 abbrev pub answer_to : ReadFault → Result Answer StoreFault

@@ -49,6 +49,10 @@ Reports s r it t = (detail : ℕ → Detail) → record { answer = told_as detai
 abbrev pub Receives : Text → Report → Finding → Reported → Broker → Broker → Type 0
 Receives provider report found it s t = Reports s (reported_result provider report found) it t
 
+-- the result is to be recorded as it comes in
+abbrev pub IsToReport : Text → Report → Finding → Broker → Type 0
+IsToReport provider report found s = (number : ℕ) × (t : Broker) × Receives provider report found (Recorded number) s t
+
 -- a report comes in as its sender claims it
 abbrev pub Claims : Text → Report → ℕ → Bool → Broker → Transition → Type 0
 Claims provider r content success s out =

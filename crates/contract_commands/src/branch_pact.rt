@@ -3,6 +3,8 @@ ghost use Rattle.std.specs.Prelude.{◌≡◌, ◌+◌, ◌<◌, IfOk, IfSome, l
 ghost use Rattle.broker_core.specs.declared.command.Command.TheVariants.{GetBranchPact};
 ghost use Rattle.broker_core.specs.declared.policy.Rule.TheVariants.{A5};
 ghost use Rattle.broker_tables.specs.Holds.{Queries};
+ghost use Rattle.broker_tables.specs.Calm.{CalmQueriesInPlace};
+ghost use Rattle.contract_commands.specs.Failures.{CanNumberNext, IsCalmFrom};
 ghost use Rattle.contract_commands.specs.BranchPact.{IsNextBelow, IsBranchContent, IsContentBelow, ReachesBranch};
 ghost use Rattle.contract_commands.specs.Pacts.{missing_of_branch, Admits};
 ghost use Rattle.command_facts.specs.Performs.{Performs, IsStepOf};
@@ -29,7 +31,8 @@ struct BranchVersion {
 
 /// The number that the next version gets: those of all others are below.
 fn read_bound<S: Alter>(conn: &mut Connection<S>) -> Result<u32, StoreFault>
-    ensures { Queries S.Store conn.old conn.new result (λ bound s. bound ≡ length s.versions + 1) }
+    ensures answers { Queries S.Store conn.old conn.new result (λ bound s. bound ≡ length s.versions + 1) }
+    ensures calm { IsCalmFrom S.Store conn.old conn.new result CanNumberNext }
 {
     let count = done!(version_count(conn));
     match next_number(count) {
@@ -46,7 +49,7 @@ fn next_below<S: Alter>(
     branch: &Name,
     bound: u32,
 ) -> Result<Option<BranchVersion>, StoreFault>
-    ensures read { Queries S.Store conn.old conn.new result
+    ensures read { CalmQueriesInPlace S.Store conn.old conn.new result
         (λ found s. IsNextBelow s provider.now consumer.now branch.now bound found) }
     ensures lower { IfOk result (λ found. IfSome found (λ next. next.number < bound)) }
 {
@@ -70,7 +73,7 @@ fn content_below<S: Alter>(
     branch: &Name,
     mut bound: u32,
 ) -> Result<Option<u32>, StoreFault>
-    ensures { Queries S.Store conn.old conn.new result
+    ensures { CalmQueriesInPlace S.Store conn.old conn.new result
         (λ content s. IsContentBelow s provider.now consumer.now branch.now bound content) }
 {
     loop {
@@ -91,8 +94,9 @@ fn read_branch<S: Alter>(
     consumer: &Name,
     branch: &Name,
 ) -> Result<Option<u32>, StoreFault>
-    ensures { Queries S.Store conn.old conn.new result
+    ensures answers { Queries S.Store conn.old conn.new result
         (λ content s. IsBranchContent s provider.now consumer.now branch.now content) }
+    ensures calm { IsCalmFrom S.Store conn.old conn.new result CanNumberNext }
 {
     let bound = done!(read_bound(conn));
     content_below(conn, provider, consumer, branch, bound)
@@ -124,8 +128,9 @@ fn read_branch_to_show<S: Alter>(
     consumer: &Name,
     branch: &Name,
 ) -> Result<Result<u32, Answer>, StoreFault>
-    ensures { Queries S.Store conn.old conn.new result
+    ensures answers { Queries S.Store conn.old conn.new result
         (λ place s. ReachesBranch s caller.now provider.now consumer.now branch.now place) }
+    ensures calm { IsCalmFrom S.Store conn.old conn.new result CanNumberNext }
 {
     let sides = done!(read_sides_to_show(alloc, conn, caller, provider, consumer));
     let content = done!(read_branch(conn, provider, consumer, branch));
@@ -141,8 +146,9 @@ pub fn get_branch_pact<S: Alter>(
     consumer: &Name,
     branch: &Name,
 ) -> Result<Answer, StoreFault>
-    ensures { Performs S.Store conn.old conn.new result
+    ensures answers { Performs S.Store conn.old conn.new result
         (IsStepOf caller.now (GetBranchPact provider.now consumer.now branch.now)) }
+    ensures calm { IsCalmFrom S.Store conn.old conn.new result CanNumberNext }
 {
     let place = done!(read_branch_to_show(alloc, conn, caller, provider, consumer, branch));
     show_pact(conn, place)

@@ -1,7 +1,8 @@
 //! The numbers that versions and results have or get.
 ghost use Rattle.std.specs.Prelude.{Some};
 ghost use Rattle.broker_core.specs.Text.{version as version_named};
-ghost use Rattle.broker_tables.specs.Holds.{QueriesInPlace, ChangesAndAnswers};
+ghost use Rattle.broker_tables.specs.Holds.{ChangesAndAnswers};
+ghost use Rattle.broker_tables.specs.Calm.{CalmQueriesInPlace};
 ghost use Rattle.contract_commands.specs.Numbering.{IsNextNumber, IsNextOf, IsNumberFor, CanName, NamesAs};
 
 use broker_core::limit::room;
@@ -34,7 +35,7 @@ fn number_with_room(count: u64) -> Option<u32>
 
 /// The number that the next version gets, if there is room for one more.
 fn next_version<S: Alter>(conn: &mut Connection<S>) -> Result<Option<u32>, StoreFault>
-    ensures { QueriesInPlace S.Store conn.old conn.new result (λ next s. IsNextOf s.versions next) }
+    ensures { CalmQueriesInPlace S.Store conn.old conn.new result (λ next s. IsNextOf s.versions next) }
 {
     let count = done!(version_count(conn));
     Ok(number_with_room(count))
@@ -42,7 +43,7 @@ fn next_version<S: Alter>(conn: &mut Connection<S>) -> Result<Option<u32>, Store
 
 /// The number that the next result gets, if there is room for one more.
 pub(crate) fn next_result<S: Alter>(conn: &mut Connection<S>) -> Result<Option<u32>, StoreFault>
-    ensures { QueriesInPlace S.Store conn.old conn.new result (λ next s. IsNextOf s.results next) }
+    ensures { CalmQueriesInPlace S.Store conn.old conn.new result (λ next s. IsNextOf s.results next) }
 {
     let count = done!(result_count(conn));
     Ok(number_with_room(count))
@@ -54,7 +55,7 @@ pub(crate) fn number_version<S: Alter>(
     conn: &mut Connection<S>,
     number: Option<u32>,
 ) -> Result<Option<VersionNumber>, StoreFault>
-    ensures { QueriesInPlace S.Store conn.old conn.new result (λ found s. IsNumberFor s.versions number found) }
+    ensures { CalmQueriesInPlace S.Store conn.old conn.new result (λ found s. IsNumberFor s.versions number found) }
 {
     match number {
         Some(number) => Ok(Some(VersionNumber::Old(number))),

@@ -1,11 +1,13 @@
 //! Contracts, shown by their version.
 ghost use Rattle.std.specs.Prelude.{◌≡◌, ℕ, List, Some};
 ghost use Rattle.broker_core.specs.Change.{text_of};
-ghost use Rattle.contract_commands.specs.Pacts.{ShowsReached};
+ghost use Rattle.contract_commands.specs.Failures.{HasContent, IsCalmFrom};
+ghost use Rattle.contract_commands.specs.Pacts.{ShowsReached, HasReachedContent};
 ghost use Rattle.broker_core.specs.declared.command.Command.TheVariants.{GetPact};
 ghost use Rattle.broker_core.specs.declared.answer.Answer.TheVariants as told;
 ghost use Rattle.broker_core.specs.declared.answer.Shown.TheVariants as shown;
 ghost use Rattle.broker_tables.specs.Holds.{Queries};
+ghost use Rattle.broker_tables.specs.Calm.{IsCalm};
 ghost use Rattle.command_facts.specs.Performs.{Performs, IsStepOf};
 
 use crate::sides::{read_contract_to_show, read_text};
@@ -18,9 +20,10 @@ use table_access::StoreFault;
 
 /// Shows the text of a content.
 fn show_pact_text<S: Alter>(conn: &mut Connection<S>, content: u32) -> Result<Answer, StoreFault>
-    ensures { Queries S.Store conn.old conn.new result
+    ensures answers { Queries S.Store conn.old conn.new result
         (λ answer s. (text : List ℕ) × (text_of s content ≡ Some text)
         × (answer ≡ told.Shown (shown.Pact text))) }
+    ensures calm { IsCalmFrom S.Store conn.old conn.new result (λ s. HasContent s content) }
 {
     let text = done!(read_text(conn, content));
     Ok(Answer::Shown(Shown::Pact(text)))
@@ -31,7 +34,8 @@ pub(crate) fn show_pact<S: Alter>(
     conn: &mut Connection<S>,
     place: Result<u32, Answer>,
 ) -> Result<Answer, StoreFault>
-    ensures { Queries S.Store conn.old conn.new result (λ answer s. ShowsReached s place answer) }
+    ensures answers { Queries S.Store conn.old conn.new result (λ answer s. ShowsReached s place answer) }
+    ensures calm { IsCalmFrom S.Store conn.old conn.new result (λ s. HasReachedContent s place) }
 {
     match place {
         Ok(content) => show_pact_text(conn, content),
@@ -46,8 +50,9 @@ pub fn get_pact<S: Alter>(
     caller: &Caller,
     path: &PactPath,
 ) -> Result<Answer, StoreFault>
-    ensures { Performs S.Store conn.old conn.new result
+    ensures answers { Performs S.Store conn.old conn.new result
         (IsStepOf caller.now (GetPact path.now)) }
+    ensures calm { IsCalm S.Store conn.old conn.new result }
 {
     let place = done!(read_contract_to_show(alloc, conn, caller, path));
     show_pact(conn, place)

@@ -1,8 +1,9 @@
 //! Publication of a pact.
-ghost use Rattle.std.specs.Prelude.{◌≡◌, ◌&&◌, Some, IfOk, IfErr, ⊤};
+ghost use Rattle.std.specs.Prelude.{◌≡◌, ◌&&◌, true, Some, IfOk, IfErr, ⊤};
 ghost use Rattle.broker_core.specs.State.{State as BrokerState};
 ghost use Rattle.broker_core.specs.Text.{same_text};
 ghost use Rattle.broker_core.specs.Change.{text_of, republished};
+ghost use Rattle.broker_core.specs.Limit.{has_room};
 ghost use Rattle.broker_core.specs.Machine.{FindsFault};
 ghost use Rattle.broker_core.specs.Machine.Reading.{IsPact};
 ghost use Rattle.broker_core.specs.declared.command.Command.TheVariants.{PutPact};
@@ -12,6 +13,7 @@ ghost use Rattle.pact_reading.specs.declared.reading.ReadFault.TheVariants.{Form
 ghost use Rattle.command_facts.specs.Primitives.{broker_primitives};
 ghost use Rattle.command_facts.specs.Performs.{Performs, PerformsWhere, IsStepOf};
 ghost use Rattle.content_store.specs.Contents.{StoresIfRoom};
+ghost use Rattle.contract_commands.specs.Failures.{HasContent, IsCalmFrom, FailsToChangeFrom};
 ghost use Rattle.contract_commands.specs.Pacts.{HasSides, HasNoContract, CanPublish, CanRecord, RecordsContract, PutsPact, Publishes, answer_to};
 
 use crate::numbers::{VersionNumber, name_version, number_version};
@@ -68,7 +70,9 @@ fn publish_again<S: Alter>(
     content: u32,
     text: &Text,
 ) -> Result<Answer, StoreFault>
-    ensures { Queries S.Store conn.old conn.new result (λ answer s. answer ≡ republished s text.now content) }
+    ensures answers { Queries S.Store conn.old conn.new result
+        (λ answer s. answer ≡ republished s text.now content) }
+    ensures calm { IsCalmFrom S.Store conn.old conn.new result (λ s. HasContent s content) }
 {
     let old = done!(read_text(conn, content));
     Ok(told_again(&old, text, content))
@@ -103,8 +107,10 @@ fn publish_numbered<S: Alter>(
     text: &Text,
     version: VersionNumber,
 ) -> Result<Answer, StoreFault>
-    ensures { PerformsWhere S.Store conn.old conn.new result
+    ensures answers { PerformsWhere S.Store conn.old conn.new result
         (CanPublish path.now version) (PutsPact path.now text.now) }
+    ensures calm { FailsToChangeFrom S.Store conn.old conn.new result
+        (λ s. CanPublish path.now version s × (has_room s.contents ≡ true)) (PutsPact path.now text.now) }
 {
     match done!(put_text(conn, text)) {
         Some(content) => {
@@ -123,8 +129,10 @@ fn publish_first<S: Alter>(
     text: &Text,
     number: Option<u32>,
 ) -> Result<Answer, StoreFault>
-    ensures { PerformsWhere S.Store conn.old conn.new result
+    ensures answers { PerformsWhere S.Store conn.old conn.new result
         (HasNoContract path.now number) (PutsPact path.now text.now) }
+    ensures calm { FailsToChangeFrom S.Store conn.old conn.new result
+        (λ s. HasNoContract path.now number s × (has_room s.contents ≡ true)) (PutsPact path.now text.now) }
 {
     match done!(number_version(conn, number)) {
         Some(version) => publish_numbered(conn, path, text, version),
@@ -138,8 +146,10 @@ fn publish_between<S: Alter>(
     path: &PactPath,
     text: &Text,
 ) -> Result<Answer, StoreFault>
-    ensures { PerformsWhere S.Store conn.old conn.new result (λ s. HasSides s path.now)
+    ensures answers { PerformsWhere S.Store conn.old conn.new result (λ s. HasSides s path.now)
         (PutsPact path.now text.now) }
+    ensures calm { FailsToChangeFrom S.Store conn.old conn.new result
+        (λ s. HasSides s path.now × (has_room s.contents ≡ true)) (PutsPact path.now text.now) }
 {
     let contract = done!(read_contract(conn, &path.provider, &path.consumer, &path.version));
     match contract.content {
@@ -156,7 +166,10 @@ fn publish<S: Alter>(
     path: &PactPath,
     text: &Text,
 ) -> Result<Answer, StoreFault>
-    ensures { Performs S.Store conn.old conn.new result (λ s out. Publishes s caller.now path.now text.now out) }
+    ensures answers { Performs S.Store conn.old conn.new result
+        (λ s out. Publishes s caller.now path.now text.now out) }
+    ensures calm { FailsToChangeFrom S.Store conn.old conn.new result (λ s. has_room s.contents ≡ true)
+        (λ s out. Publishes s caller.now path.now text.now out) }
 {
     let sides = done!(read_sides_to_publish(alloc, conn, caller, &path.provider, &path.consumer));
     match refuse_sides(Rule::A3, sides) {
@@ -183,7 +196,9 @@ pub fn put_pact<S: Alter>(
     path: &PactPath,
     file: &Body,
 ) -> Result<Answer, StoreFault>
-    ensures { Performs S.Store conn.old conn.new result
+    ensures answers { Performs S.Store conn.old conn.new result
+        (IsStepOf caller.now (PutPact path.now file.now)) }
+    ensures calm { FailsToChangeFrom S.Store conn.old conn.new result (λ s. has_room s.contents ≡ true)
         (IsStepOf caller.now (PutPact path.now file.now)) }
 {
     match read_form(alloc, path, file) {

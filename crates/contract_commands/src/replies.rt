@@ -4,9 +4,12 @@ ghost use Rattle.broker_core.specs.declared.answer.Detail.TheVariants as detail;
 ghost use Rattle.broker_core.specs.declared.command.Command.TheVariants.{PostReplies};
 ghost use Rattle.pact_reading.specs.declared.checking.Comparison.TheVariants.{Failing};
 ghost use Rattle.reply_check.specs.Replies.{RepliesRead};
-ghost use Rattle.command_facts.specs.Performs.{Performs, PerformsWhere, CallersStep};
+ghost use Rattle.broker_core.specs.Contents.{HasSoundContents};
+ghost use Rattle.command_facts.specs.Performs.{Performs, PerformsWhere, CallersStep, IsStepOf};
+ghost use Rattle.command_facts.specs.Primitives.{broker_primitives};
+ghost use Rattle.contract_commands.specs.Failures.{FailsToChangeFrom};
 ghost use Rattle.contract_commands.specs.Results.{HasPacticipant, told_as};
-ghost use Rattle.contract_commands.specs.Checks.{Leads, Checks};
+ghost use Rattle.contract_commands.specs.Checks.{Leads, Checks, CanLead, CanCheck};
 
 use crate::publish::tell_unread;
 use crate::results::{Finding, Reported, receive};
@@ -48,7 +51,9 @@ fn report_failing<S: Alter>(
     content: u32,
     failing: Places,
 ) -> Result<Answer, StoreFault>
-    ensures { PerformsWhere S.Store conn.old conn.new result (λ s. HasPacticipant s provider.now)
+    ensures answers { PerformsWhere S.Store conn.old conn.new result (λ s. HasPacticipant s provider.now)
+        (λ s out. Leads s provider.now report.now content (Failing failing) out) }
+    ensures calm { FailsToChangeFrom S.Store conn.old conn.new result (λ s. HasPacticipant s provider.now)
         (λ s out. Leads s provider.now report.now content (Failing failing) out) }
 {
     let pass = failing.as_slice().is_empty();
@@ -69,7 +74,9 @@ fn tell_compared<S: Alter>(
     content: u32,
     told: Comparison,
 ) -> Result<Answer, StoreFault>
-    ensures { PerformsWhere S.Store conn.old conn.new result (λ s. HasPacticipant s provider.now)
+    ensures answers { PerformsWhere S.Store conn.old conn.new result (λ s. HasPacticipant s provider.now)
+        (λ s out. Leads s provider.now report.now content told out) }
+    ensures calm { FailsToChangeFrom S.Store conn.old conn.new result (CanLead provider.now told)
         (λ s out. Leads s provider.now report.now content told out) }
 {
     match told {
@@ -89,7 +96,9 @@ fn check_content<S: Alter>(
     content: u32,
     replies: &Replies,
 ) -> Result<Answer, StoreFault>
-    ensures { PerformsWhere S.Store conn.old conn.new result (λ s. HasPacticipant s provider.now)
+    ensures answers { PerformsWhere S.Store conn.old conn.new result (λ s. HasPacticipant s provider.now)
+        (λ s out. Checks s provider.now report.now content replies.now out) }
+    ensures calm { FailsToChangeFrom S.Store conn.old conn.new result (CanCheck provider.now content)
         (λ s out. Checks s provider.now report.now content replies.now out) }
 {
     let text = done!(read_text(conn, content));
@@ -108,8 +117,11 @@ fn check_replies<S: Alter>(
     report: &Report,
     replies: &Replies,
 ) -> Result<Answer, StoreFault>
-    ensures { (body : List ℕ) → RepliesRead body (Ok replies.now)
+    ensures answers { (body : List ℕ) → RepliesRead body (Ok replies.now)
         → Performs S.Store conn.old conn.new result (CallersStep caller.now (PostReplies path.now report.now body)) }
+    ensures calm { (body : List ℕ) → RepliesRead body (Ok replies.now)
+        → FailsToChangeFrom S.Store conn.old conn.new result (HasSoundContents broker_primitives)
+        (IsStepOf caller.now (PostReplies path.now report.now body)) }
 {
     match done!(read_contract_to_verify(alloc, conn, caller, path)) {
         Ok(content) => check_content(alloc, conn, &path.provider, report, content, replies),
@@ -126,8 +138,10 @@ pub fn post_replies<S: Alter>(
     report: &Report,
     body: &Body,
 ) -> Result<Answer, StoreFault>
-    ensures { Performs S.Store conn.old conn.new result
+    ensures answers { Performs S.Store conn.old conn.new result
         (CallersStep caller.now (PostReplies path.now report.now body.now)) }
+    ensures calm { FailsToChangeFrom S.Store conn.old conn.new result (HasSoundContents broker_primitives)
+        (IsStepOf caller.now (PostReplies path.now report.now body.now)) }
 {
     match read_replies_body(alloc, body.as_slice()) {
         Ok(replies) => check_replies(alloc, conn, caller, path, report, &replies),

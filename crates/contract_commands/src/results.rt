@@ -5,10 +5,12 @@ ghost use Rattle.broker_core.specs.State.{State as BrokerState};
 ghost use Rattle.broker_core.specs.Change.{result_of_run as run_result};
 ghost use Rattle.broker_core.specs.declared.answer.Detail.TheVariants as detail;
 ghost use Rattle.broker_core.specs.declared.command.Command.TheVariants.{PostResult};
-ghost use Rattle.broker_tables.specs.Holds.{QueriesInPlace, ChangesAndAnswers};
+ghost use Rattle.broker_tables.specs.Holds.{ChangesAndAnswers};
+ghost use Rattle.broker_tables.specs.Calm.{CalmQueriesInPlace};
 ghost use Rattle.contract_tables.specs.Verified.{told_of};
-ghost use Rattle.command_facts.specs.Performs.{Performs, PerformsWhere, IsStepOf};
-ghost use Rattle.contract_commands.specs.Results.{HasPacticipant, told_as, Receives, Claims, told_row, TellsSame, TellsAgain, IsUnused, CanReport, CanRecordReport, RecordsReport};
+ghost use Rattle.command_facts.specs.Performs.{Performs, PerformsWhere, FailsToChange, IsStepOf};
+ghost use Rattle.contract_commands.specs.Failures.{FailsFrom, FailsToChangeFrom};
+ghost use Rattle.contract_commands.specs.Results.{HasPacticipant, IsToReport, told_as, Receives, Claims, told_row, TellsSame, TellsAgain, IsUnused, CanReport, CanRecordReport, RecordsReport};
 
 use crate::numbers::{VersionNumber, name_version, next_result, number_version};
 use crate::sides::read_contract_to_verify;
@@ -59,7 +61,7 @@ fn read_run<S: Alter>(
     provider: &Name,
     run: &Option<Name>,
 ) -> Result<Option<ResultRow>, StoreFault>
-    ensures { QueriesInPlace S.Store conn.old conn.new result
+    ensures { CalmQueriesInPlace S.Store conn.old conn.new result
         (λ found s. option_map told_row found ≡ option_map (told_of s.versions) (run_result s provider.now run.now)) }
 {
     match run {
@@ -133,8 +135,10 @@ fn receive_numbered<S: Alter>(
     found: Finding,
     version: VersionNumber,
 ) -> Result<Reported, StoreFault>
-    ensures { ChangesAndAnswers S.Store conn.old conn.new result
+    ensures answers { ChangesAndAnswers S.Store conn.old conn.new result
         (CanReport provider.now report.now version) (Receives provider.now report.now found) }
+    ensures calm { FailsFrom S.Store conn.old conn.new result
+        (CanReport provider.now report.now version) (IsToReport provider.now report.now found) }
 {
     match done!(next_result(conn)) {
         Some(next) => {
@@ -153,8 +157,10 @@ fn receive_new<S: Alter>(
     found: Finding,
     number: Option<u32>,
 ) -> Result<Reported, StoreFault>
-    ensures { ChangesAndAnswers S.Store conn.old conn.new result
+    ensures answers { ChangesAndAnswers S.Store conn.old conn.new result
         (λ s. IsUnused s provider.now report.now number) (Receives provider.now report.now found) }
+    ensures calm { FailsFrom S.Store conn.old conn.new result
+        (λ s. IsUnused s provider.now report.now number) (IsToReport provider.now report.now found) }
 {
     match done!(number_version(conn, number)) {
         Some(version) => receive_numbered(conn, provider, report, found, version),
@@ -169,8 +175,10 @@ pub(crate) fn receive<S: Alter>(
     report: &Report,
     found: Finding,
 ) -> Result<Reported, StoreFault>
-    ensures { ChangesAndAnswers S.Store conn.old conn.new result
+    ensures answers { ChangesAndAnswers S.Store conn.old conn.new result
         (λ s. HasPacticipant s provider.now) (Receives provider.now report.now found) }
+    ensures calm { FailsFrom S.Store conn.old conn.new result
+        (λ s. HasPacticipant s provider.now) (IsToReport provider.now report.now found) }
 {
     let number = done!(version_of(conn, provider.as_str(), report.provider_version.as_str()));
     match done!(read_run(conn, provider, &report.run)) {
@@ -199,7 +207,9 @@ fn claim<S: Alter>(
     content: u32,
     success: bool,
 ) -> Result<Answer, StoreFault>
-    ensures { PerformsWhere S.Store conn.old conn.new result (λ s. HasPacticipant s provider.now)
+    ensures answers { PerformsWhere S.Store conn.old conn.new result (λ s. HasPacticipant s provider.now)
+        (Claims provider.now report.now content success) }
+    ensures calm { FailsToChangeFrom S.Store conn.old conn.new result (λ s. HasPacticipant s provider.now)
         (Claims provider.now report.now content success) }
 {
     let found = Finding {
@@ -220,7 +230,9 @@ pub fn post_result<S: Alter>(
     report: &Report,
     success: bool,
 ) -> Result<Answer, StoreFault>
-    ensures { Performs S.Store conn.old conn.new result
+    ensures answers { Performs S.Store conn.old conn.new result
+        (IsStepOf caller.now (PostResult path.now report.now success)) }
+    ensures calm { FailsToChange S.Store conn.old conn.new result
         (IsStepOf caller.now (PostResult path.now report.now success)) }
 {
     match done!(read_contract_to_verify(alloc, conn, caller, path)) {

@@ -6,6 +6,8 @@ ghost use Rattle.broker_core.specs.Request.{refused, rule_of};
 ghost use Rattle.broker_core.specs.declared.policy.Rule.TheVariants.{A3, A4, A5};
 ghost use Rattle.broker_core.specs.declared.command.Command.{Command as CommandModel};
 ghost use Rattle.broker_tables.specs.Holds.{Queries};
+ghost use Rattle.broker_tables.specs.Calm.{CalmQueries, CalmQueriesInPlace};
+ghost use Rattle.contract_commands.specs.Failures.{HasContent, IsCalmFrom};
 ghost use Rattle.contract_commands.specs.Pacts.{AreSidesRead, IsContractRead, missing_side, missing_part, Admits, Reaches};
 
 use broker_core::answer::{Answer, Missing};
@@ -55,7 +57,7 @@ pub(crate) fn read_sides_to_publish<S: Alter>(
     provider: &Name,
     consumer: &Name,
 ) -> Result<Sides, StoreFault>
-    ensures { Queries S.Store conn.old conn.new result
+    ensures { CalmQueries S.Store conn.old conn.new result
         (λ sides s. AreSidesRead s caller.now A3 (consumer.now ∷ []) provider.now consumer.now sides) }
 {
     let has_provider = done!(has_pacticipant(conn, provider));
@@ -76,7 +78,7 @@ fn read_sides_to_verify<S: Alter>(
     provider: &Name,
     consumer: &Name,
 ) -> Result<Sides, StoreFault>
-    ensures { Queries S.Store conn.old conn.new result
+    ensures { CalmQueries S.Store conn.old conn.new result
         (λ sides s. AreSidesRead s caller.now A4 (provider.now ∷ []) provider.now consumer.now sides) }
 {
     let provider = done!(read_owner(alloc, conn, caller, Rule::A4, provider, false));
@@ -97,7 +99,7 @@ pub(crate) fn read_sides_to_show<S: Alter>(
     provider: &Name,
     consumer: &Name,
 ) -> Result<Sides, StoreFault>
-    ensures { Queries S.Store conn.old conn.new result
+    ensures { CalmQueries S.Store conn.old conn.new result
         (λ sides s. AreSidesRead s caller.now A5 (provider.now ∷ consumer.now ∷ []) provider.now consumer.now sides) }
 {
     let provider = done!(read_owner(alloc, conn, caller, Rule::A5, provider, false));
@@ -117,7 +119,7 @@ pub(crate) fn read_contract<S: Alter>(
     consumer: &Name,
     version: &Name,
 ) -> Result<ContractNumbers, StoreFault>
-    ensures { Queries S.Store conn.old conn.new result
+    ensures { CalmQueriesInPlace S.Store conn.old conn.new result
         (λ found s. IsContractRead s (version_named consumer.now version.now) provider.now
         found.version found.content) }
 {
@@ -138,7 +140,8 @@ pub(crate) fn read_text<S: Alter>(
     conn: &mut Connection<S>,
     content: u32,
 ) -> Result<Text, StoreFault>
-    ensures { Queries S.Store conn.old conn.new result (λ text s. text_of s content ≡ Some text) }
+    ensures answers { Queries S.Store conn.old conn.new result (λ text s. text_of s content ≡ Some text) }
+    ensures calm { IsCalmFrom S.Store conn.old conn.new result (λ s. HasContent s content) }
 {
     match done!(get(conn, content as u64)) {
         Some(text) => Ok(Text::new(text)),
@@ -187,7 +190,7 @@ pub(crate) fn read_contract_to_show<S: Alter>(
     caller: &Caller,
     path: &PactPath,
 ) -> Result<Result<u32, Answer>, StoreFault>
-    ensures { Queries S.Store conn.old conn.new result
+    ensures { CalmQueries S.Store conn.old conn.new result
         (λ found s. Reaches s caller.now path.now A5 (path.now.provider ∷ path.now.consumer ∷ []) found) }
 {
     let sides = done!(read_sides_to_show(alloc, conn, caller, &path.provider, &path.consumer));
@@ -202,7 +205,7 @@ pub(crate) fn read_contract_to_verify<S: Alter>(
     caller: &Caller,
     path: &PactPath,
 ) -> Result<Result<u32, Answer>, StoreFault>
-    ensures { Queries S.Store conn.old conn.new result
+    ensures { CalmQueries S.Store conn.old conn.new result
         (λ found s. Reaches s caller.now path.now A4 (path.now.provider ∷ []) found) }
 {
     let sides = done!(read_sides_to_verify(alloc, conn, caller, &path.provider, &path.consumer));

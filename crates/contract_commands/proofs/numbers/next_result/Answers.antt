@@ -1,12 +1,9 @@
-use Rattle.std.proofs.Common.{Ok}
 use Rattle.sqlite.specs.Held.{state}
-use Rattle.table_access.proofs.CallLemmas.{statement_ok}
-use Rattle.broker_tables.proofs.QueryLemmas.{in_store}
+use Rattle.broker_tables.proofs.QueryLemmas.{place_ok}
 use Rattle.contract_commands.proofs.NumberingLemmas.{next_of}
 use Rattle.contract_commands.proofs.numbers.next_result.Goals as goal
 
 pub returns : goal.returns
 returns g c =
-    statement_ok (state g.S.Store c.args.conn.now) (state g.S.Store c.result_count.new.conn) c.in-Ok.value c.number_with_room.result _ _
-    (λ h s held. let it = h s held in (next_of s.results c.in-Ok.value c.number_with_room.result c.number_with_room.ensures it.0, it.1))
-    (in_store (state g.S.Store c.args.conn.now) (state g.S.Store c.result_count.new.conn) (Ok c.in-Ok.value) _ c.in-Ok.ensures)
+    place_ok (state g.S.Store c.args.conn.now) (state g.S.Store c.result_count.new.conn) c.in-Ok.value c.number_with_room.result _ _
+    (λ h s held. let it = h s held in (next_of s.results c.in-Ok.value c.number_with_room.result c.number_with_room.ensures it.0, it.1)) c.in-Ok.ensures

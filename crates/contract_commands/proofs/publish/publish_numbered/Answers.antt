@@ -1,20 +1,35 @@
-use Rattle.std.proofs.Common.{◌≡◌, None, Some, true, false, sym, subst, ap, ◌∙◌, ◌&&◌}
+use Rattle.std.proofs.Common.{◌≡◌, inr, None, Some, true, false, refl, ◌||◌, Bool, sym, subst, ap, ◌∙◌, ◌&&◌}
 use Rattle.std.specs.Prelude.{⊤}
+use Rattle.broker_core.specs.Limit.{has_room}
 use Rattle.sqlite.specs.Held.{state}
-use Rattle.broker_core.specs.Change.{Transition, put_pact, content_number, named}
+use Rattle.broker_core.specs.Change.{Transition, put_pact, content_number, is_stored, named}
 use Rattle.broker_core.specs.Request.{consumer_version}
 use Rattle.broker_core.specs.State.{State}
 use Rattle.broker_core.specs.declared.answer.Answer.TheVariants.{Done, Full}
 use Rattle.broker_core.specs.declared.answer.Detail.TheVariants.{Content}
 use Rattle.content_store.specs.Contents.{StoresIfRoom}
+use Rattle.command_facts.specs.Performs.{IsToChange}
 use Rattle.command_facts.proofs.PerformLemmas.{where_told, where_told_then}
-use Rattle.contract_commands.specs.Pacts.{CanPublish, CanRecord, RecordsContract, contracted}
+use Rattle.broker_core.specs.Text.{Text}
+use Rattle.broker_core.specs.declared.command.PactPath.{PactPath}
+use Rattle.contract_commands.specs.Pacts.{CanPublish, CanRecord, PutsPact, RecordsContract, contracted}
+use Rattle.contract_commands.specs.declared.numbers.VersionNumber.{VersionNumber}
 use Rattle.contract_commands.proofs.NumberingLemmas.{may_be_named}
 use Rattle.contract_commands.proofs.PactLemmas.{published, put_first, can_record, now_published}
 use Rattle.contract_commands.proofs.publish.publish_numbered.Goals as goal
 
-pub returns-in-None : goal.returns-in-None
-returns-in-None g c =
+-- the pact is to be published
+to_publish : (path : PactPath) (text : Text) (version : VersionNumber) (s : State) → CanPublish path version s → has_room s.contents ≡ true → IsToChange (PutsPact path text) s
+to_publish path text version s can room =
+    let v = consumer_version path in
+    (Content (content_number s text), published s v path.provider text, put_first s v path.provider text true can.1 (λ i. may_be_named s v version can.0 i && stored_or_room (is_stored s text) (has_room s.contents) room i))
+  where
+    stored_or_room : (a b : Bool) → b ≡ true → (a || b) ≡ true
+    stored_or_room true b is = refl
+    stored_or_room false b is = is
+
+pub returns-in-None-clause-answers : goal.returns-in-None-clause-answers
+returns-in-None-clause-answers g c =
     let path = c.args.path.now in
     let v = consumer_version path in
     let text = c.args.text.now in
@@ -27,8 +42,8 @@ returns-in-None g c =
     ))
     (rw c.in-None.is at c.in-Ok.ensures)
 
-pub returns-in-Ok-record_contract : goal.returns-in-Ok-record_contract
-returns-in-Ok-record_contract g c =
+pub returns-in-Ok-record_contract-clause-answers : goal.returns-in-Ok-record_contract-clause-answers
+returns-in-Ok-record_contract-clause-answers g c =
     let path = c.args.path.now in
     let v = consumer_version path in
     let text = c.args.text.now in
@@ -46,3 +61,9 @@ returns-in-Ok-record_contract g c =
       ),
     ))
     (rw c.in-Some.is at c.in-Ok.ensures) c.in-Ok-record_contract.ensures
+
+pub returns-in-Err-clause-calm : goal.returns-in-Err-clause-calm
+returns-in-Err-clause-calm g c = λ clean s here can. inr (to_publish c.args.path.now c.args.text.now c.args.version s can.0 can.1)
+
+pub returns-in-Err-record_contract-clause-calm : goal.returns-in-Err-record_contract-clause-calm
+returns-in-Err-record_contract-clause-calm g c = λ clean s here can. inr (to_publish c.args.path.now c.args.text.now c.args.version s can.0 can.1)

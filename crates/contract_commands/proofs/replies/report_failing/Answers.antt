@@ -1,16 +1,22 @@
-use Rattle.std.proofs.Common.{◌≡◌, ◌==◌, ℕ, List, Some, length, ap, ◌∙◌}
+use Rattle.std.proofs.Common.{true, ◌≡◌, ◌==◌, ℕ, List, Some, length, ap, ◌∙◌}
 use Rattle.sqlite.specs.Held.{state}
 use Rattle.broker_core.specs.State.{checked_result}
 use Rattle.broker_core.specs.Change.{Transition, report}
+use Rattle.broker_core.specs.declared.answer.Answer.{Answer}
 use Rattle.broker_core.specs.Machine.{is_empty, report_replies}
 use Rattle.broker_core.specs.declared.answer.Detail.TheVariants.{Replies}
-use Rattle.contract_commands.specs.Results.{told_as, reported_version}
+use Rattle.pact_reading.specs.declared.checking.Comparison.TheVariants.{Failing}
+use Rattle.contract_commands.specs.Checks.{Leads}
+use Rattle.contract_commands.specs.Results.{HasPacticipant, IsToReport, told_as, reported_version}
+use Rattle.contract_commands.specs.declared.results.Reported.{Reported}
+use Rattle.contract_commands.proofs.FailLemmas.{fails_as}
 use Rattle.contract_commands.proofs.CheckLemmas.{empty_is}
+use Rattle.command_facts.specs.Performs.{IsToChange}
 use Rattle.command_facts.proofs.PerformLemmas.{where_told}
 use Rattle.contract_commands.proofs.replies.report_failing.Goals as goal
 
-pub returns : goal.returns
-returns g c =
+pub returns-clause-answers : goal.returns-clause-answers
+returns-clause-answers g c =
     let it = c.in-Ok.value in
     let failing = c.args.failing in
     let content = c.args.content in
@@ -25,4 +31,20 @@ returns g c =
           let told : ◌≡◌ {A = Transition} (record { answer = c.tell_replies.result; state = t }) (record { answer = told_as (λ n. Replies failing n pass) it; state = t }) = (λ i. record { answer = c.tell_replies.ensures i; state = t }) in
           told ∙ reports (λ n. Replies failing n pass) ∙ (λ i. report s (checked_result content v (passes i) run) (λ n. Replies failing n (passes i))),
     ))
-    c.in-Ok.ensures
+    c.in-Ok.ensures.answers
+
+pub returns-in-Err-clause-calm : goal.returns-in-Err-clause-calm
+returns-in-Err-clause-calm g c =
+    let provider = c.args.provider.now in
+    let r = c.args.report.now in
+    let failing = c.args.failing in
+    let content = c.args.content in
+    let pass = c.is_empty-pass.result in
+    let passes : pass ≡ is_empty failing = c.is_empty-pass.ensures ∙ ap (λ (xs : List ℕ). length xs == 0) c.as_slice.ensures ∙ empty_is failing in
+    fails_as Reported Answer (state g.S.Store c.args.conn.now) (state g.S.Store c.receive.new.conn) c.in-Err.fault (λ s. HasPacticipant s provider) (IsToChange (λ s out. Leads s provider r content (Failing failing) out))
+    (IsToReport provider r (record { content = content; pass = pass; checked = true }))
+    (λ s has made. (
+      Replies failing made.0 pass,
+      made.1,
+      made.2 (λ n. Replies failing n pass) ∙ (λ i. report s (checked_result content (reported_version provider r) (passes i) r.run) (λ n. Replies failing n (passes i))),
+    )) c.in-Err.ensures.calm

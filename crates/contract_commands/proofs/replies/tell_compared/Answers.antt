@@ -4,24 +4,33 @@ use Rattle.table_access.proofs.CallLemmas.{idle}
 use Rattle.pact_reading.specs.declared.checking.Comparison.{Comparison}
 use Rattle.broker_core.specs.declared.answer.Answer.TheVariants.{BadForm, Pattern}
 use Rattle.broker_core.specs.declared.command.FormFault.TheVariants.{UnknownReply}
-use Rattle.command_facts.specs.Performs.{PerformsWhereBetween}
+use Rattle.command_facts.specs.Performs.{PerformsWhereBetween, IsToChange}
 use Rattle.contract_commands.specs.Results.{HasPacticipant}
 use Rattle.contract_commands.specs.Checks.{Leads}
+use Rattle.contract_commands.specs.Failures.{FailsFromBetween}
 use Rattle.contract_commands.proofs.replies.tell_compared.Goals as goal
 
-pub returns-in-Failing : goal.returns-in-Failing
-returns-in-Failing g c =
+pub returns-in-Failing-clause-answers : goal.returns-in-Failing-clause-answers
+returns-in-Failing-clause-answers g c =
     subst (λ (told : Comparison). PerformsWhereBetween (state g.S.Store c.args.conn.now) (state g.S.Store c.report_failing.new.conn) (λ s. HasPacticipant s c.args.provider.now) (λ s out. Leads s c.args.provider.now c.args.report.now c.args.content told out) c.report_failing.result)
-    (sym c.in-Failing.is) c.report_failing.ensures
+    (sym c.in-Failing.is) c.report_failing.ensures.answers
 
-pub returns-in-UnknownReply : goal.returns-in-UnknownReply
-returns-in-UnknownReply g c =
+pub returns-in-UnknownReply-clause-answers : goal.returns-in-UnknownReply-clause-answers
+returns-in-UnknownReply-clause-answers g c =
     let here = state g.S.Store c.args.conn.now in
     subst (λ (told : Comparison). PerformsWhereBetween here here (λ s. HasPacticipant s c.args.provider.now) (λ s out. Leads s c.args.provider.now c.args.report.now c.args.content told out) (Ok (BadForm UnknownReply)))
     (sym c.in-UnknownReply.is) (idle here (Ok (BadForm UnknownReply)) _ (λ s held has. (s, refl, held)))
 
-pub returns-in-Pattern : goal.returns-in-Pattern
-returns-in-Pattern g c =
+pub returns-in-Pattern-clause-answers : goal.returns-in-Pattern-clause-answers
+returns-in-Pattern-clause-answers g c =
     let here = state g.S.Store c.args.conn.now in
     subst (λ (told : Comparison). PerformsWhereBetween here here (λ s. HasPacticipant s c.args.provider.now) (λ s out. Leads s c.args.provider.now c.args.report.now c.args.content told out) (Ok Pattern))
     (sym c.in-Pattern.is) (idle here (Ok Pattern) _ (λ s held has. (s, refl, held)))
+
+pub returns-in-Failing-clause-calm : goal.returns-in-Failing-clause-calm
+returns-in-Failing-clause-calm g c = λ clean s here can.
+    subst (λ (told : Comparison). FailsFromBetween (state g.S.Store c.args.conn.now) (state g.S.Store c.report_failing.new.conn) c.report_failing.result (λ s. HasPacticipant s c.args.provider.now) (IsToChange (λ s out. Leads s c.args.provider.now c.args.report.now c.args.content told out)))
+    (sym c.in-Failing.is) c.report_failing.ensures.calm clean s here can.0
+
+pub returns-in-NoPact-clause-calm : goal.returns-in-NoPact-clause-calm
+returns-in-NoPact-clause-calm g c = λ clean s here can. absurd (can.1 c.in-NoPact.is)

@@ -1,6 +1,6 @@
 use Rattle.std.proofs.Common.{◌∙◌}
 use Rattle.sqlite.specs.Held.{state}
-use Rattle.command_facts.proofs.PerformLemmas.{read_both}
+use Rattle.command_facts.proofs.CalmLemmas.{calm_both}
 use Rattle.contract_commands.proofs.PactLemmas.{sole_publisher}
 use Rattle.contract_commands.proofs.sides.read_sides_to_publish.Goals as goal
 
@@ -8,9 +8,9 @@ pub returns : goal.returns
 returns g c =
     let has = c.in-Ok.value in
     let owner = c.in-Ok-read_owner.value in
-    read_both (state g.S.Store c.args.conn.now) (state g.S.Store c.has_pacticipant.new.conn) (state g.S.Store c.read_owner.new.conn) has owner (record { has_provider = has; has_consumer = owner.has_pacticipant; is_allowed = owner.is_allowed }) _ _ _
+    calm_both (state g.S.Store c.args.conn.now) (state g.S.Store c.has_pacticipant.new.conn) (state g.S.Store c.read_owner.new.conn) has owner (record { has_provider = has; has_consumer = owner.has_pacticipant; is_allowed = owner.is_allowed }) _ _ _
     (λ s there h. record {
       provider_is = there;
       consumer_is = h.pacticipant_is;
       may_is = λ granted. sole_publisher (s.pacticipants c.args.consumer.now) c.args.caller.now granted ∙ h.may_is;
-    }) c.in-Ok.ensures.call c.in-Ok-read_owner.ensures.call
+    }) c.in-Ok.ensures c.in-Ok-read_owner.ensures

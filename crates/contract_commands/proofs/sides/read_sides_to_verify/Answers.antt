@@ -1,6 +1,6 @@
 use Rattle.std.proofs.Common.{◌∙◌}
 use Rattle.sqlite.specs.Held.{state}
-use Rattle.command_facts.proofs.PerformLemmas.{read_both}
+use Rattle.command_facts.proofs.CalmLemmas.{calm_both}
 use Rattle.contract_commands.proofs.PactLemmas.{sole_verifier}
 use Rattle.contract_commands.proofs.sides.read_sides_to_verify.Goals as goal
 
@@ -8,9 +8,9 @@ pub returns : goal.returns
 returns g c =
     let owner = c.in-Ok.value in
     let has = c.in-Ok-has_pacticipant.value in
-    read_both (state g.S.Store c.args.conn.now) (state g.S.Store c.read_owner.new.conn) (state g.S.Store c.has_pacticipant.new.conn) owner has (record { has_provider = owner.has_pacticipant; has_consumer = has; is_allowed = owner.is_allowed }) _ _ _
+    calm_both (state g.S.Store c.args.conn.now) (state g.S.Store c.read_owner.new.conn) (state g.S.Store c.has_pacticipant.new.conn) owner has (record { has_provider = owner.has_pacticipant; has_consumer = has; is_allowed = owner.is_allowed }) _ _ _
     (λ s h there. record {
       provider_is = h.pacticipant_is;
       consumer_is = there;
       may_is = λ granted. sole_verifier (s.pacticipants c.args.provider.now) c.args.caller.now granted ∙ h.may_is;
-    }) c.in-Ok.ensures.call c.in-Ok-has_pacticipant.ensures.call
+    }) c.in-Ok.ensures c.in-Ok-has_pacticipant.ensures

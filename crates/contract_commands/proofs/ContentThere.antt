@@ -1,0 +1,83 @@
+-- The content of each contract has a text, as the table of contracts REFERENCES that of contents.
+use Rattle.std.proofs.Common.{◌≡◌, ◌==◌, ◌+◌, ◌-◌, ◌<◌, ◌≤◌, inl, inr, ℕ, ℤ, pos, List, [], ◌∷◌, map, length, false, cond, get_or, slice_get, Option, Some, None, refl, sym, ap, ◌∙◌, arith}
+use Rattle.std.specs.Prelude.{option_and_then, option_map, Result, Ok, Err}
+use Rattle.std.specs.List.{enumerate_from}
+use Rattle.std.proofs.lemmas.Bool.Decides.{nat_tests}
+use Rattle.std.proofs.lemmas.List.{length-map}
+use Rattle.std.proofs.lemmas.Option.{slice_get-get_or}
+use Rattle.sqlite.specs.Order.{Row}
+use Rattle.sqlite.specs.Effect.{Database}
+use Rattle.sqlite_rules.specs.Lists.{Has}
+use Rattle.table_access.specs.Columns.{text, whole_at}
+use Rattle.table_access.proofs.Maps.{find_has}
+use Rattle.table_access.proofs.SoundLemmas.{has_place}
+use Rattle.broker_core.specs.Text.{Text}
+use Rattle.broker_core.specs.State.{State}
+use Rattle.broker_core.specs.Request.{consumer_version}
+use Rattle.broker_core.specs.declared.answer.Answer.{Answer}
+use Rattle.broker_core.specs.declared.command.PactPath.{PactPath}
+use Rattle.broker_core.specs.declared.command.Version.{Version}
+use Rattle.broker_core.specs.declared.policy.Caller.{Caller}
+use Rattle.broker_core.specs.declared.policy.Rule.{Rule}
+use Rattle.broker_tables.specs.Holds.{Holds, with_digest}
+use Rattle.broker_tables.specs.Numbers.{number_of}
+use Rattle.broker_tables.proofs.Orders.{marked_total, exact_marked}
+use Rattle.broker_tables.proofs.Placed.{contracts, contracts_there}
+use Rattle.broker_tables.proofs.References.{refers_content}
+use Rattle.contract_tables.proofs.ContractRows.{key, content_at, contents}
+use Rattle.contract_commands.specs.BranchPact.{ReachesBranch}
+use Rattle.contract_commands.specs.Failures.{HasContent}
+use Rattle.contract_commands.specs.Pacts.{Reaches, HasReachedContent}
+
+-- rows that are numbered from m on have the numbers from m to the last
+within : {X : Type 0} (f : Row → X) (rows : List Row) (xs : List X) (m n : ℕ) → map {B = ℤ × X} (λ r. (whole_at 0 r, f r)) rows ≡ map (λ e. (pos e.0, e.1)) (enumerate_from m xs) → (r : Row) → Has rows r → whole_at 0 r ≡ pos n → (m ≤ n) × (n < m + length xs)
+within f [] xs m n is r has at = absurd has
+within f (y ∷ rows) [] m n is r has at = absurd (let e = is in cc)
+within {X} f (y ∷ rows) (x ∷ xs) m n is r (inl same) at =
+    let ints : pos m ≡ pos n = sym (ap (whole_at 0) same ∙ ap (λ (l : List (ℤ × X)). first l) is) ∙ at in
+    let nats : m ≡ n = cc in
+    (omega (arith, nats), omega (arith, nats))
+  where
+    first : List (ℤ × X) → ℤ
+    first [] = pos 0
+    first (p ∷ ps) = p.0
+within {X} f (y ∷ rows) (x ∷ xs) m n is r (inr more) at =
+    let it = within f rows xs (m + 1) n (ap (λ (l : List (ℤ × X)). rest l) is) r more at in
+    (omega (arith, it.0), omega (arith, it.1))
+  where
+    rest : List (ℤ × X) → List (ℤ × X)
+    rest [] = []
+    rest (p ∷ ps) = ps
+
+not_zero : (n : ℕ) → 1 ≤ n → (n == 0) ≡ false
+not_zero n low = grind (arith, nat_tests)
+
+-- a number from 1 to the count is that of a text
+text_there : (s : State) (n : ℕ) → 1 ≤ n → n ≤ length s.contents → HasContent s n
+text_there s n low high =
+    let place : n - 1 < length s.contents = omega (arith, low, high) in
+    (get_or s.contents (n - 1) [], ap (λ b. cond b None (slice_get s.contents (n - 1))) (not_zero n low) ∙ slice_get-get_or s.contents (n - 1) [] place)
+
+module _ (db : Database) (s : State) (held : Holds db s) where
+  contract_row : (v : Version) (p : Text) (n : ℕ) → s.contracts (v, p) ≡ Some n → (r : Row) × Has (db.trees 15) r × (whole_at 3 r ≡ pos n)
+  contract_row v p n is = by_number (number_of s.versions v) (held.contracts v p ∙ ap (option_map pos) is) where
+    by_number : (o : Option ℕ) → option_and_then (λ k. content_at (db.trees 15) k p) o ≡ Some (pos n) → (r : Row) × Has (db.trees 15) r × (whole_at 3 r ≡ pos n)
+    by_number None e = absurd cc
+    by_number (Some k) e = let it = find_has marked_total exact_marked key (whole_at 3) (pos k, p) (pos n) (db.trees 15) e in (it.0, it.1, it.3)
+
+  -- the content of a contract has a text
+  pub contract_text : (v : Version) (p : Text) (n : ℕ) → s.contracts (v, p) ≡ Some n → HasContent s n
+  contract_text v p n is =
+      let row = contract_row v p n is in
+      let x = refers_content db held.broker contracts (has_place _ 8 contracts (contracts_there db held.broker)) 3 (inr (inr (inl refl))) row.0 row.1 (contents db held.broker row.0 row.1) in
+      let it = within (λ r. (text 2 r, text 3 r)) (db.trees 14) (map with_digest s.contents) 1 n held.contents x.0 x.1 (x.2 ∙ row.2) in
+      text_there s n it.0 (let same = length-map s.contents with_digest in omega (arith, it.1, same))
+
+  -- so has that of one that was reached
+  pub text_reached : (caller : Caller) (path : PactPath) (rule : Rule) (owned : List Text) (place : Result ℕ Answer) → Reaches s caller path rule owned place → HasReachedContent s place
+  text_reached caller path rule owned (Ok content) reach = contract_text (consumer_version path) path.provider content reach.0
+  text_reached caller path rule owned (Err refusal) reach = tt
+
+  pub branch_text : (caller : Caller) (provider consumer branch : Text) (place : Result ℕ Answer) → ReachesBranch s caller provider consumer branch place → HasReachedContent s place
+  branch_text caller provider consumer branch (Ok content) reach = let it = reach.0 in contract_text it.0 provider content it.2
+  branch_text caller provider consumer branch (Err refusal) reach = tt
