@@ -1,18 +1,20 @@
 -- A value that was read and its tree are each other's.
-use Rattle.std.proofs.Common.{◌≡◌, pos, negsuc, List, ℕ, Bool, true, false, true≢false, ◌||◌, Option, Some, None, option_map, Result, Ok, Err, IfOk, refl, sym, ap, ◌∙◌, subst}
+use Rattle.std.proofs.Common.{◌≡◌, ◌↔◌, ◌<◌, nat_le, cond, arith, pos, negsuc, List, ℕ, Bool, true, false, true≢false, ◌||◌, Option, Some, None, option_map, Result, Ok, Err, IfOk, refl, sym, ap, ◌∙◌, subst}
 use Rattle.std.proofs.lemmas.Option.{same_Some}
-use Rattle.std.proofs.lemmas.Bool.{or_parts}
+use Rattle.std.proofs.lemmas.Bool.{or_parts, lt-leb}
+use Rattle.std.proofs.lemmas.Bool.Decides.{nat_tests}
 use Rattle.serde_json.specs.Data as json
 use Rattle.serde_json.specs.Find.{is_float}
 use Rattle.serde_json.specs.Written.{has_float, items_have_float, members_have_float}
 use Rattle.pact_rules.specs.Kept as kept
-use Rattle.pact_rules.specs.Outcome.{Gives}
+use Rattle.pact_paths.proofs.Checked.{same_Err, fault_of, no_fault}
+use Rattle.pact_rules.specs.Outcome.{Gives, GivesChecked, checked}
 use Rattle.pact_rules.specs.Trees.{Node, null, truth, whole, text, list, object, Nodes, no_nodes, node, Fields, no_fields, field, IsTree, AreTrees, IsMap, IsBelowFields}
-use Rattle.pact_rules.specs.TreeReading.{whole_number, whole_tree, whole_items, whole_members, whole_or, checked, data_of, items_data, members_data}
+use Rattle.pact_rules.specs.TreeReading.{whole_number, whole_tree, whole_items, whole_members, whole_or, tree_in, data_of, items_data, members_data}
 use Rattle.pact_rules.specs.TreeView.{tree_view}
 use Rattle.pact_rules.specs.declared.tree.Tree.{Tree}
 use Rattle.pact_rules.specs.declared.tree.TreeFault.{TreeFault}
-use Rattle.pact_rules.specs.declared.tree.TreeFault.TheVariants.{Memory, NotWhole}
+use Rattle.pact_rules.specs.declared.tree.TreeFault.TheVariants.{Memory, NotWhole, TooDeep}
 use Rattle.pact_rules.proofs.TreeLemmas.{both_some, both_make, whole_of}
 
 map_some : {A B : Type 0} (f : A → B) (o : Option A) (y : B) → option_map f o ≡ Some y → (x : A) × (o ≡ Some x) × (f x ≡ y)
@@ -163,3 +165,42 @@ kept_tree d (Ok t) h k =
     let is = whole_of (whole_tree d) (tree_view t) h in
     (is_tree d (tree_view t) k is, data_of_whole d (tree_view t) k is)
 kept_tree d (Err e) h k = tt
+
+-- ---- a value that is checked before its tree is made
+
+deep_test : (b : Bool) (o : Option Node) (e : TreeFault) → cond b (whole_or o) (Err TooDeep) ≡ Err e → (e ≡ TooDeep) ↔ (b ≡ false)
+deep_test true None e h = ((λ same. let clash : Err NotWhole ≡ Err TooDeep = h ∙ ap Err same in absurd cc), λ is. absurd (true≢false is))
+deep_test true (Some t) e h = absurd cc
+deep_test false o e h = ((λ same. refl), λ is. cc)
+
+not_within : (m n : ℕ) → nat_le m n ≡ false → n < m
+not_within m n h = grind (arith, nat_tests)
+
+-- a fault is TooDeep exactly where the value nests too deep
+pub is_deep : (d : json.Data) (e : TreeFault) (r : Result Tree TreeFault) → r ≡ Err e → Err e ≡ checked (tree_in d) → (r ≡ Err TooDeep) ↔ (100 < json.depth d)
+is_deep d e r is h =
+    let test = deep_test (nat_le (json.depth d) 100) (whole_tree d) e (fault_of (tree_in d) e h) in
+    (λ deep. not_within (json.depth d) 100 (test.0 (same_Err (sym is ∙ deep))), λ more. is ∙ ap Err (test.1 (lt-leb (json.depth d) 100 more)))
+
+pub gives_fault : (d : json.Data) (e : TreeFault) (r : Result Tree TreeFault) → r ≡ Err e → Err e ≡ checked (tree_in d) → GivesChecked Memory tree_view r (tree_in d)
+gives_fault d e r is h =
+    let fault = fault_of (tree_in d) e h in
+    subst (λ s. GivesChecked Memory tree_view s (tree_in d)) (sym is) (λ memory. fault, λ f k. ap Err (same_Err (sym fault ∙ k)))
+
+-- where it is let through, the value has no fault
+within : (b : Bool) (o : Option Node) → Ok tt ≡ checked (cond b (whole_or o) (Err TooDeep)) → cond b (whole_or o) (Err TooDeep) ≡ whole_or o
+within true o h = refl
+within false o h = absurd cc
+
+pub gives_tree : (d : json.Data) (r : Result Tree TreeFault) → Ok tt ≡ checked (tree_in d) → Gives Memory tree_view r (whole_or (whole_tree d)) → GivesChecked Memory tree_view r (tree_in d)
+gives_tree d r ok h =
+    (subst (Gives Memory tree_view r) (sym (within (nat_le (json.depth d) 100) (whole_tree d) ok)) h, λ f k. absurd (no_fault (tree_in d) f ok k))
+
+pub is_not_deep : (d : json.Data) (r : Result Tree TreeFault) → Ok tt ≡ checked (tree_in d) → Gives Memory tree_view r (whole_or (whole_tree d)) → (r ≡ Err TooDeep) ↔ (100 < json.depth d)
+is_not_deep d r ok h = (
+  λ deep. absurd (never_deep (whole_tree d) (subst (λ s. Gives Memory tree_view s (whole_or (whole_tree d))) deep h (λ e. let clash : TooDeep ≡ Memory = e in absurd cc))),
+  λ more. absurd (no_fault (tree_in d) TooDeep ok (ap (λ b. cond b (whole_or (whole_tree d)) (Err TooDeep)) (lt-leb (json.depth d) 100 more))),
+) where
+  never_deep : (o : Option Node) → whole_or o ≡ Err TooDeep → ⊥
+  never_deep None k = absurd cc
+  never_deep (Some t) k = absurd cc

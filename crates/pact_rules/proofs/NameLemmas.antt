@@ -28,9 +28,6 @@ longer xs ys more x h k = ap (λ zs. lower_cmp zs ys) h ∙ ap (lower_cmp (x ∷
 pub shorter : (xs ys more : List ℕ) (y : ℕ) → xs ≡ [] → ys ≡ y ∷ more → lower_cmp xs ys ≡ Less
 shorter xs ys more y h k = ap (λ zs. lower_cmp zs ys) h ∙ ap (lower_cmp []) k
 
-pub both_end : (xs ys : List ℕ) → xs ≡ [] → ys ≡ [] → lower_cmp xs ys ≡ Equal
-both_end xs ys h k = ap (λ zs. lower_cmp zs ys) h ∙ ap (lower_cmp []) k
-
 decided : (o rest : Ordering) → is_ne o ≡ true → ordering_then o rest ≡ o
 decided Less rest h = refl
 decided Equal rest h = absurd (true≢false (sym h))

@@ -1,5 +1,5 @@
 -- A reading that succeeds where the grammar's patterns are accepted succeeds with the same value where none is, or meets a pattern there.
-use Rattle.std.proofs.Common.{◌≡◌, ◌⊎◌, ℕ, Bool, true, false, not, cond, List, [], ◌∷◌, ◌++◌, append_assoc, Option, Some, None, Result, Ok, Err, bytes_eq, codes, is_some, refl, sym, ap, ◌∙◌, inl, inr, ⊎_elim}
+use Rattle.std.proofs.Common.{◌≡◌, ◌⊎◌, ℕ, Bool, true, false, not, cond, List, [], ◌∷◌, ◌++◌, append_assoc, Option, Some, None, Result, Ok, Err, bytes_eq, codes, is_some, refl, sym, ap, ◌∙◌, subst, inl, inr, ⊎_elim}
 use Rattle.pact_rules.specs.Trees.{Node, Nodes, no_nodes, node, Fields, no_fields, field}
 use Rattle.pact_rules.specs.Matching.{is_pattern}
 use Rattle.pact_rules.specs.declared.rule_fault.RuleFault.{RuleFault}
@@ -8,11 +8,29 @@ use Rattle.std.specs.List.{list_any}
 use Rattle.std.specs.Option.{ok_or}
 use Rattle.std.specs.Str.{str_eq_ignore_ascii_case}
 use Rattle.pact_paths.specs.Paths.{Token}
+use Rattle.pact_paths.specs.PathReading.{path_in}
+use Rattle.pact_paths.specs.Readings.{IsReading as IsPathReading}
 use Rattle.pact_paths.specs.Spelling.{path_text}
+use Rattle.pact_paths.specs.declared.path_reader.PathFault.{PathFault}
+use Rattle.pact_paths.specs.declared.path_reader.PathFault.TheVariants as read_fault
+use Rattle.pact_paths.proofs.ReadingLemmas.{path_reads}
 use Rattle.pact_rules.specs.Rules.{Matcher, BodyRule, HeaderRule, Rules, rule_text, name_key}
 use Rattle.pact_rules.specs.OrderedReading.{put, ordered_body, ordered_headers, ordered_body_in, ordered_headers_in, ordered_category}
 use Rattle.pact_rules.specs.Outcome.{◌>>=◌, guard}
-use Rattle.pact_rules.specs.RuleReading.{no_pattern, as_text, as_object, as_list, optional_at, pattern_at, named_matcher, bounds_alone, matcher_by, matcher_at, matchers_at, combine_of, entry_at, path_at, body_rule_at, header_rule_at, is_null_node, FailsAs}
+use Rattle.pact_rules.specs.RuleReading.{no_pattern, as_text, as_object, as_list, optional_at, pattern_at, named_matcher, bounds_alone, matcher_by, matcher_at, matchers_at, combine_of, entry_at, path_or_fault, path_at, body_rule_at, header_rule_at, is_null_node, FailsAs}
+
+-- ---- a text that is no path
+
+path_fault : (k : List ℕ) (m : PathFault) (e : RuleFault) (r : Result (List Token) PathFault) → m ≡ read_fault.Memory → ((f : PathFault) → path_in k ≡ Err f → ◌≡◌ {A = Result (List Token) PathFault} (Err m) (Err f))
+    → path_in k ≡ r → path_or_fault r ≡ Err e → ⊥
+path_fault k m e (Ok path) out finds is h = absurd cc
+path_fault k m e (Err f) out finds is h = subst (IsPathReading k) (sym (finds f is) ∙ ap Err out) (subst (IsPathReading k) is (path_reads k))
+
+-- a reader that finds each fault isn't out of memory at one
+pub path_found : (k : List ℕ) (m : PathFault) (e : RuleFault) → m ≡ read_fault.Memory → ((f : PathFault) → path_in k ≡ Err f → ◌≡◌ {A = Result (List Token) PathFault} (Err m) (Err f)) → path_at k ≡ Err e → ⊥
+path_found k m e out finds h = path_fault k m e (path_in k) out finds refl h
+
+-- ---- readings that go on
 
 abbrev pub Goes : {A : Type 0} → Result A RuleFault → Result A RuleFault → Type 0
 Goes {A} all few = (x : A) → all ≡ Ok x → (few ≡ Ok x) ⊎ (few ≡ Err Pattern)

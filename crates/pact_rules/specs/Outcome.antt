@@ -1,7 +1,7 @@
 -- Reading part after part: the first fault is the answer. What a reader gives is what reading gives, unless memory
 -- ran out.
 use Rattle.std.specs.Prelude.{Bool, true, false, Result, Ok, Err, ⊤}
-pub use Rattle.pact_paths.specs.Outcome.{Gives, GivesAlways}
+pub use Rattle.pact_paths.specs.Outcome.{Gives, GivesAlways, GivesChecked, checked}
 
 infixl 10 ◌>>=◌
 abbrev pub ◌>>=◌ : {A B F : Type 0} → Result A F → (A → Result B F) → Result B F

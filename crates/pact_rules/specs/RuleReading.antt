@@ -56,7 +56,8 @@ abbrev pub has_old_key : Fields → Bool
 has_old_key no_fields = false
 has_old_key (field k n fs) = begins (codes "$") k || has_old_key fs
 
--- any fault of a path expression is this one
+-- any fault of a path expression is this one; a path is read as `pact_paths` computes it, which is the one reading of
+-- the text (its law `computed_reading`)
 abbrev pub path_or_fault : Result (List Token) PathFault → Result (List Token) RuleFault
 path_or_fault (Ok path) = Ok path
 path_or_fault (Err fault) = Err BadPath
@@ -187,6 +188,13 @@ members_in tree = do
   fs ← ok_or (as_object tree) Form
   guarded ← guard (not (has_old_key fs)) OldRules
   Ok fs
+
+-- the same of an entry: it is an object with a list of matchers
+abbrev pub matchers_in : Node → Result Nodes RuleFault
+matchers_in tree = do
+  fs ← ok_or (as_object tree) Form
+  ns ← ok_or (as_list (optional_at fs (codes "matchers"))) Form
+  Ok ns
 
 -- no pattern is accepted
 abbrev pub no_pattern : List ℕ → Bool

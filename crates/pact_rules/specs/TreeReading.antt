@@ -1,5 +1,5 @@
 -- Which values are trees, and the first fault of those that are none.
-use Rattle.std.specs.Prelude.{nat_le, Option, Some, None, Result, Ok, Err, if◌then◌else◌, pos, option_map, option_and_then, ⊤}
+use Rattle.std.specs.Prelude.{nat_le, Option, Some, None, Result, Ok, Err, if◌then◌else◌, pos, option_map, option_and_then}
 use Rattle.serde_json.specs.Data as json
 use Rattle.serde_json.specs.Find.{of_integer}
 use Rattle.pact_rules.specs.Trees.{Node, null, truth, whole, text, list, object, Nodes, no_nodes, node, Fields, no_fields, field}
@@ -36,11 +36,6 @@ whole_or (Some t) = Ok t
 -- depth is looked at first, for the whole value
 abbrev pub tree_in : json.Data → Result Node TreeFault
 tree_in d = if nat_le (json.depth d) 100 then whole_or (whole_tree d) else Err TooDeep
-
--- whether it is one, or the fault
-abbrev pub checked : {A F : Type 0} → Result A F → Result ⊤ F
-checked (Ok x) = Ok tt
-checked (Err e) = Err e
 
 -- ---- and back
 

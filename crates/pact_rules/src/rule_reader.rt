@@ -7,7 +7,8 @@ ghost use Rattle.pact_rules.specs.RuleViews.{matcher_view, entry_view};
 ghost use Rattle.pact_rules.specs.RuleReading.{Reads, optional_at, as_text, bound as bound_of};
 ghost use Rattle.pact_rules.specs.RuleReading.{combine_of as combine_in, pattern_at, same_type_at, nameless_matcher};
 ghost use Rattle.pact_rules.specs.RuleReading.{named_matcher, matcher_at, matchers_at, as_object, as_list, entry_at};
-ghost use Rattle.pact_rules.specs.RuleReading.{include_at};
+ghost use Rattle.pact_rules.specs.RuleReading.{include_at, matchers_in};
+ghost use Rattle.pact_rules.specs.declared.rule_fault.RuleFault.{RuleFault as RuleFaultModel};
 ghost use Rattle.pact_rules.specs.declared.rule_fault.RuleFault.TheVariants.{Memory, Unsupported};
 
 use crate::patterns::Patterns;
@@ -224,14 +225,15 @@ fn list_of(tree: Option<&Tree>) -> Option<&Vec<Tree>>
     }
 }
 
-/// An entry after its path.
+/// An entry after its path. That it is no object with a list of matchers is found before memory is taken.
 pub(crate) fn entry_of(
     alloc: Global,
     patterns: &mut Patterns,
     in_header: bool,
     tree: &Tree,
 ) -> Result<Entry, RuleFault>
-    ensures { Reads entry_view result (λ accepts. entry_at accepts in_header (tree_view tree.now)) }
+    ensures reading { Reads entry_view result (λ accepts. entry_at accepts in_header (tree_view tree.now)) }
+    ensures form { (e : RuleFaultModel) → matchers_in (tree_view tree.now) ≡ Err e → result ≡ Err e }
 {
     let Some(members) = object_of(tree) else {
         return Err(RuleFault::Form);

@@ -23,9 +23,10 @@ use std::alloc::{AllocError, Global};
 use std::collections::BTreeMap;
 use std::marker::Model;
 
-/// A body rule's path.
+/// A body rule's path. A text that is none is found so before memory is taken.
 fn path_of(alloc: Global, key: &str) -> Result<Path, RuleFault>
-    ensures { Reads (λ p. p) result (λ accepts. path_at key.now) }
+    ensures reading { Reads (λ p. p) result (λ accepts. path_at key.now) }
+    ensures fault { (e : RuleFaultModel) → path_at key.now ≡ Err e → result ≡ Err e }
 {
     match Path::read(alloc, key) {
         Ok(path) => Ok(path),
@@ -57,6 +58,7 @@ fn body_rule(
     ensures value { Reads (λ p. rule_view p.1) result
         (λ accepts. body_rule_at accepts (body_rules before.now.entries) key.now (tree_view tree.now)) }
     ensures text { IfOk result (λ p. string_bytes p.0 ≡ rule_text (rule_view p.1)) }
+    ensures path { (e : RuleFaultModel) → path_at key.now ≡ Err e → result ≡ Err e }
 {
     let path = path_of(alloc, key)?;
     let text = path.text(alloc)?;

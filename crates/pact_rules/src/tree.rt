@@ -9,8 +9,8 @@ ghost use Rattle.pact_rules.specs.TreeView.{tree_view, list_view, object_view};
 ghost use Rattle.pact_rules.specs.Kept.{IsKept};
 ghost use Rattle.pact_rules.specs.Trees.{IsTree};
 ghost use Rattle.pact_rules.specs.TreeReading.{whole_or, whole_tree, whole_items, whole_members, whole_number};
-ghost use Rattle.pact_rules.specs.TreeReading.{tree_in, checked, data_of};
-ghost use Rattle.pact_rules.specs.Outcome.{Gives, GivesAlways};
+ghost use Rattle.pact_rules.specs.TreeReading.{tree_in, data_of};
+ghost use Rattle.pact_rules.specs.Outcome.{Gives, GivesAlways, GivesChecked, checked};
 ghost use Rattle.pact_rules.specs.declared.tree.TreeFault.TheVariants.{Memory, TooDeep};
 
 use serde_json::{Map, Number, Value};
@@ -67,23 +67,21 @@ impl<T: Drop> From<AllocFailed<T>> for TreeFault {
 const MAX_DEPTH: usize = 100;
 
 /// The tree that a value is. `TooDeep` is looked at first, for the whole value, and then `NotWhole`; a scalar has
-/// depth 0, a list or object one more than its deepest member, 1 if empty. Memory may run out in its place, but not in
-/// that of `TooDeep`. The tree of a value that was read from a text (`IsKept`) is that value again, and each of
-/// its objects has its keys in order, each once.
+/// depth 0, a list or object one more than its deepest member, 1 if empty. Memory may run out only for a value that is
+/// a tree. The tree of a value that was read from a text (`IsKept`) is that value again, and each of its objects has
+/// its keys in order, each once.
 #[tactic(auto, using(crate::proofs::Bridge::kept_tree))]
 pub fn tree_of(alloc: Global, value: &Value) -> Result<Tree, TreeFault>
-    ensures tree { Gives Memory tree_view result (tree_in (view value.now)) }
+    ensures tree { GivesChecked Memory tree_view result (tree_in (view value.now)) }
     ensures deep { (result ≡ Err TooDeep) ↔ (100 < depth (view value.now)) }
     ensures back { IsKept (view value.now)
         → IfOk result (λ t. IsTree (tree_view t) × (data_of (tree_view t) ≡ view value.now)) }
 {
-    if !nests_within(value, MAX_DEPTH) {
-        return Err(TreeFault::TooDeep);
-    }
+    check_tree(value)?;
     convert(alloc, value)
 }
 
-/// Whether a value is a tree, by the same tests in the same order, without making it.
+/// Whether a value is a tree, by the same tests in the same order, without making it. Takes no memory.
 #[tactic(auto, using(crate::proofs::Bridge::is_no_tree, crate::proofs::Bridge::is_whole_tree))]
 pub fn check_tree(value: &Value) -> Result<(), TreeFault>
     ensures { result ≡ checked (tree_in (view value.now)) }

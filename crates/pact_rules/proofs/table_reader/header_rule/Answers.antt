@@ -19,4 +19,4 @@ returns-in_err-entry-clause-value c =
     rw (p.1, p.2) (fails_on c.in_err-entry.field-0.0 (λ accepts. entry_at accepts true (tree_view c.args.tree.now)) _ _
     (free_name before c.args.key.now (tree_view c.args.tree.now)
     (free before c.as_str.result.now _ c.args.key.now c.is_name_taken.result false c.as_str.ensures.value c.in_ok-name.ensures.ok c.is_name_taken.ensures c.if-is_name_taken.false))
-    c.in_err-entry.ensures)
+    c.in_err-entry.ensures.reading)

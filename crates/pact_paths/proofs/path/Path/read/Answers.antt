@@ -1,4 +1,4 @@
-use Rattle.std.proofs.Common.{◌∙◌, ◌≡◌, Some, [], map, length, sym, ap, Ok, Err, rules}
+use Rattle.std.proofs.Common.{◌∙◌, ◌≡◌, Some, map, length, sym, ap, Ok, Err, rules}
 use Rattle.std.proofs.lemmas.Result.{err_from_is_err_and}
 use Rattle.pact_paths.specs.TokenView.{token_view}
 use Rattle.pact_paths.specs.PathReading.{behind, tokens_in, with_all}
