@@ -7,7 +7,7 @@ use Rattle.table_access.specs.Calls.{CallsTablesBetween, GoesOn}
 use Rattle.table_access.proofs.CallLemmas.{ended_since, memory_ok}
 use Rattle.broker_core.specs.State.{State as Broker}
 use Rattle.broker_tables.specs.Holds.{Holds, QueriesBetween}
-use Rattle.broker_tables.specs.Calm.{IsEndedOrMemory, CalmQueriesInPlaceBetween}
+use Rattle.broker_tables.specs.Calm.{HasFailedOrMemory, CalmQueriesInPlaceBetween}
 use Rattle.broker_tables.proofs.QueryLemmas.{serves_on}
 use Rattle.contract_commands.specs.Failures.{IsCalmFromBetween, FailsFromBetween}
 
@@ -19,7 +19,7 @@ placed old new a P it = record { call = it; memory = memory_ok old new a; calm =
 
 -- ---- what comes after a query
 
-later : (old mid new : State) (e : StoreFault) → GoesOn old mid → old.faults ≤ mid.faults → IsEndedOrMemory mid new e → IsEndedOrMemory old new e
+later : (old mid new : State) (e : StoreFault) → GoesOn old mid → old.faults ≤ mid.faults → HasFailedOrMemory mid new e → HasFailedOrMemory old new e
 later old mid new e on up (inl ended) = inl (ended_since old mid new e on up ended)
 later old mid new e on up (inr room) = inr room
 

@@ -9,7 +9,7 @@ use Rattle.broker_core.specs.Change.{Transition, text_of}
 use Rattle.broker_core.specs.Text.{Text}
 use Rattle.broker_core.specs.State.{State as Broker}
 use Rattle.broker_core.specs.declared.answer.Answer.{Answer}
-use Rattle.broker_tables.specs.Calm.{Serves, IsEndedOrMemory}
+use Rattle.broker_tables.specs.Calm.{Serves, HasFailedOrMemory}
 use Rattle.command_facts.specs.Performs.{IsToChange}
 
 -- one more version can be numbered
@@ -23,13 +23,13 @@ HasContent s content = (text : Text) × (text_of s content ≡ Some text)
 -- from the states that allow it, a call fails only as the store failed, or since a growth was refused
 abbrev pub IsCalmFromBetween : {A : Type 0} → State → State → Result A StoreFault → (Broker → Type 0) → Type 0
 IsCalmFromBetween old new r Allows =
-    HasCleanDisk new → (s : Broker) → Serves old s → Allows s → IfErr r (IsEndedOrMemory old new)
+    HasCleanDisk new → (s : Broker) → Serves old s → Allows s → IfErr r (HasFailedOrMemory old new)
 
 -- or since its change was refused, which it makes from these states alone
 abbrev pub FailsFromBetween : {A : Type 0} → State → State → Result A StoreFault → (Broker → Type 0)
     → (Broker → Type 0) → Type 0
 FailsFromBetween old new r Allows Changes = HasCleanDisk new → (s : Broker) → Serves old s → Allows s
-    → IfErr r (λ fault. IsEndedOrMemory old new fault ⊎ Changes s)
+    → IfErr r (λ fault. HasFailedOrMemory old new fault ⊎ Changes s)
 
 -- ---- the same of a connection over this store
 
