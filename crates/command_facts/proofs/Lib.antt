@@ -1,4 +1,5 @@
 pub mod CallerLemmas
 pub mod CalmLemmas
+pub mod ReadableTexts
 pub mod CallerSteps
 pub mod PerformLemmas
