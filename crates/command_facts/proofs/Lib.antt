@@ -1,5 +1,6 @@
 pub mod CallerLemmas
 pub mod CalmLemmas
+pub mod ReadableTexts
 pub mod CallerSteps
 pub mod FailLemmas
 pub mod PerformLemmas

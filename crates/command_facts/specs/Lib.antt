@@ -1,3 +1,4 @@
+pub mod Laws
 pub mod Owners
 pub mod Patterns
 pub mod Performs

@@ -13,4 +13,5 @@ macro_rules! done {
 }
 
 pub mod callers;
+pub mod laws;
 pub mod rules;

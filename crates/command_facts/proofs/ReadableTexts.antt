@@ -1,0 +1,64 @@
+-- What this broker keeps of tokens and of pact files is in UTF-8.
+use Rattle.std.proofs.Common.{◌≡◌, true, false, Result, Ok, Err, refl, if◌then◌else◌, nat_le, length}
+use Rattle.std.specs.Option.{ok_or}
+use Rattle.std.specs.Str.{IsUtf8, is_utf8}
+use Rattle.std.proofs.lemmas.Str.{IsUtf8-from_is_utf8}
+use Rattle.serde_json.specs.Data.{Data}
+use Rattle.serde_json.specs.Read.{read}
+use Rattle.pact_rules.specs.Outcome.{guard}
+use Rattle.pact_rules.specs.Reading.{Follows}
+use Rattle.pact_file.specs.File.{most_bytes, as_file_fault, file_of}
+use Rattle.pact_file.specs.Normal.{Normal}
+use Rattle.pact_file.specs.Objects.{json_of, object_of}
+use Rattle.pact_file.specs.Pact.{Pact}
+use Rattle.pact_file.specs.declared.fault.PactFault.{PactFault}
+use Rattle.pact_file.specs.declared.fault.PactFault.TheVariants.{TooLong}
+use Rattle.pact_file.specs.declared.object.FileFault.TheVariants.{NotJson}
+use Rattle.pact_file.proofs.Objects.{object_ok}
+use Rattle.pact_file.proofs.Steps.{bind_ok}
+use Rattle.broker_core.specs.Contents.{ReadsAgain}
+use Rattle.broker_core.specs.Machine.Reading.{IsPact}
+use Rattle.broker_core.specs.SoundNames.{GivesDigests}
+use Rattle.broker_core.specs.Text.{Text}
+use Rattle.pact_reading.specs.Readings.{reading_of}
+use Rattle.broker_tables.specs.Laws.{KeepsUtf8}
+use Rattle.broker_tables.proofs.ReadableSteps.{digest_utf8}
+use Rattle.command_facts.specs.Primitives.{broker_primitives}
+
+json_utf8 : (text : Text) (d : Data) → json_of text ≡ Ok d → IsUtf8 text
+unfolding json_of
+json_utf8 text d is =
+    elim (is_utf8 text) as (λ b. is_utf8 text ≡ b → (if b then ok_or (read text) NotJson else Err NotJson) ≡ Ok d → IsUtf8 text) [
+      | true ↦ λ utf8 _. IsUtf8-from_is_utf8 text utf8
+      | false ↦ λ _ none. absurd (cc)
+    ] refl is
+
+object_utf8 : (text : Text) (d : Data) → object_of text ≡ Ok d → IsUtf8 text
+unfolding object_of
+object_utf8 text d is = let json = bind_ok (json_of text) _ d is in json_utf8 text json.0 json.1
+
+file_utf8 : (text : Text) (d : Data) → file_of text ≡ Ok d → IsUtf8 text
+unfolding file_of
+file_utf8 text d is =
+    let short = bind_ok (guard (nat_le (length text) most_bytes) TooLong) _ d is in
+    object_utf8 text d (object_ok as_file_fault (object_of text) d short.2)
+
+-- where the first part failed, there is no answer
+read_utf8 : (text : Text) (p : Pact) (first : Result Data PactFault) (next : Data → Result Pact PactFault → Type 0) → file_of text ≡ first → Follows first next (Ok p) → IsUtf8 text
+read_utf8 text p (Ok d) next is _ = file_utf8 text d is
+read_utf8 text p (Err e) next is none = absurd (cc)
+
+-- a text that is read as a pact is in UTF-8
+pub pact_utf8 : (text : Text) (p : Pact) → Normal text (Ok p) → IsUtf8 text
+unfolding Normal
+pact_utf8 text p normal = read_utf8 text p normal.0 _ normal.1 normal.2
+
+reads_utf8 : (text consumer provider normal : Text) (answer : Result Pact PactFault) → Normal text answer → IsPact consumer provider normal ≡ reading_of answer → IsUtf8 text
+reads_utf8 text consumer provider normal (Ok p) read is = pact_utf8 text p read
+reads_utf8 text consumer provider normal (Err e) read is = absurd (cc)
+
+pub keeps_utf8 : GivesDigests broker_primitives → ReadsAgain broker_primitives → KeepsUtf8 broker_primitives
+keeps_utf8 digests again = record {
+  digests = λ token. digest_utf8 (broker_primitives.digest_of token) (digests token);
+  pacts = λ file consumer provider text reads. let it = again file consumer provider text reads in reads_utf8 text consumer provider text it.0 it.1 it.2;
+}
