@@ -14,8 +14,8 @@ use Rattle.broker_core.specs.declared.answer.Answer.TheVariants as answers
 use Rattle.broker_core.specs.declared.command.Command.{Command}
 use Rattle.broker_service.specs.BrokerView.{BrokerView}
 use Rattle.broker_service.specs.Calls.{Applied}
-use Rattle.broker_service.specs.Causes.{HasReason, answer_of}
-use Rattle.broker_service.specs.Ends.{Applies, AppliesOrFails, IsAsBefore, IsUnchangedUnlessDone, IsNoFailure, CommitsAtMostOnce, LeavesNoTransaction}
+use Rattle.broker_service.specs.Causes.{HasReason, Transacted, answer_of}
+use Rattle.broker_service.specs.Ends.{Applies, AppliesOrFails, IsAsBefore, IsUnchangedUnless, IsNoFailure}
 use Rattle.broker_service.specs.Stored.{HoldsState}
 use Rattle.broker_service.proofs.EndLemmas.{deployed_exactly, released_exactly}
 use Rattle.broker_service.proofs.Transaction.{outlives_itself}
@@ -32,12 +32,12 @@ applies_told s token command new (Ok answer) (inr pattern) = inr (inl pattern)
 applies_told s token command new (Err fault.Memory) kept = inr (inr (inl (refl, kept)))
 applies_told s token command new (Err fault.Store) either = inr (inr (inr (refl, either)))
 
-unchanged_told : (old new : State) (r : Result Answer StoreFault) → IsUnchangedUnlessDone old new r → told r ≢ answers.Store → ¬ (IsDone (told r)) → IsAsBefore old new
+unchanged_told : (old new : State) (r : Result Answer StoreFault) → IsUnchangedUnless IsDone old new r → told r ≢ answers.Store → ¬ (IsDone (told r)) → IsAsBefore old new
 unchanged_told old new (Ok answer) it other undone = it undone
 unchanged_told old new (Err fault.Memory) it other undone = it
 unchanged_told old new (Err fault.Store) it other undone = absurd (other refl)
 
-fails_told : (old new : State) (r : Result Answer StoreFault) → IsUnchangedUnlessDone old new r → told r ≡ answers.Store → KeepsLastCommit old new
+fails_told : (old new : State) (r : Result Answer StoreFault) → IsUnchangedUnless IsDone old new r → told r ≡ answers.Store → KeepsLastCommit old new
 fails_told old new (Ok answer) it is = (it (subst (λ (a : Answer). ¬ (IsDone a)) (sym is) (λ none. none))).commit
 fails_told old new (Err fault.Memory) it is = it.commit
 fails_told old new (Err fault.Store) it is = it
@@ -59,27 +59,24 @@ cause_told P (Err fault.Store) fault.Store it cause is = cause
 module _ {X : Type 0} (shown : Held X → State) where
   -- what a running broker's transaction leaves
   pub ran : (old : BrokerView X) (token : Option Text) (command : Command) (r : Result Answer StoreFault) (answer : Answer) (new : BrokerView X) → answer ≡ told r
-      → (HasCleanDisk (shown new.connection) → (s : Broker) → HoldsState s (shown old.connection) → AppliesOrFails s token command (shown new.connection) r)
-      → (HasCleanDisk (shown new.connection) → IsUnchangedUnlessDone (shown old.connection) (shown new.connection) r)
-      → (HasCleanDisk (shown new.connection) → IfErr r (HasReason shown old.connection new.connection))
-      → LeavesNoTransaction (shown old.connection) (shown new.connection) → CommitsAtMostOnce (shown old.connection) (shown new.connection)
+      → Transacted shown token command old.connection new.connection r
       → IfOk r IsNoFailure → (IsTrue new.is_stopped ↔ (answer ≡ answers.Store)) → old.is_stopped ≡ false → Applied shown old token command answer new
-  ran old token command r answer new is ends unchanged cause over survives answered stops running = record {
+  ran old token command r answer new is it answered stops running = record {
     applies = λ clean _. applies clean;
     deployments = λ clean _ step s holds. deployed_exactly s token command _ answer (applies clean s holds) step;
     releases = λ clean _ step s holds. released_exactly s token command _ answer (applies clean s holds) step;
-    unchanged = λ clean _ other undone. unchanged_told _ _ r (unchanged clean) (subst (λ (a : Answer). a ≢ answers.Store) is other) (subst (λ (a : Answer). ¬ (IsDone a)) is undone);
-    fails = λ clean store. fails_told _ _ r (unchanged clean) (sym is ∙ store);
-    cause = λ clean _ failure told_as. cause_told (HasReason shown old.connection new.connection) r failure answered (cause clean) (sym is ∙ told_as);
-    over = over;
+    unchanged = λ clean _ other undone. unchanged_told _ _ r (it.unchanged clean) (subst (λ (a : Answer). a ≢ answers.Store) is other) (subst (λ (a : Answer). ¬ (IsDone a)) is undone);
+    fails = λ clean store. fails_told _ _ r (it.unchanged clean) (sym is ∙ store);
+    cause = λ clean _ failure told_as. cause_told (HasReason shown old.connection new.connection) r failure answered (it.cause clean) (sym is ∙ told_as);
+    over = it.over;
     stops = λ _. stops;
     stopped = λ stopped. absurd (cc);
     runs = λ _. subst (λ (a : Answer). a ≢ answers.Stopped) (sym is) (runs_told r answered);
-    survives = survives;
+    survives = it.survives;
   }
     where
       applies : HasCleanDisk (shown new.connection) → (s : Broker) → HoldsState s (shown old.connection) → Applies s token command (shown new.connection) answer
-      applies clean s holds = subst (λ (a : Answer). Applies s token command (shown new.connection) a) (sym is) (applies_told s token command (shown new.connection) r (ends clean s holds))
+      applies clean s holds = subst (λ (a : Answer). Applies s token command (shown new.connection) a) (sym is) (applies_told s token command (shown new.connection) r (it.ends clean s holds))
 
   -- what a stopped broker is left as
   pub refused_stopped : (b : BrokerView X) (token : Option Text) (command : Command) → IsTrue b.is_stopped → Applied shown b token command answers.Stopped b

@@ -1,116 +1,106 @@
 -- What the transactions leave that make a broker's tables, look for a format, and bring a database up.
-use Rattle.std.proofs.Common.{◌≡◌, ◌↔◌, Option, ℕ, Some, None, Result, Ok, Err, IsOkAnd, IfOk, is_ok, Bool, true, false, IsTrue, refl, subst}
-use Rattle.std.specs.Prelude.{if◌then◌else◌}
+use Rattle.std.proofs.Common.{◌≡◌, ◌↔◌, Option, ℕ, Some, None, Result, Ok, Err, IsOkAnd, is_ok, Bool, false, IsTrue, refl, subst, sym}
+use Rattle.std.proofs.lemmas.Result.{IfOk-weaker}
 use Rattle.sqlite.specs.Effect.{Database}
-use Rattle.sqlite.specs.State.{State, HasCleanDisk}
+use Rattle.sqlite.specs.State.{State, HasCleanDisk, Survives}
+use Rattle.table_access.specs.Calls.{CallsTablesBetween}
 use Rattle.table_access.specs.Durability.{HoldsDurably}
+use Rattle.table_access.specs.Unit.{Begins, IsLeft}
 use Rattle.table_access.specs.declared.StoreFault.{StoreFault}
 use Rattle.table_access.specs.declared.StoreFault.TheVariants.{Memory, Store}
-use Rattle.table_access.proofs.EndLemmas.{keeps_unsure}
-use Rattle.broker_core.specs.State.{State as Broker}
+use Rattle.broker_core.specs.State.{State as Broker, opening}
+use Rattle.broker_core.specs.Text.{Text}
 use Rattle.broker_tables.specs.Former.{former_format}
+use Rattle.broker_tables.specs.Holds.{Holds}
+use Rattle.broker_tables.specs.Making.{IsBlank}
 use Rattle.registry_tables.specs.Format.{FindsFormer, IsOfFormat}
-use Rattle.broker_service.specs.Ends.{IsAsBefore, AddsNoCrashState}
-use Rattle.broker_service.specs.Migration.{StoresFormer, HoldsFormerState, IsFormer, MigratesOrFails, IsUnchangedUnlessFormer, BringsUp}
-use Rattle.broker_service.specs.Opening.{CreatesOrFails, FailsUnchanged, Refuses, open_fault}
-use Rattle.broker_service.specs.Stored.{Stores}
+use Rattle.broker_service.specs.Migration.{StoresFormer, IsFormer, BringsUp, BringsUpOrNot}
+use Rattle.broker_service.specs.Opening.{MakesOrFails, Refuses, open_fault}
+use Rattle.broker_service.specs.Stored.{Stores, HoldsState}
+use Rattle.broker_service.specs.Transaction.{Concludes}
 use Rattle.broker_service.proofs.MigrationLemmas.{former_found}
-use Rattle.broker_service.proofs.Transaction.{IsTransaction, adds_nothing, commits_nothing, done_clean, seen, opened, kept, as_before, unsure, last_commit, keeps_on}
+use Rattle.broker_service.proofs.Sound.{opens_sound}
+use Rattle.broker_service.proofs.Transaction.{WholeTransaction, transaction_ends, transaction_unchanged, transaction_told, transaction_spares, transaction_over, transaction_once, unbegun_ends, unbegun_unchanged, unbegun_over, adds_nothing, once_at_most}
 
--- ---- from a database of the first kind to one of the second, or nothing has changed
+-- ---- the format is looked for
 
-module _ (P Q : Database → Type 0) where
-  pub creates_as_before : (old new : State) (fault : StoreFault) → IsAsBefore old new → HoldsDurably P old → CreatesOrFails P Q new (Err fault)
-  creates_as_before old new Memory is holds = keeps_on P old new is holds
-  creates_as_before old new Store is holds = keeps_unsure P Q new (keeps_on P old new is holds)
+pub never_kept : (r : Result (Option ℕ) StoreFault) → IsTrue false ↔ IsOkAnd r (λ _. ⊥)
+never_kept (Ok found) = (λ no. absurd (cc), λ no. absurd no)
+never_kept (Err why) = (λ no. absurd (cc), λ no. absurd no)
 
-  pub make_ends : (old mid done new : State) (r : Result (Unit {0}) StoreFault) (did : Bool) → IsTransaction old mid done new r (λ _. P mid.now → Q done.now) (is_ok r) did
-      → HasCleanDisk new → HoldsDurably P old → CreatesOrFails P Q new (if did then r else Err Store)
-  make_ends old mid done new (Ok u) true t clean holds =
-      kept old mid done new (Ok u) _ true true t clean Q refl refl (t.works.ok (done_clean old mid done new (Ok u) _ true true t clean) (seen old mid done new (Ok u) _ true true t clean P holds))
-  make_ends old mid done new (Ok u) false t clean holds =
-      unsure old mid done new (Ok u) _ true false t clean P Q holds refl refl t.works.goes_on
-      (t.works.ok (done_clean old mid done new (Ok u) _ true false t clean) (seen old mid done new (Ok u) _ true false t clean P holds))
-  make_ends old mid done new (Err fault) true t clean holds = creates_as_before old new fault (as_before old mid done new (Err fault) _ false true t clean refl) holds
-  make_ends old mid done new (Err fault) false t clean holds = creates_as_before old new Store (as_before old mid done new (Err fault) _ false false t clean refl) holds
+-- nothing is kept
+abbrev pub looked : (old mid done new : State) (X : Option ℕ → Type 0) (worked result : Result (Option ℕ) StoreFault) → (HasCleanDisk mid → Begins old mid) → Survives old mid (λ _. ⊥) → CallsTablesBetween mid done worked X
+    → Concludes done new false worked result → WholeTransaction old mid done new X (λ _. ⊥) result
+looked old mid done new X worked result begun begins works concludes =
+    record { worked = worked; keeps = false; begun = begun; begins = begins; works = works; kept = never_kept worked; concludes = concludes }
+
+-- ---- a broker's tables are made
+
+-- whatever was made is kept
+made_kept : (r : Result (Unit {0}) StoreFault) → IsTrue (is_ok r) ↔ IsOkAnd r (λ _. Unit {0})
+made_kept (Ok u) = (λ _. tt, λ _. refl)
+made_kept (Err why) = (λ no. absurd (cc), λ no. absurd no)
+
+pub made : (office : Text) (old mid done new : State) (worked result : Result (Unit {0}) StoreFault) (keeps : Bool) → (HasCleanDisk mid → Begins old mid) → Survives old mid (λ _. ⊥)
+    → CallsTablesBetween mid done worked (λ _. IsBlank mid.now → Holds done.now (opening office)) → keeps ≡ is_ok worked → Concludes done new keeps worked result
+    → WholeTransaction old mid done new (λ _. IsBlank mid.now → Holds done.now (opening office)) (λ _. Unit {0}) result
+made office old mid done new worked result keeps begun begins works is concludes =
+    record { worked = worked; keeps = keeps; begun = begun; begins = begins; works = works; kept = subst (λ (k : Bool). IsTrue k ↔ IsOkAnd worked (λ _. Unit {0})) (sym is) (made_kept worked); concludes = concludes }
+
+pub make_ends : (office : Text) (old mid done new : State) (r : Result (Unit {0}) StoreFault) → WholeTransaction old mid done new (λ _. IsBlank mid.now → Holds done.now (opening office)) (λ _. Unit {0}) r
+    → HasCleanDisk new → HoldsDurably IsBlank old → MakesOrFails office new r
+make_ends office old mid done new r t clean holds =
+    transaction_ends old mid done new _ _ r t IsBlank (λ db. Stores db (opening office)) (λ _. HoldsState (opening office) new) clean holds
+    (λ u blank makes _. stored blank makes)
+    (λ u blank makes _ commit. commit (λ db. Stores db (opening office)) (stored blank makes))
+    (λ u blank makes never kept. absurd (never tt))
+  where
+    stored : IsBlank mid.now → (IsBlank mid.now → Holds done.now (opening office)) → Stores done.now (opening office)
+    stored blank makes = record { tables = makes blank; contents = opens_sound office }
 
 -- as a failure is handed on
-pub refuses_as : (P Q : Database → Type 0) (new : State) (fault : StoreFault) → CreatesOrFails P Q new (Err fault) → Refuses P Q new (open_fault fault)
-refuses_as P Q new Memory it = it
-refuses_as P Q new Store it = it
-
-pub unmade_as_before : (old new : State) (fault : StoreFault) → IsAsBefore old new → FailsUnchanged old new (Err fault)
-unmade_as_before old new Memory is = is
-unmade_as_before old new Store is = is.commit
-
-pub make_unchanged : {X : Unit {0} → Type 0} (old mid done new : State) (r : Result (Unit {0}) StoreFault) (did : Bool) → IsTransaction old mid done new r X (is_ok r) did
-    → HasCleanDisk new → FailsUnchanged old new (if did then r else Err Store)
-make_unchanged old mid done new (Ok u) true t clean = tt
-make_unchanged old mid done new (Err fault) true t clean = unmade_as_before old new fault (as_before old mid done new (Err fault) _ false true t clean refl)
-make_unchanged old mid done new r false t clean = last_commit old mid done new r _ (is_ok r) false t clean refl
-
--- ---- the format that is found
-
-abbrev pub FindsThere : (Database → Option ℕ → Type 0) → State → Option ℕ → Type 0
-FindsThere Finds old found = IsTrue old.is_open × Finds old.now found
-
-pub finds : {X : Option ℕ → Type 0} (Finds : Database → Option ℕ → Type 0) (old mid done new : State) (r : Result (Option ℕ) StoreFault) (keeps did : Bool) → IsTransaction old mid done new r X keeps did
-    → ((found : Option ℕ) → X found → Finds mid.now found) → HasCleanDisk new → IfOk (if did then r else Err Store) (FindsThere Finds old)
-finds Finds old mid done new (Ok found) keeps true t tells clean =
-    let is = opened old mid done new (Ok found) _ keeps true t clean in
-    (is.0, subst (λ (db : Database). Finds db found) is.1 (tells found (t.works.ok (done_clean old mid done new (Ok found) _ keeps true t clean))))
-finds Finds old mid done new (Err fault) keeps true t tells clean = tt
-finds Finds old mid done new r keeps false t tells clean = tt
+pub refuses_as : (office : Text) (new : State) (why : StoreFault) → MakesOrFails office new (Err why) → Refuses IsBlank (λ db. Stores db (opening office)) new (open_fault why)
+refuses_as office new Memory it = it
+refuses_as office new Store it = it
 
 -- ---- a database of format 1 is brought up
 
-abbrev pub IsBroughtUp : State → State → Option ℕ → Type 0
+abbrev IsBroughtUp : State → State → Option ℕ → Type 0
 IsBroughtUp mid done found = FindsFormer mid.now found × (found ≡ Some former_format → BringsUp mid.now done.now)
-
-pub migrates_as_before : (s : Broker) (old new : State) (fault : StoreFault) → IsAsBefore old new → HoldsFormerState s old → MigratesOrFails s new (Err fault)
-migrates_as_before s old new Memory is holds = keeps_on (λ db. StoresFormer db s) old new is holds
-migrates_as_before s old new Store is holds = keeps_unsure (λ db. StoresFormer db s) (λ db. Stores db s) new (keeps_on (λ db. StoresFormer db s) old new is holds)
-
-pub migration_ends : (s : Broker) (old mid done new : State) (r : Result (Option ℕ) StoreFault) (keeps did : Bool) → IsTransaction old mid done new r (IsBroughtUp mid done) keeps did
-    → (IsTrue keeps ↔ IsOkAnd r (λ found. found ≡ Some former_format)) → HasCleanDisk new → HoldsFormerState s old → MigratesOrFails s new (if did then r else Err Store)
-migration_ends s old mid done new (Ok found) true true t is_kept clean holds =
-    let was = seen old mid done new (Ok found) _ true true t clean (λ db. StoresFormer db s) holds in
-    let up = (t.works.ok (done_clean old mid done new (Ok found) _ true true t clean)).1 (is_kept.0 refl) s was.tables in
-    (is_kept.0 refl, kept old mid done new (Ok found) _ true true t clean (λ db. Stores db s) refl refl (record { tables = up; contents = was.contents }))
-migration_ends s old mid done new (Ok found) true false t is_kept clean holds =
-    let was = seen old mid done new (Ok found) _ true false t clean (λ db. StoresFormer db s) holds in
-    let up = (t.works.ok (done_clean old mid done new (Ok found) _ true false t clean)).1 (is_kept.0 refl) s was.tables in
-    unsure old mid done new (Ok found) _ true false t clean (λ db. StoresFormer db s) (λ db. Stores db s) holds refl refl t.works.goes_on (record { tables = up; contents = was.contents })
-migration_ends s old mid done new (Ok found) false true t is_kept clean holds =
-    let was = seen old mid done new (Ok found) _ false true t clean (λ db. StoresFormer db s) holds in
-    let is = former_found mid.now s found was.tables (t.works.ok (done_clean old mid done new (Ok found) _ false true t clean)).0 in
-    absurd (let kept = is_kept.1 is in cc)
-migration_ends s old mid done new (Err fault) false true t is_kept clean holds = migrates_as_before s old new fault (as_before old mid done new (Err fault) _ false true t clean refl) holds
-migration_ends s old mid done new (Err fault) true did t is_kept clean holds = absurd (is_kept.0 refl)
-migration_ends s old mid done new r false false t is_kept clean holds = migrates_as_before s old new Store (as_before old mid done new r _ false false t clean refl) holds
 
 -- nothing is committed but by a database of format 1
 former_of : (db : Database) (found : Option ℕ) → FindsFormer db found → found ≡ Some former_format → IsFormer db
 former_of db None it is = absurd (cc)
 former_of db (Some n) it is = let same : n ≡ former_format = cc in (subst (λ k. IsOfFormat k db) same it.0, it.1 same)
 
-pub migration_spares : (old mid done new : State) (r : Result (Option ℕ) StoreFault) (keeps did : Bool) → IsTransaction old mid done new r (IsBroughtUp mid done) keeps did
-    → (IsTrue keeps ↔ IsOkAnd r (λ found. found ≡ Some former_format)) → HasCleanDisk new → ¬ (IsFormer old.now) → AddsNoCrashState old new
-migration_spares old mid done new r false did t is_kept clean other = adds_nothing old new (commits_nothing old mid done new r _ false did t refl) clean
-migration_spares old mid done new (Err fault) true did t is_kept clean other = absurd (is_kept.0 refl)
-migration_spares old mid done new (Ok found) true did t is_kept clean other =
-    let is = (t.works.ok (done_clean old mid done new (Ok found) _ true did t clean)).0 in
-    let there : IsFormer mid.now = former_of mid.now found is (is_kept.0 refl) in
-    absurd (other (subst IsFormer (opened old mid done new (Ok found) _ true did t clean).1 there))
+pub brought_up : (old mid done new : State) (worked result : Result (Option ℕ) StoreFault) (keeps : Bool) → (HasCleanDisk mid → Begins old mid) → Survives old mid (λ _. ⊥) → CallsTablesBetween mid done worked (IsBroughtUp mid done)
+    → (IsTrue keeps ↔ IsOkAnd worked (λ found. found ≡ Some former_format)) → Concludes done new keeps worked result → BringsUpOrNot old new result
+brought_up old mid done new worked result keeps begun begins works kept concludes = record {
+  found = λ clean. IfOk-weaker result _ _ (λ found it. (it.0, subst (λ (db : Database). FindsFormer db found) it.1 it.2.0)) (transaction_told old mid done new _ _ result t clean);
+  ends = λ clean s holds.
+      transaction_ends old mid done new _ _ result t (λ db. StoresFormer db s) (λ db. Stores db s) (λ found. (found ≡ Some former_format) × HoldsState s new) clean holds
+      (λ found was up is. stored s found was up is)
+      (λ found was up is commit. (is, commit (λ db. Stores db s) (stored s found was up is)))
+      (λ found was up other kept. absurd (other (former_found mid.now s found was.tables up.0)));
+  unchanged = transaction_unchanged old mid done new _ _ result t;
+  over = transaction_over old mid done new _ _ result t;
+  survives = transaction_once old mid done new _ _ result t;
+  spares = λ clean other. transaction_spares old mid done new _ _ result t (λ found same up is. other (subst IsFormer same (former_of mid.now found up.0 is))) clean;
+}
+  where
+    t : WholeTransaction old mid done new (IsBroughtUp mid done) (λ found. found ≡ Some former_format) result
+    t = record { worked = worked; keeps = keeps; begun = begun; begins = begins; works = works; kept = kept; concludes = concludes }
 
-pub migration_as_before : (old new : State) (fault : StoreFault) → IsAsBefore old new → IsUnchangedUnlessFormer old new (Err fault)
-migration_as_before old new Memory is = is
-migration_as_before old new Store is = is.commit
+    stored : (s : Broker) (found : Option ℕ) → StoresFormer mid.now s → IsBroughtUp mid done found → found ≡ Some former_format → Stores done.now s
+    stored s found was up is = record { tables = up.1 is s was.tables; contents = was.contents }
 
-pub migration_unchanged : (old mid done new : State) (r : Result (Option ℕ) StoreFault) (keeps did : Bool) → IsTransaction old mid done new r (IsBroughtUp mid done) keeps did
-    → (IsTrue keeps ↔ IsOkAnd r (λ found. found ≡ Some former_format)) → HasCleanDisk new → IsUnchangedUnlessFormer old new (if did then r else Err Store)
-migration_unchanged old mid done new (Ok found) true true t is_kept clean = λ other. absurd (other (is_kept.0 refl))
-migration_unchanged old mid done new (Ok found) false true t is_kept clean = λ _. as_before old mid done new (Ok found) _ false true t clean refl
-migration_unchanged old mid done new (Err fault) false true t is_kept clean = migration_as_before old new fault (as_before old mid done new (Err fault) _ false true t clean refl)
-migration_unchanged old mid done new (Err fault) true true t is_kept clean = absurd (is_kept.0 refl)
-migration_unchanged old mid done new r keeps false t is_kept clean = last_commit old mid done new r _ keeps false t clean refl
+-- where BEGIN was refused
+pub not_brought_up : (old new : State) (why : StoreFault) → (HasCleanDisk new → IsLeft old new) → Survives old new (λ _. ⊥) → BringsUpOrNot old new (Err why)
+not_brought_up old new why refused begins = record {
+  found = λ clean. tt;
+  ends = λ clean s holds. unbegun_ends old new why refused begins (λ db. StoresFormer db s) (λ db. Stores db s) (λ found. (found ≡ Some former_format) × HoldsState s new) clean holds;
+  unchanged = unbegun_unchanged old new why refused begins (λ found. found ≡ Some former_format);
+  over = unbegun_over old new refused;
+  survives = once_at_most old new begins;
+  spares = λ clean other. adds_nothing old new begins clean;
+}

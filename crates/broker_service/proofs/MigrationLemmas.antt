@@ -4,7 +4,7 @@ use Rattle.std.specs.Prelude.{if◌then◌else◌, option_map, IsTrue, ◌↔◌
 use Rattle.std.proofs.lemmas.Bool.{eqb-true, eqb-false}
 use Rattle.std.specs.Option.{option_map_or}
 use Rattle.sqlite.specs.Effect.{Database}
-use Rattle.sqlite.specs.State.{State, HasCleanDisk}
+use Rattle.sqlite.specs.State.{State}
 use Rattle.table_access.specs.declared.StoreFault.{StoreFault}
 use Rattle.table_access.specs.declared.StoreFault.TheVariants as store_fault
 use Rattle.table_access.specs.Durability.{HoldsDurably}
@@ -34,8 +34,8 @@ use Rattle.broker_tables.proofs.Former.{unmarked}
 use Rattle.registry_tables.specs.Format.{AreLike, AreKeys, HasForm, HasFormerTables, IsOfFormat, FindsFormer}
 use Rattle.command_facts.specs.Primitives.{broker_primitives}
 use Rattle.broker_service.specs.Calls.{Migrated}
-use Rattle.broker_service.specs.Ends.{AddsNoCrashState, CommitsAtMostOnce, LeavesNoTransaction}
-use Rattle.broker_service.specs.Migration.{StoresFormer, HoldsFormerState, MigratesOrFails, IsUnchangedUnlessFormer, IsFormer, MigratesOrRefuses, WasGood, WasPermitted, WasFault, WasJudged, Showed, JudgesAsBefore, former_kind, former_fault, former_marks}
+use Rattle.broker_service.specs.Ends.{IsUnchangedUnless}
+use Rattle.broker_service.specs.Migration.{StoresFormer, BringsUpOrNot, MigratesOrRefuses, WasGood, WasPermitted, WasFault, WasJudged, Showed, JudgesAsBefore, former_kind, former_fault, former_marks}
 use Rattle.broker_service.specs.Opening.{Refuses, IsUnchangedUnlessStore, judgement, open_fault}
 use Rattle.broker_service.specs.Stored.{Stores, HoldsState}
 use Rattle.broker_service.specs.declared.opening.OpenFault.{OpenFault}
@@ -235,7 +235,7 @@ always (Ok u) P it = it
 always (Err fault) P it = tt
 
 -- where the judgement refuses, no database of format 1 was found
-refused_other : (old new : State) (found : Option ℕ) → IsUnchangedUnlessFormer old new (Ok found) → IfErr (judgement former_format found) (IsUnchangedUnlessStore old new)
+refused_other : (old new : State) (found : Option ℕ) → IsUnchangedUnless (λ f. f ≡ Some former_format) old new (Ok found) → IfErr (judgement former_format found) (IsUnchangedUnlessStore old new)
 refused_other old new None it = it (λ is. cc)
 refused_other old new (Some n) it = go (n == former_format) refl
   where
@@ -244,52 +244,46 @@ refused_other old new (Some n) it = go (n == former_format) refl
     go false e = it (λ is. eqb-false n former_format e (let same : n ≡ former_format = cc in same))
 
 -- a format was found
-pub migrated : (old new : State) (found : Option ℕ) → (HasCleanDisk new → IsTrue old.is_open × FindsFormer old.now found)
-    → (HasCleanDisk new → (s : Broker) → HoldsFormerState s old → MigratesOrFails s new (Ok found))
-    → (HasCleanDisk new → IsUnchangedUnlessFormer old new (Ok found))
-    → LeavesNoTransaction old new → CommitsAtMostOnce old new → (HasCleanDisk new → ¬ (IsFormer old.now) → AddsNoCrashState old new) → Migrated old new (judgement former_format found)
-migrated old new found is_found ends unchanged over survives spares = record {
-  migrates = λ clean s keeps. always (judgement former_format found) (HoldsState s new) (ends clean s keeps).1;
+pub migrated : (old new : State) (found : Option ℕ) → BringsUpOrNot old new (Ok found) → Migrated old new (judgement former_format found)
+migrated old new found up = record {
+  migrates = λ clean s keeps. always (judgement former_format found) (HoldsState s new) (up.ends clean s keeps).1;
   refuses = λ clean s keeps.
-      let is : Ok tt ≡ judgement former_format found = sym (ap (judgement former_format) (ends clean s keeps).0) in
+      let is : Ok tt ≡ judgement former_format found = sym (ap (judgement former_format) (up.ends clean s keeps).0) in
       subst (λ (r : Result (Unit {0}) OpenFault). IfErr r (Refuses (λ db. StoresFormer db s) (λ db. Stores db s) new)) is tt;
-  judges = λ clean. judged_former old.now found (is_found clean).1;
+  judges = λ clean. judged_former old.now found (up.found clean).1;
   blank = λ clean keeps.
-      let it = is_found clean in
+      let it = up.found clean in
       inl (ap (judgement former_format) (blank_former old.now found (held_now IsBlank old keeps it.0).schema it.1));
   marked = λ clean n office other keeps.
-      let it = is_found clean in
+      let it = up.found clean in
       inl (ap (judgement former_format) (marked_former n office old.now found other (held_now (IsMarked n office) old keeps it.0) it.1));
-  unchanged = λ clean. refused_other old new found (unchanged clean);
-  over = over;
-  survives = survives;
-  spares = spares;
+  unchanged = λ clean. refused_other old new found (up.unchanged clean);
+  over = up.over;
+  survives = up.survives;
+  spares = up.spares;
 }
 
 -- the database failed
-pub unmigrated : (old new : State) (fault : StoreFault)
-    → (HasCleanDisk new → (s : Broker) → HoldsFormerState s old → MigratesOrFails s new (Err fault))
-    → (HasCleanDisk new → IsUnchangedUnlessFormer old new (Err fault))
-    → LeavesNoTransaction old new → CommitsAtMostOnce old new → (HasCleanDisk new → ¬ (IsFormer old.now) → AddsNoCrashState old new) → Migrated old new (Err (open_fault fault))
-unmigrated old new store_fault.Memory ends unchanged over survives spares = record {
+pub unmigrated : (old new : State) (why : StoreFault) → BringsUpOrNot old new (Err why) → Migrated old new (Err (open_fault why))
+unmigrated old new store_fault.Memory up = record {
   migrates = λ _ _ _. tt;
-  refuses = ends;
+  refuses = up.ends;
   judges = λ _. tt;
   blank = λ _ _. inr (inl refl);
   marked = λ _ _ _ _ _. inr (inl refl);
-  unchanged = unchanged;
-  over = over;
-  survives = survives;
-  spares = spares;
+  unchanged = up.unchanged;
+  over = up.over;
+  survives = up.survives;
+  spares = up.spares;
 }
-unmigrated old new store_fault.Store ends unchanged over survives spares = record {
+unmigrated old new store_fault.Store up = record {
   migrates = λ _ _ _. tt;
-  refuses = ends;
+  refuses = up.ends;
   judges = λ _. tt;
   blank = λ _ _. inr (inr refl);
   marked = λ _ _ _ _ _. inr (inr refl);
-  unchanged = unchanged;
-  over = over;
-  survives = survives;
-  spares = spares;
+  unchanged = up.unchanged;
+  over = up.over;
+  survives = up.survives;
+  spares = up.spares;
 }

@@ -1,18 +1,19 @@
 -- What a transaction leaves of the connection that it began on.
-use Rattle.std.proofs.Common.{◌≡◌, inl, inr, Bool, true, false, refl, IsTrue, Result, Ok, Err, sym, subst, ◌∙◌, arith}
+use Rattle.std.proofs.Common.{◌≡◌, ◌↔◌, inl, inr, Bool, true, false, refl, IsTrue, IsOkAnd, IfOk, Result, Ok, Err, sym, subst, ◌∙◌, arith}
 use Rattle.sqlite.specs.Effect.{Database, IsDatabase}
-use Rattle.std.specs.Prelude.{⊤}
+use Rattle.std.specs.Prelude.{⊤, if◌then◌else◌}
 use Rattle.sqlite.specs.Tree.{Trees}
 use Rattle.sqlite.proofs.StateLemmas.{survives_then}
 use Rattle.sqlite.specs.State.{State, HasCleanDisk, Survives}
 use Rattle.table_access.specs.Unit.{Begins, IsLeft, IsOver}
 use Rattle.table_access.specs.declared.StoreFault.{StoreFault}
+use Rattle.table_access.specs.declared.StoreFault.TheVariants as fault
 use Rattle.table_access.specs.Calls.{CallsTablesBetween, CallsStoreBetween, KeepsLastCommit, GoesOn}
 use Rattle.table_access.specs.Durability.{HoldsDurably, HoldsEither}
 use Rattle.table_access.proofs.CallLemmas.{left_commit, statement_err, statement_seq}
-use Rattle.table_access.proofs.EndLemmas.{begins, commits, refused}
-use Rattle.broker_service.specs.Ends.{IsAsBefore, AddsNoCrashState, CommitsAtMostOnce}
-use Rattle.broker_service.specs.Transaction.{Finishes}
+use Rattle.table_access.proofs.EndLemmas.{begins, commits, refused, keeps_unsure}
+use Rattle.broker_service.specs.Ends.{IsAsBefore, IsUnchangedUnless, AddsNoCrashState, CommitsAtMostOnce, LeavesNoTransaction}
+use Rattle.broker_service.specs.Transaction.{Finishes, Concludes, EndsOrFails}
 
 ended_left : (old new : State) → IsLeft old new → old.in_transaction ≡ false → old.now ≡ old.committed → IsTrue new.is_open → (new.in_transaction ≡ false) × (new.now ≡ new.committed)
 ended_left old new (inl same) outside settled now = (same.0.mode ∙ outside, same.0.now_is ∙ settled ∙ sym same.0.committed_is)
@@ -105,13 +106,14 @@ once_at_most a b s = (a.now.trees, outlives_as a b (λ trees never. absurd never
 
 -- ---- a whole transaction: begun, worked in, and committed or rolled back
 
-pub record IsTransaction {A : Type 0} (old mid done new : State) (r : Result A StoreFault) (X : A → Type 0) (keeps did : Bool) : Type 0 where
+pub record IsTransaction {A : Type 0} (old mid done new : State) (r : Result A StoreFault) (X Keeps : A → Type 0) (keeps did : Bool) : Type 0 where
   pub begun : HasCleanDisk mid → Begins old mid
   pub begins : Survives old mid (λ _. ⊥)
   pub works : CallsTablesBetween mid done r X
+  pub kept : IsTrue keeps ↔ IsOkAnd r Keeps
   pub ends : Finishes done new keeps did
 
-module _ {A : Type 0} (old mid done new : State) (r : Result A StoreFault) (X : A → Type 0) (keeps did : Bool) (t : IsTransaction old mid done new r X keeps did) where
+module _ {A : Type 0} (old mid done new : State) (r : Result A StoreFault) (X Keeps : A → Type 0) (keeps did : Bool) (t : IsTransaction old mid done new r X Keeps keeps did) where
   -- nothing is committed before the end
   within : Survives old done (λ _. ⊥)
   within = survives_then old mid done (λ _. ⊥) _ (λ _. ⊥) (λ _ db never. never) (λ clean db outside.
@@ -126,7 +128,7 @@ module _ {A : Type 0} (old mid done new : State) (r : Result A StoreFault) (X : 
   pub commits_nothing : keeps ≡ false → Survives old new (λ _. ⊥)
   commits_nothing unkept = survives_then old done new _ _ _ (λ _ db never. never) (λ _ db is. absurd (let kept = is.0 in cc)) within t.ends.survives
 
-  pub done_clean : HasCleanDisk new → HasCleanDisk done
+  done_clean : HasCleanDisk new → HasCleanDisk done
   done_clean clean = omega (arith, t.ends.survives.clean, clean)
 
   begun_on : HasCleanDisk new → Begins old mid
@@ -136,29 +138,141 @@ module _ {A : Type 0} (old mid done new : State) (r : Result A StoreFault) (X : 
       t.begun mid_clean
 
   -- what was held is seen by the work
-  pub seen : HasCleanDisk new → (P : Database → Type 0) → HoldsDurably P old → P mid.now
+  seen : HasCleanDisk new → (P : Database → Type 0) → HoldsDurably P old → P mid.now
   seen clean P holds = begins P old mid (begun_on clean) holds
 
   pub opened : HasCleanDisk new → IsTrue old.is_open × (mid.now ≡ old.now)
   opened clean = let begun = begun_on clean in (begun.1.was_open, begun.1.now_is)
 
-  -- it is committed
-  pub kept : HasCleanDisk new → (Q : Database → Type 0) → IsTrue keeps → IsTrue did → Q done.now → HoldsDurably Q new
-  kept clean Q is_kept is has = commits Q done new (t.ends.committed clean is_kept is) (t.ends.live is_kept) t.ends.settled has
-
   -- it is rolled back
-  pub as_before : HasCleanDisk new → keeps ≡ false → IsAsBefore old new
+  as_before : HasCleanDisk new → keeps ≡ false → IsAsBefore old new
   as_before clean unkept =
       let over = t.ends.over clean (inl unkept) in
       rolled_back old mid done r X (begun_on clean) t.begins t.works (done_clean clean) new over.1 over.0 clean (outlives_as done new (λ trees is. absurd (let kept = is.0 in cc)) t.ends.survives)
 
   -- the commit is refused, behind work that went well
-  pub unsure : HasCleanDisk new → (P Q : Database → Type 0) → HoldsDurably P old → IsTrue keeps → did ≡ false → (HasCleanDisk done → IsTrue mid.in_transaction → GoesOn mid done) → Q done.now → HoldsEither P Q new
+  unsure : HasCleanDisk new → (P Q : Database → Type 0) → HoldsDurably P old → IsTrue keeps → did ≡ false → (HasCleanDisk done → IsTrue mid.in_transaction → GoesOn mid done) → Q done.now → HoldsEither P Q new
   unsure clean P Q holds is_kept undone on has =
       let begun = begun_on clean in
       refused P old mid done r X holds begun t.begins t.works (done_clean clean) new Q ((on (done_clean clean) begun.1.mode).1 begun.1.is_open) (t.ends.live is_kept) t.ends.settled (t.ends.over clean (inr undone)).0 clean
       (outlives_as done new (λ trees is. is.1) t.ends.survives) has
 
   -- whatever was refused, the last commit is the old one
-  pub last_commit : HasCleanDisk new → did ≡ false → KeepsLastCommit old new
+  last_commit : HasCleanDisk new → did ≡ false → KeepsLastCommit old new
   last_commit clean undone = commit_left old mid done r X (begun_on clean) t.begins t.works (done_clean clean) new (t.ends.over clean (inr undone)).0
+
+module _ {A : Type 0} (old mid done new : State) (X Keeps : A → Type 0) where
+  -- what it leaves of a connection that held a database of the kind P, and what it is answered by: from what is done
+  -- before a commit, from the commit, and from that nothing has changed
+  ends : (P Q : Database → Type 0) (Answers : A → Type 0) (r : Result A StoreFault) (keeps did : Bool) → IsTransaction old mid done new r X Keeps keeps did → HasCleanDisk new → HoldsDurably P old
+      → ((a : A) → P mid.now → X a → Keeps a → Q done.now)
+      → ((a : A) → P mid.now → X a → Keeps a → ((R : Database → Type 0) → R done.now → HoldsDurably R new) → Answers a)
+      → ((a : A) → P mid.now → X a → ¬ (Keeps a) → HoldsDurably P new → Answers a)
+      → EndsOrFails P Q Answers new (if did then r else Err fault.Store)
+  ends P Q Answers (Ok a) true true t clean holds next kept undone =
+      kept a (seen old mid done new (Ok a) _ _ true true t clean P holds) (t.works.ok (done_clean old mid done new (Ok a) _ _ true true t clean)) (t.kept.0 refl)
+      (λ R has. commits R done new (t.ends.committed clean refl refl) (t.ends.live refl) t.ends.settled has)
+  ends P Q Answers (Ok a) true false t clean holds next kept undone =
+      unsure old mid done new (Ok a) _ _ true false t clean P Q holds refl refl t.works.goes_on
+      (next a (seen old mid done new (Ok a) _ _ true false t clean P holds) (t.works.ok (done_clean old mid done new (Ok a) _ _ true false t clean)) (t.kept.0 refl))
+  ends P Q Answers (Ok a) false true t clean holds next kept undone =
+      undone a (seen old mid done new (Ok a) _ _ false true t clean P holds) (t.works.ok (done_clean old mid done new (Ok a) _ _ false true t clean)) (λ is. let yes = t.kept.1 is in cc)
+      (keeps_on P old new (as_before old mid done new (Ok a) _ _ false true t clean refl) holds)
+  ends P Q Answers (Err fault.Memory) false true t clean holds next kept undone = keeps_on P old new (as_before old mid done new (Err fault.Memory) _ _ false true t clean refl) holds
+  ends P Q Answers (Err fault.Store) false true t clean holds next kept undone = keeps_unsure P Q new (keeps_on P old new (as_before old mid done new (Err fault.Store) _ _ false true t clean refl) holds)
+  ends P Q Answers (Err f) true did t clean holds next kept undone = absurd (t.kept.0 refl)
+  ends P Q Answers r false false t clean holds next kept undone = keeps_unsure P Q new (keeps_on P old new (as_before old mid done new r _ _ false false t clean refl) holds)
+
+  unchanged : (r : Result A StoreFault) (keeps did : Bool) → IsTransaction old mid done new r X Keeps keeps did → HasCleanDisk new → IsUnchangedUnless Keeps old new (if did then r else Err fault.Store)
+  unchanged (Ok a) true true t clean = λ undone. absurd (undone (t.kept.0 refl))
+  unchanged (Ok a) false true t clean = λ _. as_before old mid done new (Ok a) _ _ false true t clean refl
+  unchanged (Err fault.Memory) false true t clean = as_before old mid done new (Err fault.Memory) _ _ false true t clean refl
+  unchanged (Err fault.Store) false true t clean = (as_before old mid done new (Err fault.Store) _ _ false true t clean refl).commit
+  unchanged (Err f) true true t clean = absurd (t.kept.0 refl)
+  unchanged r keeps false t clean = last_commit old mid done new r _ _ keeps false t clean refl
+
+  -- an answer is what the work came to, on what was there before
+  told : (r : Result A StoreFault) (keeps did : Bool) → IsTransaction old mid done new r X Keeps keeps did → HasCleanDisk new → IfOk (if did then r else Err fault.Store) (λ a. IsTrue old.is_open × (mid.now ≡ old.now) × X a)
+  told (Ok a) keeps true t clean = let is = opened old mid done new (Ok a) _ _ keeps true t clean in (is.0, is.1, t.works.ok (done_clean old mid done new (Ok a) _ _ keeps true t clean))
+  told (Err f) keeps true t clean = tt
+  told r keeps false t clean = tt
+
+  -- where nothing that the work may come to on what was there is kept, nothing is committed
+  spares : (r : Result A StoreFault) (keeps did : Bool) → IsTransaction old mid done new r X Keeps keeps did → ((a : A) → mid.now ≡ old.now → X a → ¬ (Keeps a)) → HasCleanDisk new → AddsNoCrashState old new
+  spares r false did t never clean = adds_nothing old new (commits_nothing old mid done new r _ _ false did t refl) clean
+  spares (Err f) true did t never clean = absurd (t.kept.0 refl)
+  spares (Ok a) true did t never clean =
+      absurd (never a (opened old mid done new (Ok a) _ _ true did t clean).1 (t.works.ok (done_clean old mid done new (Ok a) _ _ true did t clean)) (t.kept.0 refl))
+
+-- one that was begun, worked in and concluded so
+pub record WholeTransaction {A : Type 0} (old mid done new : State) (X Keeps : A → Type 0) (result : Result A StoreFault) : Type 0 where
+  pub worked : Result A StoreFault
+  pub keeps : Bool
+  pub begun : HasCleanDisk mid → Begins old mid
+  pub begins : Survives old mid (λ _. ⊥)
+  pub works : CallsTablesBetween mid done worked X
+  pub kept : IsTrue keeps ↔ IsOkAnd worked Keeps
+  pub concludes : Concludes done new keeps worked result
+
+module _ {A : Type 0} (old mid done new : State) (X Keeps : A → Type 0) (result : Result A StoreFault) (t : WholeTransaction old mid done new X Keeps result) where
+  parts : IsTransaction old mid done new t.worked X Keeps t.keeps t.concludes.did
+  parts = record { begun = t.begun; begins = t.begins; works = t.works; kept = t.kept; ends = t.concludes.ends }
+
+  pub transaction_ends : (P Q : Database → Type 0) (Answers : A → Type 0) → HasCleanDisk new → HoldsDurably P old
+      → ((a : A) → P mid.now → X a → Keeps a → Q done.now)
+      → ((a : A) → P mid.now → X a → Keeps a → ((R : Database → Type 0) → R done.now → HoldsDurably R new) → Answers a)
+      → ((a : A) → P mid.now → X a → ¬ (Keeps a) → HoldsDurably P new → Answers a)
+      → EndsOrFails P Q Answers new result
+  transaction_ends P Q Answers clean holds next kept undone =
+      subst (EndsOrFails P Q Answers new) (sym t.concludes.answer) (ends old mid done new X Keeps P Q Answers t.worked t.keeps t.concludes.did parts clean holds next kept undone)
+
+  pub transaction_unchanged : HasCleanDisk new → IsUnchangedUnless Keeps old new result
+  transaction_unchanged clean = subst (IsUnchangedUnless Keeps old new) (sym t.concludes.answer) (unchanged old mid done new X Keeps t.worked t.keeps t.concludes.did parts clean)
+
+  pub transaction_told : HasCleanDisk new → IfOk result (λ a. IsTrue old.is_open × (mid.now ≡ old.now) × X a)
+  transaction_told clean = subst (λ (r : Result A StoreFault). IfOk r (λ a. IsTrue old.is_open × (mid.now ≡ old.now) × X a)) (sym t.concludes.answer) (told old mid done new X Keeps t.worked t.keeps t.concludes.did parts clean)
+
+  pub transaction_spares : ((a : A) → mid.now ≡ old.now → X a → ¬ (Keeps a)) → HasCleanDisk new → AddsNoCrashState old new
+  transaction_spares = spares old mid done new X Keeps t.worked t.keeps t.concludes.did parts
+
+  pub transaction_begun : HasCleanDisk new → Begins old mid
+  transaction_begun = begun_on old mid done new t.worked _ _ t.keeps t.concludes.did parts
+
+  pub transaction_over : LeavesNoTransaction old new
+  transaction_over clean was = finished_over done new t.keeps t.concludes.did t.concludes.ends clean
+
+  pub transaction_once : CommitsAtMostOnce old new
+  transaction_once = commits_once old mid done new t.worked _ _ t.keeps t.concludes.did parts
+
+  -- where nothing is to be kept
+  pub transaction_undone : t.keeps ≡ false → Survives old new (λ _. ⊥)
+  transaction_undone = commits_nothing old mid done new t.worked _ _ t.keeps t.concludes.did parts
+
+  pub transaction_as_before : t.keeps ≡ false → HasCleanDisk new → IsAsBefore old new
+  transaction_as_before unkept clean = as_before old mid done new t.worked _ _ t.keeps t.concludes.did parts clean unkept
+
+-- ---- one that wasn't begun
+
+pub unbegun_over : (old new : State) → (HasCleanDisk new → IsLeft old new) → LeavesNoTransaction old new
+unbegun_over old new refused clean = left_over old new (refused clean)
+
+module _ {A : Type 0} (old new : State) (why : StoreFault) (refused : HasCleanDisk new → IsLeft old new) (begins : Survives old new (λ _. ⊥)) where
+  pub unbegun_ends : (P Q : Database → Type 0) (Answers : A → Type 0) → HasCleanDisk new → HoldsDurably P old → EndsOrFails P Q Answers new (Err why)
+  unbegun_ends P Q Answers clean holds = by why
+    where
+      kept : HoldsDurably P new
+      kept = keeps_on P old new (not_begun old new (refused clean) begins clean) holds
+
+      by : (f : StoreFault) → EndsOrFails P Q Answers new (Err f)
+      by fault.Memory = kept
+      by fault.Store = keeps_unsure P Q new kept
+
+  pub unbegun_unchanged : (Keeps : A → Type 0) → HasCleanDisk new → IsUnchangedUnless Keeps old new (Err why)
+  unbegun_unchanged Keeps clean = by why
+    where
+      is : IsAsBefore old new
+      is = not_begun old new (refused clean) begins clean
+
+      by : (f : StoreFault) → IsUnchangedUnless Keeps old new (Err f)
+      by fault.Memory = is
+      by fault.Store = is.commit

@@ -11,13 +11,14 @@ use Rattle.table_access.specs.Unit.{IsOver}
 use Rattle.broker_core.specs.Text.{Text}
 use Rattle.broker_core.specs.State.{State as Broker}
 use Rattle.broker_core.specs.Machine.{Step, is_step}
-use Rattle.broker_core.specs.Laws.{IsDone, TeamsDiffer}
+use Rattle.broker_core.specs.Laws.{TeamsDiffer}
 use Rattle.broker_core.specs.declared.command.Command.{Command}
 use Rattle.broker_core.specs.declared.answer.Answer.{Answer}
 use Rattle.broker_core.specs.declared.answer.Answer.TheVariants.{Pattern, Memory, Store, Stopped}
 use Rattle.command_facts.specs.Primitives.{broker_primitives}
 use Rattle.command_facts.specs.Patterns.{AsksPattern}
 use Rattle.broker_service.specs.Stored.{Stores, HoldsState}
+use Rattle.broker_service.specs.Transaction.{EndsOrFails}
 
 -- what a crash leaves, it left before
 abbrev pub AddsNoCrashState : State → State → Type 0
@@ -76,13 +77,12 @@ module _ (s : Broker) (token : Option Text) (command : Command) where
 
   -- the same of a transaction, before its failure is an answer
   abbrev pub AppliesOrFails : State → Result Answer StoreFault → Type 0
-  AppliesOrFails new (Ok answer) = Steps new answer ⊎ KeepsAtPattern new answer
-  AppliesOrFails new (Err fault.Memory) = HoldsState s new
-  AppliesOrFails new (Err fault.Store) = HoldsEither (λ db. Stores db s) HoldsNext new
+  AppliesOrFails new =
+      EndsOrFails (λ db. Stores db s) HoldsNext (λ answer. Steps new answer ⊎ KeepsAtPattern new answer) new
 
--- For private clauses: whatever the database is, only Done and a failure of the database leave it otherwise than it
--- was, and after that failure the last commit is the old one while the connection is open.
-abbrev pub IsUnchangedUnlessDone : State → State → Result Answer StoreFault → Type 0
-IsUnchangedUnlessDone old new (Ok answer) = ¬ (IsDone answer) → IsAsBefore old new
-IsUnchangedUnlessDone old new (Err fault.Memory) = IsAsBefore old new
-IsUnchangedUnlessDone old new (Err fault.Store) = KeepsLastCommit old new
+-- For private clauses: whatever the database is, only an answer by which something is kept and a failure of the database
+-- leave it otherwise than it was, and after that failure the last commit is the old one while the connection is open.
+abbrev pub IsUnchangedUnless : {A : Type 0} → (A → Type 0) → State → State → Result A StoreFault → Type 0
+IsUnchangedUnless Keeps old new (Ok a) = ¬ (Keeps a) → IsAsBefore old new
+IsUnchangedUnless Keeps old new (Err fault.Memory) = IsAsBefore old new
+IsUnchangedUnless Keeps old new (Err fault.Store) = KeepsLastCommit old new

@@ -1,11 +1,9 @@
 -- how a broker's database of format 1 becomes one of today's, and what was said of a version before
-use Rattle.std.specs.Prelude.{◌≡◌, ◌≢◌, ◌⊎◌, ◌↔◌, ℕ, List, Bool, false, if◌then◌else◌, IsTrue, IsFalse, IsSome, IsSomeAnd, Option, Some, None, option_map, Result, Ok, Err}
+use Rattle.std.specs.Prelude.{◌≡◌, ◌≢◌, ◌⊎◌, ◌↔◌, ℕ, List, Bool, false, if◌then◌else◌, IsTrue, IsFalse, IsSome, IsSomeAnd, Option, Some, None, option_map, Result, Ok, Err, IfOk}
 use Rattle.sqlite.specs.Effect.{Database}
-use Rattle.sqlite.specs.State.{State}
+use Rattle.sqlite.specs.State.{State, HasCleanDisk}
 use Rattle.table_access.specs.declared.StoreFault.{StoreFault}
-use Rattle.table_access.specs.declared.StoreFault.TheVariants as fault
-use Rattle.table_access.specs.Calls.{KeepsLastCommit}
-use Rattle.table_access.specs.Durability.{HoldsDurably, HoldsEither}
+use Rattle.table_access.specs.Durability.{HoldsDurably}
 use Rattle.broker_core.specs.declared.answer.Answer.TheVariants.{Shown}
 use Rattle.broker_core.specs.declared.answer.Shown.TheVariants.{Gate}
 use Rattle.broker_core.specs.declared.command.Command.TheVariants.{CanIDeploy}
@@ -26,10 +24,11 @@ use Rattle.broker_core.specs.State.{State as Broker, is_gated}
 use Rattle.broker_core.specs.Text.{Text}
 use Rattle.broker_tables.specs.Holds.{Holds}
 use Rattle.broker_tables.specs.Former.{HoldsFormer, IsUnmarked, former_format}
-use Rattle.registry_tables.specs.Format.{IsOfFormat, IsForeign, HasFormerTables}
+use Rattle.registry_tables.specs.Format.{IsOfFormat, IsForeign, HasFormerTables, FindsFormer}
 use Rattle.command_facts.specs.Primitives.{broker_primitives}
-use Rattle.broker_service.specs.Ends.{IsAsBefore}
+use Rattle.broker_service.specs.Ends.{AddsNoCrashState, CommitsAtMostOnce, IsUnchangedUnless, LeavesNoTransaction}
 use Rattle.broker_service.specs.Stored.{Stores, HoldsState}
+use Rattle.broker_service.specs.Transaction.{EndsOrFails}
 use Rattle.broker_service.specs.declared.opening.OpenFault.{OpenFault}
 use Rattle.broker_service.specs.declared.opening.OpenFault.TheVariants.{NotEmpty, NotABroker, Format, Memory, Store}
 
@@ -116,15 +115,16 @@ MigratesOrRefuses db (Err Store) = Unit {0}
 
 -- ---- for private clauses: the transaction of a migration
 
--- from a database of format 1 to one of today's, or it fails
+-- What its transaction leaves: the format that was found is 1, and the database is today's; or it failed.
 abbrev pub MigratesOrFails : Broker → State → Result (Option ℕ) StoreFault → Type 0
-MigratesOrFails s new (Ok found) = (found ≡ Some former_format) × HoldsState s new
-MigratesOrFails s new (Err fault.Memory) = HoldsFormerState s new
-MigratesOrFails s new (Err fault.Store) = HoldsEither (λ db. StoresFormer db s) (λ db. Stores db s) new
+MigratesOrFails s new =
+    EndsOrFails (λ db. StoresFormer db s) (λ db. Stores db s) (λ found. (found ≡ Some former_format) × HoldsState s new) new
 
--- whatever the database is: where another format was found or none, or it failed, it is as it was, or after a failure
--- of the database the last commit is the old one
-abbrev pub IsUnchangedUnlessFormer : State → State → Result (Option ℕ) StoreFault → Type 0
-IsUnchangedUnlessFormer old new (Ok found) = found ≢ Some former_format → IsAsBefore old new
-IsUnchangedUnlessFormer old new (Err fault.Memory) = IsAsBefore old new
-IsUnchangedUnlessFormer old new (Err fault.Store) = KeepsLastCommit old new
+-- and what that is on any database
+pub record BringsUpOrNot (old new : State) (result : Result (Option ℕ) StoreFault) : Type 0 where
+  pub found : HasCleanDisk new → IfOk result (λ found. IsTrue old.is_open × FindsFormer old.now found)
+  pub ends : HasCleanDisk new → (s : Broker) → HoldsFormerState s old → MigratesOrFails s new result
+  pub unchanged : HasCleanDisk new → IsUnchangedUnless (λ found. found ≡ Some former_format) old new result
+  pub over : LeavesNoTransaction old new
+  pub survives : CommitsAtMostOnce old new
+  pub spares : HasCleanDisk new → ¬ (IsFormer old.now) → AddsNoCrashState old new

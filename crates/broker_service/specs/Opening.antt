@@ -15,6 +15,7 @@ use Rattle.broker_tables.specs.Schema.{no_schema, registry_part, contents, contr
 use Rattle.registry_tables.specs.Format.{IsOfFormat, IsForeign}
 use Rattle.broker_service.specs.Ends.{IsAsBefore}
 use Rattle.broker_service.specs.Stored.{Stores, HoldsState}
+use Rattle.broker_service.specs.Transaction.{EndsOrFails}
 use Rattle.broker_service.specs.declared.opening.OpenFault.{OpenFault}
 use Rattle.broker_service.specs.declared.opening.OpenFault.TheVariants.{NotEmpty, NotABroker, Format, Memory, Store}
 
@@ -33,18 +34,9 @@ first_tables = registry_part ++ contents ∷ contract_part
 abbrev pub MakesRest : Database → Database → Type 0
 MakesRest old new = (office : Text) → HasTables first_tables format office old → HasTables all_tables format office new
 
--- A transaction that leads from a database of the first kind to one of the second, or fails.
-abbrev pub CreatesOrFails : (Database → Type 0) → (Database → Type 0) → State → Result (Unit {0}) StoreFault
-    → Type 0
-CreatesOrFails P Q new (Ok u) = HoldsDurably Q new
-CreatesOrFails P Q new (Err fault.Memory) = HoldsDurably P new
-CreatesOrFails P Q new (Err fault.Store) = HoldsEither P Q new
-
--- whatever the database is: it is as it was, or after a failure of the database the last commit is the old one
-abbrev pub FailsUnchanged : State → State → Result (Unit {0}) StoreFault → Type 0
-FailsUnchanged old new (Ok u) = Unit {0}
-FailsUnchanged old new (Err fault.Memory) = IsAsBefore old new
-FailsUnchanged old new (Err fault.Store) = KeepsLastCommit old new
+-- a transaction that makes the tables of a new broker on a database without any, or fails
+abbrev pub MakesOrFails : Text → State → Result (Unit {0}) StoreFault → Type 0
+MakesOrFails office new = EndsOrFails IsBlank (λ db. Stores db (opening office)) (λ _. HoldsState (opening office) new) new
 
 -- ---- what making a broker leaves
 

@@ -1,6 +1,5 @@
 //! Making today's database of one that a broker of format 1 left.
 ghost use Rattle.std.specs.Prelude.{◌≡◌, ◌↔◌, Some, IsTrue, IfOk, IsOkAnd};
-ghost use Rattle.sqlite.specs.State.{HasCleanDisk};
 ghost use Rattle.sqlite.specs.Held.{state};
 ghost use Rattle.table_access.specs.Calls.{CallsStore};
 ghost use Rattle.broker_core.specs.State.{State as BrokerState};
@@ -8,10 +7,9 @@ ghost use Rattle.broker_tables.specs.Holds.{format};
 ghost use Rattle.broker_tables.specs.Former.{HoldsFormer, HoldsUnmarked, former_format, added_tables};
 ghost use Rattle.registry_tables.specs.Format.{FindsFormer};
 ghost use Rattle.broker_service.specs.Calls.{Migrated};
-ghost use Rattle.broker_service.specs.Ends.{AddsNoCrashState, CommitsAtMostOnce, LeavesNoTransaction};
-ghost use Rattle.broker_service.specs.Migration.{BringsUp, HoldsFormerState, IsFormer, MigratesOrFails, IsUnchangedUnlessFormer};
+ghost use Rattle.broker_service.specs.Migration.{BringsUp, BringsUpOrNot};
 
-use crate::ending::finish;
+use crate::ending::conclude;
 use crate::opening::{OpenFault, judge, make_indexes, open_fault};
 use registry_tables::format_to_migrate;
 use sqlite::{Alter, Connection};
@@ -61,24 +59,12 @@ fn is_former(found: &Result<Option<u32>, StoreFault>) -> bool
 /// Upgrades a database in one transaction, which is committed if its format was 1, and else rolled back. The answer is
 /// the format that was found.
 fn run<S: Alter>(conn: &mut Connection<S>) -> Result<Option<u32>, StoreFault>
-    ensures found { HasCleanDisk (state S.Store conn.new)
-        → IfOk result (λ found. IsTrue (state S.Store conn.old).is_open × FindsFormer (state S.Store conn.old).now found) }
-    ensures ends { HasCleanDisk (state S.Store conn.new) → (s : BrokerState)
-        → HoldsFormerState s (state S.Store conn.old) → MigratesOrFails s (state S.Store conn.new) result }
-    ensures unchanged { HasCleanDisk (state S.Store conn.new)
-        → IsUnchangedUnlessFormer (state S.Store conn.old) (state S.Store conn.new) result }
-    ensures over { LeavesNoTransaction (state S.Store conn.old) (state S.Store conn.new) }
-    ensures survives { CommitsAtMostOnce (state S.Store conn.old) (state S.Store conn.new) }
-    ensures spares { HasCleanDisk (state S.Store conn.new) → ¬ (IsFormer (state S.Store conn.old).now)
-        → AddsNoCrashState (state S.Store conn.old) (state S.Store conn.new) }
+    ensures { BringsUpOrNot (state S.Store conn.old) (state S.Store conn.new) result }
 {
     done!(begin(conn));
     let found = bring_up(conn);
-    if finish(conn, is_former(&found)) {
-        found
-    } else {
-        Err(StoreFault::Store)
-    }
+    let keeps = is_former(&found);
+    conclude(conn, found, keeps)
 }
 
 /// Makes today's database of one that a broker of format 1 left, in one transaction. Each row stays; every result is

@@ -11,12 +11,12 @@ ghost use Rattle.broker_tables.specs.Holds.{Holds, format};
 ghost use Rattle.broker_tables.specs.Making.{IsBlank, HasTables, IsMarked};
 ghost use Rattle.registry_tables.specs.Format.{Finds};
 ghost use Rattle.command_facts.specs.Primitives.{broker_primitives};
-ghost use Rattle.broker_service.specs.Ends.{IsAsBefore, CommitsAtMostOnce, LeavesNoTransaction};
+ghost use Rattle.broker_service.specs.Ends.{IsAsBefore, IsUnchangedUnless, CommitsAtMostOnce, LeavesNoTransaction};
 ghost use Rattle.broker_service.specs.Stored.{Stores};
 ghost use Rattle.broker_service.specs.Opening as spec;
-ghost use Rattle.broker_service.specs.Opening.{MakesRest, CreatesOrFails, FailsUnchanged, MakesNew, RefusesNew, IsUnchangedUnlessStore, Judged, OpensOrRefuses, judgement};
+ghost use Rattle.broker_service.specs.Opening.{MakesRest, MakesOrFails, MakesNew, RefusesNew, IsUnchangedUnlessStore, Judged, OpensOrRefuses, judgement};
 
-use crate::ending::finish;
+use crate::ending::conclude;
 use broker_core::name::Token;
 use command_facts::callers::digest_of;
 use registry_tables::{format_of, is_blank, make_strict_environments};
@@ -100,19 +100,16 @@ fn make_all<S: Alter>(conn: &mut Connection<S>, digest: &str) -> Result<(), Stor
 /// Makes all tables in one transaction.
 fn make<S: Alter>(conn: &mut Connection<S>, digest: &str) -> Result<(), StoreFault>
     ensures ends { HasCleanDisk (state S.Store conn.new) → HoldsDurably IsBlank (state S.Store conn.old)
-        → CreatesOrFails IsBlank (λ db. Stores db (opening digest.now)) (state S.Store conn.new) result }
+        → MakesOrFails digest.now (state S.Store conn.new) result }
     ensures unchanged { HasCleanDisk (state S.Store conn.new)
-        → FailsUnchanged (state S.Store conn.old) (state S.Store conn.new) result }
+        → IsUnchangedUnless (λ _. Unit {0}) (state S.Store conn.old) (state S.Store conn.new) result }
     ensures over { LeavesNoTransaction (state S.Store conn.old) (state S.Store conn.new) }
     ensures survives { CommitsAtMostOnce (state S.Store conn.old) (state S.Store conn.new) }
 {
     done!(begin(conn));
     let made = make_all(conn, digest);
-    if finish(conn, made.is_ok()) {
-        made
-    } else {
-        Err(StoreFault::Store)
-    }
+    let keeps = made.is_ok();
+    conclude(conn, made, keeps)
 }
 
 /// Makes all tables for an office with this token, on a database without tables.
@@ -169,11 +166,7 @@ fn find_format<S: Alter>(conn: &mut Connection<S>) -> Result<Option<u32>, StoreF
 {
     done!(begin(conn));
     let found = format_of(conn);
-    if finish(conn, false) {
-        found
-    } else {
-        Err(StoreFault::Store)
-    }
+    conclude(conn, found, false)
 }
 
 /// Looks for a broker's tables of this format, and changes nothing. A broker makes `meta` before

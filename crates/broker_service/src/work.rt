@@ -1,17 +1,14 @@
 //! A command inside its transaction, and the transaction round it.
 ghost use Rattle.std.specs.Prelude.{◌≡◌, ◌↔◌, IsTrue, IfOk, IfErr, IsOkAnd};
-ghost use Rattle.sqlite.specs.State.{HasCleanDisk};
 ghost use Rattle.sqlite.specs.Held.{state};
-ghost use Rattle.broker_core.specs.State.{State as BrokerState};
 ghost use Rattle.broker_core.specs.Laws.{IsDone};
 ghost use Rattle.broker_core.specs.declared.answer.Answer.TheVariants.{BadForm};
 ghost use Rattle.command_facts.specs.Callers.{token_of};
 ghost use Rattle.command_facts.specs.Performs.{Performs, CallersStep, TokensStep};
-ghost use Rattle.broker_service.specs.Causes.{Concludes, HasReason};
-ghost use Rattle.broker_service.specs.Ends.{AppliesOrFails, IsUnchangedUnlessDone, CommitsAtMostOnce, LeavesNoTransaction, IsNoFailure};
-ghost use Rattle.broker_service.specs.Stored.{HoldsState};
+ghost use Rattle.broker_service.specs.Causes.{Transacted};
+ghost use Rattle.broker_service.specs.Ends.{IsNoFailure};
 
-use crate::ending::finish;
+use crate::ending::conclude;
 use answer_texts::Answer;
 use broker_core::answer::Answer as Outcome;
 use broker_core::command::{Command, FormFault};
@@ -195,21 +192,6 @@ fn is_done(worked: &Result<Answer, StoreFault>) -> bool
     }
 }
 
-/// Ends the transaction of a command that came to this: commits what was done, and else rolls back. The answer is what
-/// the command came to, or `Store`, if the database refused that end.
-fn conclude<S: Alter>(
-    conn: &mut Connection<S>,
-    worked: Result<Answer, StoreFault>,
-) -> Result<Answer, StoreFault>
-    ensures { Concludes (state S.Store conn.old) (state S.Store conn.new) worked result }
-{
-    if finish(conn, is_done(&worked)) {
-        worked
-    } else {
-        Err(StoreFault::Store)
-    }
-}
-
 /// One command in one transaction. It is committed if something was done, else it is rolled back.
 pub(crate) fn transact<S: Alter>(
     alloc: Global,
@@ -217,17 +199,11 @@ pub(crate) fn transact<S: Alter>(
     token: Option<&str>,
     command: &Command,
 ) -> Result<Answer, StoreFault>
-    ensures ends { HasCleanDisk (state S.Store conn.new) → (s : BrokerState) → HoldsState s (state S.Store conn.old)
-        → AppliesOrFails s (token_of token.entry) command.now (state S.Store conn.new) result }
-    ensures unchanged { HasCleanDisk (state S.Store conn.new)
-        → IsUnchangedUnlessDone (state S.Store conn.old) (state S.Store conn.new) result }
-    ensures cause { HasCleanDisk (state S.Store conn.new)
-        → IfErr result (HasReason (state S.Store) conn.old conn.new) }
-    ensures over { LeavesNoTransaction (state S.Store conn.old) (state S.Store conn.new) }
-    ensures survives { CommitsAtMostOnce (state S.Store conn.old) (state S.Store conn.new) }
+    ensures transacts { Transacted (state S.Store) (token_of token.entry) command.now conn.old conn.new result }
     ensures answers { IfOk result IsNoFailure }
 {
     done!(begin(conn));
     let worked = work(alloc, conn, token, command);
-    conclude(conn, worked)
+    let keeps = is_done(&worked);
+    conclude(conn, worked, keeps)
 }

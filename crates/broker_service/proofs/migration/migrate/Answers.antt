@@ -10,12 +10,10 @@ pub returns-in-Ok : goal.returns-in-Ok
 returns-in-Ok g c =
     let old = state g.S.Store c.args.conn.now in
     let new = state g.S.Store c.run.new.conn in
-    subst (λ (r : Result (Unit {0}) OpenFault). Migrated old new r) (sym c.judge.ensures)
-    (migrated old new c.in-Ok.found c.in-Ok.ensures.found c.in-Ok.ensures.ends c.in-Ok.ensures.unchanged c.run.ensures.over c.run.ensures.survives c.run.ensures.spares)
+    subst (λ (r : Result (Unit {0}) OpenFault). Migrated old new r) (sym c.judge.ensures) (migrated old new c.in-Ok.found c.in-Ok.ensures)
 
 pub returns-in-Err : goal.returns-in-Err
 returns-in-Err g c =
     let old = state g.S.Store c.args.conn.now in
     let new = state g.S.Store c.run.new.conn in
-    subst (λ (fault : OpenFault). Migrated old new (Err fault)) (sym c.open_fault.ensures)
-    (unmigrated old new c.in-Err.fault c.in-Err.ensures.ends c.in-Err.ensures.unchanged c.run.ensures.over c.run.ensures.survives c.run.ensures.spares)
+    subst (λ (fault : OpenFault). Migrated old new (Err fault)) (sym c.open_fault.ensures) (unmigrated old new c.in-Err.fault c.in-Err.ensures)

@@ -23,4 +23,4 @@ returns-in-Ok-clause-refuses g c clean blank none =
     let digest_is : c.as_str-in-Ok.result.now ≡ broker_primitives.digest_of c.args.office.now = c.as_str-in-Ok.ensures.value ∙ c.in-Ok.ensures.ok ∙ ap broker_primitives.digest_of c.as_str.ensures in
     subst (λ (f : OpenFault). Refuses IsBlank (λ db. Stores db (opening (broker_primitives.digest_of c.args.office.now))) new f) (sym c.open_fault.ensures)
     (subst (λ (digest : Text). Refuses IsBlank (λ db. Stores db (opening digest)) new (open_fault c.in-Err-make.fault)) digest_is
-    (refuses_as IsBlank (λ db. Stores db (opening c.as_str-in-Ok.result.now)) new c.in-Err-make.fault (c.in-Err-make.ensures.ends clean blank)))
+    (refuses_as c.as_str-in-Ok.result.now new c.in-Err-make.fault (c.in-Err-make.ensures.ends clean blank)))

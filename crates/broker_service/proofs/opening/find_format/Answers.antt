@@ -1,46 +1,35 @@
-use Rattle.std.proofs.Common.{true, false, refl}
+use Rattle.std.proofs.Common.{refl, subst}
+use Rattle.std.proofs.lemmas.Result.{IfOk-weaker}
+use Rattle.sqlite.specs.Effect.{Database}
 use Rattle.sqlite.specs.Held.{state}
 use Rattle.registry_tables.specs.Format.{Finds}
-use Rattle.broker_service.proofs.Transaction.{commits_nothing, not_begun, left_over, finished_over, as_before}
-use Rattle.broker_service.proofs.MakeLemmas.{finds}
+use Rattle.broker_service.proofs.MakeLemmas.{looked}
+use Rattle.broker_service.proofs.Transaction.{transaction_told, transaction_undone, transaction_as_before, transaction_over, not_begun, unbegun_over}
 use Rattle.broker_service.proofs.opening.find_format.Goals as goal
 
-pub returns-then-finish-clause-found : goal.returns-then-finish-clause-found
-returns-then-finish-clause-found g c clean =
-    finds Finds (state g.S.Store c.args.conn.now) (state g.S.Store c.begin.new.conn) (state g.S.Store c.format_of-found.new.conn) (state g.S.Store c.finish.new.conn) c.format_of-found.result false true
-    (record { begun = c.in-Ok.ensures.begun; begins = c.begin.ensures.survives; works = c.format_of-found.ensures.finds.call; ends = c.if-finish.ensures }) (λ found is. is.0) clean
+pub returns-clause-found : goal.returns-clause-found
+returns-clause-found g c clean =
+    IfOk-weaker c.conclude.result _ _ (λ found it. (it.0, subst (λ (db : Database). Finds db found) it.1 it.2.0))
+    (transaction_told (state g.S.Store c.args.conn.now) (state g.S.Store c.begin.new.conn) (state g.S.Store c.format_of-found.new.conn) (state g.S.Store c.conclude.new.conn) _ _ c.conclude.result
+    (looked (state g.S.Store c.args.conn.now) (state g.S.Store c.begin.new.conn) (state g.S.Store c.format_of-found.new.conn) (state g.S.Store c.conclude.new.conn) _ c.format_of-found.result c.conclude.result c.in-Ok.ensures.begun c.begin.ensures.survives c.format_of-found.ensures.finds.call c.conclude.ensures) clean)
 
-pub returns-then-finish-clause-same : goal.returns-then-finish-clause-same
-returns-then-finish-clause-same g c clean =
-    as_before (state g.S.Store c.args.conn.now) (state g.S.Store c.begin.new.conn) (state g.S.Store c.format_of-found.new.conn) (state g.S.Store c.finish.new.conn) c.format_of-found.result _ false true
-    (record { begun = c.in-Ok.ensures.begun; begins = c.begin.ensures.survives; works = c.format_of-found.ensures.finds.call; ends = c.if-finish.ensures }) clean refl
+pub returns-clause-same : goal.returns-clause-same
+returns-clause-same g c clean =
+    transaction_as_before (state g.S.Store c.args.conn.now) (state g.S.Store c.begin.new.conn) (state g.S.Store c.format_of-found.new.conn) (state g.S.Store c.conclude.new.conn) _ _ c.conclude.result
+    (looked (state g.S.Store c.args.conn.now) (state g.S.Store c.begin.new.conn) (state g.S.Store c.format_of-found.new.conn) (state g.S.Store c.conclude.new.conn) _ c.format_of-found.result c.conclude.result c.in-Ok.ensures.begun c.begin.ensures.survives c.format_of-found.ensures.finds.call c.conclude.ensures) refl clean
 
-pub returns-else-finish-clause-same : goal.returns-else-finish-clause-same
-returns-else-finish-clause-same g c clean =
-    as_before (state g.S.Store c.args.conn.now) (state g.S.Store c.begin.new.conn) (state g.S.Store c.format_of-found.new.conn) (state g.S.Store c.finish.new.conn) c.format_of-found.result _ false false
-    (record { begun = c.in-Ok.ensures.begun; begins = c.begin.ensures.survives; works = c.format_of-found.ensures.finds.call; ends = c.if-finish.ensures }) clean refl
+pub returns-clause-survives : goal.returns-clause-survives
+returns-clause-survives g c =
+    transaction_undone (state g.S.Store c.args.conn.now) (state g.S.Store c.begin.new.conn) (state g.S.Store c.format_of-found.new.conn) (state g.S.Store c.conclude.new.conn) _ _ c.conclude.result
+    (looked (state g.S.Store c.args.conn.now) (state g.S.Store c.begin.new.conn) (state g.S.Store c.format_of-found.new.conn) (state g.S.Store c.conclude.new.conn) _ c.format_of-found.result c.conclude.result c.in-Ok.ensures.begun c.begin.ensures.survives c.format_of-found.ensures.finds.call c.conclude.ensures) refl
+
+pub returns-clause-over : goal.returns-clause-over
+returns-clause-over g c =
+    transaction_over (state g.S.Store c.args.conn.now) (state g.S.Store c.begin.new.conn) (state g.S.Store c.format_of-found.new.conn) (state g.S.Store c.conclude.new.conn) _ _ c.conclude.result
+    (looked (state g.S.Store c.args.conn.now) (state g.S.Store c.begin.new.conn) (state g.S.Store c.format_of-found.new.conn) (state g.S.Store c.conclude.new.conn) _ c.format_of-found.result c.conclude.result c.in-Ok.ensures.begun c.begin.ensures.survives c.format_of-found.ensures.finds.call c.conclude.ensures)
 
 pub returns-in-Err-clause-same : goal.returns-in-Err-clause-same
-returns-in-Err-clause-same g c clean =
-    let old = state g.S.Store c.args.conn.now in
-    let new = state g.S.Store c.begin.new.conn in
-    not_begun old new (c.in-Err.ensures.refused clean) c.begin.ensures.survives clean
-
-pub returns-then-finish-clause-survives : goal.returns-then-finish-clause-survives
-returns-then-finish-clause-survives g c =
-    commits_nothing (state g.S.Store c.args.conn.now) (state g.S.Store c.begin.new.conn) (state g.S.Store c.format_of-found.new.conn) (state g.S.Store c.finish.new.conn) c.format_of-found.result _ false _
-    (record { begun = c.in-Ok.ensures.begun; begins = c.begin.ensures.survives; works = c.format_of-found.ensures.finds.call; ends = c.if-finish.ensures }) refl
-
-pub returns-else-finish-clause-survives : goal.returns-else-finish-clause-survives
-returns-else-finish-clause-survives g c =
-    commits_nothing (state g.S.Store c.args.conn.now) (state g.S.Store c.begin.new.conn) (state g.S.Store c.format_of-found.new.conn) (state g.S.Store c.finish.new.conn) c.format_of-found.result _ false _
-    (record { begun = c.in-Ok.ensures.begun; begins = c.begin.ensures.survives; works = c.format_of-found.ensures.finds.call; ends = c.if-finish.ensures }) refl
-
-pub returns-then-finish-clause-over : goal.returns-then-finish-clause-over
-returns-then-finish-clause-over g c clean was = finished_over (state g.S.Store c.format_of-found.new.conn) (state g.S.Store c.finish.new.conn) false true c.if-finish.ensures clean
-
-pub returns-else-finish-clause-over : goal.returns-else-finish-clause-over
-returns-else-finish-clause-over g c clean was = finished_over (state g.S.Store c.format_of-found.new.conn) (state g.S.Store c.finish.new.conn) false false c.if-finish.ensures clean
+returns-in-Err-clause-same g c clean = not_begun (state g.S.Store c.args.conn.now) (state g.S.Store c.begin.new.conn) (c.in-Err.ensures.refused clean) c.begin.ensures.survives clean
 
 pub returns-in-Err-clause-over : goal.returns-in-Err-clause-over
-returns-in-Err-clause-over g c clean was = left_over (state g.S.Store c.args.conn.now) (state g.S.Store c.begin.new.conn) (c.in-Err.ensures.refused clean) was
+returns-in-Err-clause-over g c = unbegun_over (state g.S.Store c.args.conn.now) (state g.S.Store c.begin.new.conn) c.in-Err.ensures.refused

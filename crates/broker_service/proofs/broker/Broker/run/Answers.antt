@@ -11,7 +11,7 @@ use Rattle.broker_service.proofs.broker.Broker.run.Goals.{in-Ok, in-Err-Memory, 
 pub returns : goal.returns
 returns g c running =
     subst (λ (b : BrokerView g.row.S.Denot). Applied (state g.S.Store) b (token_of c.args.token) c.args.command.now c.match-transact.answer after) c.self.view_is
-    (ran (state g.S.Store) (record { connection = c.self.inside.conn; is_stopped = c.self.inside.stopped }) (token_of c.args.token) c.args.command.now c.transact.result c.match-transact.answer after is c.transact.ensures.ends c.transact.ensures.unchanged c.transact.ensures.cause c.transact.ensures.over c.transact.ensures.survives c.transact.ensures.answers stops (cc))
+    (ran (state g.S.Store) (record { connection = c.self.inside.conn; is_stopped = c.self.inside.stopped }) (token_of c.args.token) c.args.command.now c.transact.result c.match-transact.answer after is c.transact.ensures.transacts c.transact.ensures.answers stops (cc))
   where
     after : BrokerView g.row.S.Denot
     after = record { connection = c.transact.new.conn; is_stopped = c.match-matches.self }
