@@ -1,5 +1,6 @@
 pub mod VerdictLemmas
 pub mod ResultLemmas
 pub mod UnchangedLemmas
+pub mod RefusalLemmas
 pub mod ServingLemmas
 pub mod LifeLemmas

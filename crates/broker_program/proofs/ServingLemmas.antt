@@ -1,5 +1,5 @@
 -- peers that are served one after another
-use Rattle.std.proofs.Common.{◌≡◌, ◌≤◌, inl, inr, ℕ, ◌+◌, zero, suc, Option, None, Some, IfSome, refl, sym, subst, ◌∙◌, arith}
+use Rattle.std.proofs.Common.{◌≡◌, ◌<◌, ◌≤◌, inl, inr, false, ℕ, ◌+◌, zero, suc, Option, None, Some, IfSome, refl, sym, subst, ◌∙◌, arith}
 use Rattle.sqlite_disk.specs.declared.Disk.{Ghosts}
 use Rattle.sqlite_disk.specs.declared.Files.{Files}
 use Rattle.sqlite_trees.specs.View.{doubt}
@@ -9,7 +9,9 @@ use Rattle.sqlite.specs.State.{HasCleanDisk}
 use Rattle.sqlite.specs.WalReads.{AreClean}
 use Rattle.sqlite.specs.declared.FileStore.{FileStore}
 use Rattle.broker_service.specs.BrokerView.{BrokerView}
+use Rattle.broker_service.specs.SessionFiles.{IsGivenBack}
 use Rattle.broker_program.specs.Files.{ClosesAs, OpensBroker}
+use Rattle.broker_program.specs.Refusals.{IsLeftUnserved}
 use Rattle.broker_program.specs.Serving.{ServesMore, ServesNext, ServesOver, ServesPeers}
 
 module _ {D : Type 0} {g : Ghosts D} where
@@ -45,3 +47,24 @@ module _ {D : Type 0} {g : Ghosts D} where
       let early : HasCleanDisk (file_state broker.connection) = omega (arith, copied.was_clean, serving_doubt count broker it.0 it.1) in
       let from = opens early in
       record { connection = from.0; broker = broker; end = it.0; starts = from.1; opened = from.2; peers = it.1; closed = copied }
+
+  -- the broker there was opened, and given up without a peer
+  pub unserved : (held : Image) (broker : BrokerView (FileStore D g)) (store : FileStore D g) → OpensBroker held broker
+      → HasCleanDisk (file_state broker.connection) × IsGivenBack g broker.connection store → IsLeftUnserved held store
+  unserved held broker store opens given =
+      let from = opens given.0 in
+      record { connection = from.0; broker = broker; starts = from.1; opened = from.2; clean = given.0; left = given.1 }
+
+  -- a broker that ran and then is stopped has served somebody
+  some_of : (n : ℕ) (s t : BrokerView (FileStore D g)) (before after : ℕ) → s.is_stopped ≡ false → ¬ (t.is_stopped ≡ false) → after ≡ before + n → ServesPeers n s t → before < after
+  some_of zero s t before after runs stopped counts same =
+      absurd (stopped (subst (λ (b : BrokerView (FileStore D g)). b.is_stopped ≡ false) (sym same) runs))
+  some_of (suc n) s t before after runs stopped counts peers = omega (arith, counts)
+
+  pub served_some : (s t : BrokerView (FileStore D g)) (before after : ℕ) → s.is_stopped ≡ false → ¬ (t.is_stopped ≡ false) → ServesMore s t before after → before < after
+  served_some s t before after runs stopped more = some_of more.0 s t before after runs stopped more.1 more.2
+
+  -- a connection that is taken counts among those that were served, or doesn't
+  pub next_counts : (s t : BrokerView (FileStore D g)) (before after : ℕ) → ServesNext s t before after → before ≤ after
+  next_counts s t before after (inl lost) = omega (arith, lost.0)
+  next_counts s t before after (inr served) = omega (arith, served.0)

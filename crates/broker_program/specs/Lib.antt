@@ -8,3 +8,4 @@ pub mod Running
 pub mod Faults
 pub mod Life
 pub mod Reasons
+pub mod Refusals

@@ -1,4 +1,4 @@
--- for private clauses: where a broker listens (this project's own choice: an address of loopback, since it has no TLS)
+-- where a broker listens (this project's own choice: an address of loopback, since it has no TLS)
 use Rattle.std.specs.Prelude.{ℕ, List}
 use Rattle.std.specs.Net.Addr.{MatchIp, IsLoopbackV4, IsLoopbackV6}
 use Rattle.std.specs.Net.Socket.{socket_ip}
@@ -12,3 +12,7 @@ IsOfLoopback address = MatchIp (socket_ip address) IsLoopbackV4 IsLoopbackV6
 -- such an address with its port, in the text's words
 abbrev pub IsLoopback : List ℕ → SocketAddr → Type 0
 IsLoopback text address = IsSocketText text address × IsOfLoopback address
+
+-- the text says such an address
+abbrev pub ListensOn : List ℕ → Type 0
+ListensOn text = (address : SocketAddr) × IsLoopback text address

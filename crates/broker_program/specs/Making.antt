@@ -7,6 +7,7 @@ use Rattle.sqlite.specs.Closing.{IsCopied}
 use Rattle.sqlite.specs.Files.{file_state}
 use Rattle.sqlite.specs.Held.{Held}
 use Rattle.sqlite.specs.Recovery.{Image}
+use Rattle.sqlite.specs.State.{HasCleanDisk}
 use Rattle.sqlite.specs.WalReads.{AreClean}
 use Rattle.sqlite.specs.declared.FileStore.{FileStore}
 use Rattle.broker_core.specs.Text.{Text}
@@ -26,6 +27,13 @@ module _ {D : Type 0} (g : Ghosts D) (held : Image) where
     -- and its database is in the file that was closed
     pub closed : IsCopied broker.connection files
 
+  -- For private clauses: such a broker was made, if the disk is clean.
+  abbrev pub MakesThere : Text → BrokerView (FileStore D g) → Type 0
+  MakesThere office broker =
+      HasCleanDisk (file_state broker.connection)
+      → (conn : Held (FileStore D g)) × StartsFrom held conn
+      × Created file_state conn (broker_primitives.digest_of office) (Ok broker)
+
   -- today's database was made of it
   pub record MigratesFile (files : Files D) : Type 0 where
     pub old : Held (FileStore D g)
@@ -34,6 +42,12 @@ module _ {D : Type 0} (g : Ghosts D) (held : Image) where
     pub migrated : Migrated (file_state old) (file_state new) (Ok tt)
     -- and it is in the file that was closed
     pub closed : IsCopied new files
+
+  -- For private clauses: it was made there, if the disk is clean.
+  abbrev pub MigratesThere : Held (FileStore D g) → Type 0
+  MigratesThere new =
+      HasCleanDisk (file_state new)
+      → (old : Held (FileStore D g)) × StartsFrom held old × Migrated (file_state old) (file_state new) (Ok tt)
 
   -- the same, if the disk is clean to the end
   abbrev pub BrokerIsMade : Text → Files D → Type 0

@@ -1,6 +1,5 @@
 -- what a command line has read and written when the program ends (this project's own choice)
 use Rattle.std.specs.Prelude.{◌≡◌, ◌≢◌, ◌⊎◌, ℕ, List, Bool, true, false, Option}
-use Rattle.std.specs.Borrow.{Bor}
 use Rattle.sqlite_disk.specs.declared.Disk.{Ghosts}
 use Rattle.sqlite.specs.Recovery.{Image}
 use Rattle.broker_core.specs.Name.{IsToken}
@@ -8,21 +7,17 @@ use Rattle.clap.specs.Words.{Text}
 use Rattle.command_line.specs.Lines.{Says, is_line}
 use Rattle.broker_program.specs.Replays.{Replays, ReplaysUntil}
 use Rattle.broker_program.specs.Files.{LeavesClosed, LeavesServed}
+use Rattle.broker_program.specs.Listening.{ListensOn}
 use Rattle.broker_program.specs.Making.{BrokerIsMade, FileIsMigrated}
 use Rattle.broker_program.specs.Reasons.{IsFaultOf, HasReport, IsReported}
 use Rattle.broker_program.specs.Serving.{ServesFile}
-use Rattle.broker_program.specs.Told.{Asks, AsksUntil, Checks, ChecksUntil, Normalises, NormalisesUntil}
-use Rattle.broker_program.specs.declared.can_i_deploy.Question.{Question}
+use Rattle.broker_program.specs.Told.{Asks, AsksUntil, Checks, ChecksUntil, Normalises, NormalisesUntil, question}
 use Rattle.broker_program.specs.declared.fault.RunFault.{RunFault}
 use Rattle.broker_program.specs.declared.fault.RunFault.TheVariants as run_fault
 use Rattle.broker_program.specs.declared.left.Left.{Left}
 use Rattle.command_line.specs.declared.line.Line.{Line}
 use Rattle.command_line.specs.declared.line.Line.TheVariants.{CanIDeploy, Check, Init, Migrate, Normalise}
 use Rattle.command_line.specs.declared.line.Line.TheVariants.{Replay, Serve}
-
-abbrev pub question : Bor Text → Bor Text → Bor Text → Bor Text → Question
-question token pacticipant version environment =
-    record { token = token; pacticipant = pacticipant; version = version; environment = environment }
 
 -- Held is what the files of a command held at first, and rest what the command left of them.
 module _ {D : Type 0} {g : Ghosts D} (held : Image) (before after old new : Option (List ℕ)) (rest : Left D g) where
@@ -37,7 +32,7 @@ module _ {D : Type 0} {g : Ghosts D} (held : Image) (before after old new : Opti
       (passes ≡ true) × IsToken token.now × IsSilent × LeavesClosed (BrokerIsMade g held token.now) rest
   CommandEnds (Migrate file) passes = (passes ≡ true) × IsSilent × LeavesClosed (FileIsMigrated g held) rest
   CommandEnds (Serve file listen connections) passes =
-      (passes ≡ true) × IsSilent × LeavesServed (ServesFile g held connections) rest
+      (passes ≡ true) × IsSilent × ListensOn listen.now × LeavesServed (ServesFile g held connections) rest
   CommandEnds Normalise passes = (passes ≡ true) × Normalises before after old new
   CommandEnds (Check pact replies) passes = (after ≡ before) × Checks old new passes
   CommandEnds (CanIDeploy file token pacticipant version environment) passes =
@@ -63,9 +58,8 @@ module _ {D I O : Type 0} {g : Ghosts D} (held : Image) (remaining : I → Optio
   abbrev pub CommandFailsOn : Line → Type 0
   CommandFailsOn = CommandFails held (remaining before) (remaining after) (contents old) (contents new) rest
 
-module _ {I O : Type 0} (remaining : I → Option (List ℕ)) (contents : O → Option (List ℕ)) (before after : I) (old new : O) where
   abbrev pub IsFaultOn : Line → RunFault → Type 0
-  IsFaultOn = IsFaultOf (remaining before) (remaining after) (contents old) (contents new)
+  IsFaultOn = IsFaultOf held (remaining before) (remaining after) (contents old) (contents new) rest
 
 -- The texts are the words; the reader was before and is after, standard output was old and is new, standard error was
 -- untold and is told, and shows what it has taken. Rest is what is left of the command's file.
@@ -81,7 +75,7 @@ module _ {D I O E : Type 0} {g : Ghosts D} (held : Image) (remaining : I → Opt
     -- it failed, and standard error says why
     pub fails : status ≡ 3 → CommandFailsOn held remaining contents before after old new rest line
     pub reports : status ≡ 3
-        → (fault : RunFault) × IsFaultOn remaining contents before after old new line fault
+        → (fault : RunFault) × IsFaultOn held remaining contents before after old new rest line fault
         × IsReported fault (shows untold) (shows told)
 
   -- what running the words promises of it
@@ -113,7 +107,8 @@ module _ {D I O E : Type 0} {g : Ghosts D} (held : Image) (remaining : I → Opt
     pub reason : status ≡ 3 → is_line words ≡ true
         → IsReported run_fault.Memory (shows untold) (shows told)
         ⊎ ((line : Line) × (fault : RunFault) × Says words line
-        × IsFaultOn remaining contents before after old new line fault × IsReported fault (shows untold) (shows told))
+        × IsFaultOn held remaining contents before after old new rest line fault
+        × IsReported fault (shows untold) (shows told))
 
   -- some words were run over some streams, and the program ends with this status
   abbrev pub SomeRun : ℕ → Left D g → Type 0

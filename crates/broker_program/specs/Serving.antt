@@ -1,5 +1,5 @@
 -- the connections that a broker in a file serves, one after another (this project's own choice)
-use Rattle.std.specs.Prelude.{◌≡◌, ◌⊎◌, ℕ, ◌+◌, zero, suc, false, None, Ok, Result, IfSome}
+use Rattle.std.specs.Prelude.{◌≡◌, ◌⊎◌, ℕ, ◌+◌, ◌<◌, zero, suc, false, None, Ok, Result, IfSome}
 use Rattle.sqlite_disk.specs.declared.Disk.{Ghosts}
 use Rattle.sqlite_disk.specs.declared.Files.{Files}
 use Rattle.sqlite.specs.Closing.{IsCopied}
@@ -34,6 +34,10 @@ module _ {D : Type 0} {g : Ghosts D} where
   -- For private clauses: as many are served as the count grows by.
   abbrev pub ServesMore : BrokerView (FileStore D g) → BrokerView (FileStore D g) → ℕ → ℕ → Type 0
   ServesMore s t before after = (n : ℕ) × (after ≡ before + n) × ServesPeers n s t
+
+-- some connections were served, and the file was opened again
+abbrev pub ServedSome : {D : Type 0} → Service D → Type 0
+ServedSome service = (0 < service.served) × (service.files ≡ None)
 
 module _ {D : Type 0} (g : Ghosts D) where
   -- For private clauses: so many connections are served or lost; over one opening, those that were served were served

@@ -1,8 +1,9 @@
 -- what the commands on pact files and the question of can-i-deploy write: one line on standard output (this project's
 -- own choice)
-use Rattle.std.specs.Prelude.{◌≡◌, ◌≢◌, ◌<◌, ℕ, List, [], ◌∷◌, ◌++◌, length, Bool, true, false, Option, Some, Ok}
+use Rattle.std.specs.Prelude.{◌≡◌, ◌≢◌, ◌<◌, ℕ, List, [], ◌∷◌, ◌++◌, length, Bool, true, false, Option, None, Some, Ok}
 use Rattle.std.specs.Prelude.{codes, decimal, take}
 use Rattle.std.specs.List.{flat_map}
+use Rattle.std.specs.Borrow.{Bor}
 use Rattle.std.specs.Io.KnownBytes.{Appends, Consumes, IsAtEnd}
 use Rattle.sqlite_disk.specs.declared.Disk.{Ghosts}
 use Rattle.sqlite.specs.FileStore.{view}
@@ -106,10 +107,17 @@ module _ (old new : Option (List ℕ)) where
 
 -- ---- can-i-deploy
 
--- the answer says whether the gate permits the version
+-- whether the gate permits the version, if the answer is the gate's
+abbrev pub permission : Answer → Option Bool
+permission (answers.Shown (shows.Gate environment marks says faults)) = Some says
+permission _ = None
+
 abbrev pub IsGate : Bool → Answer → Type 0
-IsGate permitted (answers.Shown (shows.Gate environment marks says faults)) = says ≡ permitted
-IsGate permitted _ = ⊥
+IsGate permitted answer = permission answer ≡ Some permitted
+
+abbrev pub question : Bor Text → Bor Text → Bor Text → Bor Text → Question
+question token pacticipant version environment =
+    record { token = token; pacticipant = pacticipant; version = version; environment = environment }
 
 -- what is asked: whether this version of a pacticipant may be deployed to this environment
 abbrev pub asked : Question → Command

@@ -1,11 +1,14 @@
 //! Asking the broker in a file whether a version may be deployed.
-ghost use Rattle.std.specs.Prelude.{◌≡◌, ◌⊎◌, IfOk, IfSome, OnErr};
+ghost use Rattle.std.specs.Prelude.{◌≡◌, ◌⊎◌, IfErr, IfOk, OnErr};
 ghost use Rattle.sqlite.specs.WalFiles.{image_at};
-ghost use Rattle.broker_program.specs.Told.{AnswersFrom, AnswersQuestion, Asks, AsksUntil, IsGate, asked};
+ghost use Rattle.broker_core.specs.Name.{IsToken};
+ghost use Rattle.broker_program.specs.Reasons.{AsksByNames, FailsToAnswer, FailsToAsk, FailsToOpen};
+ghost use Rattle.broker_program.specs.Reasons.{IsAnswerFault, IsNameFault, IsQuestionFault};
+ghost use Rattle.broker_program.specs.Told.{AnswersFrom, AnswersQuestion, Asks, AsksUntil, asked, permission};
 ghost use Rattle.broker_program.specs.Told.{TellsGate, TellsGateUntil};
 
 use crate::fault::RunFault;
-use crate::files::{open_broker, release};
+use crate::files::{Failed, open_broker, release};
 use crate::forms::{name_of, token_of};
 use crate::left::Left;
 use crate::output::write_line;
@@ -29,7 +32,8 @@ pub(crate) struct Question<'a> {
 
 /// The question as a command. `Name`: one of its texts isn't a name.
 fn command_of(alloc: Global, question: Question<'_>) -> Result<Command, RunFault>
-    ensures { IfOk result (λ command. command ≡ asked question.entry) }
+    ensures ok { IfOk result (λ command. (command ≡ asked question.entry) × AsksByNames question.entry) }
+    ensures cause { IfErr result (IsNameFault question.entry) }
 {
     let version = Version {
         pacticipant: name_of(alloc, question.pacticipant)?,
@@ -42,15 +46,30 @@ fn command_of(alloc: Global, question: Question<'_>) -> Result<Command, RunFault
     })
 }
 
-/// What the broker in the file answers the caller with the token, and the store of the file, which is given up as it is.
+/// The question as a command, with the caller's token. `Token`: it isn't one. `Name`: another text isn't a name.
+fn request_of(alloc: Global, question: Question<'_>) -> Result<(Token, Command), RunFault>
+    ensures ok { IfOk result (λ request. (request.0 ≡ question.entry.token.now) × (request.1 ≡ asked question.entry)) }
+    ensures sound { IfOk result (λ _. IsToken question.entry.token.now × AsksByNames question.entry) }
+    ensures cause { IfErr result (IsQuestionFault question.entry) }
+{
+    let token = token_of(alloc, question.token)?;
+    let command = command_of(alloc, question)?;
+    Ok((token, command))
+}
+
+/// What a broker answered, and the store of its file, which is given up as it is.
+type Answered<S> = (Answer, FileStore<FileFrom<S>>);
+
+/// What the broker in the file answers the caller with the token.
 fn answer_at<S: Start>(
     rt: &HostRuntime,
     file: &str,
     token: &Token,
     command: &Command,
     start: S,
-) -> Result<(Answer, FileStore<FileFrom<S>>), RunFault>
-    ensures { IfOk result (λ r. AnswersFrom (image_at S.Start) token.now command.now r.0 r.1) }
+) -> Result<Answered<S>, Failed<S>>
+    ensures ok { IfOk result (λ r. AnswersFrom (image_at S.Start) token.now command.now r.0 r.1) }
+    ensures cause { IfErr result (λ failed. FailsToOpen (image_at S.Start) failed.0 failed.1) }
 {
     let mut broker = open_broker(rt, file, start)?;
     let answer = broker.apply(rt.alloc(), Some(token.as_str()), command);
@@ -63,17 +82,19 @@ fn answer_to<S: Start>(
     file: &str,
     question: Question<'_>,
     start: S,
-) -> Result<(Answer, FileStore<FileFrom<S>>), RunFault>
-    ensures { IfOk result (λ r. AnswersQuestion (image_at S.Start) question.entry r.0 r.1) }
+) -> Result<Answered<S>, Failed<S>>
+    ensures ok { IfOk result (λ r. AnswersQuestion (image_at S.Start) question.entry r.0 r.1) }
+    ensures cause { IfErr result (λ failed. FailsToAnswer (image_at S.Start) question.entry failed.0 failed.1) }
 {
-    let token = token_of(rt.alloc(), question.token)?;
-    let command = command_of(rt.alloc(), question)?;
-    answer_at(rt, file, &token, &command, start)
+    match request_of(rt.alloc(), question) {
+        Ok((token, command)) => answer_at(rt, file, &token, &command, start),
+        Err(fault) => Err((fault, Left::Nothing)),
+    }
 }
 
 /// Whether the answer permits the deployment, if it says so.
 fn permits(answer: &Answer) -> Option<bool>
-    ensures { IfSome result (λ permitted. IsGate permitted answer.now) }
+    ensures { result ≡ permission answer.now }
 {
     match answer.outcome() {
         Outcome::Shown(Shown::Gate { permitted, .. }) => Some(*permitted),
@@ -88,6 +109,7 @@ fn tell_answer<W: Write>(answer: Answer, output: &mut W) -> Result<bool, RunFaul
     // Nothing was written, or a beginning of the answer.
     ensures err { OnErr result ((output.new ≡ output.old)
         ⊎ TellsGateUntil answer (W.contents output.old) (W.contents output.new)) }
+    ensures cause { IfErr result (IsAnswerFault answer) }
 {
     match permits(&answer) {
         Some(permitted) => {
@@ -113,9 +135,10 @@ pub(crate) fn ask<S: Start, W: Write>(
     ensures err { OnErr result.0 ((output.new ≡ output.old)
         ⊎ AsksUntil (image_at S.Start) question.entry
         (W.contents output.old) (W.contents output.new) result.1) }
+    ensures cause { IfErr result.0 (λ fault. FailsToAsk (image_at S.Start) question.entry fault result.1) }
 {
     match answer_to(rt, file, question, start) {
         Ok((answer, store)) => (tell_answer(answer, output), Left::GivenUp(store)),
-        Err(fault) => (Err(fault), Left::Nothing),
+        Err((fault, left)) => (Err(fault), left),
     }
 }

@@ -1,10 +1,13 @@
 //! A broker in a file.
-ghost use Rattle.std.specs.Prelude.{◌≡◌, false, IfOk};
+ghost use Rattle.std.specs.Prelude.{◌≡◌, false, IfErr, IfOk};
 ghost use Rattle.sqlite.specs.WalFiles.{image_at};
-ghost use Rattle.broker_program.specs.Files.{ClosesAs, GivesUpAs, OpensBroker, OpensOn};
+ghost use Rattle.broker_program.specs.Files.{ClosesAs, GivesUpAs, LeavesStore, OpensBroker, OpensOn};
+ghost use Rattle.broker_program.specs.Reasons.{FailsToOpen, IsFromOutside};
+ghost use Rattle.broker_program.specs.Refusals.{IsOfDatabase, OpensNone};
 
 use crate::fault::RunFault;
-use broker_service::{Broker, Refused};
+use crate::left::Left;
+use broker_service::{Broker, OpenFault};
 use sqlite::{Connection, Error, ErrorCode, FileFrom, FileStore, Files, Start};
 use std::fs;
 
@@ -15,19 +18,25 @@ pub(crate) type FileConnection<S> = Connection<FileStore<FileFrom<S>>>;
 /// proved again in each function that has one.
 pub(crate) type FileBroker<S> = Broker<FileStore<FileFrom<S>>>;
 
+/// Why a command over a file failed, and what it left of the file.
+pub(crate) type Failed<S> = (RunFault, Left<FileFrom<S>>);
+
 /// A connection over the file of this path, which is made with page sums if it isn't there. `File`: it can't be read or
 /// written, another program has it open, or it is no database.
 pub(crate) fn connect<S: Start>(
     rt: &HostRuntime,
     path: &str,
     start: S,
-) -> Result<FileConnection<S>, RunFault>
-    ensures { IfOk result (OpensOn (image_at S.Start)) }
+) -> Result<FileConnection<S>, Failed<S>>
+    ensures ok { IfOk result (OpensOn (image_at S.Start)) }
+    ensures cause { IfErr result (λ failed. IsFromOutside failed.0) }
 {
     match Connection::open_from(rt, path, true, start) {
         Ok(connection) => Ok(connection),
-        Err((Error::SqliteFailure(ErrorCode::OutOfMemory), _)) => Err(RunFault::Memory),
-        Err(_) => Err(RunFault::File),
+        Err((Error::SqliteFailure(ErrorCode::OutOfMemory), _)) => {
+            Err((RunFault::Memory, Left::Nothing))
+        }
+        Err(_) => Err((RunFault::File, Left::Nothing)),
     }
 }
 
@@ -36,24 +45,26 @@ pub(crate) fn connect_existing<S: Start>(
     rt: &HostRuntime,
     path: &str,
     start: S,
-) -> Result<FileConnection<S>, RunFault>
-    ensures { IfOk result (OpensOn (image_at S.Start)) }
+) -> Result<FileConnection<S>, Failed<S>>
+    ensures ok { IfOk result (OpensOn (image_at S.Start)) }
+    ensures cause { IfErr result (λ failed. IsFromOutside failed.0) }
 {
     match fs::exists(rt, path) {
         Ok(true) => connect(rt, path, start),
-        _ => Err(RunFault::File),
+        _ => Err((RunFault::File, Left::Nothing)),
     }
 }
 
 /// Closes the file, so that all of it is in the file itself. `File`: what is in its log couldn't be copied.
 pub(crate) fn disconnect<S: Start>(
     connection: FileConnection<S>,
-) -> Result<Files<FileFrom<S>>, RunFault>
-    ensures { IfOk result (ClosesAs connection) }
+) -> Result<Files<FileFrom<S>>, Failed<S>>
+    ensures ok { IfOk result (ClosesAs connection) }
+    ensures cause { IfErr result (λ failed. IsFromOutside failed.0) }
 {
     match connection.close_files() {
         Ok(files) => Ok(files),
-        Err((_, _)) => Err(RunFault::File),
+        Err((_, _)) => Err((RunFault::File, Left::Nothing)),
     }
 }
 
@@ -64,10 +75,24 @@ fn leave<S: Start>(connection: FileConnection<S>) -> FileStore<FileFrom<S>>
     connection.into_store()
 }
 
-/// Gives the file up in which no broker is made or opened, and says why.
-pub(crate) fn refusal<S: Start>(refused: Refused<FileStore<FileFrom<S>>>) -> RunFault {
-    let _ = leave(refused.connection).close();
-    RunFault::Open(refused.fault)
+/// Gives the file up in which no broker is made, opened or migrated, and says why.
+pub(crate) fn give_up<S: Start>(connection: FileConnection<S>, fault: OpenFault) -> Failed<S>
+    ensures { (result.0 ≡ RunFault.Open fault) × LeavesStore (GivesUpAs connection) result.1 }
+{
+    (RunFault::Open(fault), Left::GivenUp(leave(connection)))
+}
+
+/// The broker in the database of the connection.
+fn broker_of<S: Start>(connection: FileConnection<S>) -> Result<FileBroker<S>, Failed<S>>
+    requires { OpensOn (image_at S.Start) connection }
+    ensures runs { IfOk result (λ b. b.is_stopped ≡ false) }
+    ensures opened { IfOk result (OpensBroker (image_at S.Start)) }
+    ensures cause { IfErr result (λ failed. IsOfDatabase (image_at S.Start) OpensNone failed.0 failed.1) }
+{
+    match Broker::open(connection) {
+        Ok(broker) => Ok(broker),
+        Err(refused) => Err(give_up(refused.connection, refused.fault)),
+    }
 }
 
 /// The broker in the file of this path, which has to be there.
@@ -75,15 +100,13 @@ pub(crate) fn open_broker<S: Start>(
     rt: &HostRuntime,
     path: &str,
     start: S,
-) -> Result<FileBroker<S>, RunFault>
+) -> Result<FileBroker<S>, Failed<S>>
     ensures runs { IfOk result (λ b. b.is_stopped ≡ false) }
     ensures opened { IfOk result (OpensBroker (image_at S.Start)) }
+    ensures cause { IfErr result (λ failed. FailsToOpen (image_at S.Start) failed.0 failed.1) }
 {
     let connection = connect_existing(rt, path, start)?;
-    match Broker::open(connection) {
-        Ok(broker) => Ok(broker),
-        Err(refused) => Err(refusal(refused)),
-    }
+    broker_of(connection)
 }
 
 /// Gives the broker's file up, as it is.
@@ -94,8 +117,9 @@ pub(crate) fn release<S: Start>(broker: FileBroker<S>) -> FileStore<FileFrom<S>>
 }
 
 /// Closes the broker's file.
-pub(crate) fn close<S: Start>(broker: FileBroker<S>) -> Result<Files<FileFrom<S>>, RunFault>
-    ensures { IfOk result (ClosesAs broker.connection) }
+pub(crate) fn close<S: Start>(broker: FileBroker<S>) -> Result<Files<FileFrom<S>>, Failed<S>>
+    ensures ok { IfOk result (ClosesAs broker.connection) }
+    ensures cause { IfErr result (λ failed. IsFromOutside failed.0) }
 {
     disconnect(broker.close())
 }

@@ -1,7 +1,7 @@
 //! The forms of tokens and names among the options.
 ghost use Rattle.std.specs.Prelude.{◌≡◌, ◌↔◌, IfErr, IfOk, IsErrOf};
 ghost use Rattle.broker_core.specs.Name.{IsName, IsToken};
-ghost use Rattle.broker_program.specs.Reasons.{IsTokenFault};
+ghost use Rattle.broker_program.specs.Reasons.{IsNoName, IsTokenFault};
 
 use crate::fault::RunFault;
 use broker_core::name::{Name, NameFault, Token, TokenFault};
@@ -24,6 +24,7 @@ pub(crate) fn token_of(alloc: Global, text: &str) -> Result<Token, RunFault>
 pub(crate) fn name_of(alloc: Global, text: &str) -> Result<Name, RunFault>
     ensures ok { IfOk result (λ name. (name ≡ text.now) × IsName text.now) }
     ensures bad { IsErrOf result RunFault.Name ↔ (¬ (IsName text.now)) }
+    ensures err { IfErr result (IsNoName text.now) }
 {
     match Name::new(alloc, text) {
         Ok(name) => Ok(name),

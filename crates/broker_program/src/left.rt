@@ -9,14 +9,14 @@ pub struct Service<D: Disk> {
     pub served: u32,
     /// and how many were lost as they came in.
     pub lost: u32,
-    /// The files, closed, if they were opened once: all of it is in the file itself.
+    /// The files, closed, if they were opened once: all of it is in the file itself. After a failure none.
     pub files: Option<Files<D>>,
 }
 
 /// What a command left of the file that it worked on.
 #[derive(Drop)]
 pub enum Left<D: Disk> {
-    /// Nothing is said: it worked on none, or failed.
+    /// Nothing is said: it worked on none, or the file failed.
     Nothing,
     /// It was closed, so that all of it is in the file itself.
     Closed(Files<D>),

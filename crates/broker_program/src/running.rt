@@ -74,8 +74,8 @@ fn carry_out<S: Start, R: Read, W: Write>(
         input.old input.new output.old output.new result.1 line.entry) }
     ensures fails { OnErr result.0 (CommandFailsOn (image_at S.Start) R.remaining W.contents
         input.old input.new output.old output.new result.1 line.entry) }
-    ensures cause { IfErr result.0 (IsFaultOn R.remaining W.contents input.old input.new output.old output.new
-        line.entry) }
+    ensures cause { IfErr result.0 (IsFaultOn (image_at S.Start) R.remaining W.contents
+        input.old input.new output.old output.new result.1 line.entry) }
 {
     match line {
         Line::Replay { office_token } => match replay(rt.alloc(), office_token, input, output) {
@@ -84,11 +84,11 @@ fn carry_out<S: Start, R: Read, W: Write>(
         },
         Line::Init { file, office_token } => match init(rt, file, office_token, start) {
             Ok(files) => (Ok(true), Left::Closed(files)),
-            Err(fault) => (Err(fault), Left::Nothing),
+            Err((fault, left)) => (Err(fault), left),
         },
         Line::Migrate { file } => match migrate(rt, file, start) {
             Ok(files) => (Ok(true), Left::Closed(files)),
-            Err(fault) => (Err(fault), Left::Nothing),
+            Err((fault, left)) => (Err(fault), left),
         },
         Line::Serve {
             file,
@@ -96,7 +96,7 @@ fn carry_out<S: Start, R: Read, W: Write>(
             connections,
         } => match serve_file(rt, file, listen, connections, start) {
             Ok(service) => (Ok(true), Left::Served(service)),
-            Err(fault) => (Err(fault), Left::Nothing),
+            Err((fault, left)) => (Err(fault), left),
         },
         Line::Normalise => match normalise(rt.alloc(), input, output) {
             Ok(()) => (Ok(true), Left::Nothing),
@@ -163,7 +163,7 @@ fn run_line<S: Start, R: Read, W: Write, E: Write>(
 /// If `errors` fails too, its text is lost. Neither `output` nor `errors` is flushed.
 ///
 /// `S` stands for what the file of the command held, if it has one. What is left of it comes with the status: it was
-/// closed, or given up as it was.
+/// closed, or given up as it was; after a failure too, if its database was found to be none for the command.
 pub fn run<S: Start, R: Read, W: Write, E: Write>(
     rt: &HostRuntime,
     words: &[&str],

@@ -1,12 +1,13 @@
 //! Serving connections over the broker in a file.
-ghost use Rattle.std.specs.Prelude.{◌≡◌, ◌≢◌, ◌+◌, false, IfOk, IfSome, MatchOption, OnOk};
+ghost use Rattle.std.specs.Prelude.{◌≡◌, ◌≢◌, ◌≤◌, ◌+◌, false, IfErr, IfOk, IfSome, MatchOption, OnOk};
 ghost use Rattle.sqlite.specs.WalFiles.{image_at};
-ghost use Rattle.broker_program.specs.Listening.{IsLoopback, IsOfLoopback};
+ghost use Rattle.broker_program.specs.Listening.{IsLoopback, IsOfLoopback, ListensOn};
+ghost use Rattle.broker_program.specs.Reasons.{CutsService, FailsToServe, IsFromOutside, IsReopeningFault};
 ghost use Rattle.broker_program.specs.Serving.{ServesAll, ServesFile, ServesMore, ServesNext};
 
 use crate::fault::RunFault;
-use crate::files::{FileBroker, close, open_broker, release};
-use crate::left::Service;
+use crate::files::{Failed, FileBroker, close, open_broker, release};
+use crate::left::{Left, Service};
 use crate::routes::route_table;
 use broker_http::RouteTable;
 use broker_http::patience::{Door, LIMITS, serve_peer};
@@ -56,8 +57,6 @@ impl Door for Entrance {
 #[derive(Drop)]
 struct Connections {
     entrance: Entrance,
-    /// Where they come in, as the system says it.
-    address: SocketAddr,
     /// How many are still to be taken,
     left: u32,
     /// how many were handed out to be served,
@@ -117,9 +116,11 @@ fn bound_to(listener: &TcpListener) -> Option<SocketAddr>
     if_loopback(listener.local_addr().ok()?)
 }
 
-/// A listener on an address of loopback, and that address as the system says it.
+/// A listener on the address of loopback that the text says, and that address as the system says it.
 fn listener_on(rt: &HostRuntime, listen: &str) -> Result<(TcpListener, SocketAddr), RunFault>
-    ensures { IfOk result (λ found. IsOfLoopback found.1) }
+    ensures said { IfOk result (λ _. ListensOn listen.now) }
+    ensures bound { IfOk result (λ found. IsOfLoopback found.1) }
+    ensures cause { IfErr result (λ fault. fault ≡ RunFault.Listen) }
 {
     let Some(address) = loopback_of(listen) else {
         return Err(RunFault::Listen);
@@ -133,19 +134,19 @@ fn listener_on(rt: &HostRuntime, listen: &str) -> Result<(TcpListener, SocketAdd
     }
 }
 
-/// So many connections to an address of loopback.
+/// So many connections to an address of loopback. `Listen`: the text says none, or it can't be listened on.
 fn listen_on(rt: &HostRuntime, listen: &str, connections: u32) -> Result<Connections, RunFault>
     ensures count { IfOk result (λ found. (found.all ≡ connections) × (found.served ≡ 0)) }
-    ensures bound { IfOk result (λ found. IsOfLoopback found.address) }
+    ensures said { IfOk result (λ _. ListensOn listen.now) }
+    ensures cause { IfErr result (λ fault. fault ≡ RunFault.Listen) }
 {
-    let (listener, address) = listener_on(rt, listen)?;
+    let (listener, _) = listener_on(rt, listen)?;
     Ok(Connections {
         entrance: Entrance {
             listener,
             waiting: None,
             is_open: true,
         },
-        address,
         left: connections,
         served: 0,
         lost: 0,
@@ -199,10 +200,23 @@ fn serve_while_running<S: Start>(
 }
 
 /// Closes the broker's file, and keeps nothing of it.
-fn end<S: Start>(broker: FileBroker<S>) -> Result<(), RunFault> {
+fn end<S: Start>(broker: FileBroker<S>) -> Result<(), RunFault>
+    ensures { IfErr result IsFromOutside }
+{
     match close(broker) {
         Ok(_) => Ok(()),
-        Err(fault) => Err(fault),
+        Err((fault, _)) => Err(fault),
+    }
+}
+
+/// The broker of the file, opened again.
+fn reopen(rt: &HostRuntime, file: &str) -> Result<FileBroker<Unknown>, RunFault>
+    ensures runs { IfOk result (λ b. b.is_stopped ≡ false) }
+    ensures cause { IfErr result IsReopeningFault }
+{
+    match open_broker(rt, file, Unknown) {
+        Ok(broker) => Ok(broker),
+        Err((fault, _)) => Err(fault),
     }
 }
 
@@ -212,13 +226,14 @@ fn running(
     broker: FileBroker<Unknown>,
     file: &str,
 ) -> Result<FileBroker<Unknown>, RunFault>
-    ensures { IfOk result (λ b. b.is_stopped ≡ false) }
+    ensures runs { IfOk result (λ b. b.is_stopped ≡ false) }
+    ensures cause { IfErr result IsReopeningFault }
 {
     if !broker.is_stopped() {
         return Ok(broker);
     }
     let _ = end(broker);
-    open_broker(rt, file, Unknown)
+    reopen(rt, file)
 }
 
 /// Serves the connections that are left, one after the other, over the broker of the file, which was opened again.
@@ -228,14 +243,27 @@ fn serve_again(
     file: &str,
     connections: &mut Connections,
 ) -> Result<(), RunFault>
-    ensures { OnOk result ((connections.new.left ≡ 0) × (connections.new.all ≡ connections.old.all)) }
+    ensures done { OnOk result ((connections.new.left ≡ 0) × (connections.new.all ≡ connections.old.all)) }
+    ensures grows { connections.old.served ≤ connections.new.served }
+    ensures cause { IfErr result IsReopeningFault }
 {
-    let mut broker = open_broker(rt, file, Unknown)?;
+    let mut broker = reopen(rt, file)?;
     while connections.left > 0 {
         broker = running(rt, broker, file)?;
         serve_next(rt, routes, &mut broker, connections);
     }
     end(broker)
+}
+
+/// What was served over a file that was opened again.
+fn service_of<S: Start>(connections: &Connections) -> Service<FileFrom<S>>
+    ensures { (result.served ≡ connections.now.served) × (result.lost ≡ connections.now.lost) × (result.files ≡ None) }
+{
+    Service {
+        served: connections.served,
+        lost: connections.lost,
+        files: None,
+    }
 }
 
 /// Serves the connections, one after the other, over the broker of the file. If it stops, the file is opened again.
@@ -245,9 +273,11 @@ fn serve_each<S: Start>(
     broker: FileBroker<S>,
     file: &str,
     connections: &mut Connections,
-) -> Result<Service<FileFrom<S>>, RunFault>
+) -> Result<Service<FileFrom<S>>, Failed<S>>
+    requires runs { broker.is_stopped ≡ false }
     requires fresh { connections.old.served ≡ 0 }
-    ensures { IfOk result (ServesAll ⟦<FileFrom<S> as Disk>⟧ broker connections.old.all) }
+    ensures ok { IfOk result (ServesAll ⟦<FileFrom<S> as Disk>⟧ broker connections.old.all) }
+    ensures cause { IfErr result (λ failed. CutsService failed.0 failed.1) }
 {
     let mut broker = broker;
     serve_while_running(rt, routes, &mut broker, connections);
@@ -260,31 +290,46 @@ fn serve_each<S: Start>(
         });
     }
     let _ = end(broker);
-    serve_again(rt, routes, file, connections)?;
-    Ok(Service {
-        served: connections.served,
-        lost: connections.lost,
-        files: None,
-    })
+    match serve_again(rt, routes, file, connections) {
+        Ok(()) => Ok(service_of(connections)),
+        Err(fault) => Err((fault, Left::Served(service_of(connections)))),
+    }
 }
 
 /// Serves so many connections over the broker in the file.
+fn serve_at<S: Start>(
+    rt: &HostRuntime,
+    routes: &RouteTable,
+    file: &str,
+    listen: &str,
+    connections: u32,
+    start: S,
+) -> Result<Service<FileFrom<S>>, Failed<S>>
+    ensures said { IfOk result (λ _. ListensOn listen.now) }
+    ensures ok { IfOk result (ServesFile ⟦<FileFrom<S> as Disk>⟧ (image_at S.Start) connections) }
+    ensures cause { IfErr result (λ failed. FailsToServe (image_at S.Start) listen.now failed.0 failed.1) }
+{
+    let broker = open_broker(rt, file, start)?;
+    match listen_on(rt, listen, connections) {
+        Ok(mut connections) => serve_each(rt, routes, broker, file, &mut connections),
+        Err(fault) => Err((fault, Left::GivenUp(release(broker)))),
+    }
+}
+
+/// The same, with a table of routes.
 pub(crate) fn serve_file<S: Start>(
     rt: &HostRuntime,
     file: &str,
     listen: &str,
     connections: u32,
     start: S,
-) -> Result<Service<FileFrom<S>>, RunFault>
-    ensures { IfOk result (ServesFile ⟦<FileFrom<S> as Disk>⟧ (image_at S.Start) connections) }
+) -> Result<Service<FileFrom<S>>, Failed<S>>
+    ensures said { IfOk result (λ _. ListensOn listen.now) }
+    ensures ok { IfOk result (ServesFile ⟦<FileFrom<S> as Disk>⟧ (image_at S.Start) connections) }
+    ensures cause { IfErr result (λ failed. FailsToServe (image_at S.Start) listen.now failed.0 failed.1) }
 {
-    let routes = route_table(rt.alloc())?;
-    let broker = open_broker(rt, file, start)?;
-    match listen_on(rt, listen, connections) {
-        Ok(mut connections) => serve_each(rt, &routes, broker, file, &mut connections),
-        Err(fault) => {
-            let _ = release(broker).close();
-            Err(fault)
-        }
+    match route_table(rt.alloc()) {
+        Ok(routes) => serve_at(rt, &routes, file, listen, connections, start),
+        Err(fault) => Err((fault, Left::Nothing)),
     }
 }

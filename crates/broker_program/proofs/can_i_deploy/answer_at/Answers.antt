@@ -4,8 +4,8 @@ use Rattle.sqlite.specs.Files.{file_state}
 use Rattle.broker_program.proofs.UnchangedLemmas.{still_as_before}
 use Rattle.broker_program.proofs.can_i_deploy.answer_at.Goals as goal
 
-pub returns : goal.returns
-returns g c clean =
+pub returns-clause-ok : goal.returns-clause-ok
+returns-clause-ok g c clean =
     let broker = c.in_ok-broker.broker in
     let given = c.release.ensures clean in
     let applied = c.apply-answer.ensures in

@@ -1,4 +1,4 @@
-use Rattle.std.proofs.Common.{inr}
+use Rattle.std.proofs.Common.{inr, sym}
 use Rattle.broker_program.proofs.ResultLemmas.{on_err}
 use Rattle.broker_program.proofs.can_i_deploy.tell_answer.Goals as goal
 
@@ -6,6 +6,6 @@ pub returns-in_err-write_line-in-Some-clause-err : goal.returns-in_err-write_lin
 returns-in_err-write_line-in-Some-clause-err g c =
     on_err c.from_residual.result (inr (
       c.in-Some.permitted,
-      c.in-Some.ensures,
+      sym c.in-Some.ensures,
       rw c.body.ensures at c.in_err-write_line-in-Some.ensures.err,
     ))

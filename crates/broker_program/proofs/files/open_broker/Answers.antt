@@ -1,10 +1,6 @@
-use Rattle.std.proofs.Common.{arith}
-use Rattle.sqlite.specs.State.{HasCleanDisk}
-use Rattle.sqlite.specs.Files.{file_state}
+use Rattle.std.proofs.Common.{inr}
+use Rattle.std.proofs.lemmas.Result.{IfErr-weaker}
 use Rattle.broker_program.proofs.files.open_broker.Goals as goal
 
-pub returns-in-Ok-clause-opened : goal.returns-in-Ok-clause-opened
-returns-in-Ok-clause-opened g c clean =
-    let conn = c.in_ok-connection.connection in
-    let early : HasCleanDisk (file_state conn) = omega (arith, clean, c.in-Ok.ensures.survives.clean) in
-    (conn, c.in_ok-connection.ensures early, c.in-Ok.ensures)
+pub returns-clause-cause : goal.returns-clause-cause
+returns-clause-cause g c = IfErr-weaker c.broker_of.result _ _ (λ failed is. inr is) c.broker_of.ensures.cause

@@ -1,13 +1,13 @@
-use Rattle.std.proofs.Common.{arith}
-use Rattle.std.proofs.lemmas.Result.{IfOk-weaker}
-use Rattle.sqlite.specs.State.{HasCleanDisk}
-use Rattle.sqlite.specs.Files.{file_state}
+use Rattle.std.proofs.lemmas.Result.{IfErr-weaker, IfOk-weaker}
+use Rattle.std.proofs.Common.{inl, inr}
 use Rattle.broker_program.proofs.migrate.migrate.Goals as goal
 
-pub returns-in-Ok : goal.returns-in-Ok
-returns-in-Ok g c =
-    IfOk-weaker c.disconnect-closed.result _ _ (λ files closes clean.
-    let conn = c.in_ok-connection.connection in
+pub returns-clause-ok : goal.returns-clause-ok
+returns-clause-ok g c =
+    IfOk-weaker c.disconnect.result _ _ (λ files closes clean.
     let copied = closes clean in
-    let early : HasCleanDisk (file_state conn) = omega (arith, copied.was_clean, c.migrate-migrated.ensures.survives.1.clean) in
-    record { old = conn; new = _; starts = c.in_ok-connection.ensures early; migrated = rw c.in-Ok.is at c.migrate-migrated.ensures; closed = copied }) c.disconnect-closed.ensures
+    let from = c.in_ok-connection-2.ensures.ok copied.was_clean in
+    record { old = from.0; new = _; starts = from.1; migrated = from.2; closed = copied }) c.disconnect.ensures.ok
+
+pub returns-clause-cause : goal.returns-clause-cause
+returns-clause-cause g c = IfErr-weaker c.disconnect.result _ _ (λ failed outside. inl outside) c.disconnect.ensures.cause

@@ -1,5 +1,5 @@
 use Rattle.std.proofs.Common.{◌≡◌, ◌⊎◌, refl, ap, inl, inr}
-use Rattle.std.proofs.lemmas.Result.{IfOk-weaker, on_err_weaker}
+use Rattle.std.proofs.lemmas.Result.{IfErr-weaker, IfOk-weaker, on_err_weaker}
 use Rattle.broker_program.proofs.running.carry_out.Goals as goal
 
 pub returns-in-Ok-init-clause-ends : goal.returns-in-Ok-init-clause-ends
@@ -17,3 +17,9 @@ taken f x y (inr p) = inr p
 pub returns-clause-fails : goal.returns-clause-fails
 returns-clause-fails g c =
     on_err_weaker c.ask.result.0 (λ fails. rw c.in-CanIDeploy.is (refl, taken g.W.Write.contents _ _ fails)) c.ask.ensures.err
+
+pub returns-in-Init-clause-cause : goal.returns-in-Init-clause-cause
+returns-in-Init-clause-cause g c = rw c.in-Init.is c.in-Err-init.ensures.cause
+
+pub returns-clause-cause : goal.returns-clause-cause
+returns-clause-cause g c = IfErr-weaker c.ask.result.0 _ _ (λ fault fails. rw c.in-CanIDeploy.is fails) c.ask.ensures.cause
