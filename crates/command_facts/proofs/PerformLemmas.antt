@@ -102,15 +102,6 @@ pub where_told : {A : Type 0} (old new : State) (x : A) (answer : Answer) (Allow
 where_told old new x answer Allows Takes Next Q f it =
     then_ok old new x answer _ _ (λ h s held allowed. let go = f s allowed in let next = h s held go.0 in (next.0, go.1 next.0 next.1, next.2)) it.call
 
--- a query, and a change that answers
-pub where_then_told : {A B : Type 0} (old mid new : State) (x : A) (y : B) (answer : Answer) (P : A → Broker → Type 0) (First Then : Broker → Type 0) (Next : B → Broker → Broker → Type 0) (R : Broker → Transition → Type 0)
-    → ((s : Broker) → First s → P x s → Then s) → ((s : Broker) → First s → P x s → (t : Broker) → Next y s t → R s (record { answer = answer; state = t }))
-    → QueriesBetween old mid (Ok x) P → ChangesAndAnswersBetween mid new (Ok y) Then Next → PerformsWhereBetween old new First R (Ok answer)
-where_then_told old mid new x y answer P First Then Next R may f one two =
-    then_ok old new y answer _ _ (λ h s held allows. let it = h s held allows in (it.0, f s allows it.1.0 it.0 it.1.1, it.2))
-    (seq old mid new x (Ok y) _ _ (λ b. (s : Broker) → Holds old.now s → First s → (t : Broker) × (P x s × Next b s t) × Holds new.now t)
-    (λ p b q s held allows. let first = p s held in let next = q s first.1 (may s allows first.0) in (next.0, (first.0, next.1), next.2)) one two.call)
-
 -- a change that answers, and another change
 pub where_told_then : {A : Type 0} (old mid new : State) (x : A) (u : Unit {0}) (answer : Answer) (Allows Takes Then : Broker → Type 0) (Next : A → Broker → Broker → Type 0) (Last : Broker → Broker → Type 0) (Q : Broker → Transition → Type 0)
     → ((s : Broker) → Allows s → Takes s × ((t : Broker) → Next x s t → Then t × ((w : Broker) → Last t w → Q s (record { answer = answer; state = w }))))
