@@ -1,5 +1,5 @@
 -- A file that is one object: its text as JSON, and that what is read is sound.
-use Rattle.std.proofs.Common.{◌≡◌, Bool, true, false, cond, is_some, nat_le, List, ℕ, Option, Some, None, Result, Ok, Err, refl, sym, ap, ◌∙◌, subst}
+use Rattle.std.proofs.Common.{◌≡◌, arith, Bool, true, false, cond, is_some, nat_le, List, [], ◌∷◌, ℕ, Option, Some, None, Result, Ok, Err, refl, sym, ap, ◌∙◌, subst}
 use Rattle.std.proofs.lemmas.Str.{is_utf8-from_IsUtf8, IsUtf8-from_is_utf8}
 use Rattle.std.specs.Str.{IsUtf8, is_utf8}
 use Rattle.serde_json.specs.Data.{Data}
@@ -8,18 +8,25 @@ use Rattle.std.specs.Prelude.{⊤}
 use Rattle.std.specs.Option.{ok_or}
 use Rattle.serde_json.specs.Data.{depth}
 use Rattle.serde_json.specs.Find.{as_object}
+use Rattle.serde_json.specs.View.{view}
+use Rattle.serde_json.specs.declared.value.Value.{Value}
+use Rattle.serde_json.proofs.OnLiterals.{serde_json_on_literals}
 use Rattle.pact_rules.proofs.Bridge.{no_float}
-use Rattle.pact_rules.specs.Outcome.{guard}
+use Rattle.pact_rules.specs.Outcome.{guard, Gives}
 use Rattle.pact_rules.specs.Trees.{Node}
 use Rattle.pact_rules.specs.TreeReading.{whole_tree, whole_or, tree_in}
 use Rattle.pact_rules.specs.declared.tree.TreeFault.{TreeFault}
 use Rattle.pact_rules.specs.declared.tree.TreeFault.TheVariants.{TooDeep}
-use Rattle.pact_file.specs.Objects.{json_of, tree_or_fault, object_of, with_fault}
+use Rattle.pact_file.specs.File.{as_file_fault}
+use Rattle.pact_file.specs.Objects.{IsSomeText, json_of, tree_or_fault, object_of, with_fault}
 use Rattle.pact_file.specs.Sound.{IsSound}
-use Rattle.pact_file.specs.declared.object.FileFault.TheVariants.{NotJson, NotObject}
+use Rattle.pact_file.specs.declared.fault.PactFault.{PactFault}
+use Rattle.pact_file.specs.declared.fault.PactFault.TheVariants.{Memory as PactMemory}
+use Rattle.pact_file.specs.declared.object.FileFault.{FileFault}
+use Rattle.pact_file.specs.declared.object.FileFault.TheVariants.{NotJson, Tree, NotObject, Memory}
 use Rattle.pact_file.proofs.ReadKept.{read_kept, at_most}
 use Rattle.pact_file.proofs.SoundData.{sound}
-use Rattle.pact_file.proofs.Steps.{bind_ok, found_ok, ok_same}
+use Rattle.pact_file.proofs.Steps.{bind_ok, found_ok, ok_same, err_same, ok_err}
 
 -- ---- a text as JSON
 
@@ -66,6 +73,40 @@ object_sound bytes d e =
     let found_text = json_case (is_utf8 bytes) (read bytes) json.0 json.1 in
     let found = tree_ok (tree_in json.0) tree.0 tree.1 in
     subst (IsSound 100) (ok_same _ _ is.2) (read_sound bytes json.0 found.0 (IsUtf8-from_is_utf8 bytes found_text.0) found_text.1 found.1)
+
+-- ---- what is read is a text
+
+read_nothing : read [] ≡ None
+unfolding serde_json_on_literals
+read_nothing = refl
+
+pub json_text : (bytes : List ℕ) (d : Data) → json_of bytes ≡ Ok d → IsSomeText bytes
+unfolding json_of
+json_text [] d e = ok_err d NotJson (sym e ∙ is_no_json [] (λ text. read_nothing))
+json_text (b ∷ bs) d e = (IsUtf8-from_is_utf8 (b ∷ bs) (json_case (is_utf8 (b ∷ bs)) (read (b ∷ bs)) d e).0, omega arith)
+
+-- the text is read, of which the bytes are
+pub of_text : (bytes text : List ℕ) (r : Result Value FileFault) → text ≡ bytes → IsUtf8 bytes → Gives Memory view r (ok_or (read text) NotJson) → Gives Memory view r (json_of bytes)
+unfolding json_of
+of_text bytes text r is utf8 h = rw (is_utf8-from_IsUtf8 bytes utf8) (subst (λ t. Gives Memory view r (ok_or (read t) NotJson)) is h)
+
+tree_not_memory : {A : Type 0} (r : Result A TreeFault) → tree_or_fault r ≡ Err Memory → ⊥
+tree_not_memory (Ok x) h = absurd cc
+tree_not_memory (Err e) h = absurd cc
+
+-- a value that is no tree isn't told as want of memory
+pub tree_apart : (d : Data) (e : FileFault) → Err e ≡ tree_or_fault (tree_in d) → e ≡ Memory → ⊥
+tree_apart d e h is = tree_not_memory (tree_in d) (sym h ∙ ap Err is)
+
+memory_alone : (e : FileFault) → as_file_fault e ≡ PactMemory → e ≡ Memory
+memory_alone NotJson h = absurd cc
+memory_alone (Tree f) h = absurd cc
+memory_alone NotObject h = absurd cc
+memory_alone Memory h = refl
+
+-- what follows of want of memory follows where it is the other fault
+pub memory_as : {A B P : Type 0} (e : FileFault) (fault : PactFault) → fault ≡ as_file_fault e → (◌≡◌ {A = Result A FileFault} (Err e) (Err Memory) → P) → ◌≡◌ {A = Result B PactFault} (Err fault) (Err PactMemory) → P
+memory_as e fault is h memory = h (ap Err (memory_alone e (sym is ∙ err_same fault PactMemory memory)))
 
 -- ---- another fault for each
 

@@ -16,10 +16,10 @@ use Rattle.pact_rules.specs.TreeReading.{whole_tree, tree_in}
 use Rattle.pact_rules.specs.declared.tree.TreeFault.{TreeFault}
 use Rattle.pact_rules.specs.declared.rule_fault.RuleFault.{RuleFault}
 use Rattle.pact_rules.specs.declared.rule_fault.RuleFault.TheVariants as rule_fault
-use Rattle.pact_file.specs.File.{most_bytes, most_interactions, as_file_fault, file_of, items_of as items_at}
+use Rattle.pact_file.specs.File.{most_bytes, most_interactions, as_file_fault, file_of, sides_of, items_of as items_at, seen_of}
 use Rattle.pact_file.specs.Interactions.{at, parts_at}
 use Rattle.pact_file.specs.Headers.{HeadersRead}
-use Rattle.pact_file.specs.Normal.{InteractionRead, InteractionsRead, if_short}
+use Rattle.pact_file.specs.Normal.{InteractionRead, InteractionsRead, PactRead, Normal, if_short}
 use Rattle.pact_rules.specs.Outcome.{guard, Gives}
 use Rattle.pact_file.specs.Pact.{Interaction, Pact, interaction_data, normal_text}
 use Rattle.pact_file.specs.Parts.{text_at, object_at, states_in, status_in, listed, optional_at}
@@ -32,11 +32,11 @@ use Rattle.pact_file.specs.declared.fault.PactFault.{PactFault}
 use Rattle.pact_file.specs.declared.fault.PactFault.TheVariants.{Memory, Rules, Shape, TooLong, TooMany}
 use Rattle.pact_file.specs.declared.fault.Part.TheVariants.{Headers, Whole, Description, States, Request, Response, Status}
 use Rattle.pact_file.specs.declared.fault.Place.TheVariants.{Interactions}
-use Rattle.pact_file.specs.Objects.{object_of}
-use Rattle.pact_file.proofs.Objects.{object_ok, object_sound}
+use Rattle.pact_file.specs.Objects.{IsSomeText, json_of, object_of}
+use Rattle.pact_file.proofs.Objects.{object_ok, object_sound, json_text}
 use Rattle.pact_file.proofs.SoundData.{shallow, whole as is_whole}
 use Rattle.pact_file.proofs.SoundParts.{of_get, of_object_at, of_text_at, of_array, of_states, of_parts}
-use Rattle.pact_file.proofs.Steps.{bind_ok, found_ok, ok_same, then_some}
+use Rattle.pact_file.proofs.Steps.{bind_ok, bind_first, bind_second, first_of, found_ok, ok_same, ok_err, then_some}
 
 -- ---- trees
 
@@ -145,6 +145,32 @@ unfolding file_of
 file_sound bytes d e =
     let short = bind_ok (guard (nat_le (length bytes) most_bytes) TooLong) _ d e in
     object_sound bytes d (object_ok as_file_fault (object_of bytes) d short.2)
+
+-- a file that is read is a text
+pub file_text : (bytes : List ℕ) (d : Data) → file_of bytes ≡ Ok d → IsSomeText bytes
+unfolding file_of object_of
+file_text bytes d e =
+    let short = bind_ok (guard (nat_le (length bytes) most_bytes) TooLong) _ d e in
+    let json = bind_ok (json_of bytes) _ d (object_ok as_file_fault (object_of bytes) d short.2) in
+    json_text bytes json.0 json.1
+
+pub of_file : (bytes : List ℕ) (d : Data) (r : Result Pact PactFault) → file_of bytes ≡ Ok d → GivesOne Memory (λ p. p) r (PactRead d) → GivesOne Memory (λ p. p) r (Normal bytes)
+unfolding Normal
+of_file bytes d (Ok p) is h = (Ok d, is, h)
+of_file bytes d (Err e) is h = λ memory. (Ok d, is, h memory)
+
+-- what is looked at first
+pub seen_sides : (file : Data) (e d : PactFault) → sides_of file ≡ Err e → seen_of file ≡ Err d → e ≡ d
+seen_sides file e d h k = bind_first (sides_of file) _ e d h k
+
+pub seen_items : (file : Data) (sides : List ℕ × List ℕ) (d : PactFault) → sides_of file ≡ Ok sides → seen_of file ≡ Err d → items_at file ≡ Err d
+seen_items file sides d h k = first_of (items_at file) d (bind_second (sides_of file) _ sides d h k)
+
+pub all_seen : (file : Data) (sides : List ℕ × List ℕ) (xs : List Interaction) (d : PactFault) → sides_of file ≡ Ok sides → InteractionsRead file (Ok xs) → seen_of file ≡ Err d → ⊥
+unfolding InteractionsRead
+all_seen file sides xs d h r k =
+    let items = read_ok (just (items_at file)) _ xs r in
+    ok_err items.0 d (sym items.1 ∙ seen_items file sides d h k)
 
 pub items_sound : (file : Data) (ds : List Data) → IsSound 100 file → items_at file ≡ Ok ds → AllSound ds
 unfolding items_at

@@ -1,5 +1,5 @@
 -- What comes before the interactions of a pact file: its form, its version, and the two sides.
-use Rattle.std.specs.Prelude.{ℕ, ◌||◌, ◌==◌, List, length, Bool, true, false, not, nat_eq, nat_le, Option, Some, None, option_map, option_and_then, unwrap_or, Result, Ok, codes}
+use Rattle.std.specs.Prelude.{ℕ, ◌||◌, ◌==◌, List, length, Bool, true, false, not, nat_eq, nat_le, Option, Some, None, option_map, option_and_then, unwrap_or, Result, Ok, ⊤, codes}
 use Rattle.std.specs.List.{starts_with}
 use Rattle.std.specs.Option.{ok_or, option_or}
 use Rattle.std.specs.Str.{bytes_eq}
@@ -102,3 +102,10 @@ items_of file = do
   items ← ok_or (list_at (codes "interactions") file) (Shape Interactions)
   few ← guard (nat_le (items_len items) most_interactions) TooMany
   Ok (listed items)
+
+-- what is looked at before any interaction is read
+abbrev pub seen_of : Data → Result ⊤ PactFault
+seen_of file = do
+  sides ← sides_of file
+  items ← items_of file
+  Ok tt

@@ -40,12 +40,17 @@ InteractionsRead file = do
 abbrev pub if_short : Pact → Result Pact PactFault
 if_short p = if nat_le (length (normal_text p)) most_bytes then Ok p else Err TooLong
 
-unfoldable pub Normal : List ℕ → Result Pact PactFault → Type 0
-Normal bytes = do
-  file ← just (file_of bytes)
+-- of a file that was read as JSON
+abbrev pub PactRead : Data → Result Pact PactFault → Type 0
+PactRead file = do
   sides ← just (sides_of file)
   interactions ← InteractionsRead file
   just (if_short (record { consumer = sides.0; provider = sides.1; interactions = interactions }))
+
+unfoldable pub Normal : List ℕ → Result Pact PactFault → Type 0
+Normal bytes = do
+  file ← just (file_of bytes)
+  PactRead file
 
 -- a pattern was refused
 abbrev pub IsRefusal : {A : Type 0} → Result A PactFault → Type 0

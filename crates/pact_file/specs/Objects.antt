@@ -1,7 +1,7 @@
 -- A file of JSON that is one object without fractions, or its first fault; pact files and files of replies are such.
-use Rattle.std.specs.Prelude.{ℕ, List, is_some, Result, Ok, Err, if◌then◌else◌, ⊤}
+use Rattle.std.specs.Prelude.{ℕ, ◌<◌, List, length, is_some, Result, Ok, Err, if◌then◌else◌, ⊤}
 use Rattle.std.specs.Option.{ok_or}
-use Rattle.std.specs.Str.{is_utf8}
+use Rattle.std.specs.Str.{IsUtf8, is_utf8}
 use Rattle.serde_json.specs.Data.{Data}
 use Rattle.serde_json.specs.Find.{as_object}
 use Rattle.serde_json.specs.Read.{read}
@@ -10,6 +10,10 @@ use Rattle.pact_rules.specs.declared.tree.TreeFault.{TreeFault}
 use Rattle.pact_rules.specs.Outcome.{◌>>=◌, guard}
 use Rattle.pact_file.specs.declared.object.FileFault.{FileFault}
 use Rattle.pact_file.specs.declared.object.FileFault.TheVariants.{NotJson, Tree, NotObject}
+
+-- a text in UTF-8, and not the empty one: only for such bytes memory is taken
+abbrev pub IsSomeText : List ℕ → Type 0
+IsSomeText bytes = IsUtf8 bytes × (0 < length bytes)
 
 -- the value that the bytes are, a text of JSON in UTF-8
 unfoldable pub json_of : List ℕ → Result Data FileFault

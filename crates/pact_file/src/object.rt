@@ -1,10 +1,12 @@
 //! Files of JSON that are one object without fractions.
 
-ghost use Rattle.std.specs.Prelude.{◌≡◌};
-ghost use Rattle.pact_file.specs.Objects.{json_of, tree_or_fault, object_of};
-ghost use Rattle.pact_file.specs.declared.object.FileFault.TheVariants.{Memory};
+ghost use Rattle.std.specs.Prelude.{◌≡◌, ◌<◌, length, Err};
+ghost use Rattle.std.specs.Option.{ok_or};
+ghost use Rattle.pact_file.specs.Objects.{json_of, tree_or_fault, object_of, IsSomeText};
+ghost use Rattle.pact_file.specs.declared.object.FileFault.TheVariants.{Memory, NotJson};
 ghost use Rattle.pact_rules.specs.Outcome.{Gives};
 ghost use Rattle.pact_rules.specs.TreeReading.{tree_in};
+ghost use Rattle.serde_json.specs.Read.{read};
 ghost use Rattle.serde_json.specs.View.{view};
 
 use pact_rules::{TreeFault, check_tree};
@@ -24,11 +26,11 @@ pub enum FileFault {
     Memory,
 }
 
-#[tactic(auto, unfolding(crate::specs::Objects::json_of))]
-fn read_json(alloc: Global, bytes: &[u8]) -> Result<Value, FileFault>
-    ensures { Gives Memory view result (json_of bytes.now) }
+fn read_text(alloc: Global, text: &str) -> Result<Value, FileFault>
+    ensures value { Gives Memory view result (ok_or (read text.now) NotJson) }
+    ensures memory { result ≡ Err Memory → 0 < length text.now }
 {
-    match Value::from_slice(alloc, bytes) {
+    match Value::from_str(alloc, text) {
         Ok(value) => Ok(value),
         Err(e) => {
             if e.is_memory() {
@@ -37,6 +39,16 @@ fn read_json(alloc: Global, bytes: &[u8]) -> Result<Value, FileFault>
                 Err(FileFault::NotJson)
             }
         }
+    }
+}
+
+fn read_json(alloc: Global, bytes: &[u8]) -> Result<Value, FileFault>
+    ensures value { Gives Memory view result (json_of bytes.now) }
+    ensures memory { result ≡ Err Memory → IsSomeText bytes.now }
+{
+    match str::from_utf8(bytes) {
+        Ok(text) => read_text(alloc, text),
+        Err(_) => Err(FileFault::NotJson),
     }
 }
 
@@ -50,10 +62,12 @@ fn check_file(value: &Value) -> Result<(), FileFault>
 }
 
 /// Reads bytes that are one JSON object in UTF-8, as a pact file and a file of replies are. The fault is the first
-/// one in the order of `FileFault`'s variants, and memory may run out in its place.
+/// one in the order of `FileFault`'s variants. Memory may run out in its place, though not where the bytes aren't UTF-8
+/// or there are none.
 #[tactic(auto, unfolding(crate::specs::Objects::object_of))]
 pub fn read_object(alloc: Global, bytes: &[u8]) -> Result<Value, FileFault>
-    ensures { Gives Memory view result (object_of bytes.now) }
+    ensures value { Gives Memory view result (object_of bytes.now) }
+    ensures memory { result ≡ Err Memory → IsSomeText bytes.now }
 {
     let value = read_json(alloc, bytes)?;
     check_file(&value)?;

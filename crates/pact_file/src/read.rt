@@ -4,13 +4,17 @@ ghost use Rattle.std.specs.Prelude.{◌≡◌, ◌<◌, ◌≤◌, Err, length, 
 ghost use Rattle.std.specs.Option.{ok_or};
 ghost use Rattle.serde_json.specs.Events.{items_len};
 ghost use Rattle.serde_json.specs.View.{view, items_view};
+ghost use Rattle.pact_file.specs.declared.fault.PactFault.{PactFault as PactFaultModel};
 ghost use Rattle.pact_file.specs.declared.fault.PactFault.TheVariants.{Memory, Shape, TooLong};
 ghost use Rattle.pact_file.specs.File.{most_bytes, most_interactions, as_file_fault, file_of, is_3};
 ghost use Rattle.pact_file.specs.File.{version_under, is_version_3};
 ghost use Rattle.pact_file.specs.File.{holds_nothing, has_no_messages, side_of};
-ghost use Rattle.pact_file.specs.File.{sides_of, items_of};
+ghost use Rattle.pact_file.specs.File.{sides_of, items_of, seen_of};
 ghost use Rattle.pact_file.specs.Parts.{list_at};
-ghost use Rattle.pact_file.specs.Normal.{InteractionRead, InteractionsRead, Normal};
+ghost use Rattle.pact_file.specs.Normal.{InteractionRead, InteractionsRead, Normal, PactRead};
+ghost use Rattle.pact_file.specs.Normal.{if_short as pact_if_short};
+ghost use Rattle.pact_file.specs.Objects.{IsSomeText};
+ghost use Rattle.pact_file.specs.Pact.{pact_with};
 ghost use Rattle.pact_rules.specs.Outcome.{Gives, GivesAlways};
 ghost use Rattle.pact_rules.specs.Reading.{EachRead, GivesOne};
 ghost use Rattle.pact_file.specs.Sound.{IsSound, AreSound};
@@ -43,10 +47,11 @@ fn file_fault(fault: FileFault) -> PactFault
     }
 }
 
-#[tactic(auto, unfolding(crate::specs::File::file_of), using(crate::proofs::Objects::fault_as))]
+#[tactic(auto, unfolding(crate::specs::File::file_of), using(crate::proofs::Objects::fault_as, crate::proofs::Objects::memory_as))]
 fn read_file(alloc: Global, bytes: &[u8]) -> Result<Value, PactFault>
     requires { length bytes.now ≤ most_bytes }
-    ensures { Gives Memory view result (file_of bytes.now) }
+    ensures value { Gives Memory view result (file_of bytes.now) }
+    ensures memory { result ≡ Err Memory → IsSomeText bytes.now }
 {
     match read_object(alloc, bytes) {
         Ok(file) => Ok(file),
@@ -179,7 +184,8 @@ fn items_in(file: &Value) -> Result<&Vec<Value>, PactFault>
 
 fn read_interactions(alloc: Global, file: &Value) -> Result<Vec<Interaction>, PactFault>
     requires { IsSound 100 (view file.now) }
-    ensures { GivesOne Memory (λ v. v.items) result (InteractionsRead (view file.now)) }
+    ensures reading { GivesOne Memory (λ v. v.items) result (InteractionsRead (view file.now)) }
+    ensures items { (e : PactFaultModel) → items_of (view file.now) ≡ Err e → result ≡ Err e }
 {
     let items = items_in(file)?;
     let found = read_list(alloc, items.as_slice())?;
@@ -190,25 +196,41 @@ fn read_interactions(alloc: Global, file: &Value) -> Result<Vec<Interaction>, Pa
 /// interactions are kept once, and they are in the order of their descriptions, then of the compact texts of their
 /// states. The bytes are any. Each fault is the first one in the order of `PactFault`'s documentation, but that at a
 /// text under `regex` in matching rules the pattern may be refused, and that memory may run out in its place, though
-/// not in that of `TooLong` for the bytes.
+/// not in that of `TooLong` for the bytes, nor where they aren't UTF-8 or there are none.
 pub fn read_pact(alloc: Global, bytes: &[u8]) -> Result<Pact, PactFault>
     ensures reading { GivesOne Memory (λ p. p) result (Normal bytes.now) }
     ensures long { most_bytes < length bytes.now → result ≡ Err TooLong }
+    ensures memory { result ≡ Err Memory → IsSomeText bytes.now }
 {
     if bytes.len() > MOST_BYTES {
         return Err(PactFault::TooLong);
     }
-    read_short(alloc, bytes)
+    let file = read_file(alloc, bytes)?;
+    pact_of(alloc, &file)
 }
 
-/// The normal pact of a file that is not too long.
-fn read_short(alloc: Global, bytes: &[u8]) -> Result<Pact, PactFault>
-    requires { length bytes.now ≤ most_bytes }
-    ensures { GivesOne Memory (λ p. p) result (Normal bytes.now) }
+/// The normal pact of a file that was read as JSON. What is wrong before its interactions is found before memory is
+/// taken.
+fn pact_of(alloc: Global, file: &Value) -> Result<Pact, PactFault>
+    requires { IsSound 100 (view file.now) }
+    ensures reading { GivesOne Memory (λ p. p) result (PactRead (view file.now)) }
+    ensures seen { (e : PactFaultModel) → seen_of (view file.now) ≡ Err e → result ≡ Err e }
 {
-    let file = read_file(alloc, bytes)?;
-    let (consumer, provider) = read_sides(&file)?;
-    let interactions = read_interactions(alloc, &file)?;
+    let (consumer, provider) = read_sides(file)?;
+    let interactions = read_interactions(alloc, file)?;
+    short_pact(alloc, consumer, provider, interactions)
+}
+
+/// The pact of these parts, if its normal text isn't too long.
+fn short_pact(
+    alloc: Global,
+    consumer: &str,
+    provider: &str,
+    interactions: Vec<Interaction>,
+) -> Result<Pact, PactFault>
+    ensures { Gives Memory (λ p. p) result
+        (pact_if_short (pact_with consumer.now provider.now interactions.items)) }
+{
     let has_room = is_short(alloc, consumer, provider, interactions.as_slice())?;
     if !has_room {
         return Err(PactFault::TooLong);

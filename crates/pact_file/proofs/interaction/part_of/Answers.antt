@@ -5,7 +5,7 @@ use Rattle.pact_file.proofs.ReadLemmas.{no_tree_fault}
 use Rattle.pact_file.proofs.interaction.part_of.Goals as goal
 
 pub unreachable-requires : goal.unreachable-requires
-unreachable-requires c = no_tree_fault 96 (view c.args.value.now) c.in-Err-NotWhole.field-0 (omega arith) c.requires (c.in-Err-NotWhole.ensures.tree (λ e. let clash : NotWhole ≡ Memory = sym c.in-Err-NotWhole.field-0-is ∙ e in absurd cc))
+unreachable-requires c = no_tree_fault 96 (view c.args.value.now) c.in-Err-NotWhole.field-0 (omega arith) c.requires (c.in-Err-NotWhole.ensures.tree.0 (λ e. let clash : NotWhole ≡ Memory = sym c.in-Err-NotWhole.field-0-is ∙ e in absurd cc))
 
 pub unreachable-requires-in-Err-TooDeep : goal.unreachable-requires-in-Err-TooDeep
-unreachable-requires-in-Err-TooDeep c = no_tree_fault 96 (view c.args.value.now) c.in-Err-TooDeep.field-0 (omega arith) c.requires (c.in-Err-TooDeep.ensures.tree (λ e. let clash : TooDeep ≡ Memory = sym c.in-Err-TooDeep.field-0-is ∙ e in absurd cc))
+unreachable-requires-in-Err-TooDeep c = no_tree_fault 96 (view c.args.value.now) c.in-Err-TooDeep.field-0 (omega arith) c.requires (c.in-Err-TooDeep.ensures.tree.0 (λ e. let clash : TooDeep ≡ Memory = sym c.in-Err-TooDeep.field-0-is ∙ e in absurd cc))

@@ -1,9 +1,8 @@
-use Rattle.std.proofs.Common.{sym, ◌∙◌, true≢false}
-use Rattle.pact_file.proofs.Objects.{is_json, is_no_json}
+use Rattle.pact_file.proofs.Objects.{is_no_json, of_text}
 use Rattle.pact_file.proofs.object.read_json.Goals as goal
 
-pub returns-in-Ok : goal.returns-in-Ok
-returns-in-Ok c = is_json c.args.bytes.now _ c.in-Ok.ensures.ok.0 c.in-Ok.ensures.ok.1
+pub returns-in-Ok-clause-value : goal.returns-in-Ok-clause-value
+returns-in-Ok-clause-value c = of_text c.args.bytes.now c.in-Ok.text.now c.read_text.result c.in-Ok.ensures.cases.0 c.in-Ok.ensures.cases.1 c.read_text.ensures.value
 
-pub returns-else-is_memory : goal.returns-else-is_memory
-returns-else-is_memory c = λ _. is_no_json c.args.bytes.now (c.in-Err.ensures.err (λ memory. true≢false (sym (c.is_memory.ensures.1 memory) ∙ c.if-is_memory.false)))
+pub returns-in-Err-clause-value : goal.returns-in-Err-clause-value
+returns-in-Err-clause-value c = λ memory. is_no_json c.args.bytes.now (λ utf8. absurd (c.in-Err.ensures.cases.0 utf8))
