@@ -1,20 +1,25 @@
 -- What a reading of replies that succeeds went through, and that what is read is sound.
-use Rattle.std.proofs.Common.{◌≡◌, ℕ, List, codes, is_some, option_and_then, Ok, subst}
+use Rattle.std.proofs.Common.{◌≡◌, ℕ, List, codes, is_some, option_and_then, Result, Ok, Err, refl, sym, ap, ◌∙◌, subst}
 use Rattle.std.specs.Option.{ok_or}
 use Rattle.serde_json.specs.Data.{Data}
 use Rattle.serde_json.specs.Find.{get, as_array, as_object}
 use Rattle.pact_rules.specs.Outcome.{guard}
+use Rattle.pact_rules.specs.Reading.{GivesOne}
 use Rattle.pact_file.specs.Pact.{states_data}
 use Rattle.pact_file.specs.Parts.{text_at, object_at, states_in}
 use Rattle.pact_file.specs.Sound.{IsSound}
-use Rattle.pact_file.specs.Objects.{object_of}
-use Rattle.pact_file.proofs.Objects.{object_ok, object_sound}
+use Rattle.pact_file.specs.Objects.{IsSomeText, json_of, object_of}
+use Rattle.pact_file.specs.declared.object.FileFault.{FileFault}
+use Rattle.pact_file.specs.declared.object.FileFault.TheVariants as file_fault
+use Rattle.pact_file.proofs.Objects.{object_ok, object_sound, json_text}
 use Rattle.pact_file.proofs.ReadLemmas.{AllSound, listed_sound}
 use Rattle.pact_file.proofs.SoundParts.{of_get, of_object_at, of_array, of_states}
-use Rattle.pact_file.proofs.Steps.{bind_ok, found_ok, ok_same, then_some}
+use Rattle.pact_file.proofs.Steps.{bind_ok, found_ok, ok_same, err_same, then_some}
 use Rattle.reply_check.specs.Recorded.{Reply as Recorded, status_sent}
 use Rattle.reply_check.specs.ReplyParts.{as_file_fault, file_of, items_of, at, parts_at}
-use Rattle.reply_check.specs.declared.fault.RepliesFault.TheVariants.{Shape}
+use Rattle.reply_check.specs.Replies.{FileRead, RepliesRead}
+use Rattle.reply_check.specs.declared.fault.RepliesFault.{RepliesFault}
+use Rattle.reply_check.specs.declared.fault.RepliesFault.TheVariants.{Shape, Memory}
 use Rattle.reply_check.specs.declared.fault.Place.TheVariants.{Replies}
 use Rattle.pact_file.specs.declared.fault.Part.TheVariants.{Whole, Description, States, Response, Status}
 
@@ -22,6 +27,26 @@ use Rattle.pact_file.specs.declared.fault.Part.TheVariants.{Whole, Description, 
 
 pub file_sound : (bytes : List ℕ) (d : Data) → file_of bytes ≡ Ok d → IsSound 100 d
 file_sound bytes d e = object_sound bytes d (object_ok as_file_fault (object_of bytes) d e)
+
+-- a file that is read is a text
+pub file_text : (bytes : List ℕ) (d : Data) → file_of bytes ≡ Ok d → IsSomeText bytes
+unfolding object_of
+file_text bytes d e = let json = bind_ok (json_of bytes) _ d (object_ok as_file_fault (object_of bytes) d e) in json_text bytes json.0 json.1
+
+memory_alone : (e : FileFault) → as_file_fault e ≡ Memory → e ≡ file_fault.Memory
+memory_alone file_fault.NotJson h = absurd cc
+memory_alone (file_fault.Tree f) h = absurd cc
+memory_alone file_fault.NotObject h = absurd cc
+memory_alone file_fault.Memory h = refl
+
+-- what follows of want of memory follows where it is the other fault
+pub memory_as : {A B P : Type 0} (e : FileFault) (fault : RepliesFault) → fault ≡ as_file_fault e → (◌≡◌ {A = Result A FileFault} (Err e) (Err file_fault.Memory) → P) → ◌≡◌ {A = Result B RepliesFault} (Err fault) (Err Memory) → P
+memory_as e fault is h memory = h (ap Err (memory_alone e (sym is ∙ err_same fault Memory memory)))
+
+pub of_file : (bytes : List ℕ) (d : Data) (r : Result (List Recorded) RepliesFault) → file_of bytes ≡ Ok d → GivesOne Memory (λ r. r) r (FileRead d) → GivesOne Memory (λ r. r) r (RepliesRead bytes)
+unfolding RepliesRead
+of_file bytes d (Ok rs) is h = (Ok d, is, h)
+of_file bytes d (Err e) is h = λ memory. (Ok d, is, h memory)
 
 pub items_sound : (file : Data) (ds : List Data) → IsSound 100 file → items_of file ≡ Ok ds → AllSound ds
 unfolding items_of

@@ -32,9 +32,14 @@ abbrev pub Apart : List Recorded → Result (List Recorded) RepliesFault → Typ
 Apart found (Ok replies) = (¬ HasRivals found) × (replies ≡ found)
 Apart found (Err fault) = HasRivals found × (fault ≡ SameReplyTwice)
 
-unfoldable pub RepliesRead : List ℕ → Result (List Recorded) RepliesFault → Type 0
-RepliesRead bytes = do
-  file ← just (file_of bytes)
+-- of a file that was read as JSON
+abbrev pub FileRead : Data → Result (List Recorded) RepliesFault → Type 0
+FileRead file = do
   items ← just (items_of file)
   found ← EachRead ReplyRead 0 items
   Apart found
+
+unfoldable pub RepliesRead : List ℕ → Result (List Recorded) RepliesFault → Type 0
+RepliesRead bytes = do
+  file ← just (file_of bytes)
+  FileRead file

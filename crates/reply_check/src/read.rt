@@ -1,13 +1,15 @@
 //! Reading a file of recorded replies.
 
-ghost use Rattle.std.specs.Prelude.{◌≡◌, ◌↔◌, map, IfOk, IsTrue};
+ghost use Rattle.std.specs.Prelude.{◌≡◌, ◌↔◌, map, Err, IfOk, IsTrue};
 ghost use Rattle.serde_json.specs.View.{view, items_view};
 ghost use Rattle.pact_rules.specs.Outcome.{Gives, GivesAlways};
-ghost use Rattle.pact_file.specs.Sound.{AreSound};
+ghost use Rattle.pact_file.specs.Objects.{IsSomeText};
+ghost use Rattle.pact_file.specs.Sound.{IsSound, AreSound};
+ghost use Rattle.reply_check.specs.declared.fault.RepliesFault.{RepliesFault as RepliesFaultModel};
 ghost use Rattle.reply_check.specs.declared.fault.RepliesFault.TheVariants.{Memory};
 ghost use Rattle.pact_rules.specs.Reading.{EachRead, GivesOne};
 ghost use Rattle.reply_check.specs.ReplyParts.{as_file_fault, file_of, items_of};
-ghost use Rattle.reply_check.specs.Replies.{ReplyRead, HasRivals, RepliesRead};
+ghost use Rattle.reply_check.specs.Replies.{ReplyRead, HasRivals, FileRead, RepliesRead};
 
 use crate::fault::{Place, RepliesFault};
 use crate::parts::read_reply;
@@ -29,9 +31,10 @@ fn file_fault(fault: FileFault) -> RepliesFault
     }
 }
 
-#[tactic(auto, using(pact_file::proofs::Objects::fault_as))]
+#[tactic(auto, using(pact_file::proofs::Objects::fault_as, crate::proofs::ReadLemmas::memory_as))]
 fn read_file(alloc: Global, bytes: &[u8]) -> Result<Value, RepliesFault>
-    ensures { Gives Memory view result (file_of bytes.now) }
+    ensures value { Gives Memory view result (file_of bytes.now) }
+    ensures memory { result ≡ Err Memory → IsSomeText bytes.now }
 {
     match read_object(alloc, bytes) {
         Ok(file) => Ok(file),
@@ -74,12 +77,23 @@ fn have_rivals(alloc: Global, replies: &[Reply]) -> Result<bool, AllocError>
 /// Reads recorded replies: an object whose `replies` is a list, each with a text `description`, provider states as in
 /// a pact file, and an object `response` with a `status` from 100 to 999, headers as in a pact file and an optional
 /// `body`. No two have one description and one list of states. The bytes are any. Each fault is the first one in the
-/// order of `RepliesFault`'s documentation, and memory may run out in its place. (This project's own choice.)
+/// order of `RepliesFault`'s documentation. Memory may run out in its place, though not where the bytes aren't UTF-8 or
+/// there are none. (This project's own choice.)
 pub fn read_replies(alloc: Global, bytes: &[u8]) -> Result<Replies, RepliesFault>
-    ensures { GivesOne Memory (λ r. r) result (RepliesRead bytes.now) }
+    ensures reading { GivesOne Memory (λ r. r) result (RepliesRead bytes.now) }
+    ensures memory { result ≡ Err Memory → IsSomeText bytes.now }
 {
     let file = read_file(alloc, bytes)?;
-    let items = items_in(&file)?;
+    replies_of(alloc, &file)
+}
+
+/// The replies of a file that was read as JSON. That it has no list of them is found before memory is taken.
+fn replies_of(alloc: Global, file: &Value) -> Result<Replies, RepliesFault>
+    requires { IsSound 100 (view file.now) }
+    ensures reading { GivesOne Memory (λ r. r) result (FileRead (view file.now)) }
+    ensures items { (e : RepliesFaultModel) → items_of (view file.now) ≡ Err e → result ≡ Err e }
+{
+    let items = items_in(file)?;
     let found = read_list(alloc, items.as_slice())?;
     if have_rivals(alloc, found.as_slice())? {
         return Err(RepliesFault::SameReplyTwice);
