@@ -129,13 +129,15 @@ def partly(slow, stop):
 
 
 def sip(slow, stop):
-    """Takes ten bytes whenever there is no room to send more: once a second, as soon as the broker waits for it."""
+    """Takes 2,000 bytes whenever there is no room to send more: once a second, as soon as the broker waits for it. So
+    each write finds room, but the answers to what the broker has read at once, some 30,000 bytes, take longer than their
+    limit; those before them may be through within it."""
     slow.settimeout(1)
     sent, is_open = 0, True
     while is_open and not stop.is_set():
         sent = push(slow, sent)
         try:
-            is_open = bool(slow.recv(10))
+            is_open = bool(slow.recv(2000))
         except OSError:
             return
 
@@ -179,7 +181,7 @@ def peers():
         held(broker, "a byte now and then", 12, trickle)
         held(broker, "answers that aren't read", 14, unread, 4096)
         held(broker, "answers of which a part is read", 14, partly, 4096)
-        held(broker, "answers of which ten bytes are read now and then", 14, sip, 4096)
+        held(broker, "answers of which 2,000 bytes are read now and then", 24, sip, 4096)
 
 
 CONFIG = """daemon off; worker_processes 2; pid {room}/pid; error_log {room}/error.log;

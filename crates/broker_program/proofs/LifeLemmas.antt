@@ -1,21 +1,17 @@
 -- what a file keeps once a command has ended
-use Rattle.std.proofs.Common.{◌≡◌, ◌<◌, ◌⊎◌, inl, inr, ℕ, List, [], length, Ok, IsTrue, refl, sym, subst, arith}
+use Rattle.std.proofs.Common.{◌≡◌, ◌⊎◌, inl, inr, [], IsTrue, refl, sym, subst}
 use Rattle.std.proofs.Math.Logic.{∥∥₁_elim, ∥∥₁_map}
 use Rattle.sqlite_disk.specs.declared.Disk.{Ghosts}
 use Rattle.sqlite_disk.specs.declared.Files.{Files}
 use Rattle.sqlite.specs.Closing.{IsCopied}
-use Rattle.sqlite.specs.Files.{HoldsDatabase, AreFoundIn, IsEmpty, file_state}
+use Rattle.sqlite.specs.Files.{HoldsDatabase, file_state}
 use Rattle.sqlite.specs.FileStore.{state as store_state}
 use Rattle.sqlite.specs.Held.{Held}
 use Rattle.sqlite.specs.Recovery.{Image}
 use Rattle.sqlite.specs.Tree.{Trees}
 use Rattle.sqlite.specs.WalFiles.{outcomes}
 use Rattle.sqlite.specs.declared.FileStore.{FileStore}
-use Rattle.sqlite.proofs.ListingLemmas.{empty_is_sound}
 use Rattle.sqlite.proofs.Theorems.{opens_again}
-use Rattle.table_access.specs.Durability.{IsOnDisk}
-use Rattle.broker_tables.specs.Making.{IsBlank}
-use Rattle.broker_tables.specs.Schema.{no_schema}
 use Rattle.broker_service.specs.Life.{Kept, Period, PeriodLeads, PeriodLeaves, AreFilesOf, AreTreesOf}
 use Rattle.broker_service.specs.Life.Kept.{Blank}
 use Rattle.broker_service.specs.Sessions.{IsOpenedOn}

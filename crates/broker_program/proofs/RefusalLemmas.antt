@@ -11,7 +11,7 @@ use Rattle.sqlite.specs.View.{IsClean}
 use Rattle.sqlite.specs.declared.FileStore.{FileStore}
 use Rattle.broker_service.specs.declared.opening.OpenFault.{OpenFault}
 use Rattle.broker_program.specs.Files.{GivesUpAs, LeavesStore, OpensOn}
-use Rattle.broker_program.specs.Reasons.{IsFromOutside, IsOpeningFault, IsReopeningFault}
+use Rattle.broker_program.specs.Reasons.{IsFromOutside, IsReopeningFault}
 use Rattle.broker_program.specs.Refusals.{FailsThere, IsOfDatabase}
 use Rattle.broker_program.specs.declared.fault.RunFault.{RunFault}
 use Rattle.broker_program.specs.declared.fault.RunFault.TheVariants as run_fault

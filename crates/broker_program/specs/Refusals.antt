@@ -1,5 +1,5 @@
 -- a call on the database in a file that failed, and what is left of the file (this project's own choice)
-use Rattle.std.specs.Prelude.{◌≡◌, Ok, Err}
+use Rattle.std.specs.Prelude.{Ok, Err}
 use Rattle.sqlite_disk.specs.declared.Disk.{Ghosts}
 use Rattle.sqlite.specs.Files.{file_state}
 use Rattle.sqlite.specs.FileStore.{view}

@@ -1,5 +1,5 @@
 use Rattle.std.proofs.lemmas.Result.{IfErr-weaker, IfOk-weaker}
-use Rattle.std.proofs.Common.{inl, inr}
+use Rattle.std.proofs.Common.{inl}
 use Rattle.broker_program.proofs.migrate.migrate.Goals as goal
 
 pub returns-clause-ok : goal.returns-clause-ok

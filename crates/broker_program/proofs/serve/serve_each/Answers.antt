@@ -1,4 +1,4 @@
-use Rattle.std.proofs.Common.{◌≡◌, ◌<◌, ◌+◌, inl, inr, refl, arith}
+use Rattle.std.proofs.Common.{◌≡◌, ◌<◌, ◌+◌, inl, inr, arith}
 use Rattle.broker_program.proofs.ServingLemmas.{all_served, served_some}
 use Rattle.broker_program.proofs.serve.serve_each.Goals as goal
 

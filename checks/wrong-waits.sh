@@ -1,0 +1,122 @@
+#!/usr/bin/env bash
+# Shows that slow-peers.py sees a broker that waits for its peers otherwise than it has to: it runs slow-peers.py over
+# the program with a library before the C library's calls, which has the effect of a wrong body on a socket:
+#   nobody-waits   no peer is found to wait while another is served (wrong-bodies/broker_program/nobody_ever_waits.edit)
+#   each-write     each write of an answer may wait for 10 seconds, whatever the answer has taken before
+#                  (wrong-bodies/broker_http/each_write_waits_anew.edit)
+#   no-reads       a time limit for reads isn't set, and a read waits for as long as the peer likes
+#   no-writes      the same of writes
+# Each has to be seen by a line of slow-peers.py that says WRONG. Ends with 0 if each is.
+# Usage: checks/wrong-waits.sh PATH_OF_THE_PROGRAM [NAME]
+# Takes some minutes, at once for all; run by hand. Needs a C compiler (cc), the GNU C library, and python3.
+set -eu
+program=$(realpath "${1:?the path of the program broker}")
+names=${2:-nobody-waits each-write no-reads no-writes}
+for tool in cc python3; do
+  command -v $tool > /dev/null || { echo "not run: $tool isn't installed"; exit 77; }
+done
+
+work=$(mktemp -d)
+trap 'rm -rf "$work"' EXIT
+
+cat > "$work/wait.c" << 'END'
+#define _GNU_SOURCE
+#include <dlfcn.h>
+#include <errno.h>
+#include <fcntl.h>
+#include <poll.h>
+#include <stdlib.h>
+#include <string.h>
+#include <sys/socket.h>
+#include <time.h>
+
+static int is(const char *name) {
+  const char *wanted = getenv("WRONG_WAIT");
+  return wanted && !strcmp(wanted, name);
+}
+
+/* A look at a listener doesn't block; a wait for the next connection does. */
+int accept4(int socket, struct sockaddr *address, socklen_t *length, int flags) {
+  static int (*real)(int, struct sockaddr *, socklen_t *, int);
+  if (!real)
+    *(void **)&real = dlsym(RTLD_NEXT, "accept4");
+  if (is("nobody-waits") && fcntl(socket, F_GETFL) & O_NONBLOCK) {
+    errno = EAGAIN;
+    return -1;
+  }
+  return real(socket, address, length, flags);
+}
+
+int setsockopt(int socket, int level, int name, const void *value, socklen_t length) {
+  static int (*real)(int, int, int, const void *, socklen_t);
+  if (!real)
+    *(void **)&real = dlsym(RTLD_NEXT, "setsockopt");
+  if (level == SOL_SOCKET && ((name == SO_RCVTIMEO && is("no-reads")) || (name == SO_SNDTIMEO && is("no-writes"))))
+    return 0;
+  return real(socket, level, name, value, length);
+}
+
+/* The time that writes have waited, which the program's clock doesn't see. */
+static long long hidden;
+
+static long long now(void) {
+  static int (*real)(clockid_t, struct timespec *);
+  struct timespec it;
+  if (!real)
+    *(void **)&real = dlsym(RTLD_NEXT, "clock_gettime");
+  real(CLOCK_MONOTONIC, &it);
+  return it.tv_sec * 1000000000LL + it.tv_nsec;
+}
+
+int clock_gettime(clockid_t clock, struct timespec *it) {
+  static int (*real)(clockid_t, struct timespec *);
+  if (!real)
+    *(void **)&real = dlsym(RTLD_NEXT, "clock_gettime");
+  int result = real(clock, it);
+  long long seen = it->tv_sec * 1000000000LL + it->tv_nsec - hidden;
+  it->tv_sec = seen / 1000000000;
+  it->tv_nsec = seen % 1000000000;
+  return result;
+}
+
+/* A write waits for room by itself, for up to 10 seconds, and as the program sees it for none of them. */
+ssize_t send(int socket, const void *bytes, size_t length, int flags) {
+  static ssize_t (*real)(int, const void *, size_t, int);
+  if (!real)
+    *(void **)&real = dlsym(RTLD_NEXT, "send");
+  if (!is("each-write"))
+    return real(socket, bytes, length, flags);
+  long long began = now();
+  ssize_t sent = real(socket, bytes, length, flags | MSG_DONTWAIT);
+  while (sent < 0 && errno == EAGAIN && now() - began < 10000000000LL) {
+    struct pollfd room = {socket, POLLOUT, 0};
+    poll(&room, 1, 20);
+    sent = real(socket, bytes, length, flags | MSG_DONTWAIT);
+  }
+  hidden += now() - began;
+  if (sent < 0 && errno == EAGAIN)
+    errno = ETIMEDOUT;
+  return sent;
+}
+END
+cc -O2 -shared -fPIC -o "$work/wait.so" "$work/wait.c" -ldl
+
+for name in $names; do
+  printf '#!/bin/sh\nWRONG_WAIT=%s LD_PRELOAD=%s exec %s "$@"\n' "$name" "$work/wait.so" "$program" > "$work/$name"
+  chmod +x "$work/$name"
+  python3 "$(dirname "$0")/slow-peers.py" "$work/$name" > "$work/$name.lines" 2>&1 &
+done
+wait
+
+unseen=0
+for name in $names; do
+  if grep -q '^WRONG' "$work/$name.lines"; then
+    echo "seen   $name: $(grep -c '^WRONG' "$work/$name.lines") lines"
+    grep '^WRONG' "$work/$name.lines" | sed 's/^/         /'
+  else
+    echo "UNSEEN $name"
+    sed 's/^/         /' "$work/$name.lines"
+    unseen=1
+  fi
+done
+exit $unseen
