@@ -35,13 +35,16 @@ use Rattle.broker_tables.proofs.Asked.{Asked, IsShown}
 use Rattle.broker_tables.proofs.Listed.{read_has, has_read}
 use Rattle.broker_tables.proofs.NumberLemmas.{one_version}
 use Rattle.broker_tables.proofs.Orders.{triples_total, exact_triple, placed_total, exact_placed, marked_total, exact_marked}
-use Rattle.broker_tables.proofs.VersionRows.{whole_test, text_test, all_three}
+use Rattle.broker_tables.proofs.VersionRows.{whole_test, text_test, all_three, row_number}
+use Rattle.broker_tables.proofs.References.{refers_version}
+use Rattle.broker_tables.proofs.Placed.{contracts, contracts_there}
+use Rattle.table_access.proofs.SoundLemmas.{has_place}
 use Rattle.contract_tables.proofs.ContractRows as contract_rows
 use Rattle.contract_tables.proofs.JoinRows.{row_shown, pair_shown}
 use Rattle.deploy_tables.specs.declared.contracts_there.NumberedContract.{NumberedContract}
-use Rattle.deploy_tables.specs.ContractsThere.{IsDeployedIn, IsReleasedIn, TellsContracts, AreContractsThere, IsNumberedRow}
+use Rattle.deploy_tables.specs.ContractsThere.{IsDeployedIn, IsReleasedIn, TellsContracts, IsNumberedRow}
 use Rattle.deploy_tables.proofs.DeployedRows as deployed_rows
-use Rattle.deploy_tables.proofs.DeployedList.{named, valued}
+use Rattle.deploy_tables.proofs.DeployedList.{row_deployed, deployed_row}
 use Rattle.deploy_tables.proofs.ReleasedList as released_rows
 use Rattle.deploy_tables.proofs.VersionRows.{same_some, same_pos}
 
@@ -78,13 +81,17 @@ module _ (db : Database) (s : Broker) (held : Holds db s) (e p : Words) where
       let d = find_has marked_total exact_marked contract_rows.key (whole_at 3) (pos n, p) (pos content) (db.trees 15) (contract_rows.held_content db s w n p held known ∙ ap (option_map pos) is) in
       (d.0, d.1, sym (ap (λ k. k.0) d.2), sym (ap (λ k. k.1) d.2), d.3)
 
-  -- and what such a row tells
-  row_contract : (c : Row) (w : Version) (n content : ℕ) → Has (db.trees 15) c → number_of s.versions w ≡ Some n → whole_at 1 c ≡ pos n → text 2 c ≡ p → whole_at 3 c ≡ pos content → s.contracts (w, p) ≡ Some content
-  row_contract c w n content has known number provider value =
-      let place : (pos n, p) ≡ contract_rows.key c = (λ i. (sym number i, sym provider i)) in
-      let at : contract_rows.content_at (db.trees 15) n p ≡ Some (whole_at 3 c) =
+  -- and what such a row tells: its version is there
+  row_contract : (c : Row) → Has (db.trees 15) c → text 2 c ≡ p → (w : Version) × ((n : ℕ) × (number_of s.versions w ≡ Some n) × (whole_at 1 c ≡ pos n) × ((content : ℕ) → whole_at 3 c ≡ pos content → s.contracts (w, p) ≡ Some content))
+  row_contract c has provider =
+      let v = refers_version db held.broker contracts (has_place _ 8 contracts (contracts_there db held.broker)) 1 (inl refl) c has ((contract_rows.numbers db held.broker).typed c has) in
+      let it = row_number db held.broker s.versions held.versions v.0 v.1 in
+      let w = version (text 2 v.0) (text 3 v.0) in
+      let number : whole_at 1 c ≡ pos it.0 = sym v.2 ∙ it.2 in
+      let place : (pos it.0, p) ≡ contract_rows.key c = (λ i. (sym number i, sym provider i)) in
+      let at : contract_rows.content_at (db.trees 15) it.0 p ≡ Some (whole_at 3 c) =
       ap (value_at (by_both int_cmp text_cmp) contract_rows.key (whole_at 3) (db.trees 15)) place ∙ has_find marked_total exact_marked contract_rows.key (whole_at 3) (db.trees 15) c (contract_rows.keys db held.broker) has in
-      contract_rows.named (s.contracts (w, p)) (Some content) (sym (contract_rows.held_content db s w n p held known) ∙ at ∙ ap Some value)
+      (w, (it.0, it.1, number, λ content value. contract_rows.named (s.contracts (w, p)) (Some content) (sym (contract_rows.held_content db s w it.0 p held it.1) ∙ at ∙ ap Some value)))
 
   module _ (t place : ℕ) (environments : (r : Row) → Has (db.trees t) r → column r 1 ≡ Text (text 1 r)) (numbers : (r : Row) → Has (db.trees t) r → column r place ≡ Int (whole_at place r)) (Is : Version → Type 0)
       (row_is : (r : Row) (w : Version) (n : ℕ) → Has (db.trees t) r → text 1 r ≡ e → number_of s.versions w ≡ Some n → whole_at place r ≡ pos n → Is w)
@@ -102,25 +109,25 @@ module _ (db : Database) (s : Broker) (held : Holds db s) (e p : Words) where
         (λ h. let it = all.0 h in (one.0 it.0, two.0 it.1, three.0 it.2), λ h. all.1 (one.1 h.0, two.1 h.1, three.1 h.2))
 
     told : (rows : List Row) (items : List NumberedContract) → Answers db (record { lets = []; body = from_both t 15 (terms place) project [] }) params rows → AreRead IsNumberedRow rows items → TellsContracts s p Is items
-    told rows items h read w n content known = (
+    told rows items h read x = (
       λ c.
-          let x : NumberedContract = record { number = n; content = content } in
           let r = read_has IsNumberedRow rows items x read c in
           let q = row_shown db params t 15 (terms place) project [] rows h r.0 r.1 in
           let it = pair_has joins (db.trees 15) (db.trees t) q.0 q.1 in
           let join = (parts_of q.0.0 q.0.1 it.0 it.1).0 it.2 in
           let shown : IsNumberedRow (eval_all project (params ∷ q.0.0 ∷ q.0.1 ∷ [])) x = subst (λ row. IsNumberedRow row x) q.2 r.2 in
-          let number : whole_at 1 q.0.1 ≡ pos n = ap id_in shown.0 in
-          let value : whole_at 3 q.0.1 ≡ pos content = ap id_in shown.1 in
-          (row_is q.0.0 w n it.0 join.1 known (sym join.0 ∙ number), row_contract q.0.1 w n content it.1 known number join.2 value),
+          let number : whole_at 1 q.0.1 ≡ pos x.number = ap id_in shown.0 in
+          let of = row_contract q.0.1 it.1 join.2 in
+          let known = of.1.1 ∙ ap Some (same_pos of.1.0 x.number (sym of.1.2 ∙ number)) in
+          (of.0, row_is q.0.0 of.0 x.number it.0 join.1 known (sym join.0 ∙ number), known, of.1.3 x.content (ap id_in shown.1)),
       λ is.
-          let r = is_row w n known is.0 in
-          let c = contract_row w n content known is.1 in
+          let r = is_row is.0 x.number is.2 is.1 in
+          let c = contract_row is.0 x.number x.content is.2 is.3 in
           let kept = has_pair joins (db.trees 15) (db.trees t) r.0 c.0 r.1 c.1 ((parts_of r.0 c.0 r.1 c.1).1 (c.2 ∙ sym r.3, r.2, c.3)) in
           let y = has_read IsNumberedRow rows items (eval_all project (params ∷ r.0 ∷ c.0 ∷ [])) read (pair_shown db params t 15 (terms place) project [] rows h (r.0, c.0) kept) in
-          let number : y.0.number ≡ n = same_pos y.0.number n (sym (ap id_in y.2.0) ∙ c.2) in
-          let value : y.0.content ≡ content = same_pos y.0.content content (sym (ap id_in y.2.1) ∙ c.4) in
-          let same : y.0 ≡ record { number = n; content = content } = (λ i. record { number = number i; content = value i }) in
+          let number : y.0.number ≡ x.number = same_pos y.0.number x.number (sym (ap id_in y.2.0) ∙ c.2) in
+          let value : y.0.content ≡ x.content = same_pos y.0.content x.content (sym (ap id_in y.2.1) ∙ c.4) in
+          let same : y.0 ≡ x = (λ i. record { number = number i; content = value i }) in
           subst (Contains items) same y.1,
     )
 
@@ -128,19 +135,14 @@ module _ (db : Database) (s : Broker) (held : Holds db s) (e p : Words) where
 
   deployed_is : (r : Row) (w : Version) (n : ℕ) → Has (db.trees 21) r → text 1 r ≡ e → number_of s.versions w ≡ Some n → whole_at 4 r ≡ pos n → IsDeployedIn s e w
   deployed_is r w n has there known number =
-      let value : value_at (by_both text_cmp (by_both text_cmp text_cmp)) deployed_rows.place_of (whole_at 4) (db.trees 21) (e, (text 2 r, text 3 r)) ≡ Some (whole_at 4 r) =
-      subst (λ f. value_at (by_both text_cmp (by_both text_cmp text_cmp)) deployed_rows.place_of (whole_at 4) (db.trees 21) (f, (text 2 r, text 3 r)) ≡ Some (whole_at 4 r)) there
-      (has_find triples_total exact_triple deployed_rows.place_of (whole_at 4) (db.trees 21) r (deployed_rows.keys db held.broker) has) in
-      let name = named s.versions (text 2 r) (whole_at 4 r) (s.deployed (e, text 2 r, text 3 r)) (sym (ap (option_map Some) value) ∙ held.deployed e (text 2 r) (text 3 r)) in
+      let name = row_deployed db s held e r has there in
       let same : version (text 2 r) name.0 ≡ w = one_version s.versions (version (text 2 r) name.0) w n (name.2.1 ∙ ap Some (same_pos name.2.0 n (sym name.2.2 ∙ number))) known in
       (text 3 r, subst (λ (v : Version). s.deployed (e, v.pacticipant, text 3 r) ≡ Some v.name) same name.1)
 
   is_deployed : (w : Version) (n : ℕ) → number_of s.versions w ≡ Some n → IsDeployedIn s e w → (r : Row) × Has (db.trees 21) r × (text 1 r ≡ e) × (whole_at 4 r ≡ pos n)
   is_deployed w n known there =
-      let at = valued (value_at (by_both text_cmp (by_both text_cmp text_cmp)) deployed_rows.place_of (whole_at 4) (db.trees 21) (e, (w.pacticipant, there.0))) (number_of s.versions (version w.pacticipant w.name))
-      (held.deployed e w.pacticipant there.0 ∙ ap (option_map (λ m. option_map pos (number_of s.versions (version w.pacticipant m)))) there.1) in
-      let d = find_has triples_total exact_triple deployed_rows.place_of (whole_at 4) (e, (w.pacticipant, there.0)) (pos at.0) (db.trees 21) at.1 in
-      (d.0, d.1, sym (ap (λ x. x.0) d.2), d.3 ∙ ap pos (same_some at.0 n (sym at.2 ∙ known)))
+      let at = deployed_row db s held e w.pacticipant there.0 w.name there.1 in
+      (at.2.0, at.2.1, at.2.2, at.2.5 ∙ ap pos (same_some at.0 n (sym at.1 ∙ known)))
 
   pub deployed_told : (rows : List Row) (items : List NumberedContract) → IsShown (of_deployed e p) db rows → AreRead IsNumberedRow rows items → TellsContracts s p (IsDeployedIn s e) items
   deployed_told = told 21 4 (deployed_rows.environments db held.broker) (deployed_rows.numbers db held.broker) (IsDeployedIn s e) deployed_is is_deployed
@@ -167,33 +169,14 @@ module _ (db : Database) (s : Broker) (held : Holds db s) (e p : Words) where
 
 -- ---- both
 
-pub standing_told : (s : Broker) (e p : Words) (one two all : List NumberedContract) → TellsContracts s p (IsDeployedIn s e) one → TellsContracts s p (IsReleasedIn s e) two
-    → ((x : NumberedContract) → Contains all x ↔ Contains (one ++ two) x) → TellsContracts s p (Stands s e) all
-standing_told s e p one two all is_one is_two same w n content known =
-    let x : NumberedContract = record { number = n; content = content } in (
-      λ c. elim (Contains-append_cases one two x ((same x).0 c)) [
-        | inl first ↦ let it = (is_one w n content known).0 first in (inl it.0, it.1)
-        | inr second ↦ let it = (is_two w n content known).0 second in (inr it.0, it.1)
-      ],
-      λ is. (same x).1 (elim is.0 [
-        | inl there ↦ Contains-append_left one two x ((is_one w n content known).1 (there, is.1))
-        | inr there ↦ Contains-append_right one two x ((is_two w n content known).1 (there, is.1))
-      ]),
-    )
-
--- ---- one of them
-
-module _ (s : Broker) (e p : Words) (contracts : List NumberedContract) (are : AreContractsThere s e p contracts) (w : Version) (n : ℕ) (known : number_of s.versions w ≡ Some n) where
-  -- one with the version's number is its contract
-  pub found_is : (x : NumberedContract) → Contains contracts x → x.number ≡ n → Some x.content ≡ s.contracts (w, p)
-  found_is x there same =
-      let mine : Contains contracts (record { number = n; content = x.content }) = subst (λ m. Contains contracts (record { number = m; content = x.content })) same there in
-      sym (((are.1 w n x.content known).0 mine).1)
-
-  -- where none has its number, it has none
-  pub none_is : Stands s e w → ((x : NumberedContract) → Contains contracts x → x.number ≡ n → ⊥) → None ≡ s.contracts (w, p)
-  none_is stands apart = go (s.contracts (w, p)) refl
-    where
-      go : (o : Option ℕ) → s.contracts (w, p) ≡ o → None ≡ o
-      go None is = refl
-      go (Some content) is = let x : NumberedContract = record { number = n; content = content } in absurd (apart x ((are.1 w n content known).1 (stands, is)) refl)
+pub standing_told : (s : Broker) (e p : Words) (one two all : List NumberedContract) → TellsContracts s p (IsDeployedIn s e) one → TellsContracts s p (IsReleasedIn s e) two → all ≡ one ++ two → TellsContracts s p (Stands s e) all
+standing_told s e p one two all is_one is_two same x = (
+  λ c. elim (Contains-append_cases one two x (subst (λ xs. Contains xs x) same c)) [
+    | inl first ↦ let it = (is_one x).0 first in (it.0, inl it.1, it.2, it.3)
+    | inr second ↦ let it = (is_two x).0 second in (it.0, inr it.1, it.2, it.3)
+  ],
+  λ is. subst (λ xs. Contains xs x) (sym same) (elim is.1 [
+    | inl there ↦ Contains-append_left one two x ((is_one x).1 (is.0, there, is.2, is.3))
+    | inr there ↦ Contains-append_right one two x ((is_two x).1 (is.0, there, is.2, is.3))
+  ]),
+)

@@ -41,15 +41,10 @@ use Rattle.broker_tables.specs.Rows.{value_at}
 use Rattle.broker_tables.specs.Numbers.{number_of}
 use Rattle.broker_tables.specs.Holds.{Holds, IsBroker}
 use Rattle.broker_tables.proofs.Asked.{Asked, IsShown}
-use Rattle.broker_tables.proofs.Listed.{read_has, has_read}
 use Rattle.broker_tables.proofs.Orders.{pairs_total, triples_total, exact_triple}
-use Rattle.std.specs.Prelude.{Contains, ◌↔◌}
-use Rattle.sqlite.specs.Edit.{id_in}
 use Rattle.deploy_tables.specs.Listings.{IsDeployedRow}
-use Rattle.deploy_tables.specs.Needs.{IsDeployedThere, IsStandingRow}
-use Rattle.deploy_tables.specs.declared.standing_versions.StandingVersion.{StandingVersion}
 use Rattle.deploy_tables.proofs.DeployedRows.{place_of, environments, pacticipants, instances, numbers, keys}
-use Rattle.deploy_tables.proofs.VersionRows.{joined_by, joined_is, is_joined, versions_numbered, same_version_row, find_version, same_some, same_pos, still_less}
+use Rattle.deploy_tables.proofs.VersionRows.{joined_by, joined_is, is_joined, versions_numbered, same_version_row, find_version, still_less}
 
 abbrev list_order : List (Term × Key)
 list_order = (col 1 2, ascending Binary) ∷ (col 1 3, ascending Binary) ∷ []
@@ -62,17 +57,6 @@ pub deployments : (e : List ℕ)
     (Text e ∷ []) (from_both 21 6 (joined_by 4) list_project list_order)
 unfolding understood everything
 deployments e = record { names = _; means = record { is = refl; plain = (refl, refl); unlisted = refl }; runs = record { whole = refl; typed = refl; sumless = refl } }
-
--- ---- the same rows, with the versions' numbers
-
-abbrev standing_project : List Term
-standing_project = col 1 4 ∷ col 1 2 ∷ col 2 3 ∷ []
-
-pub standing : (e : List ℕ)
-    → Asked (codes "SELECT d.version_number, d.pacticipant, v.version FROM deployed d JOIN versions v ON v.number = d.version_number WHERE d.environment = ?1 ORDER BY d.pacticipant, d.instance")
-    (Text e ∷ []) (from_both 21 6 (joined_by 4) standing_project list_order)
-unfolding understood everything
-standing e = record { names = _; means = record { is = refl; plain = (refl, refl); unlisted = refl }; runs = record { whole = refl; typed = refl; sumless = refl } }
 
 -- ---- sorted pairs of a row and its version
 
@@ -102,6 +86,28 @@ pub valued : (value : Option ℤ) (o : Option ℕ) → option_map Some value ≡
 valued None o h = absurd cc
 valued (Some z) None h = absurd (let inner : Some z ≡ None = cc in cc)
 valued (Some z) (Some k) h = (k, (let inner : Some z ≡ Some (pos k) = cc in inner), refl)
+
+-- ---- the rows of an environment, and what they say
+
+module _ (db : Database) (s : Broker) (held : Holds db s) (e : Words) where
+  abbrev place_number : List Row → Words × (Words × Words) → Option ℤ
+  place_number = value_at (by_both text_cmp (by_both text_cmp text_cmp)) place_of (whole_at 4)
+
+  -- a row names a version that is deployed, by its number
+  pub row_deployed : (d : Row) → Has (db.trees 21) d → text 1 d ≡ e → (name : Words) × (s.deployed (e, text 2 d, text 3 d) ≡ Some name) × ((k : ℕ) × (number_of s.versions (version (text 2 d) name) ≡ Some k) × (whole_at 4 d ≡ pos k))
+  row_deployed d has there =
+      let value : place_number (db.trees 21) (e, (text 2 d, text 3 d)) ≡ Some (whole_at 4 d) =
+      subst (λ f. place_number (db.trees 21) (f, (text 2 d, text 3 d)) ≡ Some (whole_at 4 d)) there
+      (has_find triples_total exact_triple place_of (whole_at 4) (db.trees 21) d (keys db held.broker) has) in
+      named s.versions (text 2 d) (whole_at 4 d) (s.deployed (e, text 2 d, text 3 d)) (sym (ap (option_map Some) value) ∙ held.deployed e (text 2 d) (text 3 d))
+
+  -- and what is deployed has a row, and a number
+  pub deployed_row : (p i name : Words) → s.deployed (e, p, i) ≡ Some name
+      → (k : ℕ) × (number_of s.versions (version p name) ≡ Some k) × ((d : Row) × Has (db.trees 21) d × (text 1 d ≡ e) × (text 2 d ≡ p) × (text 3 d ≡ i) × (whole_at 4 d ≡ pos k))
+  deployed_row p i name there =
+      let at = valued (place_number (db.trees 21) (e, (p, i))) (number_of s.versions (version p name)) (held.deployed e p i ∙ ap (option_map (λ n. option_map pos (number_of s.versions (version p n)))) there) in
+      let d = find_has triples_total exact_triple place_of (whole_at 4) (e, (p, i)) (pos at.0) (db.trees 21) at.1 in
+      (at.0, at.2, (d.0, d.1, sym (ap (λ x. x.0) d.2), sym (ap (λ x. x.1.0) d.2), sym (ap (λ x. x.1.1) d.2), d.3))
 
 module _ (db : Database) (broker : IsBroker db) (e : Words) where
   abbrev kept : List Pair
@@ -160,25 +166,20 @@ module _ (db : Database) (broker : IsBroker db) (e : Words) where
     -- what is listed is deployed
     is_deployed : (q : Pair) → Has kept q → s.deployed (e, text 2 q.0, text 3 q.0) ≡ Some (text 3 q.1)
     is_deployed q has =
-        let d = q.0 in
         let it = has_kept q has in
-        let value : value_at (by_both text_cmp (by_both text_cmp text_cmp)) place_of (whole_at 4) (db.trees 21) (e, (text 2 d, text 3 d)) ≡ Some (whole_at 4 d) =
-        subst (λ f. value_at (by_both text_cmp (by_both text_cmp text_cmp)) place_of (whole_at 4) (db.trees 21) (f, (text 2 d, text 3 d)) ≡ Some (whole_at 4 d)) it.2.1
-        (has_find triples_total exact_triple place_of (whole_at 4) (db.trees 21) d (keys db broker) it.0) in
-        let name = named s.versions (text 2 d) (whole_at 4 d) (s.deployed (e, text 2 d, text 3 d)) (sym (ap (option_map Some) value) ∙ held.deployed e (text 2 d) (text 3 d)) in
-        let w = find_version db broker s.versions (text 2 d) name.0 name.2.0 held.versions name.2.1 in
+        let name = row_deployed db s held e q.0 it.0 it.2.1 in
+        let w = find_version db broker s.versions (text 2 q.0) name.0 name.2.0 held.versions name.2.1 in
         let same : w.0 ≡ q.1 = same_version_row db broker w.0 q.1 w.1 it.1 (w.4 ∙ sym name.2.2 ∙ sym it.2.0) in
         name.1 ∙ ap Some (sym w.3 ∙ ap (text 3) same)
 
     -- and what is deployed is listed
     is_listed : (p i name : Words) → s.deployed (e, p, i) ≡ Some name → (q : Pair) × Has kept q × (text 2 q.0 ≡ p) × (text 3 q.0 ≡ i) × (text 3 q.1 ≡ name)
     is_listed p i name there =
-        let at = valued (value_at (by_both text_cmp (by_both text_cmp text_cmp)) place_of (whole_at 4) (db.trees 21) (e, (p, i))) (number_of s.versions (version p name)) (held.deployed e p i ∙ ap (option_map (λ n. option_map pos (number_of s.versions (version p n)))) there) in
-        let d = find_has triples_total exact_triple place_of (whole_at 4) (e, (p, i)) (pos at.0) (db.trees 21) at.1 in
-        let v = find_version db broker s.versions p name at.0 held.versions at.2 in
-        let env_is : text 1 d.0 ≡ e = sym (ap (λ x. x.0) d.2) in
-        let joined = is_joined db broker 4 e d.0 v.0 (numbers db broker d.0 d.1) (environments db broker d.0 d.1) v.1 (v.4 ∙ sym d.3) env_is in
-        ((d.0, v.0), has_pair (keeps_both (joined_by 4) (Text e ∷ [])) (db.trees 6) (db.trees 21) d.0 v.0 d.1 v.1 joined, sym (ap (λ x. x.1.0) d.2), sym (ap (λ x. x.1.1) d.2), v.3)
+        let at = deployed_row db s held e p i name there in
+        let d = at.2 in
+        let v = find_version db broker s.versions p name at.0 held.versions at.1 in
+        let joined = is_joined db broker 4 e d.0 v.0 (numbers db broker d.0 d.1) (environments db broker d.0 d.1) v.1 (v.4 ∙ sym d.5) d.2 in
+        ((d.0, v.0), has_pair (keeps_both (joined_by 4) (Text e ∷ [])) (db.trees 6) (db.trees 21) d.0 v.0 d.1 v.1 joined, d.3, d.4, v.3)
 
     pub deployed_listed : (rows : List Row) (items : List DeployedItem) → IsShown (deployments e) db rows → AreRead IsDeployedRow rows items
         → Lists deployed_cmp (λ x. s.deployed (e, x.pacticipant, x.instance) ≡ Some x.version) items
@@ -194,59 +195,3 @@ module _ (db : Database) (broker : IsBroker db) (e : Words) where
             has_contains (map item_of sorted) x (subst (Has (map item_of sorted)) same (has_map item_of sorted q.0 (to_sorted q.0 q.1))),
       );
     })
-
-    -- ---- with the numbers
-
-    -- the version that a row names has the number that it shows
-    row_number : (q : Pair) → Has kept q → (k : ℕ) × (number_of s.versions (version (text 2 q.0) (text 3 q.1)) ≡ Some k) × (whole_at 4 q.0 ≡ pos k)
-    row_number q has =
-        let d = q.0 in
-        let it = has_kept q has in
-        let value : value_at (by_both text_cmp (by_both text_cmp text_cmp)) place_of (whole_at 4) (db.trees 21) (e, (text 2 d, text 3 d)) ≡ Some (whole_at 4 d) =
-        subst (λ f. value_at (by_both text_cmp (by_both text_cmp text_cmp)) place_of (whole_at 4) (db.trees 21) (f, (text 2 d, text 3 d)) ≡ Some (whole_at 4 d)) it.2.1
-        (has_find triples_total exact_triple place_of (whole_at 4) (db.trees 21) d (keys db broker) it.0) in
-        let name = named s.versions (text 2 d) (whole_at 4 d) (s.deployed (e, text 2 d, text 3 d)) (sym (ap (option_map Some) value) ∙ held.deployed e (text 2 d) (text 3 d)) in
-        let w = find_version db broker s.versions (text 2 d) name.0 name.2.0 held.versions name.2.1 in
-        let same : w.0 ≡ q.1 = same_version_row db broker w.0 q.1 w.1 it.1 (w.4 ∙ sym name.2.2 ∙ sym it.2.0) in
-        (name.2.0, subst (λ t. number_of s.versions (version (text 2 d) t) ≡ Some name.2.0) (sym w.3 ∙ ap (text 3) same) name.2.1, name.2.2)
-
-    -- each version that is deployed there has a number
-    pub deployed_numbered : (p i name : Words) → s.deployed (e, p, i) ≡ Some name → (n : ℕ) × (number_of s.versions (version p name) ≡ Some n)
-    deployed_numbered p i name there =
-        let at = valued (value_at (by_both text_cmp (by_both text_cmp text_cmp)) place_of (whole_at 4) (db.trees 21) (e, (p, i))) (number_of s.versions (version p name)) (held.deployed e p i ∙ ap (option_map (λ n. option_map pos (number_of s.versions (version p n)))) there) in
-        (at.0, at.2)
-
-    standing_rows : (rows : List Row) → IsShown (standing e) db rows → rows ≡ map (λ q. eval_all standing_project (env q)) sorted
-    standing_rows rows h =
-        joins_in_order db (Text e ∷ []) 21 6 (joined_by 4) standing_project list_order rows h (ascending_on _ _ kept (λ a b ha hb apart. ap is_eq (sort_is a b ha hb) ∙ apart) no_ties)
-        ∙ ap (map (λ q. eval_all standing_project (env q))) (same_sort (λ a b. sort_cmp list_order (env a) (env b)) by_key kept sort_is)
-
-    -- a row that is read as a version, and the pair that it shows
-    standing_item : (q : Pair) → Has kept q → (x : StandingVersion) → IsStandingRow (eval_all standing_project (env q)) x → (text 2 q.0 ≡ x.pacticipant) × (text 3 q.1 ≡ x.name) × (number_of s.versions (version x.pacticipant x.name) ≡ Some x.number)
-    standing_item q has x reads =
-        let p : text 2 q.0 ≡ x.pacticipant = ap text_in reads.1 in
-        let name : text 3 q.1 ≡ x.name = ap text_in reads.2 in
-        let it = row_number q has in
-        let shown : whole_at 4 q.0 ≡ pos x.number = ap id_in reads.0 in
-        (p, name, (λ i. number_of s.versions (version (sym p i) (sym name i))) ∙ it.1 ∙ ap Some (same_pos it.0 x.number (sym it.2 ∙ shown)))
-
-    pub standing_listed : (rows : List Row) (items : List StandingVersion) → IsShown (standing e) db rows → AreRead IsStandingRow rows items
-        → (x : StandingVersion) → Contains items x ↔ IsDeployedThere s e x
-    standing_listed rows items h read x = (
-      λ c.
-          let r = read_has IsStandingRow rows items x read c in
-          let it = map_has (λ q. eval_all standing_project (env q)) sorted r.0 (subst (λ rs. Has rs r.0) (standing_rows rows h) r.1) in
-          let has = in_sorted it.0 it.1 in
-          let item = standing_item it.0 has x (subst (λ row. IsStandingRow row x) it.2 r.2) in
-          ((text 3 it.0.0, (λ i. s.deployed (e, sym item.0 i, text 3 it.0.0)) ∙ is_deployed it.0 has ∙ ap Some item.1), item.2),
-      λ there.
-          let q = is_listed x.pacticipant there.0.0 x.name there.0.1 in
-          let row = eval_all standing_project (env q.0) in
-          let y = has_read IsStandingRow rows items row read (subst (λ rs. Has rs row) (sym (standing_rows rows h)) (has_map (λ q. eval_all standing_project (env q)) sorted q.0 (to_sorted q.0 q.1))) in
-          let item = standing_item q.0 q.1 y.0 y.2 in
-          let p : y.0.pacticipant ≡ x.pacticipant = sym item.0 ∙ q.2 in
-          let name : y.0.name ≡ x.name = sym item.1 ∙ q.4 in
-          let n : y.0.number ≡ x.number = same_some y.0.number x.number (sym item.2 ∙ (λ i. number_of s.versions (version (p i) (name i))) ∙ there.1) in
-          let same : y.0 ≡ x = (λ i. record { pacticipant = p i; name = name i; number = n i }) in
-          subst (Contains items) same y.1,
-    )

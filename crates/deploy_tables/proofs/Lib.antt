@@ -5,10 +5,9 @@ pub mod DeployedList
 pub mod ReleasedList
 pub mod ReleasedRows
 pub mod ContractsThere
+pub mod VersionNames
+pub mod PartnerRows
 pub mod NeedLemmas
-pub mod NeedOrders
-pub mod NeedLoop
-pub mod StandingLemmas
 pub mod MatrixLemmas
 pub mod MatrixOrders
 pub mod CalmWhere

@@ -1,5 +1,5 @@
 -- The entries of both sides, with what their results say, are the matrix.
-use Rattle.std.proofs.Common.{◌≡◌, ◌⊎◌, ℕ, List, ◌++◌, map, refl, sym, ◌∙◌, ap, subst, inl, inr, Ordering, Less, Equal, Greater}
+use Rattle.std.proofs.Common.{◌≡◌, ◌⊎◌, ℕ, List, [], ◌∷◌, ◌++◌, map, refl, sym, ◌∙◌, ap, subst, inl, inr, Ordering, Less, Equal, Greater}
 use Rattle.std.specs.Prelude.{Option, Some, None, option_map, Contains, IsSomeAnd, MatchOption, ⊤, ◌↔◌}
 use Rattle.std.specs.Ordering.{ordering_then, nat_cmp}
 use Rattle.std.specs.Option.{option_cmp}
@@ -14,7 +14,7 @@ use Rattle.broker_core.specs.Text.{Text, text_cmp, version}
 use Rattle.broker_core.specs.State.{State, Verification, latest_result, said_by}
 use Rattle.broker_core.specs.Listing.{Lists}
 use Rattle.broker_core.specs.Machine.{matrix_cmp, verified_version, version_cmp, IsLatest, IsMatrixRow}
-use Rattle.broker_core.proofs.Lists.{contains_none}
+use Rattle.broker_core.proofs.Lists.{contains_none, contains_cases, contains_here, contains_later}
 use Rattle.broker_core.proofs.Order.{text_tied}
 use Rattle.broker_tables.proofs.Listed.{lists_read}
 use Rattle.contract_tables.specs.declared.listings.Contract.{Contract}
@@ -24,8 +24,36 @@ use Rattle.contract_tables.specs.Listings.{verified_cmp}
 use Rattle.contract_tables.specs.Verified.{result_with}
 use Rattle.contract_tables.proofs.LastRow.{latest_with}
 use Rattle.deploy_tables.specs.declared.entries.Entry.{Entry}
-use Rattle.deploy_tables.specs.Matrix.{IsNewest, HasNone, IsOfContract, IsOfContent, IsOfSome, IsConsumed, IsProvided, IsEntry, TellsResult, IsToldAs, entry_cmp, entry_with, entry_without, entries_with, entry_used}
-use Rattle.deploy_tables.proofs.NeedLemmas.{from_map, to_map, from_or_one, to_or_one, or_one_empty}
+use Rattle.deploy_tables.specs.Matrix.{IsNewest, HasNone, IsOfContract, IsOfContent, IsOfSome, IsConsumed, IsProvided, IsEntry, TellsResult, IsToldAs, entry_cmp, entry_with, entry_without, entries_with, entry_used, or_one}
+
+-- ---- lists
+
+from_map : {A B : Type 0} (f : A → B) (xs : List A) (y : B) → Contains (map f xs) y → (x : A) × Contains xs x × (f x ≡ y)
+from_map f [] y c = absurd (contains_none y c)
+from_map f (x ∷ xs) y c = elim (contains_cases (f x) (map f xs) y c) [
+  | inl same ↦ (x, contains_here x xs, same)
+  | inr there ↦ let rest = from_map f xs y there in (rest.0, contains_later x xs rest.0 rest.1, rest.2)
+]
+
+to_map : {A B : Type 0} (f : A → B) (xs : List A) (x : A) → Contains xs x → Contains (map f xs) (f x)
+to_map f [] x c = absurd (contains_none x c)
+to_map f (z ∷ xs) x c = elim (contains_cases z xs x c) [
+  | inl same ↦ subst (λ w. Contains (f z ∷ map f xs) (f w)) same (contains_here (f z) (map f xs))
+  | inr there ↦ contains_later (f z) (map f xs) (f x) (to_map f xs x there)
+]
+
+-- a member of a list, or the one that stands where the list is empty
+from_or_one : {X : Type 0} (xs : List X) (z y : X) → Contains (or_one xs z) y → Contains xs y ⊎ ((xs ≡ []) × (z ≡ y))
+from_or_one [] z y c = elim (contains_cases z [] y c) [ inl same ↦ inr (refl, same) | inr none ↦ absurd (contains_none y none) ]
+from_or_one (x ∷ xs) z y c = inl c
+
+to_or_one : {X : Type 0} (xs : List X) (z y : X) → Contains xs y → Contains (or_one xs z) y
+to_or_one [] z y c = absurd (contains_none y c)
+to_or_one (x ∷ xs) z y c = c
+
+or_one_empty : {X : Type 0} (xs : List X) (z : X) → ((y : X) → Contains xs y → ⊥) → Contains (or_one xs z) z
+or_one_empty [] z none = contains_here z []
+or_one_empty (x ∷ xs) z none = absurd (none x (contains_here x xs))
 
 inside : {A : Type 0} (x y : A) → Some x ≡ Some y → x ≡ y
 inside x y e = cc

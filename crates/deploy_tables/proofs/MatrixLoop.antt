@@ -11,7 +11,6 @@ use Rattle.broker_core.proofs.Lists.{contains_none, contains_cases, contains_her
 use Rattle.broker_tables.specs.Calm.{CalmQueriesBetween}
 use Rattle.broker_tables.proofs.QueryLemmas.{query_ok, query_stop}
 use Rattle.contract_tables.proofs.QueryLemmas.{calm_then}
-use Rattle.deploy_tables.specs.declared.entries.Entry.{Entry}
 use Rattle.deploy_tables.specs.Matrix.{IsOfSome}
 
 -- a reading, from which the answer is made
@@ -30,9 +29,9 @@ pub read_stop : {A O B : Type 0} (old mid new : State) (a : A) (o : O) (e : Stor
 read_stop old mid new a o e P Q R room one two = query_stop old new o e Q R room (calm_then old mid new a (Ok o) P Q Q (λ s first q second. second) one two)
 
 -- what is found of each member so far
-module _ {C : Type 0} (Is : C → Entry → Type 0) (cs : List C) where
-  pub of_more : (at : ℕ) (c : C) (a more b : List Entry) → at < length cs → c ≡ get_or cs at c → b ≡ a ++ more → ((x : Entry) → Contains a x ↔ IsOfSome (λ c. Is c x) (take at cs)) → ((x : Entry) → Contains more x ↔ Is c x)
-      → (x : Entry) → Contains b x ↔ IsOfSome (λ c. Is c x) (take (at + 1) cs)
+module _ {C Y : Type 0} (Is : C → Y → Type 0) (cs : List C) where
+  pub of_more : (at : ℕ) (c : C) (a more b : List Y) → at < length cs → c ≡ get_or cs at c → b ≡ a ++ more → ((x : Y) → Contains a x ↔ IsOfSome (λ c. Is c x) (take at cs)) → ((x : Y) → Contains more x ↔ Is c x)
+      → (x : Y) → Contains b x ↔ IsOfSome (λ c. Is c x) (take (at + 1) cs)
   of_more at c a more b low is grown was here x =
       let last = get_or cs at c ∷ [] in
       let taken : take (at + 1) cs ≡ take at cs ++ last = take_more cs at c low in (
@@ -59,9 +58,9 @@ module _ {C : Type 0} (Is : C → Entry → Type 0) (cs : List C) where
   same_get (suc at) (x ∷ ds) d e low = same_get at ds d e (omega arith)
 
   -- the same, where the member is told by its place
-  pub of_more_at : (at : ℕ) (d : C) (a more b : List Entry) → at < length cs → b ≡ a ++ more → ((x : Entry) → Contains a x ↔ IsOfSome (λ c. Is c x) (take at cs)) → ((x : Entry) → Contains more x ↔ Is (get_or cs at d) x)
-      → (x : Entry) → Contains b x ↔ IsOfSome (λ c. Is c x) (take (at + 1) cs)
+  pub of_more_at : (at : ℕ) (d : C) (a more b : List Y) → at < length cs → b ≡ a ++ more → ((x : Y) → Contains a x ↔ IsOfSome (λ c. Is c x) (take at cs)) → ((x : Y) → Contains more x ↔ Is (get_or cs at d) x)
+      → (x : Y) → Contains b x ↔ IsOfSome (λ c. Is c x) (take (at + 1) cs)
   of_more_at at d a more b low grown was here = of_more at (get_or cs at d) a more b low (same_get at cs d (get_or cs at d) low) grown was here
 
-  pub of_all : (at : ℕ) (a : List Entry) → take at cs ≡ cs → ((x : Entry) → Contains a x ↔ IsOfSome (λ c. Is c x) (take at cs)) → (x : Entry) → Contains a x ↔ IsOfSome (λ c. Is c x) cs
+  pub of_all : (at : ℕ) (a : List Y) → take at cs ≡ cs → ((x : Y) → Contains a x ↔ IsOfSome (λ c. Is c x) (take at cs)) → (x : Y) → Contains a x ↔ IsOfSome (λ c. Is c x) cs
   of_all at a whole was x = subst (λ ds. Contains a x ↔ IsOfSome (λ c. Is c x) ds) whole (was x)

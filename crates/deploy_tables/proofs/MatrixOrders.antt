@@ -1,11 +1,12 @@
 -- The order of entries.
-use Rattle.std.proofs.Common.{◌≡◌, refl, ap, subst, Bool, rules, ℕ, List}
+use Rattle.std.proofs.Common.{◌≡◌, refl, sym, ◌∙◌, ap, subst, Bool, rules, ℕ, List}
 use Rattle.std.specs.Prelude.{Option, Some, None, nat_eq, ◌&&◌, Contains, IsPermutation, IsSorted}
 use Rattle.std.specs.List.{dedup}
+use Rattle.std.specs.declared.cmp.Ordering.{Ordering}
 use Rattle.std.specs.declared.cmp.Ordering.TheVariants.{Equal}
 use Rattle.std.specs.Ordering.{nat_cmp, is_eq, eq_by_cmp}
 use Rattle.std.specs.Option.{option_cmp, option_eq}
-use Rattle.std.specs.Cmp.{IsTotalOrder, on_total, then_total, nat_cmp_total, both_tied}
+use Rattle.std.specs.Cmp.{IsTotalOrder, IsEquivalence, on_total, then_total, nat_cmp_total, both_tied, eq_by_cmp_equiv, Equal-is}
 use Rattle.std.specs.Cmp.Rules.{comparing}
 use Rattle.std.specs.Cmp.Lexicographic.{nat_list_cmp_total, options_total, texts_ties, pointwise}
 use Rattle.std.specs.FinMap.{nat_cmp-IsAntisymmetric}
@@ -15,10 +16,18 @@ use Rattle.contract_tables.specs.Listings.{verified_cmp}
 use Rattle.broker_core.specs.Listing.{Lists}
 use Rattle.deploy_tables.specs.declared.entries.Entry.{Entry}
 use Rattle.deploy_tables.specs.Matrix.{entry_cmp}
-use Rattle.deploy_tables.proofs.NeedOrders.{once}
+use Rattle.broker_core.proofs.Lists.{sorted_dedup}
 
 nats_tie : (x y : ℕ) → nat_eq x y ≡ is_eq (nat_cmp x y)
 nats_tie = search (comparing, rules)
+
+-- sorted, then without what stands twice
+pub once : {X : Type 0} {R : X → X → Ordering} {E : X → X → Bool} (o : IsTotalOrder R) (ties : (x y : X) → E x y ≡ eq_by_cmp R x y) (tied : (x y : X) → R x y ≡ Equal → x ≡ y)
+    (xs ys : List X) → IsPermutation xs ys → IsSorted R ys → Lists R (Contains xs) (dedup E ys)
+once {R = R} {E = E} o ties tied xs ys moved sorted =
+    let equiv : IsEquivalence E = subst IsEquivalence (λ i x y. sym (ties x y) i) (eq_by_cmp_equiv o) in
+    let both = sorted_dedup {E = E} o equiv ties (λ x y e. tied x y ((Equal-is (R x y)).0 (sym (ties x y) ∙ e))) xs ys moved sorted in
+    record { sorted = both.0; exactly = both.1 }
 
 verified_total : IsTotalOrder verified_cmp
 verified_total = then_total (on_total (λ (x : VerifiedVersion). x.name) nat_list_cmp_total) (on_total (λ (x : VerifiedVersion). x.result) nat_cmp_total)

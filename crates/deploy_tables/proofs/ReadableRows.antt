@@ -8,26 +8,27 @@ use Rattle.sqlite.specs.Effect.{Database}
 use Rattle.sqlite_rules.specs.Lists.{Has}
 use Rattle.table_access.specs.Columns.{text, text_cmp, whole_at, by_both}
 use Rattle.table_access.specs.Reading.{IsNumberRow}
-use Rattle.table_access.specs.Statements.{from_both}
+use Rattle.table_access.specs.Statements.{from_both, shows}
 use Rattle.table_access.proofs.Maps.{has_find}
 use Rattle.table_access.proofs.SoundLemmas.{whole_in, has_place}
 use Rattle.broker_core.specs.State.{State as Broker}
 use Rattle.broker_tables.specs.Rows.{value_at}
 use Rattle.broker_tables.specs.Holds.{Holds}
 use Rattle.broker_tables.specs.Readable.{IsReadable, IsNamed}
-use Rattle.broker_tables.proofs.Asked.{Asked, EachShown, EachReads, of_both, number_reads}
+use Rattle.broker_tables.proofs.Asked.{Asked, EachShown, EachReads, of_both, of_table, number_reads}
 use Rattle.broker_tables.proofs.Orders.{triples_total, exact_triple}
 use Rattle.broker_tables.proofs.Placed.{contracts, contracts_there, results, results_there, latest, latest_there, deployed, deployed_there, released, released_there}
 use Rattle.broker_tables.proofs.ReadableRows.{IsLow, number_cell, name_cell, truth_cell, to_version_low, to_content_low, to_result_low, version_named, to_pacticipant_named, pass_low}
 use Rattle.broker_tables.proofs.VersionRows.{owners, names}
-use Rattle.contract_tables.specs.Listings.{ReadsAsNumbers}
+use Rattle.contract_tables.specs.Listings.{ReadsAsNumbers, ReadsAsMarked}
 use Rattle.contract_tables.specs.VersionResults.{ReadsAsPass}
 use Rattle.deploy_tables.specs.Listings.{ReadsAsDeployed, ReadsAsReleased}
-use Rattle.deploy_tables.specs.Needs.{ReadsAsStanding}
 use Rattle.deploy_tables.proofs.DeployedRows as deployed_rows
 use Rattle.deploy_tables.proofs.DeployedList as deployed_list
 use Rattle.deploy_tables.proofs.ReleasedList as released_list
 use Rattle.deploy_tables.proofs.ContractsThere.{of_deployed, of_released}
+use Rattle.deploy_tables.proofs.PartnerRows.{numbers_of}
+use Rattle.deploy_tables.proofs.VersionNames.{names_of, name_project}
 use Rattle.deploy_tables.proofs.ToldResults.{terms, pass_project, mark_project}
 
 -- ---- the columns of the tables
@@ -90,14 +91,8 @@ deployments_reads e db s held readable = of_both (deployed_list.deployments e) d
       name_cell shown 2 (text 3 v) (omega arith) (names db held.broker v hv) (version_named db s held readable v hv).1,
     ))
 
-pub deployed_reads : (e : List ℕ) (db : Database) → EachReads (deployed_list.standing e) db ReadsAsStanding
-deployed_reads e db s held readable = of_both (deployed_list.standing e) db _ (λ d v hd hv kept.
-    let number = deployed_number db s held readable d hd in
-    let shown : Row = eval_all (col 1 4 ∷ col 1 2 ∷ col 2 3 ∷ []) ([] ∷ d ∷ v ∷ []) in (
-      number_cell shown 0 (whole_at 4 d) (omega arith) number.0 number.1,
-      name_cell shown 1 (text 2 d) (omega arith) (deployed_rows.pacticipants db held.broker d hd) (deployed_named db s held readable d hd),
-      name_cell shown 2 (text 3 v) (omega arith) (names db held.broker v hv) (version_named db s held readable v hv).1,
-    ))
+pub partners_reads : (e p : List ℕ) (db : Database) → EachReads (numbers_of e p) db IsNumberRow
+partners_reads e p db s held readable = number_reads (numbers_of e p) db (deployed_number db s held readable)
 
 -- ---- what is released
 
@@ -107,15 +102,19 @@ releases_reads e db s held readable = of_both (released_list.releases e) db _ (�
     let shown : Row = eval_all (col 2 2 ∷ col 2 3 ∷ []) ([] ∷ r ∷ v ∷ []) in
     (name_cell shown 0 (text 2 v) (omega arith) (owners db held.broker v hv) named.0, name_cell shown 1 (text 3 v) (omega arith) (names db held.broker v hv) named.1))
 
-pub released_reads : (e : List ℕ) (db : Database) → EachReads (released_list.standing e) db ReadsAsStanding
-released_reads e db s held readable = of_both (released_list.standing e) db _ (λ r v hr hv kept.
+pub numbers_reads : (e : List ℕ) (db : Database) → EachReads (released_list.release_numbers e) db ReadsAsMarked
+numbers_reads e db s held readable = of_both (released_list.release_numbers e) db _ (λ r v hr hv kept.
     let number = released_number db s held readable r hr in
-    let named = version_named db s held readable v hv in
-    let shown : Row = eval_all (col 1 2 ∷ col 2 2 ∷ col 2 3 ∷ []) ([] ∷ r ∷ v ∷ []) in (
-      number_cell shown 0 (whole_at 2 r) (omega arith) number.0 number.1,
-      name_cell shown 1 (text 2 v) (omega arith) (owners db held.broker v hv) named.0,
-      name_cell shown 2 (text 3 v) (omega arith) (names db held.broker v hv) named.1,
-    ))
+    let shown : Row = eval_all (col 1 2 ∷ col 2 2 ∷ []) ([] ∷ r ∷ v ∷ []) in
+    (number_cell shown 0 (whole_at 2 r) (omega arith) number.0 number.1, name_cell shown 1 (text 2 v) (omega arith) (owners db held.broker v hv) (version_named db s held readable v hv).0))
+
+-- ---- the names of a version
+
+pub names_reads : (n : ℕ) (db : Database) → EachReads (names_of n) db ReadsAsReleased
+names_reads n db s held readable = of_table (names_of n) db _ (λ v has kept.
+    let named = version_named db s held readable v has in
+    let shown : Row = shows name_project [] v in
+    (name_cell shown 0 (text 2 v) (omega arith) (owners db held.broker v has) named.0, name_cell shown 1 (text 3 v) (omega arith) (names db held.broker v has) named.1))
 
 -- ---- the contracts of what is there
 

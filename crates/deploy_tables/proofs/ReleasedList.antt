@@ -37,13 +37,16 @@ use Rattle.broker_tables.specs.Rows.{stands_at}
 use Rattle.broker_tables.specs.Numbers.{number_of}
 use Rattle.broker_tables.specs.Holds.{Holds, IsBroker}
 use Rattle.broker_tables.proofs.Asked.{Asked, IsShown}
-use Rattle.broker_tables.proofs.Listed.{sorts, lists_join}
-use Rattle.broker_tables.proofs.NumberLemmas.{version_row}
+use Rattle.broker_tables.proofs.Listed.{sorts, lists_join, read_has, has_read}
+use Rattle.broker_tables.proofs.VersionRows.{owners, names, version_keys}
+use Rattle.broker_tables.proofs.VersionRows as version_rows
 use Rattle.broker_tables.proofs.Orders.{pairs_total, exact_pair, placed_total, exact_placed}
 use Rattle.broker_tables.proofs.Placed.{released, released_there, versions, versions_there}
-use Rattle.deploy_tables.specs.declared.standing_versions.StandingVersion.{StandingVersion}
+use Rattle.std.specs.Prelude.{Contains}
+use Rattle.deploy_tables.specs.declared.partners.ReleasedNumber.{ReleasedNumber}
 use Rattle.deploy_tables.specs.Listings.{IsReleasedRow}
-use Rattle.deploy_tables.specs.Needs.{IsReleasedThere, IsStandingRow, standing_cmp}
+use Rattle.deploy_tables.specs.Partners.{IsNumberOfReleased, AreReleasedNumbers}
+use Rattle.contract_tables.proofs.JoinRows.{row_shown, pair_shown}
 use Rattle.deploy_tables.proofs.VersionRows.{joined_by, joined_is, is_joined, versions_numbered, find_version, same_some, same_pos, still_less}
 use Rattle.table_access.proofs.Changes.{apart_or_same}
 use Rattle.sqlite.specs.Schema.{Schema}
@@ -61,16 +64,16 @@ pub releases : (e : List ℕ)
 unfolding understood everything
 releases e = record { names = _; means = record { is = refl; plain = (refl, refl); unlisted = refl }; runs = record { whole = refl; typed = refl; sumless = refl } }
 
--- ---- the same rows, with the versions' numbers
+-- ---- the same rows, with the versions' numbers and without their names
 
-abbrev standing_project : List Term
-standing_project = col 1 2 ∷ col 2 2 ∷ col 2 3 ∷ []
+abbrev number_project : List Term
+number_project = col 1 2 ∷ col 2 2 ∷ []
 
-pub standing : (e : List ℕ)
-    → Asked (codes "SELECT r.version_number, v.pacticipant, v.version FROM released r JOIN versions v ON v.number = r.version_number WHERE r.environment = ?1 ORDER BY v.pacticipant, v.version")
-    (Text e ∷ []) (from_both 23 6 (joined_by 2) standing_project list_order)
+pub release_numbers : (e : List ℕ)
+    → Asked (codes "SELECT r.version_number, v.pacticipant FROM released r JOIN versions v ON v.number = r.version_number WHERE r.environment = ?1")
+    (Text e ∷ []) (from_both 23 6 (joined_by 2) number_project [])
 unfolding understood everything
-standing e = record { names = _; means = record { is = refl; plain = (refl, refl); unlisted = refl }; runs = record { whole = refl; typed = refl; sumless = refl } }
+release_numbers e = record { names = _; means = record { is = refl; plain = (refl, refl); unlisted = refl }; runs = record { whole = refl; typed = refl; sumless = refl } }
 
 -- ---- the columns
 
@@ -87,25 +90,12 @@ module _ (db : Database) (broker : IsBroker db) where
   pub numbers : (r : Row) → Has (db.trees 23) r → column r 2 ≡ Int (whole_at 2 r)
   numbers r has = whole_in db broker.kept.sound released (has_place _ 12 released (released_there db broker)) r has 1 _ refl refl refl refl refl
 
-  owners : (v : Row) → Has (db.trees 6) v → column v 2 ≡ Text (text 2 v)
-  owners v has = text_at db broker.kept.sound versions (has_place _ 3 versions (versions_there db broker)) v has 1 _ refl refl refl refl refl
-
-  names : (v : Row) → Has (db.trees 6) v → column v 3 ≡ Text (text 3 v)
-  names v has = text_at db broker.kept.sound versions (has_place _ 3 versions (versions_there db broker)) v has 2 _ refl refl refl refl refl
-
   -- a version is released once in an environment
   pub keys : IsAscending (λ a b. eq_by_cmp placed (place_of a) (place_of b) ≡ false) (db.trees 23)
   keys = once placed (db.trees 23) (1 ∷ 2 ∷ []) place_of
       (λ a b ha hb. agree_and nat_list_cmp_total (db.trees 23) 1 (text 1) (text_part (db.trees 23) 1 environments) int_cmp (whole_at 2) (2 ∷ []) a b ha hb
       (agree_last int_cmp_total (db.trees 23) 2 (whole_at 2) (whole_part (db.trees 23) 2 numbers) a b ha hb))
       (apart_by db broker.kept released 12 (released_there db broker) _ 11 (ap (λ (s : Schema). slice_get s.indexes 11) broker.schema) refl)
-
-  -- and a version of a pacticipant stands once
-  version_keys : IsAscending (λ a b. eq_by_cmp pair_cmp (text 2 a, text 3 a) (text 2 b, text 3 b) ≡ false) (db.trees 6)
-  version_keys = once pair_cmp (db.trees 6) (2 ∷ 3 ∷ []) (λ r. (text 2 r, text 3 r))
-      (λ a b ha hb. agree_and nat_list_cmp_total (db.trees 6) 2 (text 2) (text_part (db.trees 6) 2 owners) text_cmp (text 3) (3 ∷ []) a b ha hb
-      (agree_last nat_list_cmp_total (db.trees 6) 3 (text 3) (text_part (db.trees 6) 3 names) a b ha hb))
-      (apart_by db broker.kept versions 3 (versions_there db broker) _ 3 (ap (λ (s : Schema). slice_get s.indexes 3) broker.schema) refl)
 
 -- ---- sorted pairs of a row and its version
 
@@ -115,21 +105,10 @@ Pair = Row × Row
 abbrev by_key : Pair → Pair → Ordering
 by_key a b = pair_cmp (text 2 a.1, text 3 a.1) (text 2 b.1, text 3 b.1)
 
--- the number that a row shows
-numbered_as : (z : ℤ) (o : Option ℕ) → Some z ≡ option_map pos o → (k : ℕ) × (o ≡ Some k) × (z ≡ pos k)
-numbered_as z None h = absurd cc
-numbered_as z (Some k) h = (k, refl, cc)
-
 -- a version that has a number
 has_number : (o : Option ℕ) (test : ℕ → Bool) → option_map_or test o false ≡ true → (k : ℕ) × (o ≡ Some k) × (test k ≡ true)
 has_number None test h = absurd cc
 has_number (Some k) test h = (k, refl, h)
-
--- a row of versions has the number of the version that it names
-pub numbered_row : (db : Database) (broker : IsBroker db) (s : Broker) → Holds db s → (v : Row) → Has (db.trees 6) v → (k : ℕ) × (number_of s.versions (version (text 2 v) (text 3 v)) ≡ Some k) × (whole_at 0 v ≡ pos k)
-numbered_row db broker s held v has =
-    numbered_as (whole_at 0 v) (number_of s.versions (version (text 2 v) (text 3 v)))
-    (sym (has_find pairs_total exact_pair (λ r. (text 2 r, text 3 r)) (whole_at 0) (db.trees 6) v (version_keys db broker) has) ∙ version_row (db.trees 6) s.versions (text 2 v) (text 3 v) held.versions)
 
 module _ (db : Database) (broker : IsBroker db) (e : Words) where
   abbrev kept : List Pair
@@ -192,7 +171,7 @@ module _ (db : Database) (broker : IsBroker db) (e : Words) where
         let d = q.0 in
         let v = q.1 in
         let it = has_kept q has in
-        let known = numbered_row db broker s held v it.1 in
+        let known = version_rows.row_number db broker s.versions held.versions v it.1 in
         let place : (e, pos known.0) ≡ place_of d = λ i. (sym it.2.1 i, (sym known.2 ∙ it.2.0) i) in
         let stands : stands_at placed place_of (db.trees 23) (e, pos known.0) ≡ true =
         any_of (λ r. eq_by_cmp placed (e, pos known.0) (place_of r)) (db.trees 23) d it.0 (ap (eq_by_cmp placed (e, pos known.0)) (sym place) ∙ (eq_by_cmp_equiv placed_total).refl (e, pos known.0)) in
@@ -222,7 +201,7 @@ module _ (db : Database) (broker : IsBroker db) (e : Words) where
     row_number q has =
         let v = q.1 in
         let it = has_kept q has in
-        let known = numbered_row db broker s held v it.1 in
+        let known = version_rows.row_number db broker s.versions held.versions v it.1 in
         (known.0, known.1, sym it.2.0 ∙ known.2)
 
     -- each version that is released there has a number
@@ -231,29 +210,25 @@ module _ (db : Database) (broker : IsBroker db) (e : Words) where
         let known = has_number (number_of s.versions v) (λ n. stands_at placed place_of (db.trees 23) (e, pos n)) (held.released e v ∙ there) in
         (known.0, known.1)
 
-    -- a row that is read as a version, and the pair that it shows
-    standing_item : (q : Pair) → Has kept q → (x : StandingVersion) → IsStandingRow (eval_all standing_project (env q)) x → (text 2 q.1 ≡ x.pacticipant) × (text 3 q.1 ≡ x.name) × (number_of s.versions (version x.pacticipant x.name) ≡ Some x.number)
-    standing_item q has x reads =
-        let p : text 2 q.1 ≡ x.pacticipant = ap text_in reads.1 in
-        let name : text 3 q.1 ≡ x.name = ap text_in reads.2 in
-        let it = row_number q has in
-        let shown : whole_at 2 q.0 ≡ pos x.number = ap id_in reads.0 in
-        (p, name, (λ i. number_of s.versions (version (sym p i) (sym name i))) ∙ it.1 ∙ ap Some (same_pos it.0 x.number (sym it.2 ∙ shown)))
-
-    pub standing_listed : (rows : List Row) (items : List StandingVersion) → IsShown (standing e) db rows → AreRead IsStandingRow rows items
-        → Lists standing_cmp (IsReleasedThere s e) items
-    standing_listed = lists_join db (Text e ∷ []) (joined_by 2) standing_project list_order IsStandingRow standing_cmp (IsReleasedThere s e) 23 6 apart
-        (λ a b x y ha hb ra rb h. still_less (text_cmp x.pacticipant y.pacticipant) (text_cmp x.name y.name) (nat_cmp x.number y.number)
-        (in_order a b x.pacticipant x.name y.pacticipant y.name ha hb (ap text_in ra.1) (ap text_in ra.2) (ap text_in rb.1) (ap text_in rb.2) h))
-        (λ q x has read. let item = standing_item q has x read in (subst (λ v. IsTrue (s.released (e, v))) (λ i. version (item.0 i) (item.1 i)) (is_released q has), item.2))
-        (λ x there.
-        let q = is_listed x.pacticipant x.name there.0 in (
-          q.0,
-          q.1,
-          λ y read.
-              let item = standing_item q.0 q.1 y read in
-              let p : y.pacticipant ≡ x.pacticipant = sym item.0 ∙ q.2 in
-              let name : y.name ≡ x.name = sym item.1 ∙ q.3 in
-              let n : y.number ≡ x.number = same_some y.number x.number (sym item.2 ∙ (λ i. number_of s.versions (version (p i) (name i))) ∙ there.1) in
-              λ i. record { pacticipant = p i; name = name i; number = n i },
-        ))
+    pub numbers_told : (rows : List Row) (items : List ReleasedNumber) → IsShown (release_numbers e) db rows → AreRead IsNumberOfReleased rows items → AreReleasedNumbers s e items
+    numbers_told rows items h read x = (
+      λ c.
+          let r = read_has IsNumberOfReleased rows items x read c in
+          let q = row_shown db (Text e ∷ []) 23 6 (joined_by 2) number_project [] rows h r.0 r.1 in
+          let shown : IsNumberOfReleased (eval_all number_project (env q.0)) x = subst (λ row. IsNumberOfReleased row x) q.2 r.2 in
+          let it = row_number q.0 q.1 in
+          let number : whole_at 2 q.0.0 ≡ pos x.number = ap id_in shown.0 in
+          let owner : text 2 q.0.1 ≡ x.pacticipant = ap text_in shown.1 in
+          subst (λ p. (name : Words) × IsTrue (s.released (e, version p name)) × (number_of s.versions (version p name) ≡ Some x.number)) owner
+          (text 3 q.0.1, is_released q.0 q.1, it.1 ∙ ap Some (same_pos it.0 x.number (sym it.2 ∙ number))),
+      λ there.
+          let q = is_listed x.pacticipant there.0 there.1 in
+          let y = has_read IsNumberOfReleased rows items (eval_all number_project (env q.0)) read (pair_shown db (Text e ∷ []) 23 6 (joined_by 2) number_project [] rows h q.0 q.1) in
+          let it = row_number q.0 q.1 in
+          let number : whole_at 2 q.0.0 ≡ pos y.0.number = ap id_in y.2.0 in
+          let known : number_of s.versions (version x.pacticipant there.0) ≡ Some it.0 = (λ i. number_of s.versions (version (sym q.2 i) (sym q.3 i))) ∙ it.1 in
+          let alike : y.0.number ≡ x.number = sym (same_pos it.0 y.0.number (sym it.2 ∙ number)) ∙ same_some it.0 x.number (sym known ∙ there.2) in
+          let owner : y.0.pacticipant ≡ x.pacticipant = sym (ap text_in y.2.1) ∙ q.2 in
+          let same : y.0 ≡ x = (λ i. record { number = alike i; pacticipant = owner i }) in
+          subst (Contains items) same y.1,
+    )

@@ -46,7 +46,8 @@ use Rattle.broker_tables.proofs.Ties.{two_tests, both_eq}
 use Rattle.broker_tables.proofs.Placed.{released, released_there, calm}
 use Rattle.deploy_tables.specs.Releases.{IsVersion}
 use Rattle.deploy_tables.proofs.VersionRows.{same_pos}
-use Rattle.deploy_tables.proofs.ReleasedList.{placed, place_of, environments, numbers, keys, numbered_row}
+use Rattle.deploy_tables.proofs.ReleasedList.{placed, place_of, environments, numbers, keys}
+use Rattle.broker_tables.proofs.VersionRows.{row_number}
 
 abbrev pub by_place : List Term
 by_place = is_param 1 0 ∷ is_param 2 1 ∷ []
@@ -83,7 +84,7 @@ none_placed db s held e n none = elim (cases_Bool (stands_at placed place_of (db
       let d = any_has (λ r. eq_by_cmp placed (e, pos n) (place_of r)) (db.trees 23) hit in
       let place : (e, pos n) ≡ place_of d.0 = exact_placed (e, pos n) (place_of d.0) ((Equal-is (placed (e, pos n) (place_of d.0))).0 d.2) in
       let v = refers_version db held.broker released (has_place _ 12 released (released_there db held.broker)) 2 (inr (inl refl)) d.0 d.1 (numbers db held.broker d.0 d.1) in
-      let it = numbered_row db held.broker s held v.0 v.1 in
+      let it = row_number db held.broker s.versions held.versions v.0 v.1 in
       let same : pos it.0 ≡ pos n = sym it.2 ∙ v.2 ∙ ap (λ x. x.1) (sym place) in
       absurd (none (version (text 2 v.0) (text 3 v.0), it.1 ∙ ap Some (same_pos it.0 n same)))
   | inr miss ↦ miss

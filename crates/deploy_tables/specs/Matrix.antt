@@ -1,7 +1,7 @@
 -- For private clauses: the matrix of a version, from the parts that are read: its own contracts with the versions that
 -- have results for them, and what it has results for itself with the consumers. What the matrix is, `IsMatrixRow` of
 -- broker_core says, which the clause of `matrix` cites.
-use Rattle.std.specs.Prelude.{Contains, ◌≡◌, ◌⊎◌, ℕ, List, map, Option, Some, None, option_map, MatchOption}
+use Rattle.std.specs.Prelude.{Contains, ◌≡◌, ◌⊎◌, ℕ, List, [], ◌∷◌, map, Option, Some, None, option_map, MatchOption}
 use Rattle.std.specs.declared.cmp.Ordering.{Ordering}
 use Rattle.std.specs.Ordering.{ordering_then}
 use Rattle.std.specs.Option.{option_cmp}
@@ -19,7 +19,7 @@ use Rattle.contract_tables.specs.declared.listings.VerifiedVersion.{VerifiedVers
 use Rattle.contract_tables.specs.Listings.{contract_cmp, verified_cmp}
 use Rattle.contract_tables.specs.Verified.{result_with}
 use Rattle.deploy_tables.specs.declared.entries.Entry.{Entry}
-use Rattle.deploy_tables.specs.Needs.{IsOwnContract, or_one}
+use Rattle.deploy_tables.specs.Needs.{IsOwnContract}
 
 -- ---- which set each part is
 
@@ -107,6 +107,10 @@ entry_without v c = record {
   provider = c.provider;
   verified = None;
 }
+
+abbrev pub or_one : {X : Type 0} → List X → X → List X
+or_one [] x = x ∷ []
+or_one (y ∷ ys) x = y ∷ ys
 
 -- with each of these versions, or with none
 abbrev pub entries_with : Version → Contract → List VerifiedVersion → List Entry

@@ -1,21 +1,16 @@
 //! The contracts with one provider of all versions that are in an environment, by the numbers of the versions.
-ghost use Rattle.std.specs.Prelude.{◌≡◌, ◌++◌, ◌↔◌, IfOk, IfErr, Some, Contains};
-ghost use Rattle.broker_core.specs.State.{State};
-ghost use Rattle.broker_core.specs.Text.{Text};
+ghost use Rattle.std.specs.Prelude.{◌≡◌, ◌++◌, IfOk, IfErr};
 ghost use Rattle.broker_core.specs.Gate.{Stands};
-ghost use Rattle.broker_core.specs.declared.command.Version.{Version};
-ghost use Rattle.broker_tables.specs.Numbers.{number_of as number_known};
 ghost use Rattle.broker_tables.specs.Calm.{CalmQueries};
 ghost use Rattle.contract_tables.specs.Listings.{FailsAsNumbers};
-ghost use Rattle.deploy_tables.specs.declared.contracts_there.NumberedContract.{NumberedContract as NumberedModel};
-ghost use Rattle.deploy_tables.specs.ContractsThere.{IsDeployedIn, IsReleasedIn, TellsContracts, IsByNumber, AreContractsThere, IsNumberedRow};
+ghost use Rattle.deploy_tables.specs.ContractsThere.{IsDeployedIn, IsReleasedIn, TellsContracts, IsNumberedRow};
 
 use sqlite::{Alter, Connection, Row, params};
 use std::alloc::Global;
 use table_access::{ReadRow, StoreFault, list_of, number_at, number_in};
 
 /// The contract of a version with a provider: the version's number, and that of the content.
-#[derive(Clone, Copy, Debug, PartialEq, Eq, PartialOrd, Ord)]
+#[derive(Clone, Copy, Debug)]
 pub struct NumberedContract {
     pub number: u32,
     pub content: u32,
@@ -75,34 +70,24 @@ fn released_contracts<S: Alter>(
     )
 }
 
-/// These contracts, in the order of the versions' numbers.
-fn by_number(contracts: Vec<NumberedContract>) -> Vec<NumberedContract>
-    ensures sorted { IsByNumber result.items }
-    ensures same { (x : NumberedModel) → Contains result.items x ↔ Contains contracts.items x }
-{
-    let mut contracts = contracts;
-    contracts.sort_unstable();
-    contracts
-}
-
-/// The contracts of both lists, in the order of the versions' numbers. An `Err` is out of memory.
+/// The contracts of both lists. An `Err` is out of memory.
 fn in_one(
     deployed: Vec<NumberedContract>,
     released: Vec<NumberedContract>,
 ) -> Result<Vec<NumberedContract>, StoreFault>
-    ensures all { IfOk result (λ all. IsByNumber all.items
-        × ((x : NumberedModel) → Contains all.items x ↔ Contains (deployed.items ++ released.items) x)) }
+    ensures all { IfOk result (λ all. all.items ≡ deployed.items ++ released.items) }
     ensures cause { IfErr result (λ f. f ≡ StoreFault.Memory) }
 {
     let mut all = deployed;
     let mut released = released;
     match all.append(&mut released) {
-        Ok(()) => Ok(by_number(all)),
+        Ok(()) => Ok(all),
         Err(_) => Err(StoreFault::Memory),
     }
 }
 
-/// The contracts with the provider of the versions that are in the environment, in the order of the versions' numbers.
+/// The contracts with the provider of the versions that are in the environment, in no order. That of a version in two
+/// instances, or deployed and released, is there more than once.
 ///
 /// # Errors
 /// `StoreFault::Memory` if the database is out of memory, or there is none for the answer; `StoreFault::Store` if it
@@ -114,21 +99,9 @@ pub(crate) fn contracts_there<S: Alter>(
     provider: &str,
 ) -> Result<Vec<NumberedContract>, StoreFault>
     ensures { CalmQueries S.Store conn.old conn.new result
-        (λ found s. AreContractsThere s environment.now provider.now found.items) }
+        (λ found s. TellsContracts s provider.now (Stands s environment.now) found.items) }
 {
     let deployed = done!(deployed_contracts(alloc, conn, environment, provider));
     let released = done!(released_contracts(alloc, conn, environment, provider));
     in_one(deployed, released)
-}
-
-/// The content of the contract of the version of this number, which is in the environment: found among all contracts of
-/// the versions that are there. `None` if it has none.
-pub(crate) fn content_among(contracts: &[NumberedContract], number: u32) -> Option<u32>
-    ensures { (s : State) (e p : Text) (w : Version) → AreContractsThere s e p contracts.now →
-        Stands s e w → number_known s.versions w ≡ Some number → result ≡ s.contracts (w, p) }
-{
-    match contracts.binary_search_by_key(&number, |one| one.number) {
-        Ok(at) => Some(contracts[at].content),
-        Err(_) => None,
-    }
 }

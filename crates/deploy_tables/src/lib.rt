@@ -18,7 +18,6 @@ macro_rules! done {
     };
 }
 
-mod consumers;
 mod contracts_there;
 mod deployments;
 mod entries;
@@ -26,15 +25,15 @@ mod gate;
 mod listings;
 mod making;
 mod matrix_rows;
-mod pairs;
+mod open_needs;
+mod partners;
 mod releases;
-mod standing_versions;
 mod told_results;
+mod version_names;
 
 pub use deployments::{is_deployed, record_deployed, take_out};
-pub use gate::needs;
+pub use gate::faults;
 pub use listings::{deployed, released};
 pub use making::make_tables;
 pub use matrix_rows::matrix;
 pub use releases::{end_support, is_released, record_released};
-pub use standing_versions::{StandingVersion, standing};

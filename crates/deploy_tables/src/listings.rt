@@ -53,9 +53,9 @@ fn reads_as_released(row: &Row) -> bool
 }
 
 /// A pacticipant and a version. Both are looked at before memory is taken.
-struct ReleasedRow;
+pub(crate) struct VersionRow;
 
-impl ReadRow for ReleasedRow {
+impl ReadRow for VersionRow {
     type Item = Version;
 
     ghost reads_as = { IsReleasedRow };
@@ -107,7 +107,7 @@ pub fn released<S: Alter>(
     ensures { CalmQueries S.Store conn.old conn.new result
         (λ items s. Lists version_cmp (λ v. IsTrue (s.released (environment.now, v))) items.items) }
 {
-    list_of::<ReleasedRow, S>(
+    list_of::<VersionRow, S>(
         alloc,
         conn,
         "SELECT v.pacticipant, v.version FROM released r JOIN versions v ON v.number = r.version_number WHERE r.environment = ?1 ORDER BY v.pacticipant, v.version",

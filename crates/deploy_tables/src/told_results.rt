@@ -42,10 +42,10 @@ impl ReadRow for PassRow {
     }
 }
 
-/// The number of a result.
-struct MarkRow;
+/// A number.
+pub(crate) struct NumberRow;
 
-impl ReadRow for MarkRow {
+impl ReadRow for NumberRow {
     type Item = u32;
 
     ghost reads_as = { λ row number. column row 0 ≡ Int (pos number) };
@@ -181,7 +181,7 @@ fn checked_for<S: Alter>(
     ensures { CalmQueries S.Store conn.old conn.new result
         (λ found s. TellChecked s (λ c _. c ≡ content) found.items) }
 {
-    list_of::<MarkRow, S>(
+    list_of::<NumberRow, S>(
         alloc,
         conn,
         "SELECT l.result FROM latest l JOIN checked_results c ON c.result = l.result WHERE l.content = ?1",
@@ -199,7 +199,7 @@ fn checked_by<S: Alter>(
         (λ found s. TellChecked s
         (λ _ w. number_known s.versions w ≡ Some version_number) found.items) }
 {
-    list_of::<MarkRow, S>(
+    list_of::<NumberRow, S>(
         alloc,
         conn,
         "SELECT l.result FROM latest l JOIN checked_results c ON c.result = l.result WHERE l.provider_version = ?1",

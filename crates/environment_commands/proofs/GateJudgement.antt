@@ -1,20 +1,17 @@
--- The judgement of an environment with these marks, from all needs of a version there.
+-- The judgement of an environment with these marks, from all faults of a version there.
 use Rattle.std.proofs.Common.{◌≡◌, ◌==◌, ◌∷◌, [], List, Bool, true, false, ◌||◌, not, length, refl, sym, subst, ap, arith}
 use Rattle.std.proofs.lemmas.Bool.{eqb-true}
 use Rattle.std.specs.Prelude.{Option, Some}
 use Rattle.std.specs.Option.{option_map_or}
 use Rattle.broker_core.specs.State.{State, is_gated, is_strict}
 use Rattle.broker_core.specs.Text.{Text}
-use Rattle.broker_core.specs.Listing.{Lists}
-use Rattle.broker_core.specs.Faults.{fault_cmp, IsFaultAmong}
-use Rattle.broker_core.specs.Gate.{IsNeed, Judges}
+use Rattle.broker_core.specs.Gate.{Judges}
 use Rattle.broker_core.specs.declared.command.Marks.{Marks}
 use Rattle.broker_core.specs.declared.command.Version.{Version}
-use Rattle.broker_core.specs.declared.need.Need.{Need}
 use Rattle.broker_core.specs.declared.need.PairFault.{PairFault}
-use Rattle.broker_core.proofs.GateLemmas.{faults_of_needs, judged_by_faults}
+use Rattle.broker_core.proofs.GateLemmas.{judged_by_faults}
 use Rattle.broker_core.proofs.Judgement.{is_none_left}
-use Rattle.deploy_tables.specs.Needs.{need_cmp}
+use Rattle.deploy_tables.specs.Needs.{AreFaults}
 
 none_left : (faults : List PairFault) → is_none_left faults ≡ (length faults == 0)
 none_left [] = refl
@@ -24,10 +21,8 @@ none_left (f ∷ fs) = some_left (length (f ∷ fs) == 0) refl
     some_left false is = refl
     some_left true is = absurd (omega (arith, eqb-true (length (f ∷ fs)) 0 is))
 
-pub judged : (s : State) (v : Version) (e : Text) (marks : Marks) (needs : List Need) (faults : List PairFault) → s.environments e ≡ Some marks → Lists need_cmp (IsNeed s v e) needs → Lists fault_cmp (IsFaultAmong marks.strict needs) faults
-    → Judges s v e (not marks.gated || length faults == 0) faults
-judged s v e marks needs faults marks_are needs_are listed =
+pub judged : (s : State) (v : Version) (e : Text) (marks : Marks) (faults : List PairFault) → s.environments e ≡ Some marks → AreFaults s v e marks.strict faults → Judges s v e (not marks.gated || length faults == 0) faults
+judged s v e marks faults marks_are listed =
     let strict : is_strict s e ≡ marks.strict = ap (λ (o : Option Marks). option_map_or (λ m. m.strict) o false) marks_are in
     let gated : is_gated s e ≡ marks.gated = ap (λ (o : Option Marks). option_map_or (λ m. m.gated) o true) marks_are in
-    subst (λ (b : Bool). Judges s v e b faults) (λ i. not (gated i) || none_left faults i)
-    (judged_by_faults s v e faults (faults_of_needs s v e needs faults needs_are.exactly (subst (λ (b : Bool). Lists fault_cmp (IsFaultAmong b needs) faults) (sym strict) listed)))
+    subst (λ (b : Bool). Judges s v e b faults) (λ i. not (gated i) || none_left faults i) (judged_by_faults s v e faults (listed strict))

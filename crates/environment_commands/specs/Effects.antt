@@ -2,7 +2,7 @@
 -- clause cites it
 use Rattle.std.specs.Prelude.{◌≡◌, List, Some, Bool, IsTrue}
 use Rattle.broker_core.specs.Change.{Transition, unchanged_with}
-use Rattle.broker_core.specs.Gate.{IsNeed, Judges}
+use Rattle.broker_core.specs.Gate.{Judges}
 use Rattle.broker_core.specs.Listing.{Lists}
 use Rattle.broker_core.specs.Machine.{StepOfCaller, TakesEffect, deployed_cmp, version_cmp}
 use Rattle.broker_core.specs.State.{State as Broker}
@@ -15,22 +15,15 @@ use Rattle.broker_core.specs.declared.command.Command.{Command}
 use Rattle.broker_core.specs.declared.command.Command.TheVariants.{GetEnvironment, CanIDeploy, GetMatrix}
 use Rattle.broker_core.specs.declared.command.Marks.{Marks}
 use Rattle.broker_core.specs.declared.command.Version.{Version}
-use Rattle.broker_core.specs.declared.need.Need.{Need}
 use Rattle.broker_core.specs.declared.need.PairFault.{PairFault}
 use Rattle.broker_core.specs.declared.policy.Caller.{Caller}
 use Rattle.command_facts.specs.Primitives.{broker_primitives}
-use Rattle.deploy_tables.specs.Needs.{need_cmp}
 use Rattle.environment_commands.specs.Places.{IsAdmitted}
 use Rattle.environment_commands.specs.declared.places.Admitted.{Admitted}
 
 -- what the command does once nothing refuses it
 abbrev pub Enacts : Command → Broker → Transition → Type 0
 Enacts command s out = TakesEffect broker_primitives s command out
-
--- an environment with these marks judges a version with these needs so
-abbrev pub JudgesNeeds : Marks → List Need → Bool → List PairFault → Type 0
-JudgesNeeds marks needs permitted faults = (s : Broker) (v : Version) (e : Text) → s.environments e ≡ Some marks
-    → Lists need_cmp (IsNeed s v e) needs → Judges s v e permitted faults
 
 -- what the gate says of a version and an environment that are there
 abbrev pub GateSays : Text → Version → Admitted → Bool → List PairFault → Broker → Type 0

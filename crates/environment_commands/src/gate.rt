@@ -1,14 +1,13 @@
 //! The gate.
-ghost use Rattle.std.specs.Prelude.{◌≡◌, ◌==◌, ◌||◌, IfOk, IfErr, length, not};
+ghost use Rattle.std.specs.Prelude.{◌≡◌, ◌==◌, ◌||◌, length, not};
 ghost use Rattle.broker_tables.specs.Calm.{CalmQueries};
-ghost use Rattle.environment_commands.specs.Effects.{GateSays, JudgesNeeds};
+ghost use Rattle.environment_commands.specs.Effects.{GateSays};
 
 use crate::places::Admitted;
 use broker_core::command::{Marks, Version};
-use broker_core::gate::decide;
 use broker_core::name::Name;
-use broker_core::need::{Need, PairFault};
-use deploy_tables::needs;
+use broker_core::need::PairFault;
+use deploy_tables::faults;
 use sqlite::{Alter, Connection};
 use std::alloc::Global;
 use table_access::StoreFault;
@@ -19,22 +18,6 @@ fn permits(marks: Marks, faults: &[PairFault]) -> bool
     ensures { result ≡ not marks.gated || length faults.now == 0 }
 {
     !marks.gated || faults.is_empty()
-}
-
-/// Whether an environment with these marks permits a version with these needs, and the faults of
-/// the needs.
-fn judgement(
-    alloc: Global,
-    needs: &[Need],
-    marks: Marks,
-) -> Result<(bool, Vec<PairFault>), StoreFault>
-    ensures ok { IfOk result (λ judged. JudgesNeeds marks needs.now judged.0 judged.1.items) }
-    ensures cause { IfErr result (λ fault. fault ≡ StoreFault.Memory) }
-{
-    match decide(alloc, needs, marks.strict) {
-        Ok(faults) => Ok((permits(marks, &faults), faults)),
-        Err(_) => Err(StoreFault::Memory),
-    }
 }
 
 /// Asks the gate for a version and an environment that are there: whether the version is permitted,
@@ -49,6 +32,7 @@ pub(crate) fn judge<S: Alter>(
     ensures { CalmQueries S.Store conn.old conn.new result
         (λ judged s. GateSays environment.now version.now place judged.0 judged.1.items s) }
 {
-    let needs = done!(needs(alloc, conn, version, environment.as_str()));
-    Ok(done!(judgement(alloc, &needs, place.marks)))
+    let strict = place.marks.strict;
+    let faults = done!(faults(alloc, conn, version, environment.as_str(), strict));
+    Ok((permits(place.marks, &faults), faults))
 }

@@ -1,10 +1,10 @@
-//! What many versions need that are there.
+//! What a version lacks where many are there.
 use crate::tables::{fail_of, filled};
 use broker_core::command::Version;
 use broker_core::name::Name;
 use content_store::{Sha256Digester, put};
 use contract_tables::add_contract;
-use deploy_tables::{needs, record_deployed, standing};
+use deploy_tables::{deployed, faults, record_deployed};
 use registry_tables::{add_pacticipant, add_version};
 use sqlite::{Connection, MemStore};
 use std::alloc::Global;
@@ -33,16 +33,16 @@ fn two_hundred_stand(rt: HostRuntime) -> Result<(), Fail> {
     for pacticipant in 100..300 {
         deploy_consumer(alloc, &mut conn, pacticipant)?;
     }
-    let there = standing(alloc, &mut conn, "live").map_err(fail_of)?;
+    let there = deployed(alloc, &mut conn, "live").map_err(fail_of)?;
     assert!(rt; there.len() == 200);
     let stock = Version {
         pacticipant: Name::new(alloc, "stock")?,
         name: Name::new(alloc, "1")?,
     };
-    let needed = needs(alloc, &mut conn, &stock, "live").map_err(fail_of)?;
-    assert!(rt; needed.len() == 200);
-    for (version, need) in there.iter().zip(needed.iter()) {
-        assert!(rt; version.pacticipant.as_str() == need.consumer.as_str());
+    let lacking = faults(alloc, &mut conn, &stock, "live", false).map_err(fail_of)?;
+    assert!(rt; lacking.len() == 200);
+    for (item, fault) in there.iter().zip(lacking.iter()) {
+        assert!(rt; item.pacticipant.as_str() == fault.consumer.as_str());
     }
     Ok(())
 }

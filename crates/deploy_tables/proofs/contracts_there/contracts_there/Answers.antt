@@ -15,5 +15,5 @@ returns g c =
     let released = c.in-Ok-released_contracts.value in
     calm_computed old new released c.in_one.result
     (λ items s. TellsContracts s p (IsDeployedIn s e) deployed.items × TellsContracts s p (IsReleasedIn s e) items.items) _ _
-    (λ s told all is. (is.0, standing_told s e p deployed.items released.items all.items told.0 told.1 is.1)) c.in_one.ensures.all c.in_one.ensures.cause
+    (λ s told all is. standing_told s e p deployed.items released.items all.items told.0 told.1 is) c.in_one.ensures.all c.in_one.ensures.cause
     (calm_then old mid new deployed _ _ _ _ (λ s one items two. (one, two)) c.in-Ok.ensures c.in-Ok-released_contracts.ensures)

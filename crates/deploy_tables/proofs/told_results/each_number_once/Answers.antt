@@ -6,7 +6,7 @@ use Rattle.std.specs.Cmp.Rules.{comparing}
 use Rattle.std.specs.FinMap.{nat_cmp-IsAntisymmetric}
 use Rattle.std.proofs.lemmas.List.Filters.{dedup_is}
 use Rattle.broker_core.specs.Listing.{Lists}
-use Rattle.deploy_tables.proofs.NeedOrders.{once}
+use Rattle.deploy_tables.proofs.MatrixOrders.{once}
 use Rattle.deploy_tables.proofs.told_results.each_number_once.Goals as goal
 
 nats_tie : (x y : ℕ) → nat_eq x y ≡ is_eq (nat_cmp x y)

@@ -1,0 +1,360 @@
+//! The needs of a version in an environment that aren't good. Each is decided on numbers; names are looked up only for
+//! those that are told.
+ghost use Rattle.std.specs.Prelude.{◌≡◌, ◌∷◌, [], ◌++◌, ◌↔◌, IfOk, IfErr, Some, None, Contains, not, is_some, option_map, option_and_then, option_to_list};
+ghost use Rattle.broker_core.specs.declared.need.Need.{Need as NeedModel};
+ghost use Rattle.broker_core.specs.Faults.{kind_of};
+ghost use Rattle.broker_core.specs.Gate.{IsNeed};
+ghost use Rattle.broker_core.specs.Text.{Text};
+ghost use Rattle.broker_tables.specs.Numbers.{number_of as number_known};
+ghost use Rattle.broker_tables.specs.Calm.{CalmQueries};
+ghost use Rattle.deploy_tables.specs.Matrix.{IsOfSome};
+ghost use Rattle.deploy_tables.specs.Releases.{IsVersion};
+ghost use Rattle.deploy_tables.specs.Partners.{AreNumbersOfVersions, AreAllPartners, AreReleasedThere, AreNumbered};
+ghost use Rattle.deploy_tables.specs.Needs.{AreLatestOf, need_with, need_used, IsOpen, IsWithPartner, IsNeedOfContract, IsOwnNeed, IsUsed, IsNeedOfOthers};
+
+use crate::contracts_there::{NumberedContract, contracts_there};
+use crate::partners::{ReleasedNumber, partners, released_numbers};
+use crate::version_names::version_numbered;
+use broker_core::command::Version;
+use broker_core::name::Name;
+use broker_core::need::{Latest, Need};
+use contract_tables::{
+    Contract, LatestResult, contracts_of, latest_among, latest_of, latest_results,
+};
+use sqlite::{Alter, Connection};
+use std::alloc::{AllocError, Global};
+use table_access::StoreFault;
+
+/// Whether a need is good whose provider has a version there, by what the latest result says.
+fn is_good(latest: Option<Latest>, strict: bool) -> bool
+    ensures { (w : Text) → is_some (kind_of strict (Some w) latest) ≡ not result }
+{
+    match latest {
+        Some(latest) => latest.pass && (latest.checked || !strict),
+        None => false,
+    }
+}
+
+/// The need of a consumer's contract with a provider: with this version of it, and what the latest result says.
+fn need_with(
+    consumer: &Version,
+    provider: &Name,
+    partner: Option<Name>,
+    latest: Option<Latest>,
+) -> Result<Need, AllocError>
+    ensures { IfOk result (λ need. need ≡ need_with consumer.now provider.now partner latest) }
+{
+    Ok(Need {
+        consumer: consumer.pacticipant.clone()?,
+        consumer_version: consumer.name.clone()?,
+        provider: provider.clone()?,
+        provider_version: partner,
+        latest,
+    })
+}
+
+/// A list of this one.
+fn one(alloc: Global, need: Need) -> Result<Vec<Need>, AllocError>
+    ensures { IfOk result (λ found. found.items ≡ need ∷ []) }
+{
+    let mut found = Vec::new(alloc);
+    found.push(need)?;
+    Ok(found)
+}
+
+/// Puts more needs at the end. An `Err` is out of memory.
+fn add_needs(found: &mut Vec<Need>, more: Vec<Need>) -> Result<(), StoreFault>
+    ensures added { IfOk result (λ _. found.new.items ≡ found.old.items ++ more.items) }
+    ensures cause { IfErr result (λ f. f ≡ StoreFault.Memory) }
+{
+    let mut more = more;
+    match found.append(&mut more) {
+        Ok(()) => Ok(()),
+        Err(_) => Err(StoreFault::Memory),
+    }
+}
+
+// ---- the version's own contracts
+
+/// The need of the version's contract with its provider, of which no version is there. An `Err` is out of memory.
+fn absent(alloc: Global, version: &Version, provider: &Name) -> Result<Vec<Need>, StoreFault>
+    ensures all { IfOk result (λ found. found.items ≡ need_with version.now provider.now None None ∷ []) }
+    ensures cause { IfErr result (λ f. f ≡ StoreFault.Memory) }
+{
+    match need_with(version, provider, None, None) {
+        Ok(need) => match one(alloc, need) {
+            Ok(found) => Ok(found),
+            Err(_) => Err(StoreFault::Memory),
+        },
+        Err(_) => Err(StoreFault::Memory),
+    }
+}
+
+/// The need of the version's contract with its provider, and with this version of it, or with none.
+fn named_with(
+    alloc: Global,
+    version: &Version,
+    provider: &Name,
+    named: Option<Version>,
+    latest: Option<Latest>,
+) -> Result<Vec<Need>, AllocError>
+    ensures { IfOk result (λ found. found.items
+        ≡ need_with version.now provider.now (option_map (λ w. w.name) named) latest ∷ []) }
+{
+    let partner = match named {
+        Some(
+            Version {
+                pacticipant: _pacticipant,
+                name,
+            },
+        ) => Some(name),
+        None => None,
+    };
+    one(alloc, need_with(version, provider, partner, latest)?)
+}
+
+/// The need of the contract with the version of this number, if it isn't good.
+fn with_partner<S: Alter>(
+    alloc: Global,
+    conn: &mut Connection<S>,
+    version: &Version,
+    contract: &Contract,
+    partner: u32,
+    strict: bool,
+) -> Result<Vec<Need>, StoreFault>
+    ensures { CalmQueries S.Store conn.old conn.new result
+        (λ found s. IsVersion partner s → (x : NeedModel) → Contains found.items x
+        ↔ IsWithPartner s version.now contract.now strict partner x) }
+{
+    let latest = done!(latest_of(conn, contract.content, partner));
+    if is_good(latest, strict) {
+        return Ok(Vec::new(alloc));
+    }
+    let named = done!(version_numbered(alloc, conn, partner));
+    match named_with(alloc, version, &contract.provider, named, latest) {
+        Ok(found) => Ok(found),
+        Err(_) => Err(StoreFault::Memory),
+    }
+}
+
+/// The needs of the contract with the versions of these numbers that aren't good.
+fn with_partners<S: Alter>(
+    alloc: Global,
+    conn: &mut Connection<S>,
+    version: &Version,
+    contract: &Contract,
+    there: &[u32],
+    strict: bool,
+) -> Result<Vec<Need>, StoreFault>
+    ensures { CalmQueries S.Store conn.old conn.new result
+        (λ found s. AreNumbersOfVersions s there.now → (x : NeedModel) → Contains found.items x
+        ↔ IsOfSome (λ n. IsWithPartner s version.now contract.now strict n x) there.now) }
+{
+    let mut found = Vec::new(alloc);
+    for partner in there {
+        let more = done!(with_partner(alloc, conn, version, contract, *partner, strict));
+        done!(add_needs(&mut found, more));
+    }
+    Ok(found)
+}
+
+/// The needs of the contract that aren't good, where these versions of its provider are in the environment.
+fn with_all<S: Alter>(
+    alloc: Global,
+    conn: &mut Connection<S>,
+    version: &Version,
+    contract: &Contract,
+    there: &[u32],
+    strict: bool,
+) -> Result<Vec<Need>, StoreFault>
+    ensures { CalmQueries S.Store conn.old conn.new result
+        (λ found s. (e : Text) → AreAllPartners s e contract.now.provider there.now → (x : NeedModel) → Contains found.items x ↔ IsNeedOfContract s version.now e strict contract.now x) }
+{
+    if there.is_empty() {
+        return absent(alloc, version, &contract.provider);
+    }
+    with_partners(alloc, conn, version, contract, there, strict)
+}
+
+/// The needs of the contract that aren't good, where these versions are released in the environment.
+fn needs_of_contract<S: Alter>(
+    alloc: Global,
+    conn: &mut Connection<S>,
+    version: &Version,
+    environment: &str,
+    released: &[ReleasedNumber],
+    contract: &Contract,
+    strict: bool,
+) -> Result<Vec<Need>, StoreFault>
+    ensures { CalmQueries S.Store conn.old conn.new result
+        (λ found s. AreReleasedThere s environment.now released.now → (x : NeedModel) →
+        Contains found.items x ↔ IsNeedOfContract s version.now environment.now strict contract.now x) }
+{
+    let there = done!(partners(alloc, conn, environment, released, &contract.provider));
+    with_all(alloc, conn, version, contract, &there, strict)
+}
+
+/// The needs of these contracts that aren't good, where these versions are released in the environment.
+fn needs_of_contracts<S: Alter>(
+    alloc: Global,
+    conn: &mut Connection<S>,
+    version: &Version,
+    environment: &str,
+    released: &[ReleasedNumber],
+    contracts: &[Contract],
+    strict: bool,
+) -> Result<Vec<Need>, StoreFault>
+    ensures { CalmQueries S.Store conn.old conn.new result
+        (λ found s. AreReleasedThere s environment.now released.now → (x : NeedModel) →
+        Contains found.items x ↔ IsOfSome (λ c. IsNeedOfContract s version.now environment.now strict c x) contracts.now) }
+{
+    let mut found = Vec::new(alloc);
+    for contract in contracts {
+        let more = done!(needs_of_contract(
+            alloc,
+            conn,
+            version,
+            environment,
+            released,
+            contract,
+            strict,
+        ));
+        done!(add_needs(&mut found, more));
+    }
+    Ok(found)
+}
+
+/// The needs of the version of this number as a consumer that aren't good.
+fn own_needs<S: Alter>(
+    alloc: Global,
+    conn: &mut Connection<S>,
+    number: u32,
+    version: &Version,
+    environment: &str,
+    strict: bool,
+) -> Result<Vec<Need>, StoreFault>
+    ensures { CalmQueries S.Store conn.old conn.new result
+        (λ found s. AreNumbered s environment.now × (number_known s.versions version.now ≡ Some number →
+        (x : NeedModel) → Contains found.items x ↔ IsOwnNeed s version.now environment.now strict x)) }
+{
+    let contracts = done!(contracts_of(alloc, conn, number));
+    let released = done!(released_numbers(alloc, conn, environment));
+    needs_of_contracts(
+        alloc,
+        conn,
+        version,
+        environment,
+        &released,
+        &contracts,
+        strict,
+    )
+}
+
+// ---- the contracts with its pacticipant
+
+/// The need of the contract that this consumer has with the version's pacticipant, if it is a version of another.
+fn named_used(
+    alloc: Global,
+    version: &Version,
+    named: Option<Version>,
+    latest: Option<Latest>,
+) -> Result<Vec<Need>, AllocError>
+    ensures { IfOk result (λ found. found.items ≡ option_to_list
+        (option_and_then (need_used version.now latest) named)) }
+{
+    let Some(consumer) = named else {
+        return Ok(Vec::new(alloc));
+    };
+    if consumer.pacticipant == version.pacticipant {
+        return Ok(Vec::new(alloc));
+    }
+    let partner = Some(version.name.clone()?);
+    one(
+        alloc,
+        need_with(&consumer, &version.pacticipant, partner, latest)?,
+    )
+}
+
+/// The need of this contract with the version's pacticipant, if it isn't good. These are the latest results of the
+/// version.
+fn used_by<S: Alter>(
+    alloc: Global,
+    conn: &mut Connection<S>,
+    version: &Version,
+    results: &[LatestResult],
+    contract: NumberedContract,
+    strict: bool,
+) -> Result<Vec<Need>, StoreFault>
+    ensures { CalmQueries S.Store conn.old conn.new result
+        (λ found s. AreLatestOf s version.now results.now → (x : NeedModel) →
+        Contains found.items x ↔ IsUsed s version.now strict contract x) }
+{
+    let latest = latest_among(results, contract.content);
+    if is_good(latest, strict) {
+        return Ok(Vec::new(alloc));
+    }
+    let named = done!(version_numbered(alloc, conn, contract.number));
+    match named_used(alloc, version, named, latest) {
+        Ok(found) => Ok(found),
+        Err(_) => Err(StoreFault::Memory),
+    }
+}
+
+/// The needs of these contracts with the version's pacticipant that aren't good. These are the latest results of the
+/// version.
+fn used_by_each<S: Alter>(
+    alloc: Global,
+    conn: &mut Connection<S>,
+    version: &Version,
+    results: &[LatestResult],
+    contracts: &[NumberedContract],
+    strict: bool,
+) -> Result<Vec<Need>, StoreFault>
+    ensures { CalmQueries S.Store conn.old conn.new result
+        (λ found s. AreLatestOf s version.now results.now → (x : NeedModel) →
+        Contains found.items x ↔ IsOfSome (λ c. IsUsed s version.now strict c x) contracts.now) }
+{
+    let mut found = Vec::new(alloc);
+    for contract in contracts {
+        let more = done!(used_by(alloc, conn, version, results, *contract, strict));
+        done!(add_needs(&mut found, more));
+    }
+    Ok(found)
+}
+
+/// The needs of the version of this number as a provider that aren't good.
+fn needs_of_others<S: Alter>(
+    alloc: Global,
+    conn: &mut Connection<S>,
+    number: u32,
+    version: &Version,
+    environment: &str,
+    strict: bool,
+) -> Result<Vec<Need>, StoreFault>
+    ensures { CalmQueries S.Store conn.old conn.new result
+        (λ found s. number_known s.versions version.now ≡ Some number → (x : NeedModel) →
+        Contains found.items x ↔ IsNeedOfOthers s version.now environment.now strict x) }
+{
+    let contracts = done!(contracts_there(alloc, conn, environment, version.pacticipant.as_str()));
+    let results = done!(latest_results(alloc, conn, number));
+    used_by_each(alloc, conn, version, &results, &contracts, strict)
+}
+
+/// The needs of the version of this number that aren't good, in no order.
+pub(crate) fn open_needs<S: Alter>(
+    alloc: Global,
+    conn: &mut Connection<S>,
+    number: u32,
+    version: &Version,
+    environment: &str,
+    strict: bool,
+) -> Result<Vec<Need>, StoreFault>
+    ensures { CalmQueries S.Store conn.old conn.new result
+        (λ found s. number_known s.versions version.now ≡ Some number → (x : NeedModel) →
+        Contains found.items x ↔ (IsNeed s version.now environment.now x × IsOpen strict x)) }
+{
+    let mut found = done!(own_needs(alloc, conn, number, version, environment, strict));
+    let others = done!(needs_of_others(alloc, conn, number, version, environment, strict));
+    done!(add_needs(&mut found, others));
+    Ok(found)
+}

@@ -1,0 +1,125 @@
+//! The versions of a provider that are in an environment, by their numbers.
+ghost use Rattle.std.specs.Prelude.{◌≡◌, ◌++◌, ◌↔◌, IfOk, filter_map};
+ghost use Rattle.broker_core.specs.Gate.{Stands};
+ghost use Rattle.broker_tables.specs.Calm.{CalmQueries};
+ghost use Rattle.contract_tables.specs.Listings.{FailsAsMarked};
+ghost use Rattle.deploy_tables.specs.ContractsThere.{IsDeployedIn};
+ghost use Rattle.deploy_tables.specs.Partners.{IsNumberOfReleased, ArePartners, AreReleasedThere, number_if};
+
+use crate::told_results::NumberRow;
+use broker_core::name::Name;
+use broker_tables::name_in;
+use sqlite::{Alter, Connection, Row, params};
+use std::alloc::{AllocError, Global};
+use table_access::{ReadRow, StoreFault, list_of, number_in};
+
+/// A version that is released in an environment: its number, and its pacticipant.
+#[derive(Debug, Drop)]
+pub struct ReleasedNumber {
+    pub number: u32,
+    pub pacticipant: Name,
+}
+
+/// A version's number and its pacticipant.
+struct ReleasedNumberRow;
+
+impl ReadRow for ReleasedNumberRow {
+    type Item = ReleasedNumber;
+
+    ghost reads_as = { IsNumberOfReleased };
+
+    ghost fails_as = { FailsAsMarked };
+
+    fn read(alloc: Global, row: &Row) -> Result<ReleasedNumber, StoreFault> {
+        let number = number_in(row)?;
+        let pacticipant = name_in(alloc, row, 1)?;
+        Ok(ReleasedNumber {
+            number,
+            pacticipant,
+        })
+    }
+}
+
+/// The versions of the provider that are deployed in the environment, in no order; one that is in two instances is there
+/// twice.
+fn deployed_partners<S: Alter>(
+    alloc: Global,
+    conn: &mut Connection<S>,
+    environment: &str,
+    provider: &str,
+) -> Result<Vec<u32>, StoreFault>
+    ensures { CalmQueries S.Store conn.old conn.new result
+        (λ found s. ArePartners s provider.now (IsDeployedIn s environment.now) found.items) }
+{
+    list_of::<NumberRow, S>(
+        alloc,
+        conn,
+        "SELECT version_number FROM deployed WHERE environment = ?1 AND pacticipant = ?2",
+        params![environment, provider],
+    )
+}
+
+/// The versions that are released in the environment, in no order, without their names.
+pub(crate) fn released_numbers<S: Alter>(
+    alloc: Global,
+    conn: &mut Connection<S>,
+    environment: &str,
+) -> Result<Vec<ReleasedNumber>, StoreFault>
+    ensures { CalmQueries S.Store conn.old conn.new result
+        (λ found s. AreReleasedThere s environment.now found.items) }
+{
+    list_of::<ReleasedNumberRow, S>(
+        alloc,
+        conn,
+        "SELECT r.version_number, v.pacticipant FROM released r JOIN versions v ON v.number = r.version_number WHERE r.environment = ?1",
+        params![environment],
+    )
+}
+
+/// The number of the version, if it is one of the provider.
+fn number_if(released: &ReleasedNumber, provider: &Name) -> Option<u32>
+    ensures { result ≡ number_if provider.now released.now }
+{
+    if released.pacticipant == *provider {
+        Some(released.number)
+    } else {
+        None
+    }
+}
+
+/// These numbers, and behind them those of the provider's versions among the released ones.
+fn with_released(
+    deployed: Vec<u32>,
+    released: &[ReleasedNumber],
+    provider: &Name,
+) -> Result<Vec<u32>, AllocError>
+    ensures { IfOk result
+        (λ found. found.items ≡ deployed.items ++ filter_map (number_if provider.now) released.now) }
+{
+    let mut found = deployed;
+    for one in released {
+        if let Some(number) = number_if(one, provider) {
+            found.push(number)?;
+        }
+    }
+    Ok(found)
+}
+
+/// The versions of the provider that are in the environment, in no order, where these are released there.
+pub(crate) fn partners<S: Alter>(
+    alloc: Global,
+    conn: &mut Connection<S>,
+    environment: &str,
+    released: &[ReleasedNumber],
+    provider: &Name,
+) -> Result<Vec<u32>, StoreFault>
+    ensures { CalmQueries S.Store conn.old conn.new result
+        (λ found s. AreReleasedThere s environment.now released.now →
+        ArePartners s provider.now (Stands s environment.now) found.items) }
+{
+    let deployed = done!(deployed_partners(alloc, conn, environment, provider.as_str()));
+    match with_released(deployed, released, provider) {
+        Ok(found) => Ok(found),
+        Err(_) => Err(StoreFault::Memory),
+    }
+}
