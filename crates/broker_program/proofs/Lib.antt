@@ -3,4 +3,3 @@ pub mod ResultLemmas
 pub mod UnchangedLemmas
 pub mod RefusalLemmas
 pub mod ServingLemmas
-pub mod LifeLemmas

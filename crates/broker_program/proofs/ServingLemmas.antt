@@ -9,7 +9,7 @@ use Rattle.sqlite.specs.State.{HasCleanDisk}
 use Rattle.sqlite.specs.WalReads.{AreClean}
 use Rattle.sqlite.specs.declared.FileStore.{FileStore}
 use Rattle.broker_service.specs.BrokerView.{BrokerView}
-use Rattle.broker_service.specs.SessionFiles.{IsGivenBack}
+use Rattle.broker_service.specs.Life.{IsGivenBack}
 use Rattle.broker_program.specs.Files.{ClosesAs, OpensBroker}
 use Rattle.broker_program.specs.Refusals.{IsLeftUnserved}
 use Rattle.broker_program.specs.Serving.{ServesMore, ServesNext, ServesOver, ServesPeers}

@@ -14,7 +14,7 @@ use Rattle.sqlite.specs.WalReads.{AreClean}
 use Rattle.sqlite.specs.declared.FileStore.{FileStore}
 use Rattle.broker_service.specs.BrokerView.{BrokerView}
 use Rattle.broker_service.specs.Calls.{Opened}
-use Rattle.broker_service.specs.SessionFiles.{IsGivenBack}
+use Rattle.broker_service.specs.Life.{IsGivenBack}
 use Rattle.broker_program.specs.declared.left.Left.{Left}
 use Rattle.broker_program.specs.declared.left.Left.TheVariants.{Closed, GivenUp, Served}
 use Rattle.broker_program.specs.declared.left.Service.{Service}

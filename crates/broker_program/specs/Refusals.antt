@@ -11,7 +11,7 @@ use Rattle.sqlite.specs.declared.FileStore.{FileStore}
 use Rattle.broker_core.specs.Text.{Text}
 use Rattle.broker_service.specs.BrokerView.{BrokerView}
 use Rattle.broker_service.specs.Calls.{Created, Migrated, Opened}
-use Rattle.broker_service.specs.SessionFiles.{IsGivenBack}
+use Rattle.broker_service.specs.Life.{IsGivenBack}
 use Rattle.broker_service.specs.declared.opening.OpenFault.{OpenFault}
 use Rattle.command_facts.specs.Primitives.{broker_primitives}
 use Rattle.broker_program.specs.Files.{LeavesStore, StartsFrom}

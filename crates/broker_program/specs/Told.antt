@@ -24,7 +24,7 @@ use Rattle.broker_core.specs.Text.{Text}
 use Rattle.broker_service.specs.BrokerView.{BrokerView}
 use Rattle.broker_service.specs.Calls.{Applied, Opened}
 use Rattle.broker_service.specs.Ends.{IsAsBefore}
-use Rattle.broker_service.specs.SessionFiles.{IsGivenBack}
+use Rattle.broker_service.specs.Life.{IsGivenBack}
 use Rattle.broker_program.specs.Files.{LeavesStore, StartsFrom}
 use Rattle.broker_program.specs.declared.can_i_deploy.Question.{Question}
 use Rattle.broker_program.specs.declared.left.Left.{Left}

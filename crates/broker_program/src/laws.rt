@@ -3,7 +3,7 @@ ghost use Rattle.broker_program.specs.Life.{AskingLeads, MakingLeads, MigratingL
 
 use sqlite_disk::Disk;
 
-/// Each of the commands over a file that are done is a period of the life of that file (`life_on_files` of
+/// Each of the commands over a file that are done is a period of the life of that file (`sessions` of
 /// `broker_service`): if the files held no tables, a broker's state of format 1 or one of today's, then whatever a crash
 /// leaves of what the command left keeps what the period leads to. `init` makes a broker (`making`), `migrate` makes
 /// today's database with the same state (`migrating`), and `can-i-deploy` serves one command (`asking`).

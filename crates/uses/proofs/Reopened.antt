@@ -20,9 +20,8 @@ use Rattle.broker_tables.specs.Holds.{format}
 use Rattle.broker_tables.specs.Making.{IsMarked}
 use Rattle.broker_service.specs.BrokerView.{BrokerView}
 use Rattle.broker_service.specs.Calls.{Opened}
-use Rattle.broker_service.specs.Life.{AreTreesOf, AreFilesOf, HoldsAsBefore, OpeningSpares}
+use Rattle.broker_service.specs.Life.{AreTreesOf, AreFilesOf, HoldsAsBefore, OpenedFilesHold, OpeningSpares}
 use Rattle.broker_service.specs.Life.Kept.{Blank, OfToday}
-use Rattle.broker_service.specs.SessionFiles.{ClosedFilesHold}
 use Rattle.broker_service.specs.Opening.{Judged}
 use Rattle.broker_service.specs.Stored.{Stores, HoldsState}
 use Rattle.broker_service.specs.declared.broker.Refused.{Refused}
@@ -50,7 +49,7 @@ module _ {D : Type 0} (g : Ghosts D) where
   abbrev Holds : Broker → Image → Type 0
   Holds s image = ((trees : Trees) × HoldsDatabase image trees × AreTreesOf (OfToday s) trees) ⊎ ((OfToday s ≡ Blank) × (image.db ≡ []))
 
-  keep_state : (s : Broker) (old : BrokerView (FileStore D g)) (files : Files D) → ClosedFilesHold g → HoldsState s (file_state {D = D} {g = g} old.connection) → IsCopied old.connection files → KeepState g s files
+  keep_state : (s : Broker) (old : BrokerView (FileStore D g)) (files : Files D) → OpenedFilesHold g → HoldsState s (file_state {D = D} {g = g} old.connection) → IsCopied old.connection files → KeepState g s files
   keep_state s old files law held copied =
       let was = held.held copied.was_open in
       let trees = (file_state {D = D} {g = g} old.connection).committed.trees in
@@ -59,10 +58,10 @@ module _ {D : Type 0} (g : Ghosts D) where
       record {
         seen = found (image_of g files) copied.seen;
         left = λ image may. found image (copied.left image may);
-        found = λ conn opened finds. law s old.connection conn files held copied opened finds;
+        found = λ conn opened finds. law s files trees conn copied.seen.both kept opened finds;
       }
 
-  pub closed : (old : BrokerView (FileStore D g)) (files : Files D) → ClosedFilesHold g → IsCopied old.connection files → AreClosed old files
+  pub closed : (old : BrokerView (FileStore D g)) (files : Files D) → OpenedFilesHold g → IsCopied old.connection files → AreClosed old files
   closed old files law copied = record { copied = copied; keep = λ s held. keep_state s old files law held copied }
 
   -- what holds the database that was there keeps the state that was there
