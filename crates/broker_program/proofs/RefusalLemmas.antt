@@ -1,5 +1,5 @@
 -- what a call on the database of a file that failed leaves of it
-use Rattle.std.proofs.Common.{◌≡◌, ◌≤◌, ◌⊎◌, inl, inr, sym, subst, arith}
+use Rattle.std.proofs.Common.{◌≡◌, ◌≤◌, sym, subst, arith}
 use Rattle.sqlite_disk.specs.declared.Disk.{Ghosts}
 use Rattle.sqlite_trees.specs.View.{doubt}
 use Rattle.sqlite.specs.Files.{file_state}
@@ -11,7 +11,6 @@ use Rattle.sqlite.specs.View.{IsClean}
 use Rattle.sqlite.specs.declared.FileStore.{FileStore}
 use Rattle.broker_service.specs.declared.opening.OpenFault.{OpenFault}
 use Rattle.broker_program.specs.Files.{GivesUpAs, LeavesStore, OpensOn}
-use Rattle.broker_program.specs.Reasons.{IsFromOutside, IsReopeningFault}
 use Rattle.broker_program.specs.Refusals.{FailsThere, IsOfDatabase}
 use Rattle.broker_program.specs.declared.fault.RunFault.{RunFault}
 use Rattle.broker_program.specs.declared.fault.RunFault.TheVariants as run_fault
@@ -35,18 +34,3 @@ module _ {D : Type 0} {g : Ghosts D} where
       let early : HasCleanDisk (file_state old) = omega (arith, kept.0, later) in
       record { connection = old; end = new; starts = opens early; fails = fails; clean = kept.0; left = kept.1 }) gives in
       subst (λ (f : RunFault). IsOfDatabase held Fails f rest) (sym is) there
-
-  -- a fault of a file that is opened, whatever was found there
-  pub opening_again : (held : Image) (Fails : Held (FileStore D g) → Held (FileStore D g) → OpenFault → Type 0) (told : RunFault) (rest : Left D g) → IsFromOutside told ⊎ IsOfDatabase held Fails told rest → IsReopeningFault told
-  opening_again held Fails told rest (inl outside) = inl outside
-  opening_again held Fails (run_fault.Open fault) rest (inr it) = inr tt
-  opening_again held Fails run_fault.Token rest (inr it) = absurd it
-  opening_again held Fails run_fault.Name rest (inr it) = absurd it
-  opening_again held Fails run_fault.File rest (inr it) = absurd it
-  opening_again held Fails run_fault.Listen rest (inr it) = absurd it
-  opening_again held Fails (run_fault.Serve f) rest (inr it) = absurd it
-  opening_again held Fails (run_fault.Pact f) rest (inr it) = absurd it
-  opening_again held Fails (run_fault.Replies f) rest (inr it) = absurd it
-  opening_again held Fails (run_fault.Check f) rest (inr it) = absurd it
-  opening_again held Fails (run_fault.Answer answer) rest (inr it) = absurd it
-  opening_again held Fails run_fault.Memory rest (inr it) = absurd it

@@ -63,8 +63,3 @@ module _ {D : Type 0} {g : Ghosts D} where
 
   pub served_some : (s t : BrokerView (FileStore D g)) (before after : ℕ) → s.is_stopped ≡ false → ¬ (t.is_stopped ≡ false) → ServesMore s t before after → before < after
   served_some s t before after runs stopped more = some_of more.0 s t before after runs stopped more.1 more.2
-
-  -- a connection that is taken counts among those that were served, or doesn't
-  pub next_counts : (s t : BrokerView (FileStore D g)) (before after : ℕ) → ServesNext s t before after → before ≤ after
-  next_counts s t before after (inl lost) = omega (arith, lost.0)
-  next_counts s t before after (inr served) = omega (arith, served.0)

@@ -15,11 +15,6 @@ one_such P [] h = absurd h
 one_such P (x ∷ xs) (inl p) = (x, inl refl, p)
 one_such P (x ∷ xs) (inr h) = let r = one_such P xs h in (r.0, inr r.1, r.2)
 
-pub is_such : {A : Type 0} (P : A → Type 0) (xs : List A) (z : A) → IsIn z xs → P z → OneOf P xs
-is_such P [] z h p = absurd h
-is_such P (x ∷ xs) z (inl same) p = inl (subst P same p)
-is_such P (x ∷ xs) z (inr h) p = inr (is_such P xs z h p)
-
 pub each_such : {A : Type 0} (P : A → Type 0) (xs : List A) (z : A) → AllByRecursion P xs → IsIn z xs → P z
 each_such P [] z a h = absurd h
 each_such P (x ∷ xs) z a (inl same) = subst P (sym same) a.0
