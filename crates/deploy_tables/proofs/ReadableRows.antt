@@ -44,11 +44,7 @@ module _ (db : Database) (s : Broker) (held : Holds db s) (readable : IsReadable
 
   -- an instance is a text in UTF-8
   deployed_instance : (r : Row) → Has (db.trees 21) r → IsUtf8 (text 3 r)
-  deployed_instance r has =
-      let value : value_at (by_both text_cmp (by_both text_cmp text_cmp)) deployed_rows.place_of (whole_at 4) (db.trees 21) (text 1 r, (text 2 r, text 3 r)) ≡ Some (whole_at 4 r) =
-      has_find triples_total exact_triple deployed_rows.place_of (whole_at 4) (db.trees 21) r (deployed_rows.keys db held.broker) has in
-      let name = deployed_list.named s.versions (text 2 r) (whole_at 4 r) (s.deployed (text 1 r, text 2 r, text 3 r)) (sym (ap (option_map Some) value) ∙ held.deployed (text 1 r) (text 2 r) (text 3 r)) in
-      readable.instances (text 1 r) (text 2 r) (text 3 r) name.0 name.1
+  deployed_instance r has = let name = deployed_list.row_deployed db s held (text 1 r) r has refl in readable.instances (text 1 r) (text 2 r) (text 3 r) name.0 name.1
 
   released_number : (r : Row) → Has (db.trees 23) r → (column r 2 ≡ Int (whole_at 2 r)) × IsLow (whole_at 2 r)
   released_number r has =
