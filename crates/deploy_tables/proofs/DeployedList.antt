@@ -1,12 +1,12 @@
 -- The list of what is deployed.
-use Rattle.std.proofs.Common.{◌≡◌, ℕ, ℤ, pos, codes, List, [], ◌∷◌, map, false, refl, sym, ap, subst, ◌∙◌, Some, None, Option, Ordering, Equal}
+use Rattle.std.proofs.Common.{◌≡◌, ℕ, ℤ, pos, codes, List, [], ◌∷◌, false, refl, sym, ap, subst, ◌∙◌, Some, None, Option, Ordering, Equal}
 use Rattle.std.specs.Prelude.{option_map}
 use Rattle.std.specs.Ordering.{eq_by_cmp, is_eq, int_cmp, ordering_then}
 use Rattle.std.specs.Cmp.{eq_by_cmp_equiv}
 use Rattle.sqlite.specs.Tree.{IsAscending}
 use Rattle.sqlite.specs.declared.types.Value.TheVariants.{Text}
 use Rattle.sqlite.specs.Order.{Row, column, value_cmp}
-use Rattle.sqlite.specs.Term.{Term, col, eval_all}
+use Rattle.sqlite.specs.Term.{Term, col}
 use Rattle.sqlite.specs.Collation.TheVariants.{Binary}
 use Rattle.sqlite_sql.specs.Query.{sort_cmp}
 use Rattle.sqlite_value.specs.declared.keys.Key.{Key}

@@ -1,5 +1,5 @@
 -- The versions of a provider that are in an environment, by their numbers: rows of deployed and of released.
-use Rattle.std.proofs.Common.{◌≡◌, ◌∙◌, inl, inr, ℕ, pos, codes, List, [], ◌∷◌, ◌++◌, Option, Some, None, Bool, true, false, ◌&&◌, refl, sym, ap, subst}
+use Rattle.std.proofs.Common.{◌≡◌, ◌∙◌, inl, inr, ℕ, pos, codes, List, [], ◌∷◌, ◌++◌, Some, None, true, refl, sym, ap, subst}
 use Rattle.std.specs.Prelude.{Contains, ◌↔◌, filter_map, if◌then◌else◌}
 use Rattle.std.proofs.lemmas.List.Elements.{Contains-append_cases, Contains-append_left, Contains-append_right}
 use Rattle.sqlite.specs.Edit.{id_in}
@@ -14,11 +14,10 @@ use Rattle.sqlite_sql.specs.declared.ops.BinaryOp.TheVariants.{Compare}
 use Rattle.sqlite_sql.specs.declared.ops.CompareOp.TheVariants.{Eq}
 use Rattle.sqlite_sql.specs.Ops.{binary, is_true}
 use Rattle.sqlite_tied.specs.Compute.{everything}
-use Rattle.table_access.specs.Columns.{text, whole_at}
+use Rattle.table_access.specs.Columns.{text}
 use Rattle.table_access.specs.Statements.{from_table, keeps, shows}
 use Rattle.table_access.specs.Reading.{AreRead}
 use Rattle.table_access.proofs.Parts.{is_param}
-use Rattle.broker_core.specs.declared.command.Version.{Version}
 use Rattle.broker_core.specs.Text.{Text as Words, same_text, version}
 use Rattle.broker_core.specs.State.{State as Broker}
 use Rattle.broker_core.specs.Gate.{Stands}
@@ -29,7 +28,7 @@ use Rattle.broker_tables.specs.Holds.{Holds}
 use Rattle.broker_tables.proofs.Asked.{Asked, IsShown}
 use Rattle.broker_tables.proofs.Listed.{read_has, has_read}
 use Rattle.broker_tables.proofs.VersionRows.{text_test}
-use Rattle.deploy_tables.specs.ContractsThere.{IsDeployedIn, IsReleasedIn}
+use Rattle.deploy_tables.specs.ContractsThere.{IsDeployedIn}
 use Rattle.deploy_tables.specs.Partners.{ArePartners, AreReleasedNumbers, AreNumbered, number_if}
 use Rattle.deploy_tables.specs.declared.partners.ReleasedNumber.{ReleasedNumber}
 use Rattle.deploy_tables.proofs.DeployedRows.{environments, pacticipants}

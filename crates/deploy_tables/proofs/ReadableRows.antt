@@ -1,22 +1,19 @@
 -- The rows of each query of these tables can be read, if the state that the database holds can.
-use Rattle.std.proofs.Common.{◌≡◌, ◌∙◌, ◌≤◌, inl, inr, ℕ, pos, List, [], ◌∷◌, Some, refl, sym, ap, arith}
-use Rattle.std.specs.Prelude.{option_map, IsUtf8}
+use Rattle.std.proofs.Common.{◌≡◌, ◌≤◌, inl, inr, ℕ, pos, List, [], ◌∷◌, refl, arith}
+use Rattle.std.specs.Prelude.{IsUtf8}
 use Rattle.sqlite.specs.declared.types.Value.TheVariants.{Int}
 use Rattle.sqlite.specs.Order.{Row, column}
 use Rattle.sqlite.specs.Term.{col, eval_all}
 use Rattle.sqlite.specs.Effect.{Database}
 use Rattle.sqlite_rules.specs.Lists.{Has}
-use Rattle.table_access.specs.Columns.{text, text_cmp, whole_at, by_both}
+use Rattle.table_access.specs.Columns.{text, whole_at}
 use Rattle.table_access.specs.Reading.{IsNumberRow}
 use Rattle.table_access.specs.Statements.{from_both, shows}
-use Rattle.table_access.proofs.Maps.{has_find}
 use Rattle.table_access.proofs.SoundLemmas.{whole_in, has_place}
 use Rattle.broker_core.specs.State.{State as Broker}
-use Rattle.broker_tables.specs.Rows.{value_at}
 use Rattle.broker_tables.specs.Holds.{Holds}
 use Rattle.broker_tables.specs.Readable.{IsReadable, IsNamed}
 use Rattle.broker_tables.proofs.Asked.{Asked, EachShown, EachReads, of_both, of_table, number_reads}
-use Rattle.broker_tables.proofs.Orders.{triples_total, exact_triple}
 use Rattle.broker_tables.proofs.Placed.{contracts, contracts_there, results, results_there, latest, latest_there, deployed, deployed_there, released, released_there}
 use Rattle.broker_tables.proofs.ReadableRows.{IsLow, number_cell, name_cell, truth_cell, to_version_low, to_content_low, to_result_low, version_named, to_pacticipant_named, pass_low}
 use Rattle.broker_tables.proofs.VersionRows.{owners, names}
