@@ -1,6 +1,6 @@
 -- The contracts with a provider of the versions that stand in an environment: rows of deployed and of released, each
 -- joined with the contracts of its version.
-use Rattle.std.proofs.Common.{◌≡◌, ◌++◌, inl, inr, ℕ, pos, codes, List, [], ◌∷◌, Bool, true, false, refl, sym, ap, subst, ◌∙◌, Some, None, Option}
+use Rattle.std.proofs.Common.{◌≡◌, ◌++◌, inl, inr, ℕ, pos, codes, List, [], ◌∷◌, Bool, true, false, refl, sym, ap, subst, ◌∙◌, Some}
 use Rattle.std.specs.Prelude.{Contains, option_map, ◌↔◌}
 use Rattle.std.specs.Option.{option_map_or}
 use Rattle.std.specs.Ordering.{eq_by_cmp, int_cmp}
@@ -34,7 +34,7 @@ use Rattle.broker_tables.specs.Holds.{Holds}
 use Rattle.broker_tables.proofs.Asked.{Asked, IsShown}
 use Rattle.broker_tables.proofs.Listed.{read_has, has_read}
 use Rattle.broker_tables.proofs.NumberLemmas.{one_version}
-use Rattle.broker_tables.proofs.Orders.{triples_total, exact_triple, placed_total, exact_placed, marked_total, exact_marked}
+use Rattle.broker_tables.proofs.Orders.{placed_total, exact_placed, marked_total, exact_marked}
 use Rattle.broker_tables.proofs.VersionRows.{whole_test, text_test, all_three, row_number}
 use Rattle.broker_tables.proofs.References.{refers_version}
 use Rattle.broker_tables.proofs.Placed.{contracts, contracts_there}

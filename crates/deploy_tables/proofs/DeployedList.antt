@@ -1,13 +1,12 @@
 -- The list of what is deployed.
-use Rattle.std.proofs.Common.{◌≡◌, ℕ, ℤ, pos, codes, List, [], ◌∷◌, map, false, refl, sym, ap, subst, ◌∙◌, Some, None, Option, Ordering, Equal}
+use Rattle.std.proofs.Common.{◌≡◌, ℕ, ℤ, pos, codes, List, [], ◌∷◌, false, refl, sym, ap, subst, ◌∙◌, Some, None, Option, Ordering, Equal}
 use Rattle.std.specs.Prelude.{option_map}
 use Rattle.std.specs.Ordering.{eq_by_cmp, is_eq, int_cmp, ordering_then}
 use Rattle.std.specs.Cmp.{eq_by_cmp_equiv}
-use Rattle.std.proofs.lemmas.Cmp.{int_cmp_total, on_total}
 use Rattle.sqlite.specs.Tree.{IsAscending}
 use Rattle.sqlite.specs.declared.types.Value.TheVariants.{Text}
 use Rattle.sqlite.specs.Order.{Row, column, value_cmp}
-use Rattle.sqlite.specs.Term.{Term, col, eval_all}
+use Rattle.sqlite.specs.Term.{Term, col}
 use Rattle.sqlite.specs.Collation.TheVariants.{Binary}
 use Rattle.sqlite_sql.specs.Query.{sort_cmp}
 use Rattle.sqlite_value.specs.declared.keys.Key.{Key}
@@ -15,22 +14,20 @@ use Rattle.sqlite_value.specs.Keys.{ascending}
 use Rattle.sqlite.specs.Effect.{Database}
 use Rattle.sqlite.specs.Listing.{understood}
 use Rattle.sqlite_rules.specs.Lists.{Has}
-use Rattle.sqlite_keyed.specs.Lists.{sort_by}
-use Rattle.sqlite_keyed.proofs.ListLemmas.{map-map}
 use Rattle.sqlite_value.proofs.OrderLemmas.{value_cmp-Text, then-Equal}
 use Rattle.sqlite_tied.specs.Compute.{everything}
 use Rattle.table_access.specs.Columns.{text, text_cmp, whole_at, by_both}
 use Rattle.table_access.specs.Sound.{text_in}
-use Rattle.std.specs.Cmp.{IsTotalOrder, tied_itself}
+use Rattle.std.specs.Cmp.{tied_itself, int_cmp_total}
 use Rattle.std.specs.Cmp.Lexicographic.{nat_list_cmp_total}
 use Rattle.table_access.specs.Statements.{from_both, keeps_both, pairs_kept}
 use Rattle.table_access.specs.Reading.{AreRead}
 use Rattle.table_access.proofs.Keys.{ascending_on}
 use Rattle.table_access.proofs.Parts.{numbers_once}
 use Rattle.table_access.proofs.Maps.{find_has, has_find}
-use Rattle.table_access.proofs.Members.{contains_has, has_contains, map_has, has_map, pair_has, has_pair, pairs_rise, rises_map}
-use Rattle.table_access.proofs.Ordered.{joins_in_order, same_sort, rises, sorted_has, has_sorted}
-use Rattle.table_access.proofs.ReadLemmas.{read_is}
+use Rattle.table_access.proofs.Members.{pair_has, has_pair, pairs_rise}
+use Rattle.broker_tables.proofs.Listed.{sorts, lists_join}
+use Rattle.broker_tables.proofs.VersionRows.{versions_numbered, find_version}
 use Rattle.broker_core.specs.declared.answer.DeployedItem.{DeployedItem}
 use Rattle.broker_core.specs.declared.command.Version.{Version}
 use Rattle.broker_core.specs.Text.{Text as Words, version}
@@ -41,10 +38,10 @@ use Rattle.broker_tables.specs.Rows.{value_at}
 use Rattle.broker_tables.specs.Numbers.{number_of}
 use Rattle.broker_tables.specs.Holds.{Holds, IsBroker}
 use Rattle.broker_tables.proofs.Asked.{Asked, IsShown}
-use Rattle.broker_tables.proofs.Orders.{pairs_total, triples_total, exact_triple}
+use Rattle.broker_tables.proofs.Orders.{triples_total, exact_triple}
 use Rattle.deploy_tables.specs.Listings.{IsDeployedRow}
 use Rattle.deploy_tables.proofs.DeployedRows.{place_of, environments, pacticipants, instances, numbers, keys}
-use Rattle.deploy_tables.proofs.VersionRows.{joined_by, joined_is, is_joined, versions_numbered, same_version_row, find_version, still_less}
+use Rattle.deploy_tables.proofs.VersionRows.{joined_by, joined_is, is_joined, same_version_row, still_less}
 
 abbrev list_order : List (Term × Key)
 list_order = (col 1 2, ascending Binary) ∷ (col 1 3, ascending Binary) ∷ []
@@ -63,17 +60,11 @@ deployments e = record { names = _; means = record { is = refl; plain = (refl, r
 abbrev Pair : Type 0
 Pair = Row × Row
 
-abbrev item_of : Pair → DeployedItem
-item_of q = record { pacticipant = text 2 q.0; instance = text 3 q.0; version = text 3 q.1 }
-
 abbrev by_key : Pair → Pair → Ordering
 by_key a b = by_both text_cmp text_cmp (text 2 a.0, text 3 a.0) (text 2 b.0, text 3 b.0)
 
-by_key_total : IsTotalOrder by_key
-by_key_total = on_total (λ (q : Pair). (text 2 q.0, text 3 q.0)) pairs_total
-
 -- a column that names a version
-pub named : (vs : List Version) (p : Words) (z : ℤ) (o : Option Words) → Some (Some z) ≡ option_map (λ name. option_map pos (number_of vs (version p name))) o → (name : Words) × (o ≡ Some name) × ((k : ℕ) × (number_of vs (version p name) ≡ Some k) × (z ≡ pos k))
+named : (vs : List Version) (p : Words) (z : ℤ) (o : Option Words) → Some (Some z) ≡ option_map (λ name. option_map pos (number_of vs (version p name))) o → (name : Words) × (o ≡ Some name) × ((k : ℕ) × (number_of vs (version p name) ≡ Some k) × (z ≡ pos k))
 named vs p z None h = absurd cc
 named vs p z (Some name) h = (name, refl, go (number_of vs (version p name)) (let inner : Some z ≡ option_map pos (number_of vs (version p name)) = cc in inner))
   where
@@ -82,7 +73,7 @@ named vs p z (Some name) h = (name, refl, go (number_of vs (version p name)) (le
     go (Some k) e = (k, refl, cc)
 
 -- a number that stands in a column
-pub valued : (value : Option ℤ) (o : Option ℕ) → option_map Some value ≡ Some (option_map pos o) → (k : ℕ) × (value ≡ Some (pos k)) × (o ≡ Some k)
+valued : (value : Option ℤ) (o : Option ℕ) → option_map Some value ≡ Some (option_map pos o) → (k : ℕ) × (value ≡ Some (pos k)) × (o ≡ Some k)
 valued None o h = absurd cc
 valued (Some z) None h = absurd (let inner : Some z ≡ None = cc in cc)
 valued (Some z) (Some k) h = (k, (let inner : Some z ≡ Some (pos k) = cc in inner), refl)
@@ -142,25 +133,8 @@ module _ (db : Database) (broker : IsBroker db) (e : Words) where
       let same : text_cmp (text 1 d) (text 1 f) ≡ Equal = ap (text_cmp (text 1 d)) (b.1 ∙ sym a.1) ∙ tied_itself nat_list_cmp_total (text 1 d) in
       sym (ap (λ o. is_eq (ordering_then o (by_both text_cmp text_cmp (text 2 d, text 3 d) (text 2 f, text 3 f)))) same) ∙ apart) (keys db broker))
 
-  abbrev sorted : List Pair
-  sorted = sort_by by_key kept
-
-  rows_are : (rows : List Row) → IsShown (deployments e) db rows → rows ≡ map (λ q. eval_all list_project (env q)) sorted
-  rows_are rows h =
-      joins_in_order db (Text e ∷ []) 21 6 (joined_by 4) list_project list_order rows h (ascending_on _ _ kept (λ a b ha hb apart. ap is_eq (sort_is a b ha hb) ∙ apart) no_ties)
-      ∙ ap (map (λ q. eval_all list_project (env q))) (same_sort (λ a b. sort_cmp list_order (env a) (env b)) by_key kept sort_is)
-
-  items_are : (rows : List Row) (items : List DeployedItem) → IsShown (deployments e) db rows → AreRead IsDeployedRow rows items → items ≡ map item_of sorted
-  items_are rows items h read =
-      read_is IsDeployedRow (λ row. record { pacticipant = text 0 row; instance = text 1 row; version = text 2 row })
-      (λ row item is i. record { pacticipant = text_in (sym is.0 i); instance = text_in (sym is.1 i); version = text_in (sym is.2 i) }) rows items read
-      ∙ ap (map (λ row. record { pacticipant = text 0 row; instance = text 1 row; version = text 2 row })) (rows_are rows h) ∙ map-map _ _ sorted
-
-  in_sorted : (q : Pair) → Has sorted q → Has kept q
-  in_sorted q has = contains_has kept q (sorted_has by_key by_key_total kept q (has_contains sorted q has))
-
-  to_sorted : (q : Pair) → Has kept q → Has sorted q
-  to_sorted q has = contains_has sorted q (has_sorted by_key by_key_total kept q (has_contains kept q has))
+  apart : IsAscending (λ a b. is_eq (sorts list_order env a b) ≡ false) kept
+  apart = ascending_on _ _ kept (λ a b ha hb other. ap is_eq (sort_is a b ha hb) ∙ other) no_ties
 
   module _ (s : Broker) (held : Holds db s) where
     -- what is listed is deployed
@@ -168,7 +142,7 @@ module _ (db : Database) (broker : IsBroker db) (e : Words) where
     is_deployed q has =
         let it = has_kept q has in
         let name = row_deployed db s held e q.0 it.0 it.2.1 in
-        let w = find_version db broker s.versions (text 2 q.0) name.0 name.2.0 held.versions name.2.1 in
+        let w = find_version db broker s.versions (version (text 2 q.0) name.0) name.2.0 held.versions name.2.1 in
         let same : w.0 ≡ q.1 = same_version_row db broker w.0 q.1 w.1 it.1 (w.4 ∙ sym name.2.2 ∙ sym it.2.0) in
         name.1 ∙ ap Some (sym w.3 ∙ ap (text 3) same)
 
@@ -177,21 +151,16 @@ module _ (db : Database) (broker : IsBroker db) (e : Words) where
     is_listed p i name there =
         let at = deployed_row db s held e p i name there in
         let d = at.2 in
-        let v = find_version db broker s.versions p name at.0 held.versions at.1 in
+        let v = find_version db broker s.versions (version p name) at.0 held.versions at.1 in
         let joined = is_joined db broker 4 e d.0 v.0 (numbers db broker d.0 d.1) (environments db broker d.0 d.1) v.1 (v.4 ∙ sym d.5) d.2 in
         ((d.0, v.0), has_pair (keeps_both (joined_by 4) (Text e ∷ [])) (db.trees 6) (db.trees 21) d.0 v.0 d.1 v.1 joined, d.3, d.4, v.3)
 
     pub deployed_listed : (rows : List Row) (items : List DeployedItem) → IsShown (deployments e) db rows → AreRead IsDeployedRow rows items
         → Lists deployed_cmp (λ x. s.deployed (e, x.pacticipant, x.instance) ≡ Some x.version) items
-    deployed_listed rows items h read = subst (Lists deployed_cmp (λ x. s.deployed (e, x.pacticipant, x.instance) ≡ Some x.version)) (sym (items_are rows items h read)) (record {
-      sorted = rises_map by_key deployed_cmp item_of (λ a b less. still_less (text_cmp (text 2 a.0) (text 2 b.0)) (text_cmp (text 3 a.0) (text 3 b.0)) (text_cmp (text 3 a.1) (text 3 b.1)) less) sorted (rises by_key by_key_total kept no_ties);
-      exactly = λ x. (
-        λ c.
-            let it = map_has item_of sorted x (contains_has (map item_of sorted) x c) in
-            subst (λ y. s.deployed (e, y.pacticipant, y.instance) ≡ Some y.version) (sym it.2) (is_deployed it.0 (in_sorted it.0 it.1)),
-        λ there.
-            let q = is_listed x.pacticipant x.instance x.version there in
-            let same : item_of q.0 ≡ x = λ j. record { pacticipant = q.2 j; instance = q.3 j; version = q.4 j } in
-            has_contains (map item_of sorted) x (subst (Has (map item_of sorted)) same (has_map item_of sorted q.0 (to_sorted q.0 q.1))),
-      );
-    })
+    deployed_listed = lists_join db (Text e ∷ []) (joined_by 4) list_project list_order IsDeployedRow deployed_cmp (λ x. s.deployed (e, x.pacticipant, x.instance) ≡ Some x.version) 21 6 apart
+        (λ a b x y ha hb ra rb h. still_less (text_cmp x.pacticipant y.pacticipant) (text_cmp x.instance y.instance) (text_cmp x.version y.version)
+        ((λ i. ordering_then (text_cmp (sym (ap text_in ra.0) i) (sym (ap text_in rb.0) i)) (text_cmp (sym (ap text_in ra.1) i) (sym (ap text_in rb.1) i))) ∙ sym (sort_is a b ha hb) ∙ h))
+        (λ q x has read. (λ i. s.deployed (e, sym (ap text_in read.0) i, sym (ap text_in read.1) i)) ∙ is_deployed q has ∙ ap Some (ap text_in read.2))
+        (λ x there.
+        let q = is_listed x.pacticipant x.instance x.version there in
+        (q.0, q.1, λ y read i. record { pacticipant = (sym (ap text_in read.0) ∙ q.2) i; instance = (sym (ap text_in read.1) ∙ q.3) i; version = (sym (ap text_in read.2) ∙ q.4) i }))

@@ -1,7 +1,7 @@
 -- What is found of the parts that are read are the needs that aren't good.
 use Rattle.std.proofs.Common.{◌≡◌, ◌≢◌, ◌⊎◌, ℕ, List, [], ◌∷◌, ◌++◌, refl, sym, ◌∙◌, ap, subst, inl, inr, Bool, true, false, not, ◌&&◌, ◌||◌, ◌==◌, length, arith}
 use Rattle.std.proofs.lemmas.Bool.{eqb-true}
-use Rattle.std.specs.Prelude.{Option, Some, None, option_map, option_and_then, option_to_list, is_some, Contains, IsSomeAnd, ◌↔◌, IsTrue, if◌then◌else◌}
+use Rattle.std.specs.Prelude.{Option, Some, None, option_map, option_and_then, option_to_list, is_some, Contains, IsSomeAnd, ◌↔◌, if◌then◌else◌}
 use Rattle.std.proofs.lemmas.List.Elements.{Contains-append_cases, Contains-append_left, Contains-append_right}
 use Rattle.broker_core.specs.declared.command.Version.{Version}
 use Rattle.broker_core.specs.declared.need.Need.{Need}
@@ -9,8 +9,8 @@ use Rattle.broker_core.specs.declared.need.Latest.{Latest}
 use Rattle.broker_core.specs.declared.need.Kind.{Kind}
 use Rattle.broker_core.specs.declared.need.PairFault.{PairFault}
 use Rattle.broker_core.specs.Text.{Text, same_text, version}
-use Rattle.broker_core.specs.State.{State, latest, is_strict}
-use Rattle.broker_core.specs.Gate.{Stands, consumer_of, NeedsAsProvider, IsNeed, IsFault}
+use Rattle.broker_core.specs.State.{State, latest}
+use Rattle.broker_core.specs.Gate.{Stands, consumer_of, IsNeed}
 use Rattle.broker_core.specs.Faults.{fault_of, fault_cmp, kind_of, IsFaultAmong}
 use Rattle.broker_core.specs.Listing.{Lists}
 use Rattle.broker_core.proofs.Lists.{contains_none, contains_cases, contains_here}
@@ -23,7 +23,7 @@ use Rattle.deploy_tables.specs.Matrix.{IsOfSome}
 use Rattle.deploy_tables.specs.ContractsThere.{TellsContracts}
 use Rattle.deploy_tables.specs.Partners.{ArePartners, AreNumbered, AreNumbersOfVersions}
 use Rattle.deploy_tables.specs.Releases.{IsVersion}
-use Rattle.deploy_tables.specs.Needs.{AreFaults, IsOwnContract, need_with, need_used, IsOpen, IsWithPartner, IsNeedOfContract, IsOwnNeed, IsUsed, IsNeedOfOthers}
+use Rattle.deploy_tables.specs.Needs.{AreFaults, need_with, need_used, IsOpen, IsWithPartner, IsNeedOfContract, IsOwnNeed, IsUsed, IsNeedOfOthers}
 
 -- ---- a latest result, and lists of at most one
 

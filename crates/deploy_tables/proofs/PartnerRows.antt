@@ -1,5 +1,5 @@
 -- The versions of a provider that are in an environment, by their numbers: rows of deployed and of released.
-use Rattle.std.proofs.Common.{◌≡◌, ◌∙◌, inl, inr, ℕ, pos, codes, List, [], ◌∷◌, ◌++◌, Option, Some, None, Bool, true, false, ◌&&◌, refl, sym, ap, subst}
+use Rattle.std.proofs.Common.{◌≡◌, ◌∙◌, inl, inr, ℕ, pos, codes, List, [], ◌∷◌, ◌++◌, Some, None, true, refl, sym, ap, subst}
 use Rattle.std.specs.Prelude.{Contains, ◌↔◌, filter_map, if◌then◌else◌}
 use Rattle.std.proofs.lemmas.List.Elements.{Contains-append_cases, Contains-append_left, Contains-append_right}
 use Rattle.sqlite.specs.Edit.{id_in}
@@ -14,11 +14,10 @@ use Rattle.sqlite_sql.specs.declared.ops.BinaryOp.TheVariants.{Compare}
 use Rattle.sqlite_sql.specs.declared.ops.CompareOp.TheVariants.{Eq}
 use Rattle.sqlite_sql.specs.Ops.{binary, is_true}
 use Rattle.sqlite_tied.specs.Compute.{everything}
-use Rattle.table_access.specs.Columns.{text, whole_at}
+use Rattle.table_access.specs.Columns.{text}
 use Rattle.table_access.specs.Statements.{from_table, keeps, shows}
 use Rattle.table_access.specs.Reading.{AreRead}
 use Rattle.table_access.proofs.Parts.{is_param}
-use Rattle.broker_core.specs.declared.command.Version.{Version}
 use Rattle.broker_core.specs.Text.{Text as Words, same_text, version}
 use Rattle.broker_core.specs.State.{State as Broker}
 use Rattle.broker_core.specs.Gate.{Stands}
@@ -29,14 +28,14 @@ use Rattle.broker_tables.specs.Holds.{Holds}
 use Rattle.broker_tables.proofs.Asked.{Asked, IsShown}
 use Rattle.broker_tables.proofs.Listed.{read_has, has_read}
 use Rattle.broker_tables.proofs.VersionRows.{text_test}
-use Rattle.deploy_tables.specs.ContractsThere.{IsDeployedIn, IsReleasedIn}
+use Rattle.deploy_tables.specs.ContractsThere.{IsDeployedIn}
 use Rattle.deploy_tables.specs.Partners.{ArePartners, AreReleasedNumbers, AreNumbered, number_if}
 use Rattle.deploy_tables.specs.declared.partners.ReleasedNumber.{ReleasedNumber}
 use Rattle.deploy_tables.proofs.DeployedRows.{environments, pacticipants}
 use Rattle.deploy_tables.proofs.DeployedList.{row_deployed, deployed_row}
 use Rattle.deploy_tables.proofs.ReleasedList.{released_numbered}
 use Rattle.deploy_tables.proofs.VersionNames.{row_kept, kept_row}
-use Rattle.deploy_tables.proofs.VersionRows.{same_some, same_pos}
+use Rattle.deploy_tables.proofs.VersionRows.{same_some, same_pos, both_hold}
 
 abbrev by_owner : List Term
 by_owner = is_param 1 0 ∷ is_param 2 1 ∷ []
@@ -49,11 +48,6 @@ pub numbers_of : (e p : Words)
 unfolding understood everything
 numbers_of e p = record { names = _; means = record { is = refl; plain = (refl, refl); unlisted = refl }; runs = record { whole = refl; typed = refl; sumless = refl } }
 
-both : (a b : Bool) → ((a && (b && true)) ≡ true) ↔ ((a ≡ true) × (b ≡ true))
-both true true = (λ h. (refl, refl), λ h. refl)
-both true false = (λ h. absurd cc, λ h. absurd (let wrong : false ≡ true = h.1 in cc))
-both false b = (λ h. absurd cc, λ h. absurd (let wrong : false ≡ true = h.0 in cc))
-
 module _ (db : Database) (s : Broker) (held : Holds db s) (e p : Words) where
   abbrev params : Row
   params = Text e ∷ Text p ∷ []
@@ -62,7 +56,7 @@ module _ (db : Database) (s : Broker) (held : Holds db s) (e p : Words) where
   is_kept r has =
       let one = text_test (column r 1) (Text e) (text 1 r) e (environments db held.broker r has) refl in
       let two = text_test (column r 2) (Text p) (text 2 r) p (pacticipants db held.broker r has) refl in
-      let all = both (is_true (binary (Compare Eq Binary) (column r 1) (Text e))) (is_true (binary (Compare Eq Binary) (column r 2) (Text p))) in
+      let all = both_hold (is_true (binary (Compare Eq Binary) (column r 1) (Text e))) (is_true (binary (Compare Eq Binary) (column r 2) (Text p))) in
       (λ kept. let it = all.0 kept in (one.0 it.0, two.0 it.1), λ same. all.1 (one.1 same.0, two.1 same.1))
 
   pub deployed_told : (rows : List Row) (items : List ℕ) → IsShown (numbers_of e p) db rows → AreRead (λ row n. column row 0 ≡ Int (pos n)) rows items → ArePartners s p (IsDeployedIn s e) items

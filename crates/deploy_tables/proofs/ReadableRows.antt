@@ -1,22 +1,19 @@
 -- The rows of each query of these tables can be read, if the state that the database holds can.
-use Rattle.std.proofs.Common.{◌≡◌, ◌∙◌, ◌≤◌, inl, inr, ℕ, pos, List, [], ◌∷◌, Some, refl, sym, ap, arith}
-use Rattle.std.specs.Prelude.{option_map, IsUtf8}
+use Rattle.std.proofs.Common.{◌≡◌, ◌≤◌, inl, inr, ℕ, pos, List, [], ◌∷◌, refl, arith}
+use Rattle.std.specs.Prelude.{IsUtf8}
 use Rattle.sqlite.specs.declared.types.Value.TheVariants.{Int}
 use Rattle.sqlite.specs.Order.{Row, column}
 use Rattle.sqlite.specs.Term.{col, eval_all}
 use Rattle.sqlite.specs.Effect.{Database}
 use Rattle.sqlite_rules.specs.Lists.{Has}
-use Rattle.table_access.specs.Columns.{text, text_cmp, whole_at, by_both}
+use Rattle.table_access.specs.Columns.{text, whole_at}
 use Rattle.table_access.specs.Reading.{IsNumberRow}
 use Rattle.table_access.specs.Statements.{from_both, shows}
-use Rattle.table_access.proofs.Maps.{has_find}
 use Rattle.table_access.proofs.SoundLemmas.{whole_in, has_place}
 use Rattle.broker_core.specs.State.{State as Broker}
-use Rattle.broker_tables.specs.Rows.{value_at}
 use Rattle.broker_tables.specs.Holds.{Holds}
 use Rattle.broker_tables.specs.Readable.{IsReadable, IsNamed}
 use Rattle.broker_tables.proofs.Asked.{Asked, EachShown, EachReads, of_both, of_table, number_reads}
-use Rattle.broker_tables.proofs.Orders.{triples_total, exact_triple}
 use Rattle.broker_tables.proofs.Placed.{contracts, contracts_there, results, results_there, latest, latest_there, deployed, deployed_there, released, released_there}
 use Rattle.broker_tables.proofs.ReadableRows.{IsLow, number_cell, name_cell, truth_cell, to_version_low, to_content_low, to_result_low, version_named, to_pacticipant_named, pass_low}
 use Rattle.broker_tables.proofs.VersionRows.{owners, names}
@@ -44,11 +41,7 @@ module _ (db : Database) (s : Broker) (held : Holds db s) (readable : IsReadable
 
   -- an instance is a text in UTF-8
   deployed_instance : (r : Row) → Has (db.trees 21) r → IsUtf8 (text 3 r)
-  deployed_instance r has =
-      let value : value_at (by_both text_cmp (by_both text_cmp text_cmp)) deployed_rows.place_of (whole_at 4) (db.trees 21) (text 1 r, (text 2 r, text 3 r)) ≡ Some (whole_at 4 r) =
-      has_find triples_total exact_triple deployed_rows.place_of (whole_at 4) (db.trees 21) r (deployed_rows.keys db held.broker) has in
-      let name = deployed_list.named s.versions (text 2 r) (whole_at 4 r) (s.deployed (text 1 r, text 2 r, text 3 r)) (sym (ap (option_map Some) value) ∙ held.deployed (text 1 r) (text 2 r) (text 3 r)) in
-      readable.instances (text 1 r) (text 2 r) (text 3 r) name.0 name.1
+  deployed_instance r has = let name = deployed_list.row_deployed db s held (text 1 r) r has refl in readable.instances (text 1 r) (text 2 r) (text 3 r) name.0 name.1
 
   released_number : (r : Row) → Has (db.trees 23) r → (column r 2 ≡ Int (whole_at 2 r)) × IsLow (whole_at 2 r)
   released_number r has =

@@ -1,7 +1,6 @@
 -- The list of what is released.
-use Rattle.std.proofs.Common.{true≢false, slice_get, IsTrue, ◌≡◌, inl, inr, ℕ, ℤ, pos, codes, List, [], ◌∷◌, Bool, true, false, refl, sym, ap, subst, ◌∙◌, Some, None, Option, Ordering, Less, Equal}
-use Rattle.std.specs.Prelude.{option_map}
-use Rattle.std.specs.Ordering.{eq_by_cmp, is_eq, int_cmp, nat_cmp, ordering_then}
+use Rattle.std.proofs.Common.{slice_get, IsTrue, ◌≡◌, ℕ, ℤ, pos, codes, List, [], ◌∷◌, Bool, true, false, refl, sym, ap, subst, ◌∙◌, Some, None, Option, Ordering, Less, Equal}
+use Rattle.std.specs.Ordering.{eq_by_cmp, is_eq, int_cmp, ordering_then}
 use Rattle.std.specs.Cmp.{eq_by_cmp_equiv, Equal-is}
 use Rattle.std.proofs.lemmas.Cmp.{int_cmp_total}
 use Rattle.sqlite.specs.Tree.{IsAscending}
@@ -24,10 +23,9 @@ use Rattle.std.specs.Cmp.Lexicographic.{nat_list_cmp_total}
 use Rattle.table_access.specs.Statements.{from_both, keeps_both, pairs_kept}
 use Rattle.table_access.specs.Reading.{AreRead}
 use Rattle.table_access.proofs.SoundLemmas.{has_place, text_at, whole_in, any_of}
-use Rattle.table_access.proofs.Keys.{ascending_on, apart_by}
-use Rattle.table_access.proofs.Parts.{text_part, whole_part, agree_last, agree_and, once, numbers_once}
-use Rattle.table_access.proofs.Maps.{has_find}
-use Rattle.table_access.proofs.Members.{any_has, pair_has, has_pair, pairs_rise}
+use Rattle.table_access.proofs.Keys.{apart_by}
+use Rattle.table_access.proofs.Parts.{text_part, whole_part, agree_last, agree_and, once}
+use Rattle.table_access.proofs.Members.{any_has, pair_has, has_pair}
 use Rattle.broker_core.specs.declared.command.Version.{Version}
 use Rattle.broker_core.specs.Text.{Text as Words, version}
 use Rattle.broker_core.specs.Listing.{Lists}
@@ -38,17 +36,16 @@ use Rattle.broker_tables.specs.Numbers.{number_of}
 use Rattle.broker_tables.specs.Holds.{Holds, IsBroker}
 use Rattle.broker_tables.proofs.Asked.{Asked, IsShown}
 use Rattle.broker_tables.proofs.Listed.{sorts, lists_join, read_has, has_read}
-use Rattle.broker_tables.proofs.VersionRows.{owners, names, version_keys}
+use Rattle.broker_tables.proofs.VersionRows.{owners, names, same_version, find_version, joined_apart}
 use Rattle.broker_tables.proofs.VersionRows as version_rows
-use Rattle.broker_tables.proofs.Orders.{pairs_total, exact_pair, placed_total, exact_placed}
-use Rattle.broker_tables.proofs.Placed.{released, released_there, versions, versions_there}
+use Rattle.broker_tables.proofs.Orders.{exact_pair, placed_total, exact_placed}
+use Rattle.broker_tables.proofs.Placed.{released, released_there}
 use Rattle.std.specs.Prelude.{Contains}
 use Rattle.deploy_tables.specs.declared.partners.ReleasedNumber.{ReleasedNumber}
 use Rattle.deploy_tables.specs.Listings.{IsReleasedRow}
 use Rattle.deploy_tables.specs.Partners.{IsNumberOfReleased, AreReleasedNumbers}
 use Rattle.contract_tables.proofs.JoinRows.{row_shown, pair_shown}
-use Rattle.deploy_tables.proofs.VersionRows.{joined_by, joined_is, is_joined, versions_numbered, find_version, same_some, same_pos, still_less}
-use Rattle.table_access.proofs.Changes.{apart_or_same}
+use Rattle.deploy_tables.proofs.VersionRows.{joined_by, joined_is, is_joined, same_some, same_pos}
 use Rattle.sqlite.specs.Schema.{Schema}
 use Rattle.std.specs.Option.{option_map_or}
 
@@ -131,34 +128,18 @@ module _ (db : Database) (broker : IsBroker db) (e : Words) where
       let last : ordering_then (value_cmp (column a.1 3) (column b.1 3)) Equal ≡ text_cmp (text 3 a.1) (text 3 b.1) = then-Equal _ ∙ two in
       λ i. ordering_then (one i) (last i)
 
-  -- two rows whose versions have one name are one
-  apart_by_name : (d f v w : Row) → Has (db.trees 6) v → Has (db.trees 6) w → (whole_at 0 v ≡ whole_at 2 d) × (text 1 d ≡ e) → (whole_at 0 w ≡ whole_at 2 f) × (text 1 f ≡ e) → eq_by_cmp placed (place_of d) (place_of f) ≡ false
-      → (b : Bool) → is_eq (by_key (d, v) (f, w)) ≡ b → is_eq (by_key (d, v) (f, w)) ≡ false
-  apart_by_name d f v w hv hw a b apart false miss = miss
-  apart_by_name d f v w hv hw a b apart true hit =
-      let named_alike : (text 2 v, text 3 v) ≡ (text 2 w, text 3 w) = exact_pair (text 2 v, text 3 v) (text 2 w, text 3 w) ((Equal-is (by_key (d, v) (f, w))).0 hit) in
-      let same : v ≡ w = elim (apart_or_same _ (db.trees 6) v w (version_keys db broker) hv hw) [
-        | inl is ↦ is
-        | inr (inl other) ↦ absurd (true≢false (sym hit ∙ other))
-        | inr (inr other) ↦ absurd (true≢false (sym ((eq_by_cmp_equiv pairs_total).symm (text 2 w, text 3 w) (text 2 v, text 3 v) ∙ hit) ∙ other))
-      ] in
-      let places : place_of d ≡ place_of f = λ i. ((a.1 ∙ sym b.1) i, (sym a.0 ∙ ap (whole_at 0) same ∙ b.0) i) in
-      let itself : eq_by_cmp placed (place_of d) (place_of f) ≡ true = ap (eq_by_cmp placed (place_of d)) (sym places) ∙ (eq_by_cmp_equiv placed_total).refl (place_of d) in
-      absurd (true≢false (sym itself ∙ apart))
-
-  no_ties : IsAscending (λ a b. is_eq (by_key a b) ≡ false) kept
-  no_ties = pairs_rise (keeps_both (joined_by 2) (Text e ∷ [])) (db.trees 6) (λ a b. is_eq (by_key a b) ≡ false) (db.trees 23)
-      (λ d hd. ascending_on _ _ (db.trees 6) (λ v w hv hw apart kv kw.
-      let a = joined_is db broker 2 e d v (numbers db broker d hd) (environments db broker d hd) hv kv in
-      let b = joined_is db broker 2 e d w (numbers db broker d hd) (environments db broker d hd) hw kw in
-      absurd (let same : whole_at 0 v ≡ whole_at 0 w = a.0 ∙ sym b.0 in let e1 = ap (eq_by_cmp int_cmp (whole_at 0 v)) same in let f = (eq_by_cmp_equiv int_cmp_total).refl (whole_at 0 v) in cc)) (numbers_once (db.trees 6) (versions_numbered db broker)))
-      (ascending_on _ _ (db.trees 23) (λ d f hd hf apart v w hv hw kv kw.
-      let a = joined_is db broker 2 e d v (numbers db broker d hd) (environments db broker d hd) hv kv in
-      let b = joined_is db broker 2 e f w (numbers db broker f hf) (environments db broker f hf) hw kw in
-      apart_by_name d f v w hv hw a b apart (is_eq (by_key (d, v) (f, w))) refl) (keys db broker))
-
   apart : IsAscending (λ a b. is_eq (sorts list_order env a b) ≡ false) kept
-  apart = ascending_on _ _ kept (λ a b ha hb apart. ap is_eq (sort_is a b ha hb) ∙ apart) no_ties
+  apart = joined_apart db broker placed_total place_of 23 2 (joined_by 2) (Text e ∷ []) list_order (keys db broker)
+      (λ d v hd hv h. (joined_is db broker 2 e d v (numbers db broker d hd) (environments db broker d hd) hv h).0)
+      (λ d f v w hd hf hv hw kv kw tied.
+      let pair : (d v : Row) → Has (db.trees 23) d → Has (db.trees 6) v → keeps_both (joined_by 2) (Text e ∷ []) d v ≡ true → Has kept (d, v) = (λ d v hd hv h. has_pair (keeps_both (joined_by 2) (Text e ∷ [])) (db.trees 6) (db.trees 23) d v hd hv h) in
+      let same : (text 2 v, text 3 v) ≡ (text 2 w, text 3 w) =
+      exact_pair (text 2 v, text 3 v) (text 2 w, text 3 w) ((Equal-is (by_key (d, v) (f, w))).0 (sym (ap is_eq (sort_is (d, v) (f, w) (pair d v hd hv kv) (pair f w hf hw kw))) ∙ tied)) in
+      same_version db broker v w hv hw (ap (λ x. x.0) same) (ap (λ x. x.1) same))
+      (λ d f v hd hf hv kd kf.
+      let a = joined_is db broker 2 e d v (numbers db broker d hd) (environments db broker d hd) hv kd in
+      let b = joined_is db broker 2 e f v (numbers db broker f hf) (environments db broker f hf) hv kf in
+      λ i. ((a.1 ∙ sym b.1) i, (sym a.0 ∙ b.0) i))
 
   -- the order of the rows is that of the names that they show
   in_order : (a b : Pair) (p n q m : Words) → Has kept a → Has kept b → text 2 a.1 ≡ p → text 3 a.1 ≡ n → text 2 b.1 ≡ q → text 3 b.1 ≡ m → sorts list_order env a b ≡ Less → pair_cmp (p, n) (q, m) ≡ Less
@@ -183,7 +164,7 @@ module _ (db : Database) (broker : IsBroker db) (e : Words) where
         let known = has_number (number_of s.versions (version p name)) (λ n. stands_at placed place_of (db.trees 23) (e, pos n)) (held.released e (version p name) ∙ there) in
         let d = any_has (λ r. eq_by_cmp placed (e, pos known.0) (place_of r)) (db.trees 23) known.2 in
         let place : (e, pos known.0) ≡ place_of d.0 = exact_placed (e, pos known.0) (place_of d.0) ((Equal-is (placed (e, pos known.0) (place_of d.0))).0 d.2) in
-        let v = find_version db broker s.versions p name known.0 held.versions known.1 in
+        let v = find_version db broker s.versions (version p name) known.0 held.versions known.1 in
         let joined = is_joined db broker 2 e d.0 v.0 (numbers db broker d.0 d.1) (environments db broker d.0 d.1) v.1 (v.4 ∙ ap (λ x. x.1) place) (sym (ap (λ x. x.0) place)) in
         ((d.0, v.0), has_pair (keeps_both (joined_by 2) (Text e ∷ [])) (db.trees 6) (db.trees 23) d.0 v.0 d.1 v.1 joined, v.2, v.3)
 

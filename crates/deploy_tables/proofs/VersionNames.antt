@@ -1,9 +1,9 @@
 -- The names of a version, by its number; and the rows that a query of one table shows.
-use Rattle.std.proofs.Common.{◌≡◌, ◌∙◌, inl, inr, ℕ, pos, codes, List, [], ◌∷◌, ◌++◌, Option, Some, None, Bool, true, false, ◌&&◌, map, filter, refl, sym, ap, subst}
+use Rattle.std.proofs.Common.{◌≡◌, ◌∙◌, ℕ, pos, codes, List, [], ◌∷◌, ◌++◌, Option, Some, None, Bool, true, false, ◌&&◌, map, filter, refl, sym, ap, subst}
 use Rattle.std.specs.Prelude.{Contains, ◌↔◌, option_to_list}
 use Rattle.std.proofs.lemmas.List.Sorted.{Contains-permutation}
-use Rattle.std.proofs.lemmas.List.Elements.{Contains-append_cases, Contains-append_right}
-use Rattle.sqlite.specs.declared.types.Value.TheVariants.{Int, Text}
+use Rattle.std.proofs.lemmas.List.Elements.{Contains-append_right}
+use Rattle.sqlite.specs.declared.types.Value.TheVariants.{Int}
 use Rattle.sqlite.specs.Order.{Row, column}
 use Rattle.sqlite.specs.Term.{Term, col, op2}
 use Rattle.sqlite.specs.Collation.TheVariants.{Binary}
@@ -13,16 +13,15 @@ use Rattle.sqlite_rules.specs.Lists.{Has}
 use Rattle.sqlite_sql.specs.declared.ops.BinaryOp.TheVariants.{Compare}
 use Rattle.sqlite_sql.specs.declared.ops.CompareOp.TheVariants.{Eq}
 use Rattle.sqlite_sql.specs.Ops.{binary, is_true}
-use Rattle.sqlite_value.specs.declared.keys.Key.{Key}
 use Rattle.sqlite_tied.specs.Compute.{everything}
-use Rattle.table_access.specs.Columns.{text, whole_at}
+use Rattle.table_access.specs.Columns.{whole_at}
 use Rattle.table_access.specs.Sound.{text_in}
 use Rattle.table_access.specs.Statements.{from_table, keeps, shows}
 use Rattle.table_access.specs.Reading.{AreRead}
 use Rattle.table_access.proofs.Steps.{answered}
 use Rattle.table_access.proofs.Answered.{permuted_has}
 use Rattle.table_access.proofs.Members.{contains_has, has_contains, has_map, map_has, has_filter, filter_has}
-use Rattle.broker_core.proofs.Lists.{contains_none, contains_cases, contains_here}
+use Rattle.broker_core.proofs.Lists.{contains_none, contains_here}
 use Rattle.broker_core.specs.declared.command.Version.{Version}
 use Rattle.broker_core.specs.Text.{version}
 use Rattle.broker_core.specs.State.{State as Broker}

@@ -1,6 +1,6 @@
 -- What a version needs in an environment and isn't good, from the parts that are read. The clause of `faults` cites
 -- `ListsFaults`, which says it in the machine's words; all else is for private clauses.
-use Rattle.std.specs.Prelude.{Contains, ◌≡◌, ◌≢◌, ◌⊎◌, List, [], ℕ, Bool, Option, Some, None, is_some, if◌then◌else◌, IsTrue, MatchOption}
+use Rattle.std.specs.Prelude.{◌≡◌, ◌≢◌, ◌⊎◌, List, [], ℕ, Bool, Option, Some, None, is_some, if◌then◌else◌, IsTrue, MatchOption}
 use Rattle.broker_core.specs.declared.command.Version.{Version}
 use Rattle.broker_core.specs.declared.need.Need.{Need}
 use Rattle.broker_core.specs.declared.need.Latest.{Latest}

@@ -1,4 +1,4 @@
-use Rattle.std.proofs.Common.{sym, subst}
+use Rattle.std.proofs.Common.{subst}
 use Rattle.sqlite.specs.Held.{state}
 use Rattle.broker_core.specs.Faults.{fault_cmp, IsFaultAmong}
 use Rattle.broker_core.specs.Listing.{Lists}

@@ -1,4 +1,4 @@
-use Rattle.std.proofs.Common.{◌≡◌, ◌∙◌, ◌&&◌, ◌||◌, not, ap, sym, Some}
+use Rattle.std.proofs.Common.{◌∙◌, ◌&&◌, ◌||◌, not, ap, sym, Some}
 use Rattle.std.specs.Prelude.{is_some}
 use Rattle.broker_core.specs.Faults.{kind_of}
 use Rattle.deploy_tables.proofs.NeedLemmas.{is_open}

@@ -1,4 +1,4 @@
-use Rattle.std.proofs.Common.{◌≡◌, Some, sym, subst}
+use Rattle.std.proofs.Common.{◌≡◌, Some, subst}
 use Rattle.sqlite.specs.Held.{state}
 use Rattle.broker_core.specs.Gate.{Stands}
 use Rattle.broker_core.specs.declared.command.Version.{Version}

@@ -1,4 +1,4 @@
-use Rattle.std.proofs.Common.{◌≡◌, Some, refl, sym, subst}
+use Rattle.std.proofs.Common.{◌≡◌, Some, refl}
 use Rattle.std.specs.Prelude.{Contains}
 use Rattle.sqlite.specs.Held.{state}
 use Rattle.broker_core.specs.Listing.{Lists}

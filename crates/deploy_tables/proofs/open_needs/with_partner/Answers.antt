@@ -1,13 +1,10 @@
 use Rattle.std.proofs.Common.{sym, subst}
 use Rattle.std.specs.Prelude.{Contains, ◌↔◌}
 use Rattle.sqlite.specs.Held.{state}
-use Rattle.broker_core.specs.State.{latest}
-use Rattle.broker_core.specs.declared.command.Version.{Version}
-use Rattle.broker_tables.specs.Numbers.{number_of}
-use Rattle.broker_tables.proofs.QueryLemmas.{in_place, query_failed}
+use Rattle.broker_tables.proofs.QueryLemmas.{in_place}
 use Rattle.deploy_tables.specs.Needs.{IsWithPartner}
 use Rattle.deploy_tables.proofs.NeedLemmas.{good_with, open_with}
-use Rattle.deploy_tables.proofs.MatrixLoop.{read_made, read_both, read_stop}
+use Rattle.deploy_tables.proofs.MatrixLoop.{read_made, read_both}
 use Rattle.deploy_tables.proofs.open_needs.with_partner.Goals as goal
 
 pub returns-then-is_good : goal.returns-then-is_good

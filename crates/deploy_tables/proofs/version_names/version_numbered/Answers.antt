@@ -1,5 +1,5 @@
-use Rattle.std.proofs.Common.{◌≡◌, ◌∙◌, ◌-◌, ℕ, [], ◌++◌, ap, sym, subst, take, Option, None}
-use Rattle.std.specs.Prelude.{option_to_list, vec_len, MatchOption}
+use Rattle.std.proofs.Common.{◌≡◌, ◌∙◌, ◌-◌, [], ◌++◌, ap, take, None}
+use Rattle.std.specs.Prelude.{option_to_list}
 use Rattle.sqlite.specs.Held.{state}
 use Rattle.deploy_tables.proofs.VersionNames.{last_is}
 use Rattle.deploy_tables.proofs.MatrixLoop.{read_made}
