@@ -2,9 +2,10 @@
 use Rattle.std.proofs.Common.{Ok, Err, Result}
 use Rattle.sqlite.specs.State.{State}
 use Rattle.table_access.specs.declared.StoreFault.{StoreFault}
+use Rattle.table_access.proofs.CallLemmas.{statement_err}
 use Rattle.broker_core.specs.State.{State as Broker}
 use Rattle.broker_tables.specs.Calm.{CalmQueriesBetween, CalmQueriesInPlaceBetween}
-use Rattle.broker_tables.proofs.QueryLemmas.{query_ok, query_seq, place_err, place_seq}
+use Rattle.broker_tables.proofs.QueryLemmas.{in_store, in_calm, query_ok, query_seq, place_seq}
 use Rattle.command_facts.proofs.PerformLemmas.{read_both}
 
 -- another answer of a query
@@ -22,4 +23,5 @@ calm_then old mid new x r P Q R f = query_seq old mid new x r P Q R (λ p b q s 
 -- the failure of a query after another, where neither takes memory
 pub place_failed : {A B C : Type 0} (old mid new : State) (x : A) (e : StoreFault) (P : A → Broker → Type 0) (Q : B → Broker → Type 0) (R : C → Broker → Type 0) → CalmQueriesInPlaceBetween old mid (Ok x) P → CalmQueriesInPlaceBetween mid new (Err e) Q → CalmQueriesInPlaceBetween old new (Err e) R
 place_failed {A} {B} {C} old mid new x e P Q R one two =
-    place_err old new e (λ (b : B) (s : Broker). Q b s) R (place_seq old mid new x (Err e) P Q Q (λ p b q s held. let first = p s held in (q s first.1)) one two)
+    let both = place_seq old mid new x (Err e) P Q Q (λ p b q s held. let first = p s held in (q s first.1)) one two in
+    in_calm old new (Err e) R (statement_err old new e _ _ (in_store old new (Err e) Q both)) both.calm

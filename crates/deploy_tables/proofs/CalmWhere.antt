@@ -3,9 +3,9 @@ use Rattle.std.proofs.Common.{inl, inr, Ok, Err, Result, arith}
 use Rattle.std.proofs.lemmas.Result.{IfErr-weaker}
 use Rattle.sqlite.specs.State.{State, HasCleanDisk}
 use Rattle.table_access.specs.declared.StoreFault.{StoreFault}
-use Rattle.table_access.proofs.CallLemmas.{ended_since}
+use Rattle.table_access.proofs.CallLemmas.{ended_since, call_with}
 use Rattle.broker_core.specs.State.{State as Broker}
-use Rattle.broker_tables.specs.Holds.{QueriesBetween}
+use Rattle.broker_tables.specs.Holds.{IsRead, QueriesBetween}
 use Rattle.broker_tables.specs.Calm.{Serves, HasFailedOrMemory, CalmQueriesBetween}
 use Rattle.broker_tables.proofs.QueryLemmas.{serves_on, query_failed}
 use Rattle.deploy_tables.specs.CalmWhere.{IsCalmWhereBetween}
@@ -25,3 +25,7 @@ where_then old mid new a r P Q First Then more one two why clean s here may =
 pub where_failed : {A B : Type 0} (old mid new : State) (a : A) (e : StoreFault) (P : A → Broker → Type 0) (Q : B → Broker → Type 0) → CalmQueriesBetween old mid (Ok a) P → CalmQueriesBetween mid new (Err e) Q
     → HasCleanDisk new → (s : Broker) → Serves old s → HasFailedOrMemory old new e
 where_failed {A} {B} old mid new a e P Q one two = (query_failed {A = A} {B = B} {C = B} old mid new a e P Q Q one two).calm
+
+-- what is read says more
+pub query_with : {A : Type 0} (old new : State) (r : Result A StoreFault) (P Q : A → Broker → Type 0) → ((a : A) → IsRead old new P a → IsRead old new Q a) → CalmQueriesBetween old new r P → CalmQueriesBetween old new r Q
+query_with old new r P Q more it = record { call = call_with old new r _ _ more it.call; calm = it.calm }

@@ -2,6 +2,7 @@ use Rattle.std.proofs.Common.{refl, Option, MatchOption, ◌≡◌, ℕ, List, S
 use Rattle.sqlite.specs.Held.{state}
 use Rattle.broker_core.specs.Machine.{IsCallerOfDigest}
 use Rattle.broker_core.specs.declared.policy.Caller.TheVariants.{Office, Team}
+use Rattle.broker_tables.proofs.QueryLemmas.{query_failed}
 use Rattle.command_facts.proofs.CalmLemmas.{calm_answers, calm_both}
 use Rattle.command_facts.proofs.CallerLemmas.{no_one}
 use Rattle.command_facts.proofs.callers.holder_of.Goals as goal
@@ -27,3 +28,7 @@ returns g c =
     let new = state g.S.Store c.team_with.new.conn in
     calm_both {B = Option (List ℕ)} old mid new c.in-Ok.value None None _ (λ who s. MatchOption who ((t : List ℕ) → ¬ (s.teams t ≡ Some c.args.digest.now)) (λ name. s.teams name ≡ Some c.args.digest.now)) (λ who s. IsCallerOfDigest s c.args.digest.now who)
     (λ s h q. no_one s c.args.digest.now (λ is. c.if-is_same.ensures.apart refl (c.as_str.ensures.value ∙ h ∙ is)) q) c.in-Ok.ensures.reads (rw c.in-None.is at c.in-Ok-team_with.ensures)
+
+pub returns-in-Err-team_with : goal.returns-in-Err-team_with
+returns-in-Err-team_with g c =
+    query_failed (state g.S.Store c.args.conn.now) (state g.S.Store c.office_digest.new.conn) (state g.S.Store c.team_with.new.conn) c.in-Ok.value c.in-Err-team_with.fault _ _ _ c.in-Ok.ensures.reads c.in-Err-team_with.ensures

@@ -1,6 +1,7 @@
 use Rattle.std.proofs.Common.{◌≡◌, Some}
 use Rattle.sqlite.specs.Held.{state}
 use Rattle.broker_tables.specs.Numbers.{number_of}
+use Rattle.broker_tables.proofs.QueryLemmas.{query_failed}
 use Rattle.contract_tables.proofs.QueryLemmas.{calm_then, calm_computed}
 use Rattle.deploy_tables.specs.ToldResults.{TellPasses, IsContentOf}
 use Rattle.deploy_tables.proofs.ToldLists.{passes_both}
@@ -19,3 +20,6 @@ returns g c =
     (λ items s. TellPasses s (λ c _. IsContentOf cs c) own.items × TellPasses s (λ _ w. number_of s.versions w ≡ Some n) items.items) _ _
     (λ s told all is. (is.0, passes_both s n cs own.items others.items all.items told.0 told.1 is.1)) c.all_passes.ensures.all c.all_passes.ensures.cause
     (calm_then old mid new own _ _ _ _ (λ s one items two. (one, two)) c.in-Ok.ensures c.in-Ok-passes_by.ensures)
+
+pub returns-in-Err-passes_by : goal.returns-in-Err-passes_by
+returns-in-Err-passes_by g c = query_failed (state g.S.Store c.args.conn.now) (state g.S.Store c.passes_of_contracts.new.conn) (state g.S.Store c.passes_by.new.conn) c.in-Ok.value c.in-Err-passes_by.fault _ _ _ c.in-Ok.ensures c.in-Err-passes_by.ensures
