@@ -1,15 +1,13 @@
 -- One reading after another, and what is found of each member of a list.
-use Rattle.std.proofs.Common.{◌≡◌, ◌<◌, ◌+◌, inl, inr, ℕ, zero, suc, List, [], ◌∷◌, ◌++◌, length, take, get_or, refl, sym, subst, Ok, Err, arith}
+use Rattle.std.proofs.Common.{◌≡◌, ◌<◌, ◌+◌, inl, inr, ℕ, zero, suc, List, [], ◌∷◌, ◌++◌, length, take, get_or, refl, sym, subst, Ok, arith}
 use Rattle.std.specs.Prelude.{Contains, ◌↔◌}
 use Rattle.std.proofs.lemmas.List.{take_more}
 use Rattle.std.proofs.lemmas.List.Elements.{Contains-append_cases, Contains-append_left, Contains-append_right}
 use Rattle.sqlite.specs.State.{State}
-use Rattle.table_access.specs.declared.StoreFault.{StoreFault}
-use Rattle.table_access.specs.declared.StoreFault.TheVariants.{Memory}
 use Rattle.broker_core.specs.State.{State as Broker}
 use Rattle.broker_core.proofs.Lists.{contains_none, contains_cases, contains_here}
 use Rattle.broker_tables.specs.Calm.{CalmQueriesBetween}
-use Rattle.broker_tables.proofs.QueryLemmas.{query_ok, query_stop}
+use Rattle.broker_tables.proofs.QueryLemmas.{query_ok}
 use Rattle.contract_tables.proofs.QueryLemmas.{calm_then}
 use Rattle.deploy_tables.specs.Matrix.{IsOfSome}
 
@@ -22,11 +20,6 @@ pub read_both : {A O B : Type 0} (old mid new : State) (a : A) (o : O) (b : B) (
     → CalmQueriesBetween old mid (Ok a) P → CalmQueriesBetween mid new (Ok o) Q → CalmQueriesBetween old new (Ok b) R
 read_both old mid new a o b P Q R given one two =
     read_made old new o b (λ q s. P a s × Q q s) R (λ s both. given s both.0 both.1) (calm_then old mid new a (Ok o) P Q (λ q s. P a s × Q q s) (λ s first q second. (first, second)) one two)
-
--- a reading, and another, from which there is no room for the answer
-pub read_stop : {A O B : Type 0} (old mid new : State) (a : A) (o : O) (e : StoreFault) (P : A → Broker → Type 0) (Q : O → Broker → Type 0) (R : B → Broker → Type 0) → e ≡ Memory
-    → CalmQueriesBetween old mid (Ok a) P → CalmQueriesBetween mid new (Ok o) Q → CalmQueriesBetween old new (Err e) R
-read_stop old mid new a o e P Q R room one two = query_stop old new o e Q R room (calm_then old mid new a (Ok o) P Q Q (λ s first q second. second) one two)
 
 -- what is found of each member so far
 module _ {C Y : Type 0} (Is : C → Y → Type 0) (cs : List C) where

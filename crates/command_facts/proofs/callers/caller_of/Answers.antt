@@ -12,9 +12,9 @@ returns-in-Ok g c =
     let new = state g.S.Store c.holder_of.new.conn in
     record {
       call = call_with old new c.holder_of.result _ _ (λ who h s held. (
-            subst (λ (o : Option (Bor (List ℕ))). IsCallerOfToken broker_primitives s (option_map (λ text. text.now) o) who) (sym c.in-Some.is)
-                (subst (λ (d : Text). IsCallerOfDigest s d who) (c.as_str.ensures.value ∙ c.in-Ok.ensures.ok) (h s held).0),
-            (h s held).1,
-          )) c.holder_of.ensures.call;
+        subst (λ (o : Option (Bor (List ℕ))). IsCallerOfToken broker_primitives s (option_map (λ text. text.now) o) who) (sym c.in-Some.is)
+            (subst (λ (d : Text). IsCallerOfDigest s d who) (c.as_str.ensures.value ∙ c.in-Ok.ensures.ok) (h s held).0),
+        (h s held).1,
+      )) c.holder_of.ensures.call;
       calm = c.holder_of.ensures.calm;
     }
