@@ -19,9 +19,9 @@ returns-in-Ok-remove_grant-clause-answers g c =
       record s { grants = put_at (same_pair same_text same_text) s.grants (c.args.team.now, c.args.environment.now) false },
       (grant_is, λ i. record s { grants = put_at (same_pair same_text same_text) s.grants (sym c.as_str.ensures i, sym c.as_str-in-None.ensures i) false }),
       it.1,
-    )) c.in-Ok.ensures.call c.in-Ok-remove_grant.ensures
+    )) c.in-Ok.ensures.call c.in-Ok-remove_grant.ensures.changes
 
 pub returns-in-Err-remove_grant-clause-calm : goal.returns-in-Err-remove_grant-clause-calm
 returns-in-Err-remove_grant-clause-calm g c =
     change_fails (state g.S.Store c.args.conn.now) (state g.S.Store c.read_grant_facts.new.conn) (state g.S.Store c.remove_grant.new.conn) c.in-Ok.value (Err c.in-Err-remove_grant.fault) _ _ _
-    (λ s h. (Plain, _, (c.in-None.ensures.changes s c.args.team.now c.args.environment.now h).1)) c.in-Ok.ensures.call c.in-Err-remove_grant.ensures.call
+    (λ s h. (Plain, _, (c.in-None.ensures.changes s c.args.team.now c.args.environment.now h).1)) c.in-Ok.ensures.call c.in-Err-remove_grant.ensures.changes.call
