@@ -23,13 +23,6 @@ read_map reads show view same [] (x ∷ items) all = absurd all
 read_map reads show view same (r ∷ rows) [] all = absurd all
 read_map reads show view same (r ∷ rows) (x ∷ items) all = ap₂ (λ v vs. v ∷ vs) (same r x all.0) (read_map reads show view same rows items all.1)
 
--- where the item that is read of a row is what `show` makes of it, the items are what it makes of the rows
-pub read_is : {A B : Type 0} (reads : A → B → Type 0) (show : A → B) → ((row : A) (item : B) → reads row item → item ≡ show row) → (rows : List A) (items : List B) → AreRead reads rows items → items ≡ map show rows
-read_is reads show same [] [] all = refl
-read_is reads show same [] (x ∷ items) all = absurd all
-read_is reads show same (r ∷ rows) [] all = absurd all
-read_is reads show same (r ∷ rows) (x ∷ items) all = ap₂ (λ v vs. v ∷ vs) (same r x all.0) (read_is reads show same rows items all.1)
-
 -- an item at a place of a list stands in it
 pub has_get : {X : Type 0} (xs : List X) (at : ℕ) (d : X) → at < length xs → Has xs (get_or xs at d)
 has_get [] at d low = absurd (omega arith)
