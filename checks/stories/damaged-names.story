@@ -21,13 +21,19 @@
 < 500 {"answer":"store"}
 > R GET /matrix?pacticipant=shop&version=3
 < 503 {"answer":"stopped"}
+# The gate looks names up for its faults alone: shop's version 3 lacks nothing, and a version of stock without a result
+# lacks one for what the damaged row names.
 !
 > R GET /can-i-deploy?pacticipant=shop&version=3&environment=live
+< 200 {"answer":"shown","environment":"live","faults":[],"gated":true,"permitted":true}
+> B PUT /pacticipants/stock/versions/2
+< 200 {"answer":"done"}
+> B GET /can-i-deploy?pacticipant=stock&version=2&environment=live
 < 500 {"answer":"store"}
 > R GET /matrix?pacticipant=shop&version=3
 < 503 {"answer":"stopped"}
 !
-> R POST /environments/live/deployments {"pacticipant":"shop","version":"3"}
+> B POST /environments/live/deployments {"pacticipant":"stock","version":"2"}
 < 500 {"answer":"store"}
 > R GET /matrix?pacticipant=shop&version=3
 < 503 {"answer":"stopped"}
