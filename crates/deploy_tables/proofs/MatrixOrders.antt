@@ -18,7 +18,7 @@ use Rattle.deploy_tables.specs.declared.entries.Entry.{Entry}
 use Rattle.deploy_tables.specs.Matrix.{entry_cmp}
 use Rattle.broker_core.proofs.Lists.{sorted_dedup}
 
-nats_tie : (x y : ℕ) → nat_eq x y ≡ is_eq (nat_cmp x y)
+pub nats_tie : (x y : ℕ) → nat_eq x y ≡ is_eq (nat_cmp x y)
 nats_tie = search (comparing, rules)
 
 -- sorted, then without what stands twice

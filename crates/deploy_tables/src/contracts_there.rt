@@ -5,6 +5,7 @@ ghost use Rattle.broker_tables.specs.Calm.{CalmQueries};
 ghost use Rattle.contract_tables.specs.Listings.{FailsAsNumbers};
 ghost use Rattle.deploy_tables.specs.ContractsThere.{IsDeployedIn, IsReleasedIn, TellsContracts, IsNumberedRow};
 
+use crate::lists::add;
 use sqlite::{Alter, Connection, Row, params};
 use std::alloc::Global;
 use table_access::{ReadRow, StoreFault, list_of, number_at, number_in};
@@ -79,11 +80,8 @@ fn in_one(
     ensures cause { IfErr result (λ f. f ≡ StoreFault.Memory) }
 {
     let mut all = deployed;
-    let mut released = released;
-    match all.append(&mut released) {
-        Ok(()) => Ok(all),
-        Err(_) => Err(StoreFault::Memory),
-    }
+    done!(add(&mut all, released));
+    Ok(all)
 }
 
 /// The contracts with the provider of the versions that are in the environment, in no order. That of a version in two

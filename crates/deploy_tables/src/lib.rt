@@ -23,6 +23,7 @@ mod deployments;
 mod entries;
 mod gate;
 mod listings;
+mod lists;
 mod making;
 mod matrix_rows;
 mod open_needs;

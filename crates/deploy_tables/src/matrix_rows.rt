@@ -1,6 +1,6 @@
 //! The matrix of a version: its contracts, and those that it has results for, with the latest result of each version of
 //! the provider.
-ghost use Rattle.std.specs.Prelude.{◌≡◌, ◌++◌, ◌↔◌, IfOk, IfErr, Some, Err, Contains};
+ghost use Rattle.std.specs.Prelude.{◌≡◌, ◌↔◌, IfOk, IfErr, Some, Err, Contains};
 ghost use Rattle.std.specs.List.Sorted.{IsStrictlySortedBy};
 ghost use Rattle.std.specs.Ordering.{nat_cmp};
 ghost use Rattle.table_access.specs.Reading.{AreRead};
@@ -18,6 +18,7 @@ ghost use Rattle.deploy_tables.specs.Needs.{IsOwnContract};
 ghost use Rattle.deploy_tables.specs.ToldResults.{ArePassesByNumber, IsUntold, NamesUntold, FailsAsTold, IsVerifiedTold, IsRowTold};
 
 use crate::entries::{Entry, both_sides, entries_used, entries_with};
+use crate::lists::add;
 use crate::told_results::{ResultPass, checked_told, is_checked_among, pass_among, passes_told};
 use broker_core::answer::{MatrixRow, Verified};
 use broker_core::command::Version;
@@ -30,18 +31,6 @@ use registry_tables::version_of;
 use sqlite::{Alter, Connection};
 use std::alloc::Global;
 use table_access::StoreFault;
-
-/// Puts more entries at the end. An `Err` is out of memory.
-fn add(found: &mut Vec<Entry>, more: Vec<Entry>) -> Result<(), StoreFault>
-    ensures added { IfOk result (λ _. found.new.items ≡ found.old.items ++ more.items) }
-    ensures cause { IfErr result (λ f. f ≡ StoreFault.Memory) }
-{
-    let mut more = more;
-    match found.append(&mut more) {
-        Ok(()) => Ok(()),
-        Err(_) => Err(StoreFault::Memory),
-    }
-}
 
 /// The contract of the version, with each version of its provider that has a result, or with none.
 fn of_contract<S: Alter>(

@@ -1,6 +1,6 @@
 //! The needs of a version in an environment that aren't good. Each is decided on numbers; names are looked up only for
 //! those that are told.
-ghost use Rattle.std.specs.Prelude.{◌≡◌, ◌∷◌, [], ◌++◌, ◌↔◌, IfOk, IfErr, Some, None, Contains, not, is_some, option_map, option_and_then, option_to_list};
+ghost use Rattle.std.specs.Prelude.{◌≡◌, ◌∷◌, [], ◌↔◌, IfOk, IfErr, Some, None, Contains, not, is_some, option_map, option_and_then, option_to_list};
 ghost use Rattle.broker_core.specs.declared.need.Need.{Need as NeedModel};
 ghost use Rattle.broker_core.specs.Faults.{kind_of};
 ghost use Rattle.broker_core.specs.Gate.{IsNeed};
@@ -13,6 +13,7 @@ ghost use Rattle.deploy_tables.specs.Partners.{AreNumbersOfVersions, AreAllPartn
 ghost use Rattle.deploy_tables.specs.Needs.{AreLatestOf, need_with, need_used, IsOpen, IsWithPartner, IsNeedOfContract, IsOwnNeed, IsUsed, IsNeedOfOthers};
 
 use crate::contracts_there::{NumberedContract, contracts_there};
+use crate::lists::add;
 use crate::partners::{ReleasedNumber, partners, released_numbers};
 use crate::version_names::version_numbered;
 use broker_core::command::Version;
@@ -62,33 +63,7 @@ fn one(alloc: Global, need: Need) -> Result<Vec<Need>, AllocError>
     Ok(found)
 }
 
-/// Puts more needs at the end. An `Err` is out of memory.
-fn add_needs(found: &mut Vec<Need>, more: Vec<Need>) -> Result<(), StoreFault>
-    ensures added { IfOk result (λ _. found.new.items ≡ found.old.items ++ more.items) }
-    ensures cause { IfErr result (λ f. f ≡ StoreFault.Memory) }
-{
-    let mut more = more;
-    match found.append(&mut more) {
-        Ok(()) => Ok(()),
-        Err(_) => Err(StoreFault::Memory),
-    }
-}
-
 // ---- the version's own contracts
-
-/// The need of the version's contract with its provider, of which no version is there. An `Err` is out of memory.
-fn absent(alloc: Global, version: &Version, provider: &Name) -> Result<Vec<Need>, StoreFault>
-    ensures all { IfOk result (λ found. found.items ≡ need_with version.now provider.now None None ∷ []) }
-    ensures cause { IfErr result (λ f. f ≡ StoreFault.Memory) }
-{
-    match need_with(version, provider, None, None) {
-        Ok(need) => match one(alloc, need) {
-            Ok(found) => Ok(found),
-            Err(_) => Err(StoreFault::Memory),
-        },
-        Err(_) => Err(StoreFault::Memory),
-    }
-}
 
 /// The need of the version's contract with its provider, and with this version of it, or with none.
 fn named_with(
@@ -111,6 +86,17 @@ fn named_with(
         None => None,
     };
     one(alloc, need_with(version, provider, partner, latest)?)
+}
+
+/// The need of the version's contract with its provider, of which no version is there. An `Err` is out of memory.
+fn absent(alloc: Global, version: &Version, provider: &Name) -> Result<Vec<Need>, StoreFault>
+    ensures all { IfOk result (λ found. found.items ≡ need_with version.now provider.now None None ∷ []) }
+    ensures cause { IfErr result (λ f. f ≡ StoreFault.Memory) }
+{
+    match named_with(alloc, version, provider, None, None) {
+        Ok(found) => Ok(found),
+        Err(_) => Err(StoreFault::Memory),
+    }
 }
 
 /// The need of the contract with the version of this number, if it isn't good.
@@ -153,7 +139,7 @@ fn with_partners<S: Alter>(
     let mut found = Vec::new(alloc);
     for partner in there {
         let more = done!(with_partner(alloc, conn, version, contract, *partner, strict));
-        done!(add_needs(&mut found, more));
+        done!(add(&mut found, more));
     }
     Ok(found)
 }
@@ -219,7 +205,7 @@ fn needs_of_contracts<S: Alter>(
             contract,
             strict,
         ));
-        done!(add_needs(&mut found, more));
+        done!(add(&mut found, more));
     }
     Ok(found)
 }
@@ -317,7 +303,7 @@ fn used_by_each<S: Alter>(
     let mut found = Vec::new(alloc);
     for contract in contracts {
         let more = done!(used_by(alloc, conn, version, results, *contract, strict));
-        done!(add_needs(&mut found, more));
+        done!(add(&mut found, more));
     }
     Ok(found)
 }
@@ -355,6 +341,6 @@ pub(crate) fn open_needs<S: Alter>(
 {
     let mut found = done!(own_needs(alloc, conn, number, version, environment, strict));
     let others = done!(needs_of_others(alloc, conn, number, version, environment, strict));
-    done!(add_needs(&mut found, others));
+    done!(add(&mut found, others));
     Ok(found)
 }

@@ -6,6 +6,7 @@ ghost use Rattle.contract_tables.specs.Listings.{FailsAsMarked};
 ghost use Rattle.deploy_tables.specs.ContractsThere.{IsDeployedIn};
 ghost use Rattle.deploy_tables.specs.Partners.{IsNumberOfReleased, ArePartners, AreReleasedThere, number_if};
 
+use crate::lists::each_number_once;
 use crate::told_results::NumberRow;
 use broker_core::name::Name;
 use broker_tables::name_in;
@@ -105,7 +106,7 @@ fn with_released(
     Ok(found)
 }
 
-/// The versions of the provider that are in the environment, in no order, where these are released there.
+/// The versions of the provider that are in the environment, each once, where these are released there.
 pub(crate) fn partners<S: Alter>(
     alloc: Global,
     conn: &mut Connection<S>,
@@ -119,7 +120,7 @@ pub(crate) fn partners<S: Alter>(
 {
     let deployed = done!(deployed_partners(alloc, conn, environment, provider.as_str()));
     match with_released(deployed, released, provider) {
-        Ok(found) => Ok(found),
+        Ok(found) => Ok(each_number_once(found)),
         Err(_) => Err(StoreFault::Memory),
     }
 }

@@ -12,6 +12,7 @@ ghost use Rattle.contract_tables.specs.VersionResults.{FailsAsPass, is_among};
 ghost use Rattle.deploy_tables.specs.declared.told_results.ResultPass.{ResultPass as PassModel};
 ghost use Rattle.deploy_tables.specs.ToldResults.{IsPassRow, TellPasses, ArePassesByNumber, IsUntold, TellChecked, IsContentOf, IsMeant};
 
+use crate::lists::{add, each_number_once};
 use broker_tables::truth_at;
 use contract_tables::Contract;
 use sqlite::{Alter, Connection, Row, params};
@@ -90,18 +91,6 @@ fn passes_by<S: Alter>(
     )
 }
 
-/// Puts what these results say at the end. An `Err` is out of memory.
-fn add_passes(found: &mut Vec<ResultPass>, more: Vec<ResultPass>) -> Result<(), StoreFault>
-    ensures added { IfOk result (λ _. found.new.items ≡ found.old.items ++ more.items) }
-    ensures cause { IfErr result (λ f. f ≡ StoreFault.Memory) }
-{
-    let mut more = more;
-    match found.append(&mut more) {
-        Ok(()) => Ok(()),
-        Err(_) => Err(StoreFault::Memory),
-    }
-}
-
 /// Whether each latest result for the contents of these contracts is a pass, in no order.
 fn passes_of_contracts<S: Alter>(
     alloc: Global,
@@ -113,7 +102,7 @@ fn passes_of_contracts<S: Alter>(
     let mut found = Vec::new(alloc);
     for contract in contracts {
         let more = done!(passes_for(alloc, conn, contract.content));
-        done!(add_passes(&mut found, more));
+        done!(add(&mut found, more));
     }
     Ok(found)
 }
@@ -135,7 +124,7 @@ fn all_passes(own: Vec<ResultPass>, others: Vec<ResultPass>) -> Result<Vec<Resul
     ensures cause { IfErr result (λ f. f ≡ StoreFault.Memory) }
 {
     let mut all = own;
-    done!(add_passes(&mut all, others));
+    done!(add(&mut all, others));
     Ok(in_order(all))
 }
 
@@ -207,18 +196,6 @@ fn checked_by<S: Alter>(
     )
 }
 
-/// Puts more numbers at the end. An `Err` is out of memory.
-fn add_numbers(found: &mut Vec<u32>, more: Vec<u32>) -> Result<(), StoreFault>
-    ensures added { IfOk result (λ _. found.new.items ≡ found.old.items ++ more.items) }
-    ensures cause { IfErr result (λ f. f ≡ StoreFault.Memory) }
-{
-    let mut more = more;
-    match found.append(&mut more) {
-        Ok(()) => Ok(()),
-        Err(_) => Err(StoreFault::Memory),
-    }
-}
-
 /// The latest results for the contents of these contracts that the broker checked.
 fn checked_of_contracts<S: Alter>(
     alloc: Global,
@@ -231,19 +208,9 @@ fn checked_of_contracts<S: Alter>(
     let mut found = Vec::new(alloc);
     for contract in contracts {
         let more = done!(checked_for(alloc, conn, contract.content));
-        done!(add_numbers(&mut found, more));
+        done!(add(&mut found, more));
     }
     Ok(found)
-}
-
-/// These numbers, each once, rising.
-fn each_number_once(numbers: Vec<u32>) -> Vec<u32>
-    ensures { Lists nat_cmp (Contains numbers.items) result.items }
-{
-    let mut numbers = numbers;
-    numbers.sort_unstable();
-    numbers.dedup();
-    numbers
 }
 
 /// The numbers of both lists, each once, rising. An `Err` is out of memory.
@@ -252,7 +219,7 @@ fn all_numbers(one: Vec<u32>, other: Vec<u32>) -> Result<Vec<u32>, StoreFault>
     ensures cause { IfErr result (λ f. f ≡ StoreFault.Memory) }
 {
     let mut all = one;
-    done!(add_numbers(&mut all, other));
+    done!(add(&mut all, other));
     Ok(each_number_once(all))
 }
 

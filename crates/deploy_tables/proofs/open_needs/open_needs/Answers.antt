@@ -14,8 +14,8 @@ returns g c =
     let e = c.args.environment.now in
     let mine = c.in-Ok.value.items in
     let theirs = c.in-Ok-needs_of_others.value.items in
-    read_both (state g.S.Store c.args.conn.now) (state g.S.Store c.own_needs.new.conn) (state g.S.Store c.needs_of_others.new.conn) c.in-Ok.value c.in-Ok-needs_of_others.value c.add_needs.new.found _ _ _
-    (λ s own others number x. subst (λ xs. Contains xs x ↔ (IsNeed s v e x × IsOpen c.args.strict x)) (sym c.in-Ok-add_needs.ensures.added)
+    read_both (state g.S.Store c.args.conn.now) (state g.S.Store c.own_needs.new.conn) (state g.S.Store c.needs_of_others.new.conn) c.in-Ok.value c.in-Ok-needs_of_others.value c.add.new.found _ _ _
+    (λ s own others number x. subst (λ xs. Contains xs x ↔ (IsNeed s v e x × IsOpen c.args.strict x)) (sym c.in-Ok-add.ensures.added)
     (both_are s v e c.args.strict own.0 mine theirs (own.1 number) (others number) x)) c.in-Ok.ensures c.in-Ok-needs_of_others.ensures
 
 pub returns-in-Err-needs_of_others : goal.returns-in-Err-needs_of_others

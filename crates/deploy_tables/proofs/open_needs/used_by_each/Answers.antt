@@ -8,8 +8,8 @@ use Rattle.deploy_tables.proofs.open_needs.used_by_each.Goals as goal
 
 pub loop-contract-preserved : goal.loop-contract-preserved
 loop-contract-preserved g c =
-    read_both (state g.S.Store c.args.conn.now) (state g.S.Store c.loop-contract.conn) (state g.S.Store c.used_by.new.conn) c.loop-contract.found c.in-Ok.value c.add_needs.new.found _ _ _
-    (λ s was here listed. of_more_at (λ d x. IsUsed s c.args.version.now c.args.strict d x) c.args.contracts.now c.loop-contract.contract-index _ c.loop-contract.found.items c.in-Ok.value.items c.add_needs.new.found.items c.loop-contract-test.true c.in-Ok-add_needs.ensures.added
+    read_both (state g.S.Store c.args.conn.now) (state g.S.Store c.loop-contract.conn) (state g.S.Store c.used_by.new.conn) c.loop-contract.found c.in-Ok.value c.add.new.found _ _ _
+    (λ s was here listed. of_more_at (λ d x. IsUsed s c.args.version.now c.args.strict d x) c.args.contracts.now c.loop-contract.contract-index _ c.loop-contract.found.items c.in-Ok.value.items c.add.new.found.items c.loop-contract-test.true c.in-Ok-add.ensures.added
     (was listed) (here listed))
     c.loop-contract.invariant c.in-Ok.ensures
 

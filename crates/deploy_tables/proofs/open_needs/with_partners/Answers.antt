@@ -10,8 +10,8 @@ use Rattle.deploy_tables.proofs.open_needs.with_partners.Goals as goal
 
 pub loop-partner-preserved : goal.loop-partner-preserved
 loop-partner-preserved g c =
-    read_both (state g.S.Store c.args.conn.now) (state g.S.Store c.loop-partner.conn) (state g.S.Store c.with_partner.new.conn) c.loop-partner.found c.in-Ok.value c.add_needs.new.found _ _ _
-    (λ s was here each. of_more_at (λ n x. IsWithPartner s c.args.version.now c.args.contract.now c.args.strict n x) c.args.there.now c.loop-partner.partner-index _ c.loop-partner.found.items c.in-Ok.value.items c.add_needs.new.found.items c.loop-partner-test.true c.in-Ok-add_needs.ensures.added (was each)
+    read_both (state g.S.Store c.args.conn.now) (state g.S.Store c.loop-partner.conn) (state g.S.Store c.with_partner.new.conn) c.loop-partner.found c.in-Ok.value c.add.new.found _ _ _
+    (λ s was here each. of_more_at (λ n x. IsWithPartner s c.args.version.now c.args.contract.now c.args.strict n x) c.args.there.now c.loop-partner.partner-index _ c.loop-partner.found.items c.in-Ok.value.items c.add.new.found.items c.loop-partner-test.true c.in-Ok-add.ensures.added (was each)
     (here (each _ (has_contains c.args.there.now _ (has_get c.args.there.now c.loop-partner.partner-index _ c.loop-partner-test.true)))))
     c.loop-partner.invariant c.in-Ok.ensures
 

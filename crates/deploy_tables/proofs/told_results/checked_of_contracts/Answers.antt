@@ -9,8 +9,8 @@ use Rattle.deploy_tables.proofs.told_results.checked_of_contracts.Goals as goal
 
 pub loop-contract-preserved : goal.loop-contract-preserved
 loop-contract-preserved g c =
-    read_both (state g.S.Store c.args.conn.now) (state g.S.Store c.loop-contract.conn) (state g.S.Store c.checked_for.new.conn) c.loop-contract.found c.in-Ok.value c.add_numbers.new.found _ _ _
-    (λ s was here. checked_more s c.args.contracts.now c.loop-contract.contract-index c.contract-item.result c.loop-contract.found.items c.in-Ok.value.items c.add_numbers.new.found.items c.loop-contract-test.true c.contract-item.is c.in-Ok-add_numbers.ensures.added was here)
+    read_both (state g.S.Store c.args.conn.now) (state g.S.Store c.loop-contract.conn) (state g.S.Store c.checked_for.new.conn) c.loop-contract.found c.in-Ok.value c.add.new.found _ _ _
+    (λ s was here. checked_more s c.args.contracts.now c.loop-contract.contract-index c.contract-item.result c.loop-contract.found.items c.in-Ok.value.items c.add.new.found.items c.loop-contract-test.true c.contract-item.is c.in-Ok-add.ensures.added was here)
     c.loop-contract.invariant c.in-Ok.ensures
 
 pub returns : goal.returns

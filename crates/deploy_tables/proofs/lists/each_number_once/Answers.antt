@@ -6,11 +6,8 @@ use Rattle.std.specs.Cmp.Rules.{comparing}
 use Rattle.std.specs.FinMap.{nat_cmp-IsAntisymmetric}
 use Rattle.std.proofs.lemmas.List.Filters.{dedup_is}
 use Rattle.broker_core.specs.Listing.{Lists}
-use Rattle.deploy_tables.proofs.MatrixOrders.{once}
-use Rattle.deploy_tables.proofs.told_results.each_number_once.Goals as goal
-
-nats_tie : (x y : ℕ) → nat_eq x y ≡ is_eq (nat_cmp x y)
-nats_tie = search (comparing, rules)
+use Rattle.deploy_tables.proofs.MatrixOrders.{nats_tie, once}
+use Rattle.deploy_tables.proofs.lists.each_number_once.Goals as goal
 
 pub returns : goal.returns
 returns c =
