@@ -107,8 +107,8 @@ fn reads_and_writes(rt: HostRuntime) -> Result<(), Fail> {
     begin(&mut conn).map_err(fail_of)?;
     put(&mut conn, 2, "b").map_err(fail_of)?;
     assert!(rt; texts(alloc, &mut conn)?.as_str() == "it's \"x\" é b  ");
-    assert!(rt; rollback(&mut conn));
-    assert!(rt; rollback(&mut conn));
+    assert!(rt; rollback(&mut conn) == Ok(()));
+    assert!(rt; rollback(&mut conn) == Ok(()));
     assert!(rt; texts(alloc, &mut conn)?.as_str() == "it's \"x\" é  ");
     Ok(())
 }

@@ -1,6 +1,6 @@
 -- A DELETE from a table to which no other refers is refused by nothing while the store works.
-use Rattle.std.proofs.Common.{◌≡◌, ◌≢◌, ◌⊎◌, inl, inr, ℕ, ℤ, zero, suc, List, [], ◌∷◌, ◌++◌, length, slice_get, Bool, true, false, not, ◌&&◌, ◌||◌, cond, nat_lt, Some, None, Option, option_map, Ok, Err, Result, refl, sym, ap, subst, subst₂, ◌∙◌, length-append, ◌==◌, arith}
-use Rattle.std.specs.List.{AllByRecursion, list_any, list_all}
+use Rattle.std.proofs.Common.{◌≡◌, ◌≢◌, inl, inr, ℕ, ℤ, zero, suc, List, [], ◌∷◌, length, slice_get, Bool, true, false, not, ◌&&◌, cond, nat_lt, Some, None, Option, Ok, Err, refl, sym, ap, subst, ◌∙◌, length-append, ◌==◌, arith}
+use Rattle.std.specs.List.{list_any, list_all}
 use Rattle.std.specs.Cmp.{nat_eq_equiv}
 use Rattle.std.proofs.lemmas.Bool.{false_from_ne_true, or_cases, or_left, or_right, cases_eq, eqb-true}
 use Rattle.sqlite.specs.Order.{Row}
@@ -8,7 +8,6 @@ use Rattle.sqlite.specs.Tree.{Trees, IsTable, IsAscending, with_tree}
 use Rattle.sqlite.specs.Schema.{Schema}
 use Rattle.sqlite.specs.Table.{Table}
 use Rattle.sqlite.specs.Term.{Term, col}
-use Rattle.sqlite.specs.Command.{Command}
 use Rattle.sqlite.specs.Command.TheVariants.{Delete}
 use Rattle.sqlite.specs.Rowids.TheVariants.{Given}
 use Rattle.sqlite_schema.specs.declared.schema.Keys.{Keys}
@@ -31,9 +30,8 @@ use Rattle.sqlite_rules.proofs.RuleLemmas.{unique_kept, parent_is_table, keeps_a
 use Rattle.sqlite_rules.proofs.EditLemmas.{turns}
 use Rattle.sqlite_rules.proofs.TableLemmas.{without_all_has}
 use Rattle.sqlite.specs.declared.error.Error.{Error}
-use Rattle.sqlite.specs.Effect.{Database, RefusesQuery}
 use Rattle.sqlite.specs.Rows.{Written, Task, Edited, Deletes}
-use Rattle.sqlite.specs.Does.{Tally, AtPlace, OnRows, Does}
+use Rattle.sqlite.specs.Does.{AtPlace, OnRows, Does}
 use Rattle.sqlite.specs.State.{State, Executes, IsMisplaced, Fails, mode_of}
 use Rattle.sqlite.proofs.Callers.{one_step}
 use Rattle.table_access.specs.Statements.{plain_table, from_table, IsCalm}
@@ -177,7 +175,7 @@ module _ (name : List ℕ) (tree : ℕ) (columns : List Column) (key : Option �
 
     -- it fails only as the store fails, and no row is too big
     pub delete_fails : (e : Error) → Executes sql params old new (Err e) → Fails old new ⊥ e
-    delete_fails e h = elim (change_fails sql params old new (Delete at query) (λ e. ⊥) means runs.whole refl refl placed (λ text e. does text (Some e)) e h) [ inl fails ↦ caused_by old new e (λ big. does big.0 None big.1) fails | inr never ↦ absurd never ]
+    delete_fails e h = elim (change_fails sql params old new (Delete at query) (λ e. ⊥) means runs.whole refl refl (λ e is same. placed e is) (λ text e writes. does text (Some e)) e h) [ inl fails ↦ caused_by old new e (λ big. does big.0 None big.1) fails | inr never ↦ absurd never ]
       where
         placed : (e : Error) → IsMisplaced old (Delete at query) e → ⊥
         placed e (inl (is, inl begins)) = let k = begins.0 in cc

@@ -9,6 +9,7 @@ pub mod Keys
 pub mod Steps
 pub mod Answered
 pub mod Refused
+pub mod RefusedEnds
 pub mod Deleted
 pub mod CountLemmas
 pub mod CallLemmas

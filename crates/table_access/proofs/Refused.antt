@@ -1,7 +1,7 @@
 -- Why a statement that changes rows is refused while the store works; an INSERT of one row: a rule of its table, or a row
 -- that it refers to isn't there.
-use Rattle.std.proofs.Common.{◌≡◌, ◌⊎◌, inl, inr, ℕ, zero, suc, List, [], ◌∷◌, ◌++◌, length, slice_get, Bool, true, false, not, ◌&&◌, ◌||◌, Some, None, Option, option_map, Ok, Err, Result, refl, sym, ap, subst, subst₂, ◌∙◌, append-nil, length-append, ◌/◌, arith}
-use Rattle.std.specs.Prelude.{⊤, is_some, MatchBool}
+use Rattle.std.proofs.Common.{◌≡◌, ◌⊎◌, inl, inr, ℕ, zero, suc, List, [], ◌∷◌, length, slice_get, Bool, true, false, not, ◌&&◌, ◌||◌, Some, None, Option, Ok, Err, Result, refl, sym, ap, subst, subst₂, ◌∙◌, append-nil, length-append, ◌/◌, arith}
+use Rattle.std.specs.Prelude.{⊤, IsSome, is_some}
 use Rattle.std.proofs.lemmas.Bool.{cases_Bool}
 use Rattle.sqlite.specs.Order.{Row}
 use Rattle.sqlite.specs.Tree.{Trees}
@@ -19,19 +19,20 @@ use Rattle.sqlite_schema.specs.declared.schema.Reference.{Reference}
 use Rattle.sqlite_value.specs.declared.keys.Order.{Order}
 use Rattle.sqlite_schema.specs.Rules.{Refers}
 use Rattle.sqlite_rules.specs.Edit.{IsRefused}
-use Rattle.sqlite_rules.specs.Action.{Leads, Writes, Settles, works}
+use Rattle.sqlite_rules.specs.Action.{Leads}
 use Rattle.sqlite_rules.specs.declared.error.Refusal.{Refusal}
 use Rattle.sqlite_typing.specs.Types.{accepts_terms}
 use Rattle.sqlite.specs.declared.error.Error.{Error}
-use Rattle.sqlite.specs.declared.run.Mode.{Mode}
-use Rattle.sqlite.specs.Effect.{Database, value_rows, edit_error}
-use Rattle.sqlite.specs.Rows.{Part, Then, Written, Task, Edited, Inserts}
-use Rattle.sqlite.specs.Does.{Tally, OnTable, OnRows, AtPlace, WritesRows, Does, due}
+use Rattle.sqlite.specs.Effect.{value_rows, edit_error}
+use Rattle.sqlite.specs.Rows.{Written, Task, Edited, Inserts}
+use Rattle.sqlite.specs.Does.{OnRows, AtPlace, WritesRows, Does, due}
 use Rattle.sqlite.specs.Listing.{understood}
-use Rattle.sqlite.specs.State.{State, Executes, ExecutesIn, IsNotRun, IsMisplaced, Fails, HasCause, RunsCommand, shows_rows, is_pragma, text_of, mode_of}
+use Rattle.sqlite.specs.State.{State, Executes, ExecutesIn, IsNotRun, IsMisplaced, Fails, HasCause, IsUnchanged, MayChange, shows_rows, is_pragma, text_of, mode_of}
+use Rattle.sqlite_resolve.specs.declared.compiled.Compiled.{Compiled}
 use Rattle.sqlite_trees.specs.declared.error.StoreError.{StoreError}
 use Rattle.sqlite_trees.specs.declared.error.StoreError.TheVariants.{OutOfMemory, Io, Corrupt, Full, Broken, Unstorable}
 use Rattle.sqlite.specs.Effect.{is_query}
+use Rattle.sqlite.specs.Calls.{IsWrite}
 use Rattle.sqlite.specs.Clock.{timed}
 use Rattle.sqlite.proofs.Callers.{IsPlain, command_of}
 use Rattle.table_access.specs.Statements.{plain_table}
@@ -61,10 +62,15 @@ module _ (sql : List ℕ) (params : Row) (old new : State) (command : Command) (
   abbrev pub Ends : Option Error → Type 0
   Ends stop = (text : List ℕ) × Does old.step_limit (mode_of old) params old.now text None command (Err stop)
 
-  -- A statement that is whole and in its place fails as the store fails, where a value was too big among it, or as its
-  -- command does.
-  pub change_fails : Means old.now.schema sql command → is_whole sql (length params) (understood old.now.schema sql) ≡ true → is_query command ≡ false → is_pragma command ≡ false → ((e : Error) → IsMisplaced old command e → ⊥)
-      → ((text : List ℕ) (e : Error) → Does old.step_limit (mode_of old) params old.now text None command (Err (Some e)) → Unfit e) → (e : Error) → Executes sql params old new (Err e) → Fails old new (Ends None) e ⊎ Unfit e
+  -- without RETURNING only a command that writes changes something
+  changes : (c : Compiled) → c.command ≡ command → c.returning ≡ None → MayChange c → IsWrite command
+  changes c known bare (inl writes) = subst IsWrite known writes
+  changes c known bare (inr shows) = absurd (let shown = subst IsSome bare shows in cc)
+
+  -- A statement that is whole fails as the store fails, where a value was too big among it, or as its command does, or
+  -- since it is out of place.
+  pub change_fails : Means old.now.schema sql command → is_whole sql (length params) (understood old.now.schema sql) ≡ true → is_query command ≡ false → is_pragma command ≡ false → ((e : Error) → IsMisplaced old command e → IsUnchanged old new → Unfit e)
+      → ((text : List ℕ) (e : Error) → IsWrite command → Does old.step_limit (mode_of old) params old.now text None command (Err (Some e)) → Unfit e) → (e : Error) → Executes sql params old new (Err e) → Fails old new (Ends None) e ⊎ Unfit e
   unfolding ExecutesIn IsNotRun
   change_fails means whole quiet plain placed unfit e (inl (inl h)) = absurd (is_statement sql params old means.plain whole e h.0)
   change_fails means whole quiet plain placed unfit e (inl (inr h)) = inl (caused_by old new e (λ none. absurd none) h)
@@ -78,8 +84,8 @@ module _ (sql : List ℕ) (params : Row) (old new : State) (command : Command) (
         | inl shows ↦ absurd (none_shown (is_query command) (is_pragma command) quiet plain (subst₂ (λ k r. (is_query k || (not false && (is_pragma k || is_some r))) ≡ true) known bare.0 shows))
         | inr runs ↦ elim (rw runs at h.2) [
           | inl is ↦ elim is.0 [
-            | inl misplaced ↦ absurd (subst (λ k. IsMisplaced old k e → ⊥) (sym known) (placed e) misplaced)
-            | inr does ↦ inr (unfit (text_of sql h.0) e (same (Some e) does.1))
+            | inl misplaced ↦ inr (placed e (subst (λ k. IsMisplaced old k e) known misplaced) is.1)
+            | inr does ↦ inr (unfit (text_of sql h.0) e (changes h.0 known bare.0 does.0) (same (Some e) does.1))
           ]
           | inr fails ↦ inl (caused_by old new e (λ big. (text_of sql h.0, same None big)) fails)
         ]
@@ -150,7 +156,7 @@ module _ (name : List ℕ) (tree : ℕ) (columns : List Column) (key : Option �
 
     -- an INSERT of one row fails as the store fails, or since the row is unfit
     pub insert_fails : (e : Error) → Executes sql params old new (Err e) → Fails old new ⊤ e ⊎ IsUnfit e
-    insert_fails e h = elim (change_fails sql params old new (Insert at (Values terms width)) IsUnfit means whole refl refl placed unfit e h) [ inl fails ↦ inl (caused_by old new e (λ big. tt) fails) | inr is ↦ inr is ]
+    insert_fails e h = elim (change_fails sql params old new (Insert at (Values terms width)) IsUnfit means whole refl refl (λ e is same. absurd (placed e is)) (λ text e writes. unfit text e) e h) [ inl fails ↦ inl (caused_by old new e (λ big. tt) fails) | inr is ↦ inr is ]
       where
         placed : (e : Error) → IsMisplaced old (Insert at (Values terms width)) e → ⊥
         placed e (inl (is, inl begins)) = let k = begins.0 in cc

@@ -1,6 +1,5 @@
 -- What the three texts mean, under any schema.
-use Rattle.std.proofs.Common.{◌≡◌, ◌⊎◌, inl, inr, List, [], ℕ, codes, false, None, Some, Result, Ok, Err, IfErr, refl, sym, ap, subst, ◌∙◌, length, arith, ◌≤◌}
-use Rattle.std.specs.Prelude.{IsSome}
+use Rattle.std.proofs.Common.{◌≡◌, ◌⊎◌, inl, inr, List, [], ℕ, codes, false, None, Some, Result, Ok, Err, IfErr, refl, sym, ap, subst, ◌∙◌}
 use Rattle.std.specs.Prelude.{⊤}
 use Rattle.std.proofs.lemmas.Bool.{cases_Bool}
 use Rattle.sqlite.specs.Order.{Row}
@@ -14,8 +13,7 @@ use Rattle.sqlite.specs.Listing.{understood}
 use Rattle.sqlite.specs.declared.error.Error.TheVariants.{ExecuteReturnedResults}
 use Rattle.sqlite.specs.Does.{Does}
 use Rattle.sqlite_resolve.specs.declared.compiled.Compiled.{Compiled}
-use Rattle.sqlite.specs.State.{State, Executes, ExecutesIn, CommitsBy, MayWrite, MayChange, IsNotRun, IsNoStatement, IsMisplaced, IsUnchanged, IsRolledBack, Fails, HasCause, shows_rows, mode_of}
-use Rattle.sqlite.specs.Calls.{IsWrite}
+use Rattle.sqlite.specs.State.{State, Executes, ExecutesIn, CommitsBy, MayWrite, MayChange, IsNotRun, IsNoStatement, IsMisplaced, IsUnchanged, Fails, HasCause, shows_rows, mode_of}
 use Rattle.sqlite_trees.specs.declared.error.StoreError.{StoreError}
 use Rattle.sqlite_trees.specs.declared.error.StoreError.TheVariants.{OutOfMemory, Io, Corrupt, Full, Broken, Unstorable}
 use Rattle.sqlite.proofs.Callers.{IsPlain, command_of}
@@ -108,49 +106,3 @@ commit_commits old db h = elim (commits_as (codes "COMMIT") old Commit (commit_i
 pub on_error : (sql : List ℕ) (old new : State) (r : Result ℕ Error) → Executes sql [] old new r → IfErr r (λ e. Executes sql [] old new (Err e))
 on_error sql old new (Ok count) h = tt
 on_error sql old new (Err e) h = h
-
--- ---- ROLLBACK
-
--- the text is one statement, which takes no parameter and no clock
-rollback_compiled : (schema : Schema)
-    → (c : Compiled) × (understood schema (codes "ROLLBACK") ≡ Ok c) × (c.command ≡ Rollback) × (c.returning ≡ None) × (c.tail ≡ 8) × (c.names ≡ []) × (c.formats ≡ [])
-unfolding understood everything
-rollback_compiled schema = (_, refl, refl, refl, refl, refl, refl)
-
-rollback_is_statement : (old : State) (e : Error) → ¬ IsNoStatement old (codes "ROLLBACK") [] e
-rollback_is_statement old e (inl h) = let is = rollback_compiled old.now.schema in let clash = sym h.1 ∙ is.1 in absurd cc
-rollback_is_statement old e (inr h) =
-    let is = rollback_compiled old.now.schema in
-    let both : Ok h.0 ≡ Ok is.0 = sym h.1 ∙ is.1 in
-    let same : h.0 ≡ is.0 = cc in
-    elim h.2 [
-      | inl many ↦ many.0 (let tail : h.0.tail ≡ 8 = ap (λ (c : Compiled). c.tail) same ∙ is.4 in let whole : 8 ≤ h.0.tail = omega (arith, tail) in whole)
-      | inr more ↦ elim more [
-        | inl count ↦ count.0 (ap length (sym (ap (λ (c : Compiled). c.names) same ∙ is.5)))
-        | inr clock ↦ clock.0 (ap (λ (c : Compiled). c.formats) same ∙ is.6)
-      ]
-    ]
-
-outside_only : (old : State) (e : Error) → IsMisplaced old Rollback e → old.in_transaction ≡ false
-outside_only old e (inl h) = elim h.1 [ inl begins ↦ absurd (let clash = begins.0 in cc) | inr ends ↦ ends.1 ]
-outside_only old e (inr h) = elim h.2 [ inl name ↦ absurd (let clash = name in cc) | inr name ↦ absurd (let clash = name in cc) ]
-
--- ROLLBACK is refused only where there is no transaction, or where the store failed, which ended it.
-pub rollback_refused : (old new : State) (e : Error) → Executes (codes "ROLLBACK") [] old new (Err e) → IsRolledBack old new ⊎ ((old.in_transaction ≡ false) × IsUnchanged old new)
-unfolding ExecutesIn IsNotRun
-rollback_refused old new e (inl (inl h)) = absurd (rollback_is_statement old e h.0)
-rollback_refused old new e (inl (inr h)) = inl h.3
-rollback_refused old new e (inr h) =
-    let is = rollback_compiled old.now.schema in
-    let both : Ok h.0 ≡ Ok is.0 = sym h.1.is ∙ is.1 in
-    let same : h.0 ≡ is.0 = cc in
-    let command : h.0.command ≡ Rollback = ap (λ (c : Compiled). c.command) same ∙ is.2 in
-    let returning : h.0.returning ≡ None = ap (λ (c : Compiled). c.returning) same ∙ is.3 in
-    let runs : shows_rows false h.0 ≡ false = rw (command, returning) in
-    elim (rw runs at h.2) [
-      | inl it ↦ elim it.0 [
-        | inl misplaced ↦ inr (outside_only old e (subst (λ k. IsMisplaced old k e) command misplaced), it.1)
-        | inr does ↦ elim does.0 [ inl writes ↦ absurd (subst IsWrite command writes) | inr shows ↦ absurd (let shown = subst IsSome returning shows in cc) ]
-      ]
-      | inr fails ↦ inl fails.3
-    ]

@@ -11,7 +11,7 @@ ghost use Rattle.sqlite.specs.State.{HasCleanDisk, Commits, IsUnchanged, IsRolle
 ghost use Rattle.sqlite.specs.Held.{state};
 ghost use Rattle.sqlite.specs.Values.{bound};
 ghost use Rattle.sqlite_resolve.specs.Compile.{first};
-ghost use Rattle.table_access.specs.Unit.{Begins, IsLeft, IsEndedAnyway, IsOver, TellsRollback, RefusesCommit};
+ghost use Rattle.table_access.specs.Unit.{Begins, IsLeft, IsOver, FailsToBegin, RollsBack, FailsToRollBack, TellsRollback, RefusesCommit};
 ghost use Rattle.table_access.specs.Calls.{KeepsLastCommit, CallsStore, FailsToRun};
 ghost use Rattle.table_access.specs.Calls as spec;
 ghost use Rattle.table_access.specs.Reading.{IsRefusedAs};
@@ -71,7 +71,7 @@ fn run_begin<S: Alter>(conn: &mut Connection<S>) -> Result<usize, Error>
     ensures refused { HasCleanDisk (state S.Store conn.new) →
         OnErr result (IsLeft (state S.Store conn.old) (state S.Store conn.new)) }
     ensures cause { HasCleanDisk (state S.Store conn.new) →
-        IfErr result (λ e. Executes (codes "BEGIN") [] (state S.Store conn.old) (state S.Store conn.new) (Err e)) }
+        IfErr result (λ e. FailsToBegin (state S.Store conn.old) (state S.Store conn.new) (spec.fault_of e)) }
     ensures survives { Survives (state S.Store conn.old) (state S.Store conn.new) (λ _. ⊥) }
 {
     conn.execute("BEGIN", &[])
@@ -92,14 +92,12 @@ fn run_commit<S: Alter>(conn: &mut Connection<S>) -> Result<usize, Error>
     conn.execute("COMMIT", &[])
 }
 
-/// Runs ROLLBACK. It is refused only if there is no transaction, or if the store failed, which ended it.
+/// Runs ROLLBACK. Within a transaction it is refused only if the store failed, which ended the transaction.
 fn run_rollback<S: Alter>(conn: &mut Connection<S>) -> Result<usize, Error>
     ensures undone { HasCleanDisk (state S.Store conn.new) →
-        OnOk result (IsRolledBack (state S.Store conn.old) (state S.Store conn.new)) }
-    ensures refused { HasCleanDisk (state S.Store conn.new) →
-        OnErr result (IsEndedAnyway (state S.Store conn.old) (state S.Store conn.new)) }
-    ensures cause { HasCleanDisk (state S.Store conn.new) →
-        IfErr result (λ e. Executes (codes "ROLLBACK") [] (state S.Store conn.old) (state S.Store conn.new) (Err e)) }
+        OnOk result (RollsBack (state S.Store conn.old) (state S.Store conn.new)) }
+    ensures cause { HasCleanDisk (state S.Store conn.new) → IsTrue (state S.Store conn.old).in_transaction →
+        IfErr result (λ e. FailsToRollBack (state S.Store conn.old) (state S.Store conn.new) (spec.fault_of e)) }
     ensures survives { Survives (state S.Store conn.old) (state S.Store conn.new) (λ _. ⊥) }
 {
     conn.execute("ROLLBACK", &[])
@@ -112,7 +110,7 @@ pub fn begin<S: Alter>(conn: &mut Connection<S>) -> Result<(), StoreFault>
     ensures refused { HasCleanDisk (state S.Store conn.new) →
         OnErr result (IsLeft (state S.Store conn.old) (state S.Store conn.new)) }
     ensures cause { HasCleanDisk (state S.Store conn.new) →
-        IfErr result (FailsToRun (codes "BEGIN") [] (state S.Store conn.old) (state S.Store conn.new)) }
+        IfErr result (FailsToBegin (state S.Store conn.old) (state S.Store conn.new)) }
     ensures survives { Survives (state S.Store conn.old) (state S.Store conn.new) (λ _. ⊥) }
 {
     match run_begin(conn) {
@@ -123,9 +121,9 @@ pub fn begin<S: Alter>(conn: &mut Connection<S>) -> Result<(), StoreFault>
 
 /// Ends the transaction without committing. What is committed stays as it was, and no transaction is open any more.
 ///
-/// `false` comes only if the database refused ROLLBACK, since the store failed; that ended the transaction too. If an
-/// earlier failure has ended it already, nothing is left to do, and the answer is `true`.
-pub fn rollback<S: Alter>(conn: &mut Connection<S>) -> bool
+/// An error comes only if the database refused ROLLBACK, since the store failed; that ended the transaction too. If an
+/// earlier failure has ended it already, nothing is left to do, and the answer is `Ok`.
+pub fn rollback<S: Alter>(conn: &mut Connection<S>) -> Result<(), StoreFault>
     ensures over { HasCleanDisk (state S.Store conn.new) → IsOver (state S.Store conn.new) }
     ensures commit { HasCleanDisk (state S.Store conn.new) →
         KeepsLastCommit (state S.Store conn.old) (state S.Store conn.new) }
@@ -133,7 +131,13 @@ pub fn rollback<S: Alter>(conn: &mut Connection<S>) -> bool
         TellsRollback (state S.Store conn.old) (state S.Store conn.new) result }
     ensures survives { Survives (state S.Store conn.old) (state S.Store conn.new) (λ _. ⊥) }
 {
-    conn.is_autocommit() || run_rollback(conn).is_ok()
+    if conn.is_autocommit() {
+        return Ok(());
+    }
+    match run_rollback(conn) {
+        Ok(_) => Ok(()),
+        Err(refusal) => Err(fault_of(refusal)),
+    }
 }
 
 /// Commits the transaction, and says whether it did. If the commit was refused, the transaction is rolled back, and

@@ -1,0 +1,14 @@
+use Rattle.std.proofs.Common.{◌≡◌, Bool, true, false, not, IsTrue, refl, sym, subst}
+use Rattle.sqlite.specs.Held.{state}
+use Rattle.table_access.specs.Unit.{FailsToRollBack}
+use Rattle.table_access.proofs.rollback.Goals as goal
+
+is_inside : (inside autocommit : Bool) → autocommit ≡ not inside → autocommit ≡ false → IsTrue inside
+is_inside true autocommit is none = refl
+is_inside false autocommit is none = absurd (cc)
+
+pub returns-in-Err-clause-tells : goal.returns-in-Err-clause-tells
+returns-in-Err-clause-tells g c clean =
+    let old = state g.S.Store c.args.conn.now in
+    let inside = is_inside old.in_transaction c.is_autocommit.result c.is_autocommit.ensures.value c.if-is_autocommit.false in
+    subst (FailsToRollBack old (state g.S.Store c.run_rollback.new.conn)) (sym c.fault_of.ensures) (c.in-Err.ensures.cause clean inside)
