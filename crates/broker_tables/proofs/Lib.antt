@@ -1,6 +1,7 @@
 pub mod Definitions
 pub mod Frames
 pub mod QueryLemmas
+pub mod FailLemmas
 pub mod Asked
 pub mod TruthLemmas
 pub mod ReadableRows
@@ -21,3 +22,4 @@ pub mod VersionRows
 pub mod NoVersion
 pub mod ByNumber
 pub mod Former
+pub mod Inserted

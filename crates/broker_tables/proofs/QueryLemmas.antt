@@ -6,9 +6,9 @@ use Rattle.sqlite.specs.State.{State, HasCleanDisk}
 use Rattle.table_access.specs.declared.StoreFault.{StoreFault}
 use Rattle.table_access.specs.declared.StoreFault.TheVariants.{Memory, Store}
 use Rattle.table_access.specs.Calls.{CallsTablesBetween, CallsStoreBetween, GoesOn, HasFailed}
-use Rattle.table_access.proofs.CallLemmas.{call_with, then_ok, then_err, then_stop, seq, ended_since, statement_with, statement_ok, statement_err, statement_result, statement_seq}
+use Rattle.table_access.proofs.CallLemmas.{call_with, then_ok, then_err, then_stop, seq, ended_since, memory_ok, statement_with, statement_ok, statement_err, statement_result, statement_seq}
 use Rattle.broker_core.specs.State.{State as Broker}
-use Rattle.broker_tables.specs.Holds.{IsRead}
+use Rattle.broker_tables.specs.Holds.{IsRead, QueriesBetween}
 use Rattle.broker_tables.specs.Calm.{Serves, FailsOnlyBy, HasFailedOrMemory, CalmQueriesBetween, CalmQueriesInPlaceBetween}
 
 -- what served a query serves the next one
@@ -21,7 +21,7 @@ serves_on old mid a P clean one s it = record {
 }
 
 -- a later failure of the store is one of both
-ended_or_memory : (old mid new : State) (e : StoreFault) → GoesOn old mid → old.faults ≤ mid.faults → HasFailedOrMemory mid new e → HasFailedOrMemory old new e
+pub ended_or_memory : (old mid new : State) (e : StoreFault) → GoesOn old mid → old.faults ≤ mid.faults → HasFailedOrMemory mid new e → HasFailedOrMemory old new e
 ended_or_memory old mid new e on up (inl ended) = inl (ended_since old mid new e on up ended)
 ended_or_memory old mid new e on up (inr room) = inr room
 
@@ -37,6 +37,10 @@ in_store old new r P it = record { call = it.call; memory = it.memory }
 
 pub in_calm : {A : Type 0} (old new : State) (r : Result A StoreFault) (P : A → Broker → Type 0) → CallsStoreBetween old new r (IsRead old new P) → FailsOnlyBy old new r (HasFailed old new) → CalmQueriesInPlaceBetween old new r P
 in_calm old new r P it calm = record { call = it.call; memory = it.memory; calm = calm }
+
+-- a query that answers has no failure
+pub placed : {A : Type 0} (old new : State) (a : A) (P : A → Broker → Type 0) → QueriesBetween old new (Ok a) P → CalmQueriesInPlaceBetween old new (Ok a) P
+placed old new a P it = record { call = it; memory = memory_ok old new a; calm = λ clean s here. tt }
 
 -- ---- one statement
 
@@ -101,6 +105,10 @@ in_place old new r P it = record { call = it.call; calm = λ clean s here. IfErr
 
 pub query_ok : {A B : Type 0} (old new : State) (a : A) (b : B) (P : A → Broker → Type 0) (Q : B → Broker → Type 0) → (IsRead old new P a → IsRead old new Q b) → CalmQueriesBetween old new (Ok a) P → CalmQueriesBetween old new (Ok b) Q
 query_ok old new a b P Q more it = record { call = then_ok old new a b _ _ more it.call; calm = λ clean s here. tt }
+
+-- what is read says more
+pub query_with : {A : Type 0} (old new : State) (r : Result A StoreFault) (P Q : A → Broker → Type 0) → ((a : A) → IsRead old new P a → IsRead old new Q a) → CalmQueriesBetween old new r P → CalmQueriesBetween old new r Q
+query_with old new r P Q more it = record { call = call_with old new r _ _ more it.call; calm = it.calm }
 
 pub query_err : {A B : Type 0} (old new : State) (e : StoreFault) (P : A → Broker → Type 0) (Q : B → Broker → Type 0) → CalmQueriesBetween old new (Err e) P → CalmQueriesBetween old new (Err e) Q
 query_err old new e P Q it = record { call = then_err old new e _ _ it.call; calm = it.calm }

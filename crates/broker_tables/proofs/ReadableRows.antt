@@ -20,6 +20,7 @@ use Rattle.table_access.proofs.Maps.{has_find}
 use Rattle.table_access.proofs.Members.{map_has, has_contains}
 use Rattle.table_access.proofs.SoundLemmas.{text_at, whole_in, checks_hold, has_place}
 use Rattle.broker_core.specs.declared.command.Version.{Version}
+use Rattle.broker_core.specs.Limit.{limit}
 use Rattle.broker_core.specs.Text.{Text, version}
 use Rattle.broker_core.specs.State.{State as Broker}
 use Rattle.broker_tables.specs.Schema.{to}
@@ -54,7 +55,7 @@ low_in : {X : Type 0} (f : Row → X) (rows : List Row) (xs : List X) → map {B
 low_in f rows xs is few r has = let n = row_number f rows xs 1 is r has in (n.0, n.1, omega (arith, n.2, few))
 
 mapped_few : {X Y : Type 0} (f : X → Y) (xs : List X) → AreFew xs → AreFew (map f xs)
-mapped_few f xs few = subst (λ n. n < 2 ^ 32) (sym (length-map xs f)) few
+mapped_few f xs few = subst (λ n. n ≤ limit) (sym (length-map xs f)) few
 
 module _ (db : Database) (s : Broker) (held : Holds db s) (readable : IsReadable s) where
   pub version_low : (r : Row) → Has (db.trees 6) r → IsLow (whole_at 0 r)

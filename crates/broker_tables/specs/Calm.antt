@@ -27,6 +27,17 @@ FailsOnlyBy old new r Cause = HasCleanDisk new → (s : Broker) → Serves old s
 abbrev pub HasFailedOrMemory : State → State → StoreFault → Type 0
 HasFailedOrMemory old new fault = HasFailed old new fault ⊎ (fault ≡ Memory)
 
+-- where such a state is shown, and allows the call, it fails for that alone
+abbrev pub IsCalmFromBetween : {A : Type 0} → State → State → Result A StoreFault → (Broker → Type 0) → Type 0
+IsCalmFromBetween old new r Allows =
+    HasCleanDisk new → (s : Broker) → Serves old s → Allows s → IfErr r (HasFailedOrMemory old new)
+
+-- or since a change of its own was refused, which it makes from these states alone
+abbrev pub FailsFromBetween : {A : Type 0} → State → State → Result A StoreFault → (Broker → Type 0)
+    → (Broker → Type 0) → Type 0
+FailsFromBetween old new r Allows Changes = HasCleanDisk new → (s : Broker) → Serves old s → Allows s
+    → IfErr r (λ fault. HasFailedOrMemory old new fault ⊎ Changes s)
+
 -- a query, where there may be no room for its answer
 pub record CalmQueriesBetween {A : Type 0} (old new : State) (r : Result A StoreFault) (P : A → Broker → Type 0)
     : Type 0 where
@@ -70,3 +81,10 @@ module _ {X : Type 0} (store : Ghosts X) (old new : Held X) where
 
   abbrev pub IsCalmInPlace : {A : Type 0} → Result A StoreFault → Type 0
   IsCalmInPlace r = FailsOnlyBy (state store old) (state store new) r (HasFailed (state store old) (state store new))
+
+  -- the same from states that allow the call
+  abbrev pub IsCalmFrom : {A : Type 0} → Result A StoreFault → (Broker → Type 0) → Type 0
+  IsCalmFrom r Allows = IsCalmFromBetween (state store old) (state store new) r Allows
+
+  abbrev pub FailsFrom : {A : Type 0} → Result A StoreFault → (Broker → Type 0) → (Broker → Type 0) → Type 0
+  FailsFrom r Allows Changes = FailsFromBetween (state store old) (state store new) r Allows Changes

@@ -8,3 +8,4 @@ pub mod Calm
 pub mod Laws
 pub mod Making
 pub mod Former
+pub mod Refusals

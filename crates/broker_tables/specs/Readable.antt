@@ -1,7 +1,8 @@
 -- What of a state can be read back from the tables: a row is read as texts in UTF-8, and as numbers below 2^32. Each
 -- state to which a run leads from the opening state is such (the law `readable_stays`): commands bring in names in UTF-8
 -- and normal texts of pacts, digests are letters and digits, and versions, contents and results have a limit.
-use Rattle.std.specs.Prelude.{◌≡◌, ◌<◌, ◌^◌, List, length, Some, IsUtf8, All}
+use Rattle.std.specs.Prelude.{◌≡◌, ◌≤◌, List, length, Some, IsUtf8, All}
+use Rattle.broker_core.specs.Limit.{limit}
 use Rattle.broker_core.specs.Text.{Text}
 use Rattle.broker_core.specs.Name.{IsName}
 use Rattle.broker_core.specs.State.{State as Broker}
@@ -11,9 +12,9 @@ use Rattle.broker_core.specs.declared.command.Version.{Version}
 abbrev pub IsNamed : Text → Type 0
 IsNamed text = IsUtf8 text × IsName text
 
--- each of a list can be numbered
+-- there are no more of them than the machine numbers
 abbrev pub AreFew : {X : Type 0} → List X → Type 0
-AreFew xs = length xs < 2 ^ 32
+AreFew xs = length xs ≤ limit
 
 pub record IsReadable (s : Broker) : Type 0 where
   pub office : IsUtf8 s.office

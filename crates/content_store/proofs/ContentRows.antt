@@ -1,5 +1,5 @@
 -- The statements on contents.
-use Rattle.std.proofs.Common.{◌≡◌, ◌+◌, ℕ, ℤ, pos, cond, codes, List, [], ◌∷◌, ◌++◌, map, filter, length, true, false, Bool, ◌&&◌, ◌||◌, not, Ordering, refl, sym, ap, subst, ◌∙◌, slice_get, unwrap_or, Some, None, Option, Ok, arith, Less}
+use Rattle.std.proofs.Common.{◌≡◌, ◌<◌, ◌^◌, ◌+◌, ℕ, ℤ, pos, cond, codes, List, [], ◌∷◌, ◌++◌, map, filter, length, true, false, Bool, ◌&&◌, ◌||◌, not, Ordering, refl, sym, ap, subst, ◌∙◌, slice_get, unwrap_or, Some, None, Option, Ok, arith, Less}
 use Rattle.std.specs.Prelude.{option_map}
 use Rattle.std.specs.List.{AllByRecursion, enumerate_from, position_or_len, find as first}
 use Rattle.std.specs.Cmp.Lexicographic.{nat_list_cmp_total}
@@ -22,12 +22,9 @@ use Rattle.sqlite.specs.Collation.TheVariants.{Binary}
 use Rattle.sqlite_sql.specs.declared.ops.BinaryOp.TheVariants.{Compare}
 use Rattle.sqlite_sql.specs.declared.ops.CompareOp.TheVariants.{Eq}
 use Rattle.sqlite_sql.specs.Ops.{binary, is_true}
-use Rattle.sqlite.specs.Command.{Command}
-use Rattle.sqlite.specs.Command.TheVariants.{Insert}
-use Rattle.sqlite.specs.Source.TheVariants.{Values}
 use Rattle.sqlite.specs.Edit.{with_rowid}
 use Rattle.sqlite.specs.Rowids.TheVariants.{Chosen}
-use Rattle.sqlite.specs.Cast.{cast_all}
+use Rattle.sqlite.specs.Cast.{cast_all, cast_row}
 use Rattle.sqlite.specs.Table.{Table}
 use Rattle.sqlite.specs.Effect.{Database}
 use Rattle.sqlite.specs.State.{State, Shown, Executes}
@@ -39,7 +36,7 @@ use Rattle.table_access.specs.Columns.{text, text_cmp, whole_at}
 use Rattle.table_access.specs.Statements.{from_table, up_to, newest, keeps, shows}
 use Rattle.table_access.specs.Sound.{IsNumbered}
 use Rattle.table_access.proofs.Values.{same_ints, cast_null, cast_int}
-use Rattle.table_access.proofs.Steps.{Means, inserts, answered}
+use Rattle.table_access.proofs.Steps.{answered}
 use Rattle.table_access.proofs.Newest.{newest_number}
 use Rattle.table_access.proofs.Ordered.{selects_in_order}
 use Rattle.table_access.proofs.Keys.{ascending_on, by_text}
@@ -48,7 +45,12 @@ use Rattle.table_access.proofs.Parts.{numbers_once}
 use Rattle.table_access.proofs.SoundLemmas.{text_at, has_place, at_has, all_of}
 use Rattle.broker_tables.specs.Schema.{broker_schema}
 use Rattle.broker_tables.specs.Numbers.{numbered}
-use Rattle.broker_tables.specs.Holds.{IsBroker}
+use Rattle.broker_tables.specs.Holds.{IsBroker, Holds, with_digest}
+use Rattle.broker_core.specs.State.{State as Broker}
+use Rattle.broker_core.specs.Limit.{has_room}
+use Rattle.std.proofs.lemmas.Bool.{ltb-true, lt-ltb}
+use Rattle.sqlite_rules.specs.Edit.{is_taken}
+use Rattle.broker_tables.proofs.Inserted.{EndsOnly, Puts, inserted, insert_ends, next_counted}
 use Rattle.broker_tables.proofs.Newest.{newest as newest_count}
 use Rattle.broker_tables.proofs.Asked.{Asked, IsShown}
 use Rattle.broker_tables.proofs.Frames.{meant, frame_of, Frame, is_other, still_broker}
@@ -256,12 +258,13 @@ module _ (digest : List ℕ → List ℕ) (body dg : List ℕ) (is : digest body
 abbrev pub put_sql : List ℕ
 put_sql = codes "INSERT INTO contents (number, digest, body) VALUES (?1, ?2, ?3)"
 
-abbrev put_command : Command
-put_command = Insert 7 (Values (col 0 0 ∷ lit Null ∷ col 0 1 ∷ col 0 2 ∷ []) 4)
-
-put_text : Means broker_schema put_sql put_command
+put_puts : (number : ℕ) (dg body : List ℕ) → Puts 7 put_sql (Int (pos number) ∷ Text dg ∷ Text body ∷ []) (Int (pos number) ∷ Null ∷ Text dg ∷ Text body ∷ [])
 unfolding understood everything
-put_text = record { is = refl; plain = (refl, refl); unlisted = refl }
+put_puts number dg body = record { terms = col 0 0 ∷ lit Null ∷ col 0 1 ∷ col 0 2 ∷ []; width = 4; means = record { is = refl; plain = (refl, refl); unlisted = refl }; whole = refl; kinds = refl; one = refl }
+
+put_stored : (number : ℕ) (dg body : List ℕ) (rows : List Row) → with_rowid Chosen rows (cast_row contents (Int (pos number) ∷ Null ∷ Text dg ∷ Text body ∷ [])) ≡ Int (pos number) ∷ Null ∷ Text dg ∷ Text body ∷ []
+put_stored number dg body rows =
+    ap (λ v. with_rowid Chosen rows (v ∷ cast_all contents.columns (Null ∷ Text dg ∷ Text body ∷ []))) (cast_int (pos number)) ∙ ap (λ v. Int (pos number) ∷ v ∷ Text dg ∷ Text body ∷ []) cast_null
 
 -- of a change of this table alone
 others_kept : (name : List ℕ) (ts : List Table) (old new : Database) → AllByRecursion (λ n. is_other (name ∷ []) n ≡ true → rows_of new n ≡ rows_of old n) (map (λ t. t.name) ts) → AllByRecursion (λ t. same_text t.name name ≡ false → rows_of new t.name ≡ rows_of old t.name) ts
@@ -276,9 +279,7 @@ pub content_put : (digest : List ℕ → List ℕ) (number : ℕ) (dg body : Lis
     → Executes put_sql (Int (pos number) ∷ Text dg ∷ Text body ∷ []) old new (Ok count) → IsPut digest body texts number old.now new.now
 content_put digest number dg body by old new count texts held free is h =
     let made = Int (pos number) ∷ Null ∷ Text dg ∷ Text body ∷ [] in
-    let as_stored = ap (λ v. with_rowid Chosen (old.now.trees 14) (v ∷ cast_all contents.columns (Null ∷ Text dg ∷ Text body ∷ []))) (cast_int (pos number)) ∙ ap (λ v. Int (pos number) ∷ v ∷ Text dg ∷ Text body ∷ []) cast_null in
-    let it = inserts (codes "contents") 14 contents.columns (Some 0) (0 ∷ []) contents.uniques contents.orders [] contents.references put_sql (Int (pos number) ∷ Text dg ∷ Text body ∷ []) old new 7 (contents_there old.now held.broker)
-    _ _ made made refl as_stored (meant old.now held.broker put_sql put_text) count h in
+    let it = inserted put_sql (Int (pos number) ∷ Text dg ∷ Text body ∷ []) old new held.broker contents 7 (contents_there old.now held.broker) _ made (put_puts number dg body) (put_stored number dg body (old.now.trees 14)) count h in
     let frame : Frame (codes "contents" ∷ []) old.now new.now = frame_of (codes "contents" ∷ []) 14 refl old new held.broker it.0 in
     let broker : IsBroker new.now = still_broker (codes "contents" ∷ []) old.now new.now frame held.broker in
     let entry : Row → List ℕ × List ℕ = λ r. (text 2 r, text 3 r) in
@@ -291,3 +292,18 @@ content_put digest number dg body by old new count texts held free is h =
       others = others_kept (codes "contents") broker_schema.tables old.now new.now frame.others;
       same = λ there. absurd (let clash : true ≡ false = sym there ∙ free in cc);
     }
+
+-- where the number is the next one, and low, it fails only as the store fails
+pub content_ends : (number : ℕ) (dg body : List ℕ) (old new : State) (s : Broker) → Holds old.now s → number ≡ length s.contents + 1 → has_room s.contents ≡ true → EndsOnly put_sql (Int (pos number) ∷ Text dg ∷ Text body ∷ []) old new
+content_ends number dg body old new s held is room =
+    let rows = old.now.trees 14 in
+    let few : length s.contents < 1000000000 = ltb-true (length s.contents) 1000000000 room in
+    let next : is_taken rows (Int (pos (length (map with_digest s.contents) + 1)) ∷ Null ∷ Text dg ∷ Text body ∷ []) ≡ false = next_counted (λ r. (text 2 r, text 3 r)) rows (map with_digest s.contents) (Null ∷ Text dg ∷ Text body ∷ []) held.contents (numbered_rows old.now held.broker) in
+    insert_ends put_sql (Int (pos number) ∷ Text dg ∷ Text body ∷ []) old new held.broker contents 7 (contents_there old.now held.broker) _ _ (put_puts number dg body) (put_stored number dg body rows) (record {
+      pass = record { typed = refl; present = refl; checked = refl };
+      fits = lt-ltb number (2 ^ 63) (omega (arith, is, few));
+      keyed = refl;
+      fresh = subst (λ n. is_taken rows (Int (pos n) ∷ Null ∷ Text dg ∷ Text body ∷ []) ≡ false) (sym (is ∙ ap (λ k. k + 1) (sym (length-map s.contents with_digest)))) next;
+      free = tt;
+      parents = tt;
+    })

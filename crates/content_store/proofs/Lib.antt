@@ -2,3 +2,4 @@ pub mod TextNumbers
 pub mod ContentRows
 pub mod ReadableRows
 pub mod Held
+pub mod CalmPuts

@@ -1,11 +1,14 @@
 -- The contents that a database holds, by any digest, and how a call on them is stated.
-use Rattle.std.specs.Prelude.{◌≡◌, ◌==◌, ◌-◌, ◌+◌, ◌||◌, ◌<◌, ◌≤◌, ◌^◌, ℕ, List, [], ◌∷◌, ◌++◌, map, Bool, true, false, Option, Some, None, codes, slice_get, length, MatchOption, if◌then◌else◌}
+use Rattle.std.specs.Prelude.{◌≡◌, ◌⊎◌, ◌==◌, ◌-◌, ◌+◌, ◌||◌, ◌<◌, ◌≤◌, ◌^◌, ℕ, List, [], ◌∷◌, ◌++◌, map, Bool, true, false, Option, Some, None, Result, IfErr, codes, slice_get, length, MatchOption, if◌then◌else◌}
 use Rattle.std.specs.List.{AllByRecursion, list_any, position_or_len}
 use Rattle.sqlite.specs.Order.{Row}
 use Rattle.sqlite.specs.Effect.{Database}
-use Rattle.sqlite.specs.State.{State}
+use Rattle.sqlite.specs.Held.{Held, state}
+use Rattle.sqlite.specs.State.{State, HasCleanDisk}
+use Rattle.sqlite_trees.specs.declared.store.Store.{Ghosts}
 use Rattle.hex.specs.Hex.{encode_lower}
 use Rattle.sqlite_rules.specs.Lists.{Has}
+use Rattle.table_access.specs.Calls.{HasFailed}
 use Rattle.table_access.specs.declared.StoreFault.{StoreFault}
 use Rattle.table_access.specs.declared.StoreFault.TheVariants.{Store}
 use Rattle.table_access.specs.Columns.{text, whole_at}
@@ -18,6 +21,7 @@ use Rattle.broker_tables.specs.Schema.{broker_schema}
 use Rattle.broker_tables.specs.Rows.{rows_of}
 use Rattle.broker_tables.specs.Numbers.{numbered}
 use Rattle.broker_tables.specs.Holds.{IsBroker}
+use Rattle.broker_tables.specs.Calm.{Serves}
 
 -- a function from bytes to bytes, as the table has what it answers: 2 digits for each byte
 abbrev pub hex_of : (List ℕ → List ℕ) → Text → Text
@@ -126,6 +130,14 @@ IsNewIfRoom digest body old new found =
     → MatchOption found ((has_room texts ≡ false) × (new.now ≡ old.now))
     (λ number. (has_room texts ≡ true) × IsPut digest body texts number old.now new.now)
 
+-- a broker's database stays as it is
+abbrev pub StaysBroker : State → State → Type 0
+StaysBroker old new = IsBroker old.now → new.now ≡ old.now
+
+-- the number is the next one, and there is room for one more
+abbrev pub IsNextContent : ℕ → Broker → Type 0
+IsNextContent number s = (number ≡ length s.contents + 1) × (has_room s.contents ≡ true)
+
 -- ---- a put where there may be no place
 
 -- the text is one of them, or there is room for one more
@@ -144,3 +156,20 @@ abbrev pub StoresIfRoom : Text → Option ℕ → Broker → Broker → Type 0
 StoresIfRoom body (Some number) s t =
     (number ≡ content_number s body) × (t ≡ stored s body) × (has_place s.contents body ≡ true)
 StoresIfRoom body None s t = (t ≡ s) × (has_place s.contents body ≡ false)
+
+-- the text isn't one of them, and there is room for it
+abbrev pub CanBeAdded : Text → List Text → Type 0
+CanBeAdded body texts = (is_among texts body ≡ false) × (has_room texts ≡ true)
+
+-- Why a put fails, where a state is shown that can be read back, whose contents were all stored by this digest: the store
+-- failed, or a row was refused, which is only made if the contents are such.
+abbrev pub FailsToAddBetween : {A : Type 0} → State → State → (Text → Text) → Result A StoreFault → (List Text → Type 0)
+    → Type 0
+FailsToAddBetween old new digest r Adds =
+    HasCleanDisk new → (s : Broker) → Serves old s → ContentsBy digest old.now s.contents
+    → IfErr r (λ fault. HasFailed old new fault ⊎ Adds s.contents)
+
+-- the same of a connection over this store
+module _ {X : Type 0} (store : Ghosts X) (old new : Held X) where
+  abbrev pub FailsToAdd : {A : Type 0} → (Text → Text) → Result A StoreFault → (List Text → Type 0) → Type 0
+  FailsToAdd digest r Adds = FailsToAddBetween (state store old) (state store new) digest r Adds

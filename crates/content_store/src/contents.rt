@@ -1,5 +1,5 @@
 //! The normal texts of pacts, each once under its number, beside its digest.
-ghost use Rattle.std.specs.Prelude.{◌≡◌, pos, List, ℕ, IfOk, IfErr, length, option_map, string_bytes};
+ghost use Rattle.std.specs.Prelude.{◌≡◌, [], true, false, pos, List, ℕ, IfOk, IfErr, length, option_map, string_bytes};
 ghost use Rattle.std.specs.List.{find as first};
 ghost use Rattle.sqlite.specs.Order.{column};
 ghost use Rattle.sqlite.specs.declared.types.Value.TheVariants.{Int};
@@ -7,9 +7,12 @@ ghost use Rattle.hex.specs.Hex.{encode_lower};
 ghost use Rattle.table_access.specs.Calls.{CallsTables, CallsStore};
 ghost use Rattle.table_access.specs.Columns.{text};
 ghost use Rattle.table_access.specs.Reading.{IsTextAt};
+ghost use Rattle.broker_core.specs.Limit.{has_room};
 ghost use Rattle.broker_core.specs.Text.{Text, same_text};
 ghost use Rattle.broker_tables.specs.Calm.{IsCalm, IsCalmInPlace};
-ghost use Rattle.content_store.specs.Contents.{hex_of, found_in, IsTextOf, TellsUnreadable, IsReadBy, IsReadByAny, IsPutBy, IsPutUnder, IsNewBy, IsNewAfter, IsNewIfRoom, IsPutIfRoom};
+ghost use Rattle.broker_tables.specs.Readable.{IsReadable};
+ghost use Rattle.broker_tables.specs.Refusals.{IsCalmIf};
+ghost use Rattle.content_store.specs.Contents.{StaysBroker, IsNextContent, hex_of, is_among, found_in, IsTextOf, TellsUnreadable, IsReadBy, IsReadByAny, IsPutBy, IsPutUnder, IsNewBy, IsNewAfter, IsNewIfRoom, IsPutIfRoom, CanBeAdded, FailsToAdd};
 
 use crate::digester::{Digester, digest_digits};
 use broker_core::limit::room;
@@ -91,9 +94,9 @@ fn find_beside<S: Alter>(
     body: &str,
 ) -> Result<Option<u32>, StoreFault>
     ensures call { CallsStore S.Store conn.old conn.new result
-        (λ found old new. (by : Text → Text) → by body.now ≡ digest.now →
+        (λ found old new. (StaysBroker old new) × ((by : Text → Text) → by body.now ≡ digest.now →
         IsReadBy by old new
-        (λ found texts. found ≡ found_in texts body.now) found) }
+        (λ found texts. found ≡ found_in texts body.now) found)) }
     ensures calm { IsCalmInPlace S.Store conn.old conn.new result }
 {
     let rows = done!(select(
@@ -132,9 +135,10 @@ fn put_under<'a, S: Alter>(
     digest: &'a [u8],
     body: &'a str,
 ) -> Result<(), StoreFault>
-    ensures { CallsStore S.Store conn.old conn.new result
+    ensures call { CallsStore S.Store conn.old conn.new result
         (λ _ old new. (by : Text → Text) → by body.now ≡ digest.now →
         IsPutUnder by body.now old new number) }
+    ensures calm { IsCalmIf S.Store conn.old conn.new result [] (IsNextContent number) }
 {
     change(
         conn,
@@ -150,9 +154,11 @@ fn add_after<S: Alter>(
     digest: &[u8],
     body: &str,
 ) -> Result<u32, StoreFault>
-    ensures { CallsStore S.Store conn.old conn.new result
+    ensures call { CallsStore S.Store conn.old conn.new result
         (λ number old new. (by : Text → Text) → by body.now ≡ digest.now →
         IsNewAfter by body.now count old new number) }
+    ensures calm { IsCalmIf S.Store conn.old conn.new result []
+        (λ s. (count ≡ length s.contents) × (has_room s.contents ≡ true)) }
 {
     let Some(number) = next_number(count) else {
         return Err(StoreFault::Store);
@@ -163,9 +169,11 @@ fn add_after<S: Alter>(
 
 /// Adds a text that isn't there, with this digest, and answers its number, which is the next one.
 fn add<S: Alter>(conn: &mut Connection<S>, digest: &[u8], body: &str) -> Result<u32, StoreFault>
-    ensures { CallsStore S.Store conn.old conn.new result
+    ensures call { CallsStore S.Store conn.old conn.new result
         (λ number old new. (by : Text → Text) → by body.now ≡ digest.now →
         IsNewBy by body.now old new number) }
+    ensures calm { IsCalmIf S.Store conn.old conn.new result []
+        (λ s. IsReadable s × (has_room s.contents ≡ true)) }
 {
     let count = done!(content_count(conn));
     add_after(conn, count, digest, body)
@@ -177,9 +185,12 @@ fn add_if_room<S: Alter>(
     digest: &[u8],
     body: &str,
 ) -> Result<Option<u32>, StoreFault>
-    ensures { CallsStore S.Store conn.old conn.new result
+    ensures call { CallsStore S.Store conn.old conn.new result
         (λ found old new. (by : Text → Text) → by body.now ≡ digest.now →
         IsNewIfRoom by body.now old new found) }
+    ensures calm { IsCalmIf S.Store conn.old conn.new result [] IsReadable }
+    ensures rowless { (by : Text → Text) → FailsToAdd S.Store conn.old conn.new by result
+        (λ texts. has_room texts ≡ true) }
 {
     let count = done!(content_count(conn));
     if room(count) {
@@ -194,14 +205,18 @@ fn add_if_room<S: Alter>(
 ///
 /// # Errors
 /// `StoreFault::Memory` if the database is out of memory; `StoreFault::Store` if it refused a statement, or if the
-/// numbers are used up.
+/// numbers are used up. While the store works, only a text that has to be stored may be refused.
 pub fn put<S: Alter, D: Digester>(
     conn: &mut Connection<S>,
     digester: &D,
     body: &str,
 ) -> Result<u64, StoreFault>
-    ensures { CallsStore S.Store conn.old conn.new result
+    ensures call { CallsStore S.Store conn.old conn.new result
         (λ number old new. IsPutBy (hex_of D.digest_of) body.now old new number) }
+    ensures calm { IsCalmIf S.Store conn.old conn.new result []
+        (λ s. IsReadable s × (has_room s.contents ≡ true)) }
+    ensures rowless { FailsToAdd S.Store conn.old conn.new (hex_of D.digest_of) result
+        (λ texts. is_among texts body.now ≡ false) }
 {
     let digest = digest_digits(digester, body.as_bytes());
     match done!(find_beside(conn, &digest, body)) {
@@ -216,14 +231,17 @@ pub fn put<S: Alter, D: Digester>(
 ///
 /// # Errors
 /// `StoreFault::Memory` if the database is out of memory; `StoreFault::Store` if it refused a statement, or a row has
-/// no number below 2^32.
+/// no number below 2^32. While the store works, only a text that has to be
+/// stored may be refused.
 pub fn put_if_room<S: Alter, D: Digester>(
     conn: &mut Connection<S>,
     digester: &D,
     body: &str,
 ) -> Result<Option<u32>, StoreFault>
-    ensures { CallsStore S.Store conn.old conn.new result
+    ensures call { CallsStore S.Store conn.old conn.new result
         (λ found old new. IsPutIfRoom (hex_of D.digest_of) body.now old new found) }
+    ensures calm { IsCalmIf S.Store conn.old conn.new result [] IsReadable }
+    ensures rowless { FailsToAdd S.Store conn.old conn.new (hex_of D.digest_of) result (CanBeAdded body.now) }
 {
     let digest = digest_digits(digester, body.as_bytes());
     match done!(find_beside(conn, &digest, body)) {

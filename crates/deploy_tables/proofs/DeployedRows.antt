@@ -202,13 +202,13 @@ is_number n found = option_map_or (eq_by_cmp int_cmp (pos n)) found false
 abbrev pub end_sql : List ℕ
 end_sql = codes "DELETE FROM deployed WHERE environment = ?1 AND pacticipant = ?2 AND instance = ?3 AND version_number = ?4"
 
-abbrev by_version : List Term
+abbrev pub by_version : List Term
 by_version = is_param 1 0 ∷ is_param 2 1 ∷ is_param 3 2 ∷ is_param 4 3 ∷ []
 
-abbrev end_command : Command
+abbrev pub end_command : Command
 end_command = Delete 11 (record { lets = []; body = from_table 21 by_version (col 1 0 ∷ []) [] })
 
-end_text : Means broker_schema end_sql end_command
+pub end_text : Means broker_schema end_sql end_command
 unfolding understood everything
 end_text = record { is = refl; plain = (refl, refl); unlisted = refl }
 

@@ -4,13 +4,13 @@ pub mod VersionRows
 pub mod DeployedList
 pub mod ReleasedList
 pub mod ReleasedRows
+pub mod Removals
 pub mod ContractsThere
 pub mod VersionNames
 pub mod PartnerRows
 pub mod NeedLemmas
 pub mod MatrixLemmas
 pub mod MatrixOrders
-pub mod CalmWhere
 pub mod UnknownVersion
 pub mod MatrixLoop
 pub mod ToldResults

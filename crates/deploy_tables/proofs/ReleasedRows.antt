@@ -151,10 +151,10 @@ now_released e n old new count s v held is h =
 abbrev pub end_sql : List ℕ
 end_sql = codes "DELETE FROM released WHERE environment = ?1 AND version_number = ?2"
 
-abbrev end_command : Command
+abbrev pub end_command : Command
 end_command = Delete 12 (record { lets = []; body = from_table 23 by_place (col 1 0 ∷ []) [] })
 
-end_text : Means broker_schema end_sql end_command
+pub end_text : Means broker_schema end_sql end_command
 unfolding understood everything
 end_text = record { is = refl; plain = (refl, refl); unlisted = refl }
 

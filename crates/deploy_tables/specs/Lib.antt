@@ -5,5 +5,4 @@ pub mod ContractsThere
 pub mod Partners
 pub mod Needs
 pub mod Matrix
-pub mod CalmWhere
 pub mod ToldResults

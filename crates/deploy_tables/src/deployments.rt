@@ -2,7 +2,7 @@
 ghost use Rattle.std.specs.Prelude.{◌≡◌, ◌==◌, false};
 ghost use Rattle.std.specs.Option.{option_map_or};
 ghost use Rattle.broker_tables.specs.Holds.{Changes, ChangesAndAnswers};
-ghost use Rattle.broker_tables.specs.Calm.{CalmQueriesInPlace};
+ghost use Rattle.broker_tables.specs.Calm.{CalmQueriesInPlace, IsCalmInPlace};
 ghost use Rattle.deploy_tables.specs.Deployments.{RecordsDeployed, IsVersionOf, FindsDeployed, TakesOutAndTells, FindsNothing};
 
 use sqlite::{Alter, Connection, params};
@@ -66,7 +66,8 @@ pub fn record_deployed<S: Alter>(
 
 /// Takes the version of that number, one of the pacticipant, out of the environment as that instance, and answers
 /// whether it was deployed there. Its other instances stay, and so does another version that is deployed there. `false`
-/// if the pacticipant has no version of that number; then everything stays.
+/// if the pacticipant has no version of that number; then everything stays. In a state that can be read back only a
+/// failure of the store keeps it there.
 ///
 /// # Errors
 /// `StoreFault::Memory` if the database is out of memory; `StoreFault::Store` if it refused the change.
@@ -81,6 +82,7 @@ pub fn take_out<S: Alter>(
         (TakesOutAndTells environment.now pacticipant.now instance.now number) }
     ensures unknown { ChangesAndAnswers S.Store conn.old conn.new result
         (λ s. ¬ (IsVersionOf pacticipant.now number s)) FindsNothing }
+    ensures calm { IsCalmInPlace S.Store conn.old conn.new result }
 {
     let taken = done!(change_counted(
         conn,

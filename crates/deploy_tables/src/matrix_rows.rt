@@ -9,11 +9,10 @@ ghost use Rattle.broker_core.specs.Listing.{Lists};
 ghost use Rattle.broker_core.specs.Machine.{IsMatrixRow, matrix_cmp};
 ghost use Rattle.broker_tables.specs.Numbers.{number_of as number_known};
 ghost use Rattle.broker_tables.specs.Holds.{Queries};
-ghost use Rattle.broker_tables.specs.Calm.{CalmQueries};
+ghost use Rattle.broker_tables.specs.Calm.{CalmQueries, IsCalmFrom};
 ghost use Rattle.contract_tables.specs.Listings.{contract_cmp};
 ghost use Rattle.deploy_tables.specs.declared.entries.Entry.{Entry as EntryModel};
 ghost use Rattle.deploy_tables.specs.Matrix.{IsOfContract, IsOfContent, IsOfSome, IsProvided, IsEntry, AreEntriesOf, entry_cmp};
-ghost use Rattle.deploy_tables.specs.CalmWhere.{IsCalmWhere};
 ghost use Rattle.deploy_tables.specs.Needs.{IsOwnContract};
 ghost use Rattle.deploy_tables.specs.ToldResults.{ArePassesByNumber, IsUntold, NamesUntold, FailsAsTold, IsVerifiedTold, IsRowTold};
 
@@ -255,7 +254,7 @@ fn with_results<S: Alter>(
     ensures answers { Queries S.Store conn.old conn.new result
         (λ rows s. (v : VersionModel) → AreEntriesOf s v number contracts.now entries.now →
         Lists matrix_cmp (IsMatrixRow s v) rows.items) }
-    ensures calm { IsCalmWhere S.Store conn.old conn.new result
+    ensures calm { IsCalmFrom S.Store conn.old conn.new result
         (λ s. (v : VersionModel) × AreEntriesOf s v number contracts.now entries.now) }
 {
     let passes = done!(passes_told(alloc, conn, number, contracts));
@@ -273,7 +272,7 @@ fn matrix_numbered<S: Alter>(
     ensures answers { Queries S.Store conn.old conn.new result
         (λ rows s. number_known s.versions version.now ≡ Some number →
         Lists matrix_cmp (IsMatrixRow s version.now) rows.items) }
-    ensures calm { IsCalmWhere S.Store conn.old conn.new result
+    ensures calm { IsCalmFrom S.Store conn.old conn.new result
         (λ s. number_known s.versions version.now ≡ Some number) }
 {
     let contracts = done!(contracts_of(alloc, conn, number));

@@ -2,7 +2,7 @@
 ghost use Rattle.std.specs.Prelude.{◌≡◌, Some};
 ghost use Rattle.broker_core.specs.declared.command.Version.{Version as VersionModel};
 ghost use Rattle.broker_tables.specs.Holds.{Changes, ChangesAndAnswers};
-ghost use Rattle.broker_tables.specs.Calm.{CalmQueriesInPlace};
+ghost use Rattle.broker_tables.specs.Calm.{CalmQueriesInPlace, IsCalmInPlace};
 ghost use Rattle.broker_tables.specs.Numbers.{number_of as number_in};
 ghost use Rattle.deploy_tables.specs.Releases.{IsVersion, FindsReleased, RecordsReleased, EndsSupport};
 
@@ -46,7 +46,7 @@ pub fn record_released<S: Alter>(
 }
 
 /// Ends the support of the version of that number in the environment, and answers whether it was released there. All
-/// other releases stay.
+/// other releases stay. In a state that can be read back only a failure of the store keeps it.
 ///
 /// # Errors
 /// `StoreFault::Memory` if the database is out of memory; `StoreFault::Store` if it refused the change.
@@ -55,10 +55,11 @@ pub fn end_support<S: Alter>(
     environment: &str,
     number: u32,
 ) -> Result<bool, StoreFault>
-    ensures { ChangesAndAnswers S.Store conn.old conn.new result
+    ensures ended { ChangesAndAnswers S.Store conn.old conn.new result
         (IsVersion number) (λ stood s t. EndsSupport environment.now number s t
         × ((v : VersionModel) → number_in s.versions v ≡ Some number →
         stood ≡ s.released (environment.now, v))) }
+    ensures calm { IsCalmInPlace S.Store conn.old conn.new result }
 {
     let ended = done!(change_counted(
         conn,

@@ -13,9 +13,7 @@ use Rattle.sqlite.specs.Order.{Row}
 use Rattle.sqlite.specs.Cast.{cast}
 use Rattle.sqlite.specs.Kind.TheVariants.{Integer}
 use Rattle.sqlite.specs.Term.{col, lit}
-use Rattle.sqlite.specs.Source.TheVariants.{Values}
-use Rattle.sqlite.specs.Command.{Command}
-use Rattle.sqlite.specs.Command.TheVariants.{Insert}
+use Rattle.sqlite.specs.Cast.{cast_row}
 use Rattle.sqlite.specs.Schema.{Schema}
 use Rattle.sqlite.specs.Effect.{Database}
 use Rattle.sqlite.specs.State.{State, Executes}
@@ -25,7 +23,7 @@ use Rattle.sqlite_tied.specs.Compute.{everything}
 use Rattle.table_access.specs.Columns.{text, text_cmp, whole_at, by_both}
 use Rattle.table_access.specs.Statements.{from_table, by_two, keeps}
 use Rattle.table_access.proofs.Values.{cast_null, cast_int}
-use Rattle.table_access.proofs.Steps.{Means, answered, inserts}
+use Rattle.table_access.proofs.Steps.{answered}
 use Rattle.table_access.proofs.Maps.{looks_up_at}
 use Rattle.table_access.proofs.Keys.{apart_by}
 use Rattle.table_access.proofs.Parts.{Part, text_part, whole_part, is_param, where_last, where_and, all_where, agree_last, agree_and, once}
@@ -33,12 +31,11 @@ use Rattle.table_access.proofs.SoundLemmas.{text_at, whole_in, has_place}
 use Rattle.broker_core.specs.declared.command.Version.{Version}
 use Rattle.broker_core.specs.Text.{put_at, same_text, same_version, same_pair}
 use Rattle.broker_core.specs.State.{State as Broker}
-use Rattle.broker_tables.specs.Schema.{broker_schema}
 use Rattle.broker_tables.specs.Rows.{stands_at}
 use Rattle.broker_tables.specs.Numbers.{number_of}
 use Rattle.broker_tables.specs.Holds.{Holds, IsBroker}
 use Rattle.broker_tables.proofs.Asked.{Asked, IsShown, NoneFor, of_table}
-use Rattle.broker_tables.proofs.Frames.{meant, frame_of, branches_change}
+use Rattle.broker_tables.proofs.Frames.{frame_of, branches_change}
 use Rattle.broker_tables.proofs.Orders.{marked_total, exact_marked}
 use Rattle.broker_tables.proofs.Ties.{both_eq, two_tests}
 use Rattle.broker_tables.proofs.NumberLemmas.{number_ties, version_unknown}
@@ -46,6 +43,8 @@ use Rattle.sqlite_keyed.proofs.RuleLemmas.{first_of_both}
 use Rattle.broker_tables.proofs.NoVersion.{no_row}
 use Rattle.broker_tables.proofs.Standing.{stands_found, stands_put}
 use Rattle.broker_tables.proofs.Placed.{branches, branches_there}
+use Rattle.broker_tables.specs.Refusals.{HaveNumbers}
+use Rattle.broker_tables.proofs.Inserted.{EndsOnly, Puts, inserted, next_ends, new_text, new_whole, free_two, version_there}
 
 abbrev pub key : Row → ℤ × List ℕ
 key r = (whole_at 1 r, text 2 r)
@@ -94,36 +93,45 @@ on_found n b db rows s v held is h =
 abbrev pub add_sql : List ℕ
 add_sql = codes "INSERT INTO branches (version_number, branch) VALUES (?1, ?2)"
 
-abbrev add_command : Command
-add_command = Insert 4 (Values (lit Null ∷ col 0 0 ∷ col 0 1 ∷ []) 3)
-
-add_text : Means broker_schema add_sql add_command
+add_puts : (n : ℕ) (b : List ℕ) → Puts 4 add_sql (Int (pos n) ∷ Text b ∷ []) (Null ∷ Int (pos n) ∷ Text b ∷ [])
 unfolding understood everything
-add_text = record { is = refl; plain = (refl, refl); unlisted = refl }
+add_puts n b = record { terms = lit Null ∷ col 0 0 ∷ col 0 1 ∷ []; width = 3; means = record { is = refl; plain = (refl, refl); unlisted = refl }; whole = refl; kinds = refl; one = refl }
 
 either : (b old : Bool) → (b || old) ≡ cond b true old
 either true old = refl
 either false old = refl
 
-pub branch_added : (n : ℕ) (b : List ℕ) (old new : State) (count : ℕ) (s : Broker) (v : Version) → Holds old.now s → number_of s.versions v ≡ Some n → Executes add_sql (Int (pos n) ∷ Text b ∷ []) old new (Ok count)
-    → Holds new.now (record s { branches = put_at (same_pair same_version same_text) s.branches (v, b) true })
-branch_added n b old new count s v held is h =
-    let made = Int (next_rowid (old.now.trees 8)) ∷ Int (pos n) ∷ Text b ∷ [] in
-    let it = inserts (codes "branches") 8 branches.columns None (1 ∷ 2 ∷ []) branches.uniques branches.orders [] branches.references add_sql (Int (pos n) ∷ Text b ∷ []) old new 4 (branches_there old.now held.broker)
-    _ _ (Null ∷ Int (pos n) ∷ Text b ∷ []) made refl (ap (λ u. with_rowid Chosen (old.now.trees 8) (cast Integer Null ∷ u ∷ Text b ∷ [])) (cast_int (pos n)) ∙ ap (λ u. with_rowid Chosen (old.now.trees 8) (u ∷ Int (pos n) ∷ Text b ∷ [])) cast_null) (meant old.now held.broker add_sql add_text) count h in
-    branches_change old.now new.now s _ held (frame_of (codes "branches" ∷ []) 8 refl old new held.broker it.0) (λ w c. each w c (number_of s.versions w) refl
-    (λ k. stands_put (by_both int_cmp text_cmp) key (old.now.trees 8) (new.now.trees 8) made it.1 (pos k, c)))
-  where
-    each : (w : Version) (c : List ℕ) (o : Option ℕ) → number_of s.versions w ≡ o
-        → ((k : ℕ) → stands_at (by_both int_cmp text_cmp) key (new.now.trees 8) (pos k, c) ≡ (eq_by_cmp (by_both int_cmp text_cmp) (pos k, c) (pos n, b) || stands_at (by_both int_cmp text_cmp) key (old.now.trees 8) (pos k, c)))
-        → option_map_or (λ k. stands_at (by_both int_cmp text_cmp) key (new.now.trees 8) (pos k, c)) (number_of s.versions w) false ≡ put_at (same_pair same_version same_text) s.branches (v, b) true (w, c)
-    each w c None e put =
-        let was : s.branches (w, c) ≡ false = sym (held.branches w c) ∙ ap (λ o. option_map_or (λ k. stands_at (by_both int_cmp text_cmp) key (old.now.trees 8) (pos k, c)) o false) e in
-        ap (λ o. option_map_or (λ k. stands_at (by_both int_cmp text_cmp) key (new.now.trees 8) (pos k, c)) o false) e
-        ∙ sym (ap (λ t. cond (t && same_text c b) true (s.branches (w, c))) (version_unknown s.versions w v n e is) ∙ was)
-    each w c (Some k) e put =
-        let was : stands_at (by_both int_cmp text_cmp) key (old.now.trees 8) (pos k, c) ≡ s.branches (w, c) = sym (ap (λ o. option_map_or (λ m. stands_at (by_both int_cmp text_cmp) key (old.now.trees 8) (pos m, c)) o false) e) ∙ held.branches w c in
-        let same : (same_version w v && same_text c b) ≡ eq_by_cmp (by_both int_cmp text_cmp) (pos k, c) (pos n, b) =
-        two_tests (same_version w v) (same_text c b) (eq_by_cmp int_cmp (pos k) (pos n)) (eq_by_cmp text_cmp c b) (number_ties s.versions w v k n e is) (texts_ties c b) ∙ both_eq (int_cmp (pos k) (pos n)) (text_cmp c b) in
-        ap (λ o. option_map_or (λ m. stands_at (by_both int_cmp text_cmp) key (new.now.trees 8) (pos m, c)) o false) e ∙ put k
-        ∙ either (eq_by_cmp (by_both int_cmp text_cmp) (pos k, c) (pos n, b)) (stands_at (by_both int_cmp text_cmp) key (old.now.trees 8) (pos k, c)) ∙ (λ i. cond (sym same i) true (was i))
+module _ (n : ℕ) (b : List ℕ) (old new : State) (s : Broker) (v : Version) (held : Holds old.now s) (is : number_of s.versions v ≡ Some n) where
+  abbrev made : Row
+  made = Int (next_rowid (old.now.trees 8)) ∷ Int (pos n) ∷ Text b ∷ []
+
+  stored : with_rowid Chosen (old.now.trees 8) (cast_row branches (Null ∷ Int (pos n) ∷ Text b ∷ [])) ≡ made
+  stored = ap (λ u. with_rowid Chosen (old.now.trees 8) (cast Integer Null ∷ u ∷ Text b ∷ [])) (cast_int (pos n)) ∙ ap (λ u. with_rowid Chosen (old.now.trees 8) (u ∷ Int (pos n) ∷ Text b ∷ [])) cast_null
+
+  pub branch_added : (count : ℕ) → Executes add_sql (Int (pos n) ∷ Text b ∷ []) old new (Ok count) → Holds new.now (record s { branches = put_at (same_pair same_version same_text) s.branches (v, b) true })
+  branch_added count h =
+      let it = inserted add_sql (Int (pos n) ∷ Text b ∷ []) old new held.broker branches 4 (branches_there old.now held.broker) _ made (add_puts n b) stored count h in
+      branches_change old.now new.now s _ held (frame_of (codes "branches" ∷ []) 8 refl old new held.broker it.0) (λ w c. each w c (number_of s.versions w) refl
+      (λ k. stands_put (by_both int_cmp text_cmp) key (old.now.trees 8) (new.now.trees 8) made it.1 (pos k, c)))
+    where
+      each : (w : Version) (c : List ℕ) (o : Option ℕ) → number_of s.versions w ≡ o
+          → ((k : ℕ) → stands_at (by_both int_cmp text_cmp) key (new.now.trees 8) (pos k, c) ≡ (eq_by_cmp (by_both int_cmp text_cmp) (pos k, c) (pos n, b) || stands_at (by_both int_cmp text_cmp) key (old.now.trees 8) (pos k, c)))
+          → option_map_or (λ k. stands_at (by_both int_cmp text_cmp) key (new.now.trees 8) (pos k, c)) (number_of s.versions w) false ≡ put_at (same_pair same_version same_text) s.branches (v, b) true (w, c)
+      each w c None e put =
+          let was : s.branches (w, c) ≡ false = sym (held.branches w c) ∙ ap (λ o. option_map_or (λ k. stands_at (by_both int_cmp text_cmp) key (old.now.trees 8) (pos k, c)) o false) e in
+          ap (λ o. option_map_or (λ k. stands_at (by_both int_cmp text_cmp) key (new.now.trees 8) (pos k, c)) o false) e
+          ∙ sym (ap (λ t. cond (t && same_text c b) true (s.branches (w, c))) (version_unknown s.versions w v n e is) ∙ was)
+      each w c (Some k) e put =
+          let was : stands_at (by_both int_cmp text_cmp) key (old.now.trees 8) (pos k, c) ≡ s.branches (w, c) = sym (ap (λ o. option_map_or (λ m. stands_at (by_both int_cmp text_cmp) key (old.now.trees 8) (pos m, c)) o false) e) ∙ held.branches w c in
+          let same : (same_version w v && same_text c b) ≡ eq_by_cmp (by_both int_cmp text_cmp) (pos k, c) (pos n, b) =
+          two_tests (same_version w v) (same_text c b) (eq_by_cmp int_cmp (pos k) (pos n)) (eq_by_cmp text_cmp c b) (number_ties s.versions w v k n e is) (texts_ties c b) ∙ both_eq (int_cmp (pos k) (pos n)) (text_cmp c b) in
+          ap (λ o. option_map_or (λ m. stands_at (by_both int_cmp text_cmp) key (new.now.trees 8) (pos m, c)) o false) e ∙ put k
+          ∙ either (eq_by_cmp (by_both int_cmp text_cmp) (pos k, c) (pos n, b)) (stands_at (by_both int_cmp text_cmp) key (old.now.trees 8) (pos k, c)) ∙ (λ i. cond (sym same i) true (was i))
+
+  -- it fails only as the store fails
+  pub branch_ends : HaveNumbers (codes "branches" ∷ []) old.now → s.branches (v, b) ≡ false → EndsOnly add_sql (Int (pos n) ∷ Text b ∷ []) old new
+  branch_ends room off =
+      let free : stands_at (by_both int_cmp text_cmp) key (old.now.trees 8) (pos n, b) ≡ false = sym (ap (λ o. option_map_or (λ k. stands_at (by_both int_cmp text_cmp) key (old.now.trees 8) (pos k, b)) o false) is) ∙ held.branches v b ∙ off in
+      next_ends add_sql (Int (pos n) ∷ Text b ∷ []) old new held.broker branches 4 (branches_there old.now held.broker) _ _ (add_puts n b) stored room.0 (record { typed = refl; present = refl; checked = refl })
+      (free_two (old.now.trees 8) made int_cmp_total 1 (whole_at 1) (new_whole (old.now.trees 8) made 1 (numbers old.now held.broker).typed refl) marked_total nat_list_cmp_total 2 (text 2) (new_text (old.now.trees 8) made 2 (names old.now held.broker).typed refl) free, tt)
+      (version_there old.now s held made 1 v n is refl, tt)

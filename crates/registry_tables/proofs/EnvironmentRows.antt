@@ -1,5 +1,5 @@
 -- The statements on environments and their marks.
-use Rattle.std.proofs.Common.{◌≡◌, ◌==◌, ℕ, pos, codes, List, [], ◌∷◌, Bool, true, false, cond, ◌||◌, refl, sym, ap, ◌∙◌, slice_get, Some, None, Option, Ok, ◌<◌, ◌≤◌, ◌^◌, subst, arith}
+use Rattle.std.proofs.Common.{◌≡◌, ◌==◌, ℕ, pos, codes, List, [], ◌∷◌, Bool, true, false, cond, ◌||◌, refl, sym, ap, ◌∙◌, slice_get, Some, None, Option, Ok, ◌<◌, ◌≤◌, subst, arith}
 use Rattle.std.specs.Prelude.{option_map, is_some, IsSomeAnd}
 use Rattle.std.specs.Option.{option_map_or}
 use Rattle.std.specs.Ordering.{eq_by_cmp}
@@ -10,33 +10,31 @@ use Rattle.sqlite.specs.Edit.{next_rowid, with_rowid}
 use Rattle.sqlite.specs.Rowids.TheVariants.{Chosen}
 use Rattle.sqlite.specs.declared.types.Value.{Value}
 use Rattle.sqlite.specs.declared.types.Value.TheVariants.{Null, Int, Text}
-use Rattle.sqlite.specs.Order.{Row, column}
-use Rattle.sqlite.specs.Cast.{cast}
+use Rattle.sqlite.specs.Order.{Row, column, value_cmp}
+use Rattle.sqlite.specs.Cast.{cast, cast_row}
 use Rattle.sqlite.specs.Kind.TheVariants.{Integer}
 use Rattle.sqlite.specs.Term.{col, op2, lit}
 use Rattle.sqlite.specs.Collation.TheVariants.{Binary}
 use Rattle.sqlite_sql.specs.declared.ops.BinaryOp.TheVariants.{Compare}
 use Rattle.sqlite_sql.specs.declared.ops.CompareOp.TheVariants.{Eq}
-use Rattle.sqlite.specs.Source.TheVariants.{Values}
 use Rattle.sqlite.specs.Command.{Command}
 use Rattle.sqlite.specs.Query.{Query}
-use Rattle.sqlite.specs.Command.TheVariants.{Insert, Select}
+use Rattle.sqlite.specs.Command.TheVariants.{Select}
 use Rattle.sqlite.specs.Schema.{Schema}
 use Rattle.sqlite.specs.Effect.{Database}
-use Rattle.sqlite.specs.State.{State, Shown, ShowsRows, IsUnchanged, Executes}
-use Rattle.sqlite.specs.Given.{IsPlain}
-use Rattle.sqlite.specs.Clock.{timed}
+use Rattle.sqlite.specs.State.{State, Shown, Executes}
 use Rattle.sqlite.specs.Listing.{understood}
 use Rattle.sqlite_rules.specs.Lists.{Has}
+use Rattle.sqlite_sql.specs.Ops.{binary}
 use Rattle.sqlite_tied.specs.Compute.{everything}
 use Rattle.sqlite.specs.Edit.{id_in}
 use Rattle.sqlite_keyed.proofs.RuleLemmas.{first_of_both}
 use Rattle.table_access.specs.Reading.{IsNumberRow}
 use Rattle.table_access.specs.Columns.{text, text_cmp, whole_at}
-use Rattle.table_access.specs.Statements.{from_table}
+use Rattle.table_access.specs.Statements.{from_table, ChangesOnly, IsAdded}
 use Rattle.table_access.proofs.Values.{cast_null, cast_int}
 use Rattle.table_access.proofs.Answered.{Runs, first_has, shown_of, number_stands}
-use Rattle.table_access.proofs.Steps.{Means, selects, inserts}
+use Rattle.table_access.proofs.Steps.{Means, selects}
 use Rattle.table_access.proofs.Maps.{looks_up_at, puts_at, find_has, none_has}
 use Rattle.table_access.proofs.Keys.{apart_by, text_keys, by_text}
 use Rattle.table_access.proofs.SoundLemmas.{text_at, whole_in, checks_hold, has_place}
@@ -44,7 +42,7 @@ use Rattle.broker_core.specs.declared.command.Marks.{Marks}
 use Rattle.broker_core.specs.Text.{put_at, same_text}
 use Rattle.broker_core.specs.State.{State as Broker}
 use Rattle.broker_tables.specs.Schema.{broker_schema}
-use Rattle.broker_tables.specs.Rows.{truth, truth_in, value_at, stands_at, IsTruthAt}
+use Rattle.broker_tables.specs.Rows.{truth, truth_in, mark_of, value_at, stands_at, IsTruthAt}
 use Rattle.broker_tables.specs.Holds.{Holds, IsBroker, marks_in}
 use Rattle.broker_tables.proofs.Frames.{runs_here, meant, frame_of, Frame, environments_change}
 use Rattle.broker_tables.proofs.Orders.{exact_texts}
@@ -53,8 +51,12 @@ use Rattle.broker_tables.proofs.Growth.{none_stands}
 use Rattle.broker_tables.proofs.References.{refers_environment}
 use Rattle.broker_tables.proofs.Standing.{stands_found, stands_put, value_map}
 use Rattle.broker_tables.proofs.Placed.{environments, environments_there, strict_environments, strict_environments_there}
-use Rattle.registry_tables.specs.Marks.{gate_question, IsMarkShown, IsMarkKnown}
+use Rattle.registry_tables.specs.Marks.{HasBrokerTables}
 use Rattle.registry_tables.specs.Registry.{marks}
+use Rattle.broker_tables.specs.Refusals.{HaveNumbers}
+use Rattle.broker_tables.proofs.Inserted.{EndsOnly, Puts, inserted, next_ends, new_text, free_one, environment_there}
+use Rattle.sqlite_rules.specs.Steps.{PassAlone}
+use Rattle.registry_tables.proofs.MarkText.{gated_sql, gated_query, gated_command, mark_means, mark_runs, tables_like}
 use Rattle.std.proofs.Common.{inl}
 
 module _ (db : Database) (broker : IsBroker db) where
@@ -75,28 +77,14 @@ module _ (db : Database) (broker : IsBroker db) where
 
 -- ---- the mark gated
 
-abbrev pub gated_sql : List ℕ
-gated_sql = gate_question
-
-abbrev pub gated_query : Query
-gated_query = from_table 10 (op2 (Compare Eq Binary) (col 1 1) (col 0 0) ∷ []) (col 1 2 ∷ []) []
-
-abbrev pub gated_command : Command
-gated_command = Select (record { lets = []; body = gated_query }) (codes "gated" ∷ [])
-
-gated_text : Means broker_schema gated_sql gated_command
-unfolding understood everything
-gated_text = record { is = refl; plain = (refl, refl); unlisted = refl }
+has_tables : (db : Database) → IsBroker db → HasBrokerTables db.schema
+has_tables db broker = subst HasBrokerTables (sym broker.schema) (tables_like broker_schema.tables)
 
 pub gated_means : (db : Database) → IsBroker db → Means db.schema gated_sql gated_command
-gated_means db broker = meant db broker gated_sql gated_text
-
-gated_there : (e : List ℕ) → Runs broker_schema gated_sql (Text e ∷ []) gated_query
-unfolding understood everything
-gated_there e = record { whole = refl; typed = refl; sumless = refl }
+gated_means db broker = mark_means db.schema (has_tables db broker)
 
 pub gated_runs : (db : Database) → IsBroker db → (e : List ℕ) → Runs db.schema gated_sql (Text e ∷ []) gated_query
-gated_runs db broker e = runs_here db broker gated_sql (Text e ∷ []) gated_query (gated_there e)
+gated_runs db broker e = mark_runs db.schema (has_tables db broker) e
 
 pub gated_found : (e : List ℕ) (old new : State) (rows : List Row) (s : Broker) (found : Option ℕ) → Holds old.now s → Shown gated_sql (Text e ∷ []) old new rows
     → option_map (λ n. Int (pos n)) found ≡ option_map (λ row. column row 0) (slice_get rows 0) → option_map (λ n. n == 1) found ≡ option_map (λ (m : Marks). m.gated) (s.environments e)
@@ -160,20 +148,6 @@ no_mark (Some n) (Some row) read high = (
 pub mark_is_number : (row : Row) → IsTruthAt 0 row → IsNumberRow row
 mark_is_number row stands = (stands.0, (stands.1.0, stands.1.1, omega (arith, stands.1.2)))
 
--- what a query showed it shows again, and leaves all as it is
-shown_again : (sql : List ℕ) (params : Row) (old new : State) (rows : List Row) → IsPlain (understood old.now.schema sql) → Shown sql params old new rows → Shown sql params old old rows
-unfolding Shown
-shown_again sql params old new rows plain h =
-    let none = (subst IsPlain h.1.is plain).0 in
-    let full = timed params h.0.formats h.1.now in
-    let it = subst (ShowsRows old new sql h.0 full rows) none h.2 in
-    let is_open = it.3.0.was_open in
-    let same : IsUnchanged old old = (record { was_open = is_open; is_open = is_open; now_is = refl; committed_is = refl; mode = refl }, record { changes = refl; last_rowid = refl }, refl) in
-    (h.0, h.1, subst (ShowsRows old old sql h.0 full rows) (sym none) (it.0, it.1, it.2, same))
-
-pub gate_known : (e : List ℕ) (old new : State) (gated : Option Bool) → IsMarkShown e old new gated → IsMarkKnown e old gated
-gate_known e old new gated h plain = (h.0, shown_again gate_question (Text e ∷ []) old new h.0 plain h.1, h.2)
-
 -- ---- the mark strict
 
 abbrev pub strict_sql : List ℕ
@@ -211,12 +185,19 @@ strict_found e old new rows s m held is h =
 abbrev pub put_sql : List ℕ
 put_sql = codes "INSERT INTO environments (name, gated) VALUES (?1, ?2)"
 
-abbrev put_command : Command
-put_command = Insert 5 (Values (lit Null ∷ col 0 0 ∷ col 0 1 ∷ []) 3)
-
-put_text : Means broker_schema put_sql put_command
+put_puts : (e : List ℕ) (n : ℕ) → Puts 5 put_sql (Text e ∷ Int (pos n) ∷ []) (Null ∷ Text e ∷ Int (pos n) ∷ [])
 unfolding understood everything
-put_text = record { is = refl; plain = (refl, refl); unlisted = refl }
+put_puts e n = record { terms = lit Null ∷ col 0 0 ∷ col 0 1 ∷ []; width = 3; means = record { is = refl; plain = (refl, refl); unlisted = refl }; whole = refl; kinds = refl; one = refl }
+
+-- a mark is 0 or 1, as the CHECK asks
+mark_passes : (id : Value) (e : List ℕ) (gated : Bool) → PassAlone environments ((id ∷ Text e ∷ Int (pos (mark_of gated)) ∷ []) ∷ [])
+unfolding binary value_cmp lib.Ieee.is_nan lib.Ieee.lt
+mark_passes id e true = record { typed = refl; present = refl; checked = refl }
+mark_passes id e false = record { typed = refl; present = refl; checked = refl }
+
+mark_is : (gated : Bool) → (mark_of gated == 1) ≡ gated
+mark_is true = refl
+mark_is false = refl
 
 -- an environment that isn't there isn't strict
 not_strict : (db : Database) (s : Broker) (e : List ℕ) → Holds db s → s.environments e ≡ None → stands_at text_cmp (text 1) (db.trees 26) e ≡ false
@@ -226,31 +207,50 @@ not_strict db s e held free =
     let named = refers_environment db held.broker strict_environments listed 1 (inl refl) r has (strict_names db held.broker r has) in
     ap (eq_by_cmp text_cmp e) (sym named.2) ∙ none_has nat_list_cmp_total exact_texts (text 1) (marks_in (db.trees 26)) e (db.trees 10) named.0 (held.environments e ∙ free) named.1)
 
-pub environment_put : (e : List ℕ) (n : ℕ) (old new : State) (count : ℕ) (s : Broker) → Holds old.now s → s.environments e ≡ None → Executes put_sql (Text e ∷ Int (pos n) ∷ []) old new (Ok count)
-    → Holds new.now (record s { environments = put_at same_text s.environments e (Some (marks (n == 1) false)) })
-environment_put e n old new count s held free h =
-    let made = Int (next_rowid (old.now.trees 10)) ∷ Text e ∷ Int (pos n) ∷ [] in
-    let it = inserts (codes "environments") 10 environments.columns None (1 ∷ []) environments.uniques environments.orders environments.checks [] put_sql (Text e ∷ Int (pos n) ∷ []) old new 5 (environments_there old.now held.broker)
-    _ _ (Null ∷ Text e ∷ Int (pos n) ∷ []) made refl (ap (λ v. with_rowid Chosen (old.now.trees 10) (cast Integer Null ∷ Text e ∷ v ∷ [])) (cast_int (pos n)) ∙ ap (λ v. with_rowid Chosen (old.now.trees 10) (v ∷ Text e ∷ Int (pos n) ∷ [])) cast_null) (meant old.now held.broker put_sql put_text) count h in
-    let one : Frame (codes "environments" ∷ []) old.now new.now = frame_of (codes "environments" ∷ []) 10 refl old new held.broker it.0 in
-    let strict : new.now.trees 26 ≡ old.now.trees 26 = one.others.1.1.1.1.1.1.1.1.1.1.1.1.1.1.0 refl in
-    let row : marks_in (old.now.trees 26) made ≡ marks (n == 1) false = ap (marks (n == 1)) (not_strict old.now s e held free) in
-    environments_change old.now new.now s _ held (frame_of (codes "environments" ∷ codes "strict_environments" ∷ []) 10 refl old new held.broker it.0) (λ q.
-    ap (λ rows. value_at text_cmp (text 1) (marks_in rows) (new.now.trees 10) q) strict
-    ∙ puts_at nat_list_cmp_total exact_texts (text 1) (marks_in (old.now.trees 26)) (old.now.trees 10) (new.now.trees 10) made it.1 (held.environments e ∙ free) q
-    ∙ (λ i. cond (sym (texts_ties q e) i) (Some (row i)) (held.environments q i)))
+module _ (e : List ℕ) (gated : Bool) (old new : State) (s : Broker) (held : Holds old.now s) (free : s.environments e ≡ None) where
+  abbrev rows : List Row
+  rows = old.now.trees 10
+
+  abbrev made : Row
+  made = Int (next_rowid rows) ∷ Text e ∷ Int (pos (mark_of gated)) ∷ []
+
+  stored : with_rowid Chosen rows (cast_row environments (Null ∷ Text e ∷ Int (pos (mark_of gated)) ∷ [])) ≡ made
+  stored =
+      ap (λ v. with_rowid Chosen rows (cast Integer Null ∷ Text e ∷ v ∷ [])) (cast_int (pos (mark_of gated))) ∙ ap (λ v. with_rowid Chosen rows (v ∷ Text e ∷ Int (pos (mark_of gated)) ∷ [])) cast_null
+
+  module _ (count : ℕ) (h : Executes put_sql (Text e ∷ Int (pos (mark_of gated)) ∷ []) old new (Ok count)) where
+    abbrev it : ChangesOnly 10 old new × IsAdded rows (new.now.trees 10) made
+    it = inserted put_sql (Text e ∷ Int (pos (mark_of gated)) ∷ []) old new held.broker environments 5 (environments_there old.now held.broker) _ made (put_puts e (mark_of gated)) stored count h
+
+    -- the strict environments are the same
+    pub strict_stays : new.now.trees 26 ≡ old.now.trees 26
+    strict_stays = (frame_of (codes "environments" ∷ []) 10 refl old new held.broker it.0).others.1.1.1.1.1.1.1.1.1.1.1.1.1.1.0 refl
+
+    pub environment_put : Holds new.now (record s { environments = put_at same_text s.environments e (Some (marks gated false)) })
+    environment_put =
+        let row : marks_in (old.now.trees 26) made ≡ marks gated false = (λ i. marks (mark_is gated i) (not_strict old.now s e held free i)) in
+        environments_change old.now new.now s _ held (frame_of (codes "environments" ∷ codes "strict_environments" ∷ []) 10 refl old new held.broker it.0) (λ q.
+        ap (λ rows. value_at text_cmp (text 1) (marks_in rows) (new.now.trees 10) q) strict_stays
+        ∙ puts_at nat_list_cmp_total exact_texts (text 1) (marks_in (old.now.trees 26)) rows (new.now.trees 10) made it.1 (held.environments e ∙ free) q
+        ∙ (λ i. cond (sym (texts_ties q e) i) (Some (row i)) (held.environments q i)))
+
+  -- it fails only as the store fails
+  pub environment_ends : HaveNumbers (codes "environments" ∷ []) old.now → EndsOnly put_sql (Text e ∷ Int (pos (mark_of gated)) ∷ []) old new
+  environment_ends numbers =
+      next_ends put_sql (Text e ∷ Int (pos (mark_of gated)) ∷ []) old new held.broker environments 5 (environments_there old.now held.broker) _ _ (put_puts e (mark_of gated)) stored numbers.0 (mark_passes _ e gated) (
+        free_one rows made nat_list_cmp_total 1 (text 1) (new_text rows made 1 (names old.now held.broker) refl)
+            (sym (stands_found text_cmp (text 1) (marks_in (old.now.trees 26)) rows e) ∙ ap is_some (held.environments e ∙ free)),
+        tt,
+      ) tt
 
 -- ---- an environment becomes strict
 
 abbrev pub make_sql : List ℕ
 make_sql = codes "INSERT INTO strict_environments (environment) VALUES (?1)"
 
-abbrev make_command : Command
-make_command = Insert 14 (Values (lit Null ∷ col 0 0 ∷ []) 2)
-
-make_text : Means broker_schema make_sql make_command
+make_puts : (e : List ℕ) → Puts 14 make_sql (Text e ∷ []) (Null ∷ Text e ∷ [])
 unfolding understood everything
-make_text = record { is = refl; plain = (refl, refl); unlisted = refl }
+make_puts e = record { terms = lit Null ∷ col 0 0 ∷ []; width = 2; means = record { is = refl; plain = (refl, refl); unlisted = refl }; whole = refl; kinds = refl; one = refl }
 
 -- the marks of each row, once one more name is strict
 module _ (old new : List Row) (e : List ℕ) (m : Marks) (put : (q : List ℕ) → stands_at text_cmp (text 1) new q ≡ (eq_by_cmp text_cmp q e || stands_at text_cmp (text 1) old q)) where
@@ -284,19 +284,37 @@ module _ (old new : List Row) (e : List ℕ) (m : Marks) (put : (q : List ℕ) �
           mapped new (Some r) is ∙ ap Some (marks_same r (ap (λ x. eq_by_cmp text_cmp x e) (sym name) ∙ t))
           ∙ sym (ap (λ b. cond b (Some (marks m.gated true)) (value_at text_cmp (text 1) (marks_in old) rows q)) t ∙ mapped old (Some r) is)
 
-pub strict_put : (e : List ℕ) (old new : State) (count : ℕ) (s : Broker) (m : Marks) → Holds old.now s → s.environments e ≡ Some m → Executes make_sql (Text e ∷ []) old new (Ok count)
-    → Holds new.now (record s { environments = put_at same_text s.environments e (Some (marks m.gated true)) })
-strict_put e old new count s m held is h =
-    let made = Int (next_rowid (old.now.trees 26)) ∷ Text e ∷ [] in
-    let it = inserts (codes "strict_environments") 26 strict_environments.columns None (1 ∷ []) strict_environments.uniques strict_environments.orders [] strict_environments.references make_sql (Text e ∷ []) old new 14 (strict_environments_there old.now held.broker)
-    _ _ (Null ∷ Text e ∷ []) made refl (ap (λ v. with_rowid Chosen (old.now.trees 26) (v ∷ Text e ∷ [])) cast_null) (meant old.now held.broker make_sql make_text) count h in
-    let one : Frame (codes "strict_environments" ∷ []) old.now new.now = frame_of (codes "strict_environments" ∷ []) 26 refl old new held.broker it.0 in
-    let same : new.now.trees 10 ≡ old.now.trees 10 = one.others.1.1.1.1.1.0 refl in
-    environments_change old.now new.now s _ held (frame_of (codes "environments" ∷ codes "strict_environments" ∷ []) 26 refl old new held.broker it.0) (λ q.
-    ap (λ rows. value_at text_cmp (text 1) (marks_in (new.now.trees 26)) rows q) same
-    ∙ all_marks (old.now.trees 26) (new.now.trees 26) e m (λ k. stands_put text_cmp (text 1) (old.now.trees 26) (new.now.trees 26) made it.1 k) q (old.now.trees 10)
-    (λ t. held.environments q ∙ ap s.environments (exact_texts q e ((Equal-is (text_cmp q e)).0 t)) ∙ is)
-    ∙ (λ i. cond (sym (texts_ties q e) i) (Some (marks m.gated true)) (held.environments q i)))
+module _ (e : List ℕ) (old new : State) (s : Broker) (m : Marks) (held : Holds old.now s) (is : s.environments e ≡ Some m) where
+  abbrev strict_rows : List Row
+  strict_rows = old.now.trees 26
+
+  abbrev strict_made : Row
+  strict_made = Int (next_rowid strict_rows) ∷ Text e ∷ []
+
+  strict_stored : with_rowid Chosen strict_rows (cast_row strict_environments (Null ∷ Text e ∷ [])) ≡ strict_made
+  strict_stored = ap (λ v. with_rowid Chosen strict_rows (v ∷ Text e ∷ [])) cast_null
+
+  pub strict_put : (count : ℕ) → Executes make_sql (Text e ∷ []) old new (Ok count) → Holds new.now (record s { environments = put_at same_text s.environments e (Some (marks m.gated true)) })
+  strict_put count h =
+      let it = inserted make_sql (Text e ∷ []) old new held.broker strict_environments 14 (strict_environments_there old.now held.broker) _ strict_made (make_puts e) strict_stored count h in
+      let one : Frame (codes "strict_environments" ∷ []) old.now new.now = frame_of (codes "strict_environments" ∷ []) 26 refl old new held.broker it.0 in
+      let same : new.now.trees 10 ≡ old.now.trees 10 = one.others.1.1.1.1.1.0 refl in
+      environments_change old.now new.now s _ held (frame_of (codes "environments" ∷ codes "strict_environments" ∷ []) 26 refl old new held.broker it.0) (λ q.
+      ap (λ rows. value_at text_cmp (text 1) (marks_in (new.now.trees 26)) rows q) same
+      ∙ all_marks strict_rows (new.now.trees 26) e m (λ k. stands_put text_cmp (text 1) strict_rows (new.now.trees 26) strict_made it.1 k) q (old.now.trees 10)
+      (λ t. held.environments q ∙ ap s.environments (exact_texts q e ((Equal-is (text_cmp q e)).0 t)) ∙ is)
+      ∙ (λ i. cond (sym (texts_ties q e) i) (Some (marks m.gated true)) (held.environments q i)))
+
+  -- of one that isn't strict it fails only as the store fails
+  pub strict_ends : HaveNumbers (codes "strict_environments" ∷ []) old.now → m.strict ≡ false → EndsOnly make_sql (Text e ∷ []) old new
+  strict_ends numbers off =
+      let row = find_has nat_list_cmp_total exact_texts (text 1) (marks_in strict_rows) e m (old.now.trees 10) (held.environments e ∙ is) in
+      next_ends make_sql (Text e ∷ []) old new held.broker strict_environments 14 (strict_environments_there old.now held.broker) _ _ (make_puts e) strict_stored numbers.0 (record { typed = refl; present = refl; checked = refl }) (
+        free_one strict_rows strict_made nat_list_cmp_total 1 (text 1) (new_text strict_rows strict_made 1 (strict_names old.now held.broker) refl)
+            (ap (stands_at text_cmp (text 1) strict_rows) row.2 ∙ ap (λ (x : Marks). x.strict) row.3 ∙ off),
+        tt,
+      )
+      (environment_there old.now s held strict_made 1 e (ap is_some is) refl, tt)
 
 -- ---- both marks
 

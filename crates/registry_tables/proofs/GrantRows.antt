@@ -8,9 +8,9 @@ use Rattle.sqlite.specs.Rowids.TheVariants.{Chosen}
 use Rattle.sqlite.specs.declared.types.Value.TheVariants.{Null, Int, Text}
 use Rattle.sqlite.specs.Order.{Row, column}
 use Rattle.sqlite.specs.Term.{col, lit}
-use Rattle.sqlite.specs.Source.TheVariants.{Values}
+use Rattle.sqlite.specs.Cast.{cast_row}
 use Rattle.sqlite.specs.Command.{Command}
-use Rattle.sqlite.specs.Command.TheVariants.{Insert, Delete}
+use Rattle.sqlite.specs.Command.TheVariants.{Delete}
 use Rattle.sqlite.specs.Schema.{Schema}
 use Rattle.sqlite.specs.Effect.{Database}
 use Rattle.sqlite.specs.State.{State, Executes}
@@ -20,7 +20,7 @@ use Rattle.sqlite_tied.specs.Compute.{everything}
 use Rattle.table_access.specs.Columns.{text, pair_cmp}
 use Rattle.table_access.specs.Statements.{from_table, by_two, keeps}
 use Rattle.table_access.proofs.Values.{cast_null}
-use Rattle.table_access.proofs.Steps.{Means, answered, inserts, deletes}
+use Rattle.table_access.proofs.Steps.{Means, answered, deletes}
 use Rattle.table_access.proofs.Maps.{looks_up_at}
 use Rattle.table_access.proofs.Keys.{apart_by, pair_keys, by_pair}
 use Rattle.table_access.proofs.SoundLemmas.{text_at, has_place, at_has}
@@ -34,12 +34,13 @@ use Rattle.broker_tables.proofs.Orders.{pairs_total, exact_pair}
 use Rattle.broker_tables.proofs.Ties.{grant_ties}
 use Rattle.broker_tables.proofs.Standing.{stands_found, stands_put, stands_out}
 use Rattle.broker_tables.proofs.Placed.{grants, grants_there, calm}
+use Rattle.broker_tables.proofs.Inserted.{Puts, inserted}
 
 module _ (db : Database) (broker : IsBroker db) where
-  names : (r : Row) → Has (db.trees 12) r → column r 1 ≡ Text (text 1 r)
+  pub names : (r : Row) → Has (db.trees 12) r → column r 1 ≡ Text (text 1 r)
   names r has = text_at db broker.kept.sound grants (has_place _ 6 grants (grants_there db broker)) r has 0 _ refl refl refl refl refl
 
-  places : (r : Row) → Has (db.trees 12) r → column r 2 ≡ Text (text 2 r)
+  pub places : (r : Row) → Has (db.trees 12) r → column r 2 ≡ Text (text 2 r)
   places r has = text_at db broker.kept.sound grants (has_place _ 6 grants (grants_there db broker)) r has 1 _ refl refl refl refl refl
 
   keys : IsAscending (λ a b. eq_by_cmp pair_cmp (text 1 a, text 2 a) (text 1 b, text 2 b) ≡ false) (db.trees 12)
@@ -65,12 +66,13 @@ grant_found team e db rows s held h =
 abbrev pub add_sql : List ℕ
 add_sql = codes "INSERT INTO grants (team, environment) VALUES (?1, ?2)"
 
-abbrev pub add_command : Command
-add_command = Insert 6 (Values (lit Null ∷ col 0 0 ∷ col 0 1 ∷ []) 3)
-
-pub add_text : Means broker_schema add_sql add_command
+pub add_puts : (team e : List ℕ) → Puts 6 add_sql (Text team ∷ Text e ∷ []) (Null ∷ Text team ∷ Text e ∷ [])
 unfolding understood everything
-add_text = record { is = refl; plain = (refl, refl); unlisted = refl }
+add_puts team e = record { terms = lit Null ∷ col 0 0 ∷ col 0 1 ∷ []; width = 3; means = record { is = refl; plain = (refl, refl); unlisted = refl }; whole = refl; kinds = refl; one = refl }
+
+-- as it is stored
+pub add_stored : (rows : List Row) (team e : List ℕ) → with_rowid Chosen rows (cast_row grants (Null ∷ Text team ∷ Text e ∷ [])) ≡ Int (next_rowid rows) ∷ Text team ∷ Text e ∷ []
+add_stored rows team e = ap (λ v. with_rowid Chosen rows (v ∷ Text team ∷ Text e ∷ [])) cast_null
 
 either : (b : Bool) (old : Bool) → (b || old) ≡ cond b true old
 either true old = refl
@@ -80,8 +82,7 @@ pub grant_added : (team e : List ℕ) (old new : State) (count : ℕ) (s : Broke
     → Holds new.now (record s { grants = put_at (same_pair same_text same_text) s.grants (team, e) true })
 grant_added team e old new count s held h =
     let made = Int (next_rowid (old.now.trees 12)) ∷ Text team ∷ Text e ∷ [] in
-    let it = inserts (codes "grants") 12 grants.columns None (1 ∷ 2 ∷ []) grants.uniques grants.orders [] grants.references add_sql (Text team ∷ Text e ∷ []) old new 6 (grants_there old.now held.broker)
-    _ _ (Null ∷ Text team ∷ Text e ∷ []) made refl (ap (λ v. with_rowid Chosen (old.now.trees 12) (v ∷ Text team ∷ Text e ∷ [])) cast_null) (meant old.now held.broker add_sql add_text) count h in
+    let it = inserted add_sql (Text team ∷ Text e ∷ []) old new held.broker grants 6 (grants_there old.now held.broker) _ made (add_puts team e) (add_stored (old.now.trees 12) team e) count h in
     grants_change old.now new.now s _ held (frame_of (codes "grants" ∷ []) 12 refl old new held.broker it.0) (λ t f.
     stands_put pair_cmp (λ r. (text 1 r, text 2 r)) (old.now.trees 12) (new.now.trees 12) made it.1 (t, f) ∙ either (eq_by_cmp pair_cmp (t, f) (team, e)) _
     ∙ (λ i. cond (sym (grant_ties (t, f) (team, e)) i) true (held.grants t f i)))

@@ -12,3 +12,4 @@ pub mod FoundFormat
 pub mod BranchNumbers
 pub mod BranchBelow
 pub mod FormatRow
+mod MarkText

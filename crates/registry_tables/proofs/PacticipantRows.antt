@@ -1,6 +1,6 @@
 -- The statements on pacticipants.
 use Rattle.std.proofs.Common.{◌≡◌, ℕ, codes, List, [], ◌∷◌, false, refl, sym, ap, ◌∙◌, cond, slice_get, Some, None, Ok}
-use Rattle.std.specs.Prelude.{option_map}
+use Rattle.std.specs.Prelude.{option_map, is_some}
 use Rattle.std.specs.Cmp.Lexicographic.{nat_list_cmp_total, texts_ties}
 use Rattle.std.specs.Ordering.{eq_by_cmp}
 use Rattle.sqlite.specs.Tree.{IsAscending}
@@ -12,9 +12,7 @@ use Rattle.sqlite.specs.Term.{col, op2, lit}
 use Rattle.sqlite.specs.Collation.TheVariants.{Binary}
 use Rattle.sqlite_sql.specs.declared.ops.BinaryOp.TheVariants.{Compare}
 use Rattle.sqlite_sql.specs.declared.ops.CompareOp.TheVariants.{Eq}
-use Rattle.sqlite.specs.Source.TheVariants.{Values}
-use Rattle.sqlite.specs.Command.{Command}
-use Rattle.sqlite.specs.Command.TheVariants.{Insert}
+use Rattle.sqlite.specs.Cast.{cast_row}
 use Rattle.sqlite.specs.Schema.{Schema}
 use Rattle.sqlite.specs.Effect.{Database}
 use Rattle.sqlite.specs.State.{State, Executes}
@@ -24,19 +22,22 @@ use Rattle.sqlite_tied.specs.Compute.{everything}
 use Rattle.table_access.specs.Columns.{text, text_cmp}
 use Rattle.table_access.specs.Statements.{from_table}
 use Rattle.table_access.proofs.Values.{cast_null}
-use Rattle.table_access.proofs.Steps.{Means, answered, inserts}
+use Rattle.table_access.proofs.Steps.{answered}
 use Rattle.table_access.proofs.Maps.{looks_up_at, puts_at}
 use Rattle.table_access.proofs.Keys.{apart_by, text_keys, by_text}
 use Rattle.table_access.proofs.SoundLemmas.{text_at, has_place}
 use Rattle.broker_core.specs.Text.{put_at, same_text}
 use Rattle.broker_core.specs.State.{State as Broker}
 use Rattle.table_access.specs.Reading.{IsTextAt}
-use Rattle.broker_tables.specs.Schema.{broker_schema}
 use Rattle.broker_tables.specs.Holds.{Holds, IsBroker}
 use Rattle.broker_tables.proofs.Asked.{Asked, IsShown, FirstShown, FirstReads, text_reads}
-use Rattle.broker_tables.proofs.Frames.{meant, frame_of, pacticipants_change}
+use Rattle.broker_tables.proofs.Frames.{frame_of, pacticipants_change}
 use Rattle.broker_tables.proofs.Orders.{exact_texts}
 use Rattle.broker_tables.proofs.Placed.{pacticipants, pacticipants_there}
+use Rattle.broker_tables.proofs.Standing.{stands_found}
+use Rattle.registry_tables.specs.Registry.{AddsPacticipant}
+use Rattle.broker_tables.specs.Refusals.{HaveNumbers}
+use Rattle.broker_tables.proofs.Inserted.{EndsOnly, Puts, inserted, next_ends, new_text, free_one, team_there}
 
 module _ (db : Database) (broker : IsBroker db) where
   names : (r : Row) → Has (db.trees 4) r → column r 1 ≡ Text (text 1 r)
@@ -71,17 +72,26 @@ owner_missing p db s held none rows h row head = let clash : Some (text 0 row) �
 abbrev pub add_sql : List ℕ
 add_sql = codes "INSERT INTO pacticipants (name, team) VALUES (?1, ?2)"
 
-abbrev add_command : Command
-add_command = Insert 2 (Values (lit Null ∷ col 0 0 ∷ col 0 1 ∷ []) 3)
-
-add_text : Means broker_schema add_sql add_command
+add_puts : (p team : List ℕ) → Puts 2 add_sql (Text p ∷ Text team ∷ []) (Null ∷ Text p ∷ Text team ∷ [])
 unfolding understood everything
-add_text = record { is = refl; plain = (refl, refl); unlisted = refl }
+add_puts p team = record { terms = lit Null ∷ col 0 0 ∷ col 0 1 ∷ []; width = 3; means = record { is = refl; plain = (refl, refl); unlisted = refl }; whole = refl; kinds = refl; one = refl }
 
-pub pacticipant_added : (p team : List ℕ) (old new : State) (count : ℕ) (s : Broker) → Holds old.now s → s.pacticipants p ≡ None → Executes add_sql (Text p ∷ Text team ∷ []) old new (Ok count) → Holds new.now (record s { pacticipants = put_at same_text s.pacticipants p (Some team) })
-pacticipant_added p team old new count s held free h =
-    let made = Int (next_rowid (old.now.trees 4)) ∷ Text p ∷ Text team ∷ [] in
-    let it = inserts (codes "pacticipants") 4 pacticipants.columns None (1 ∷ []) pacticipants.uniques pacticipants.orders [] pacticipants.references add_sql (Text p ∷ Text team ∷ []) old new 2 (pacticipants_there old.now held.broker)
-    _ _ (Null ∷ Text p ∷ Text team ∷ []) made refl (ap (λ v. with_rowid Chosen (old.now.trees 4) (v ∷ Text p ∷ Text team ∷ [])) cast_null) (meant old.now held.broker add_sql add_text) count h in
-    pacticipants_change old.now new.now s _ held (frame_of (codes "pacticipants" ∷ []) 4 refl old new held.broker it.0) (λ t.
-    puts_at nat_list_cmp_total exact_texts (text 1) (text 2) (old.now.trees 4) (new.now.trees 4) made it.1 (held.pacticipants p ∙ free) t ∙ (λ i. cond (sym (texts_ties t p) i) (Some team) (held.pacticipants t i)))
+module _ (p team : List ℕ) (old new : State) (s : Broker) (held : Holds old.now s) where
+  abbrev made : Row
+  made = Int (next_rowid (old.now.trees 4)) ∷ Text p ∷ Text team ∷ []
+
+  stored : with_rowid Chosen (old.now.trees 4) (cast_row pacticipants (Null ∷ Text p ∷ Text team ∷ [])) ≡ made
+  stored = ap (λ v. with_rowid Chosen (old.now.trees 4) (v ∷ Text p ∷ Text team ∷ [])) cast_null
+
+  pub pacticipant_added : (count : ℕ) → s.pacticipants p ≡ None → Executes add_sql (Text p ∷ Text team ∷ []) old new (Ok count) → Holds new.now (record s { pacticipants = put_at same_text s.pacticipants p (Some team) })
+  pacticipant_added count free h =
+      let it = inserted add_sql (Text p ∷ Text team ∷ []) old new held.broker pacticipants 2 (pacticipants_there old.now held.broker) _ made (add_puts p team) stored count h in
+      pacticipants_change old.now new.now s _ held (frame_of (codes "pacticipants" ∷ []) 4 refl old new held.broker it.0) (λ q.
+      puts_at nat_list_cmp_total exact_texts (text 1) (text 2) (old.now.trees 4) (new.now.trees 4) made it.1 (held.pacticipants p ∙ free) q ∙ (λ i. cond (sym (texts_ties q p) i) (Some team) (held.pacticipants q i)))
+
+  -- it fails only as the store fails
+  pub pacticipant_ends : HaveNumbers (codes "pacticipants" ∷ []) old.now → (t : Broker) → AddsPacticipant p team s t → EndsOnly add_sql (Text p ∷ Text team ∷ []) old new
+  pacticipant_ends numbers t next =
+      next_ends add_sql (Text p ∷ Text team ∷ []) old new held.broker pacticipants 2 (pacticipants_there old.now held.broker) _ _ (add_puts p team) stored numbers.0 (record { typed = refl; present = refl; checked = refl })
+      (free_one (old.now.trees 4) made nat_list_cmp_total 1 (text 1) (new_text (old.now.trees 4) made 1 (names old.now held.broker) refl) (sym (stands_found text_cmp (text 1) (text 2) (old.now.trees 4) p) ∙ ap is_some (held.pacticipants p ∙ next.0)), tt)
+      (team_there old.now s held made 2 team next.1 refl, tt)

@@ -1,6 +1,6 @@
 -- The statements on teams.
 use Rattle.std.proofs.Common.{◌≡◌, ℕ, codes, List, [], ◌∷◌, false, refl, sym, subst, ap, ◌∙◌, cond, slice_get, Some, None, Ok, MatchOption, Option}
-use Rattle.std.specs.Prelude.{option_map}
+use Rattle.std.specs.Prelude.{option_map, is_some}
 use Rattle.std.specs.Cmp.Lexicographic.{nat_list_cmp_total, texts_ties}
 use Rattle.std.specs.Ordering.{eq_by_cmp}
 use Rattle.sqlite.specs.Tree.{IsAscending}
@@ -12,9 +12,7 @@ use Rattle.sqlite.specs.Term.{col, op2, lit}
 use Rattle.sqlite.specs.Collation.TheVariants.{Binary}
 use Rattle.sqlite_sql.specs.declared.ops.BinaryOp.TheVariants.{Compare}
 use Rattle.sqlite_sql.specs.declared.ops.CompareOp.TheVariants.{Eq}
-use Rattle.sqlite.specs.Source.TheVariants.{Values}
-use Rattle.sqlite.specs.Command.{Command}
-use Rattle.sqlite.specs.Command.TheVariants.{Insert}
+use Rattle.sqlite.specs.Cast.{cast_row}
 use Rattle.sqlite.specs.Schema.{Schema}
 use Rattle.sqlite.specs.Effect.{Database}
 use Rattle.sqlite.specs.State.{State, Executes}
@@ -24,7 +22,7 @@ use Rattle.sqlite_tied.specs.Compute.{everything}
 use Rattle.table_access.specs.Columns.{text, text_cmp}
 use Rattle.table_access.specs.Statements.{from_table}
 use Rattle.table_access.proofs.Values.{cast_null}
-use Rattle.table_access.proofs.Steps.{Means, answered, inserts}
+use Rattle.table_access.proofs.Steps.{answered}
 use Rattle.table_access.proofs.Maps.{looks_up_at, puts_at, other_way, no_other_way}
 use Rattle.table_access.proofs.Keys.{apart_by, text_keys, by_text}
 use Rattle.table_access.proofs.SoundLemmas.{text_at, has_place}
@@ -32,13 +30,16 @@ use Rattle.broker_core.specs.Text.{put_at, same_text}
 use Rattle.broker_core.specs.State.{State as Broker}
 use Rattle.broker_core.specs.Laws.{TeamsDiffer}
 use Rattle.table_access.specs.Reading.{IsTextAt}
-use Rattle.broker_tables.specs.Schema.{broker_schema}
 use Rattle.broker_tables.specs.Rows.{value_at}
 use Rattle.broker_tables.specs.Holds.{Holds, IsBroker}
 use Rattle.broker_tables.proofs.Asked.{Asked, IsShown, FirstShown, FirstReads, text_reads}
-use Rattle.broker_tables.proofs.Frames.{meant, frame_of, teams_change}
+use Rattle.broker_tables.proofs.Frames.{frame_of, teams_change}
 use Rattle.broker_tables.proofs.Orders.{exact_texts}
 use Rattle.broker_tables.proofs.Placed.{teams, teams_there}
+use Rattle.broker_tables.proofs.Standing.{stands_found}
+use Rattle.registry_tables.specs.Registry.{AddsTeam}
+use Rattle.broker_tables.specs.Refusals.{HaveNumbers}
+use Rattle.broker_tables.proofs.Inserted.{EndsOnly, Puts, inserted, next_ends, new_text, free_one}
 
 module _ (db : Database) (broker : IsBroker db) where
   names : (r : Row) → Has (db.trees 1) r → column r 1 ≡ Text (text 1 r)
@@ -124,17 +125,31 @@ teams_differ db s held digest a b has_a has_b = let both : Some a ≡ Some b = s
 abbrev pub add_sql : List ℕ
 add_sql = codes "INSERT INTO teams (name, token_digest) VALUES (?1, ?2)"
 
-abbrev add_command : Command
-add_command = Insert 1 (Values (lit Null ∷ col 0 0 ∷ col 0 1 ∷ []) 3)
-
-add_text : Means broker_schema add_sql add_command
+add_puts : (team digest : List ℕ) → Puts 1 add_sql (Text team ∷ Text digest ∷ []) (Null ∷ Text team ∷ Text digest ∷ [])
 unfolding understood everything
-add_text = record { is = refl; plain = (refl, refl); unlisted = refl }
+add_puts team digest = record { terms = lit Null ∷ col 0 0 ∷ col 0 1 ∷ []; width = 3; means = record { is = refl; plain = (refl, refl); unlisted = refl }; whole = refl; kinds = refl; one = refl }
 
-pub team_added : (team digest : List ℕ) (old new : State) (count : ℕ) (s : Broker) → Holds old.now s → s.teams team ≡ None → Executes add_sql (Text team ∷ Text digest ∷ []) old new (Ok count) → Holds new.now (record s { teams = put_at same_text s.teams team (Some digest) })
-team_added team digest old new count s held free h =
-    let made = Int (next_rowid (old.now.trees 1)) ∷ Text team ∷ Text digest ∷ [] in
-    let it = inserts (codes "teams") 1 teams.columns None (1 ∷ []) teams.uniques teams.orders [] [] add_sql (Text team ∷ Text digest ∷ []) old new 1 (teams_there old.now held.broker)
-    _ _ (Null ∷ Text team ∷ Text digest ∷ []) made refl (ap (λ v. with_rowid Chosen (old.now.trees 1) (v ∷ Text team ∷ Text digest ∷ [])) cast_null) (meant old.now held.broker add_sql add_text) count h in
-    teams_change old.now new.now s _ held (frame_of (codes "teams" ∷ []) 1 refl old new held.broker it.0) (λ t.
-    puts_at nat_list_cmp_total exact_texts (text 1) (text 2) (old.now.trees 1) (new.now.trees 1) made it.1 (held.teams team ∙ free) t ∙ (λ i. cond (sym (texts_ties t team) i) (Some digest) (held.teams t i)))
+module _ (team digest : List ℕ) (old new : State) (s : Broker) (held : Holds old.now s) where
+  abbrev made : Row
+  made = Int (next_rowid (old.now.trees 1)) ∷ Text team ∷ Text digest ∷ []
+
+  stored : with_rowid Chosen (old.now.trees 1) (cast_row teams (Null ∷ Text team ∷ Text digest ∷ [])) ≡ made
+  stored = ap (λ v. with_rowid Chosen (old.now.trees 1) (v ∷ Text team ∷ Text digest ∷ [])) cast_null
+
+  pub team_added : (count : ℕ) → s.teams team ≡ None → Executes add_sql (Text team ∷ Text digest ∷ []) old new (Ok count) → Holds new.now (record s { teams = put_at same_text s.teams team (Some digest) })
+  team_added count free h =
+      let it = inserted add_sql (Text team ∷ Text digest ∷ []) old new held.broker teams 1 (teams_there old.now held.broker) _ made (add_puts team digest) stored count h in
+      teams_change old.now new.now s _ held (frame_of (codes "teams" ∷ []) 1 refl old new held.broker it.0) (λ t.
+      puts_at nat_list_cmp_total exact_texts (text 1) (text 2) (old.now.trees 1) (new.now.trees 1) made it.1 (held.teams team ∙ free) t ∙ (λ i. cond (sym (texts_ties t team) i) (Some digest) (held.teams t i)))
+
+  unknown : ((other : List ℕ) → ¬ (s.teams other ≡ Some digest)) → (found : Option (List ℕ)) → value_at text_cmp (text 2) (text 1) (old.now.trees 1) digest ≡ found → is_some found ≡ false
+  unknown none None is = refl
+  unknown none (Some other) is = absurd (none other (sym (held.teams other) ∙ other_way nat_list_cmp_total exact_texts nat_list_cmp_total exact_texts (text 1) (text 2) (old.now.trees 1) other digest (team_keys old.now held.broker) is))
+
+  -- it fails only as the store fails
+  pub team_ends : HaveNumbers (codes "teams" ∷ []) old.now → (t : Broker) → AddsTeam team digest s t → EndsOnly add_sql (Text team ∷ Text digest ∷ []) old new
+  team_ends numbers t next =
+      let free_name = sym (stands_found text_cmp (text 1) (text 2) (old.now.trees 1) team) ∙ ap is_some (held.teams team ∙ next.0) in
+      let free_digest = sym (stands_found text_cmp (text 2) (text 1) (old.now.trees 1) digest) ∙ unknown next.1 _ refl in
+      next_ends add_sql (Text team ∷ Text digest ∷ []) old new held.broker teams 1 (teams_there old.now held.broker) _ _ (add_puts team digest) stored numbers.0 (record { typed = refl; present = refl; checked = refl })
+      (free_one (old.now.trees 1) made nat_list_cmp_total 1 (text 1) (new_text (old.now.trees 1) made 1 (names old.now held.broker) refl) free_name, (free_one (old.now.trees 1) made nat_list_cmp_total 2 (text 2) (new_text (old.now.trees 1) made 2 (digests old.now held.broker) refl) free_digest, tt)) tt

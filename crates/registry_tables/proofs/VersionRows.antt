@@ -1,18 +1,15 @@
 -- The statements on versions.
-use Rattle.std.proofs.Common.{◌≡◌, ℕ, pos, ◌+◌, codes, List, [], ◌∷◌, ◌++◌, length, false, refl, sym, ap, ◌∙◌, slice_get, ◌<◌, ◌^◌, arith, Some, None, Option, Ok, unwrap_or}
+use Rattle.std.proofs.Common.{◌≡◌, ℕ, pos, ◌+◌, IsTrue, codes, List, [], ◌∷◌, ◌++◌, length, true, false, refl, sym, ap, subst, ◌∙◌, slice_get, ◌<◌, ◌^◌, arith, Some, None, Option, Ok, unwrap_or}
 use Rattle.std.specs.Prelude.{option_map, is_some}
 use Rattle.std.specs.Ordering.{eq_by_cmp, int_cmp}
 use Rattle.sqlite.specs.Tree.{IsAscending}
 use Rattle.sqlite.specs.Edit.{with_rowid}
 use Rattle.sqlite.specs.Rowids.TheVariants.{Chosen}
-use Rattle.sqlite.specs.Cast.{cast_all}
+use Rattle.sqlite.specs.Cast.{cast_all, cast_row}
 use Rattle.sqlite.specs.declared.types.Value.{Value}
 use Rattle.sqlite.specs.declared.types.Value.TheVariants.{Null, Int, Text}
 use Rattle.sqlite.specs.Order.{Row, column}
 use Rattle.sqlite.specs.Term.{col, lit}
-use Rattle.sqlite.specs.Source.TheVariants.{Values}
-use Rattle.sqlite.specs.Command.{Command}
-use Rattle.sqlite.specs.Command.TheVariants.{Insert}
 use Rattle.sqlite.specs.Schema.{Schema}
 use Rattle.sqlite.specs.Effect.{Database}
 use Rattle.sqlite.specs.State.{State, Shown, Executes}
@@ -23,7 +20,7 @@ use Rattle.table_access.specs.Columns.{text, text_cmp, pair_cmp, whole_at, by_bo
 use Rattle.table_access.specs.Statements.{from_table, up_to, newest, by_two, shows}
 use Rattle.table_access.specs.Sound.{IsNumbered}
 use Rattle.table_access.proofs.Values.{cast_null, cast_int}
-use Rattle.table_access.proofs.Steps.{Means, answered, inserts}
+use Rattle.table_access.proofs.Steps.{answered}
 use Rattle.table_access.proofs.Maps.{looks_up_at}
 use Rattle.table_access.proofs.Newest.{newest_number}
 use Rattle.table_access.proofs.Keys.{apart_by, pair_keys, by_pair}
@@ -34,7 +31,6 @@ use Rattle.broker_core.specs.State.{State as Broker}
 use Rattle.broker_core.specs.Request.{is_known}
 use Rattle.std.specs.Option.{option_map_or}
 use Rattle.registry_tables.specs.Registry.{AddsVersion}
-use Rattle.broker_tables.specs.Schema.{broker_schema}
 use Rattle.broker_tables.specs.Rows.{stands_at}
 use Rattle.broker_tables.specs.Numbers.{number_of}
 use Rattle.broker_tables.specs.Holds.{Holds, IsBroker}
@@ -51,6 +47,12 @@ use Rattle.broker_tables.proofs.References.{row_number}
 use Rattle.broker_tables.proofs.NumberLemmas.{version_row, known_numbered, newly_numbered, none_numbered}
 use Rattle.broker_tables.proofs.Orders.{pairs_total, exact_pair}
 use Rattle.broker_tables.proofs.Placed.{versions, versions_there}
+use Rattle.broker_tables.proofs.Standing.{stands_found}
+use Rattle.broker_core.specs.Limit.{has_room}
+use Rattle.std.specs.Cmp.Lexicographic.{nat_list_cmp_total}
+use Rattle.std.proofs.lemmas.Bool.{ltb-true, lt-ltb}
+use Rattle.sqlite_rules.specs.Edit.{is_taken}
+use Rattle.broker_tables.proofs.Inserted.{EndsOnly, Puts, inserted, insert_ends, new_text, free_two, pacticipant_there, next_counted}
 
 module _ (db : Database) (broker : IsBroker db) where
   pub owners : (r : Row) → Has (db.trees 6) r → column r 2 ≡ Text (text 2 r)
@@ -72,7 +74,7 @@ module _ (db : Database) (broker : IsBroker db) where
 pub low : (db : Database) (s : Broker) → Holds db s → IsReadable s → (r : Row) → Has (db.trees 6) r → (n : ℕ) × (whole_at 0 r ≡ pos n) × (n < 2 ^ 32)
 low db s held readable r has =
     let n = row_number (λ x. version (text 2 x) (text 3 x)) (db.trees 6) s.versions 1 held.versions r has in
-    let few : length s.versions < 2 ^ 32 = readable.few_versions in
+    let few : length s.versions < 2 ^ 32 = omega (arith, readable.few_versions) in
     (n.0, n.1, omega (arith, n.2, few))
 
 -- ---- the number of a version
@@ -139,24 +141,38 @@ highest_reads db s held readable = of_first highest db _ (λ r has kept. number_
 abbrev pub put_sql : List ℕ
 put_sql = codes "INSERT INTO versions (number, pacticipant, version) VALUES (?1, ?2, ?3)"
 
-abbrev put_command : Command
-put_command = Insert 3 (Values (col 0 0 ∷ lit Null ∷ col 0 1 ∷ col 0 2 ∷ []) 4)
-
-put_text : Means broker_schema put_sql put_command
+put_puts : (number : ℕ) (p name : List ℕ) → Puts 3 put_sql (Int (pos number) ∷ Text p ∷ Text name ∷ []) (Int (pos number) ∷ Null ∷ Text p ∷ Text name ∷ [])
 unfolding understood everything
-put_text = record { is = refl; plain = (refl, refl); unlisted = refl }
+put_puts number p name = record { terms = col 0 0 ∷ lit Null ∷ col 0 1 ∷ col 0 2 ∷ []; width = 4; means = record { is = refl; plain = (refl, refl); unlisted = refl }; whole = refl; kinds = refl; one = refl }
 
-pub version_put : (number : ℕ) (p name : List ℕ) (old new : State) (count : ℕ) (s : Broker) → Holds old.now s → is_known s (version p name) ≡ false → number ≡ length s.versions + 1
-    → Executes put_sql (Int (pos number) ∷ Text p ∷ Text name ∷ []) old new (Ok count) → Holds new.now (record s { versions = s.versions ++ version p name ∷ [] })
-version_put number p name old new count s held free is h =
-    let made = Int (pos number) ∷ Null ∷ Text p ∷ Text name ∷ [] in
-    let as_stored = ap (λ v. with_rowid Chosen (old.now.trees 6) (v ∷ cast_all versions.columns (Null ∷ Text p ∷ Text name ∷ []))) (cast_int (pos number)) ∙ ap (λ v. Int (pos number) ∷ v ∷ Text p ∷ Text name ∷ []) cast_null in
-    let it = inserts (codes "versions") 6 versions.columns (Some 0) (0 ∷ []) versions.uniques versions.orders [] versions.references put_sql (Int (pos number) ∷ Text p ∷ Text name ∷ []) old new 3 (versions_there old.now held.broker)
-    _ _ made made refl as_stored (meant old.now held.broker put_sql put_text) count h in
-    let frame : Frame (codes "versions" ∷ []) old.now new.now = frame_of (codes "versions" ∷ []) 6 refl old new held.broker it.0 in
-    let now_broker : IsBroker new.now = record { schema = frame.schema ∙ held.broker.schema; kept = frame.kept held.broker.kept } in
-    versions_grow old.now new.now s (version p name) held free frame
-    (next_row (λ r. version (text 2 r) (text 3 r)) s.versions (old.now.trees 6) (new.now.trees 6) made held.versions (numbered_rows new.now now_broker) (ap pos is) it.1)
+module _ (number : ℕ) (p name : List ℕ) (old new : State) (s : Broker) (held : Holds old.now s) (unknown : is_known s (version p name) ≡ false) (is : number ≡ length s.versions + 1) where
+  abbrev made : Row
+  made = Int (pos number) ∷ Null ∷ Text p ∷ Text name ∷ []
+
+  stored : with_rowid Chosen (old.now.trees 6) (cast_row versions made) ≡ made
+  stored = ap (λ v. with_rowid Chosen (old.now.trees 6) (v ∷ cast_all versions.columns (Null ∷ Text p ∷ Text name ∷ []))) (cast_int (pos number)) ∙ ap (λ v. Int (pos number) ∷ v ∷ Text p ∷ Text name ∷ []) cast_null
+
+  pub version_put : (count : ℕ) → Executes put_sql (Int (pos number) ∷ Text p ∷ Text name ∷ []) old new (Ok count) → Holds new.now (record s { versions = s.versions ++ version p name ∷ [] })
+  version_put count h =
+      let it = inserted put_sql (Int (pos number) ∷ Text p ∷ Text name ∷ []) old new held.broker versions 3 (versions_there old.now held.broker) _ made (put_puts number p name) stored count h in
+      let frame : Frame (codes "versions" ∷ []) old.now new.now = frame_of (codes "versions" ∷ []) 6 refl old new held.broker it.0 in
+      let now_broker : IsBroker new.now = record { schema = frame.schema ∙ held.broker.schema; kept = frame.kept held.broker.kept } in
+      versions_grow old.now new.now s (version p name) held unknown frame
+      (next_row (λ r. version (text 2 r) (text 3 r)) s.versions (old.now.trees 6) (new.now.trees 6) made held.versions (numbered_rows new.now now_broker) (ap pos is) it.1)
+
+  -- it fails only as the store fails
+  pub version_ends : IsTrue (is_some (s.pacticipants p)) → has_room s.versions ≡ true → EndsOnly put_sql (Int (pos number) ∷ Text p ∷ Text name ∷ []) old new
+  version_ends there room =
+      let few : length s.versions < 1000000000 = ltb-true (length s.versions) 1000000000 room in
+      let free = sym (stands_found pair_cmp (λ r. (text 2 r, text 3 r)) (whole_at 0) (old.now.trees 6) (p, name)) ∙ ap is_some (version_row (old.now.trees 6) s.versions p name held.versions ∙ ap (option_map pos) (none_numbered s.versions (version p name) unknown)) in
+      insert_ends put_sql (Int (pos number) ∷ Text p ∷ Text name ∷ []) old new held.broker versions 3 (versions_there old.now held.broker) _ made (put_puts number p name) stored (record {
+        pass = record { typed = refl; present = refl; checked = refl };
+        fits = lt-ltb number (2 ^ 63) (omega (arith, is, few));
+        keyed = refl;
+        fresh = subst (λ n. is_taken (old.now.trees 6) (Int (pos n) ∷ Null ∷ Text p ∷ Text name ∷ []) ≡ false) (sym is) (next_counted (λ x. version (text 2 x) (text 3 x)) (old.now.trees 6) s.versions (Null ∷ Text p ∷ Text name ∷ []) held.versions (numbered_rows old.now held.broker));
+        free = (free_two (old.now.trees 6) made nat_list_cmp_total 2 (text 2) (new_text (old.now.trees 6) made 2 (owners old.now held.broker) refl) pairs_total nat_list_cmp_total 3 (text 3) (new_text (old.now.trees 6) made 3 (names old.now held.broker) refl) free, tt);
+        parents = (pacticipant_there old.now s held made 2 p there refl, tt);
+      })
 
 -- a version that isn't there is on no branch
 pub no_branch : (db : Database) (s : Broker) (v : Version) → Holds db s → is_known s v ≡ false → (branch : List ℕ) → s.branches (v, branch) ≡ false

@@ -1,41 +1,72 @@
--- What SQLite shows of an environment's marks, in any database, however its tables are declared.
-use Rattle.std.specs.Prelude.{◌≡◌, ◌⊎◌, ℕ, pos, Bool, List, [], ◌∷◌, codes, Option, Some, option_map, slice_get}
+-- What is told of an environment's mark, whether it is gated, in any database with the broker's tables and any CHECKs:
+-- a row may be there whose mark is neither 0 nor 1.
+use Rattle.std.specs.Prelude.{◌≡◌, ◌⊎◌, ◌<◌, ℕ, pos, Bool, codes, Option, Some, None, MatchOption, Result, MatchResult}
+use Rattle.std.specs.List.{AllZip}
 use Rattle.sqlite.specs.declared.types.Value.TheVariants as value
 use Rattle.sqlite.specs.Order.{Row, column}
-use Rattle.sqlite.specs.State.{State, Shown}
-use Rattle.sqlite.specs.Given.{IsPlain}
-use Rattle.sqlite.specs.Listing.{understood}
+use Rattle.sqlite.specs.Table.{Table}
+use Rattle.sqlite.specs.Schema.{Schema}
+use Rattle.sqlite.specs.Effect.{Database}
+use Rattle.sqlite.specs.State.{State, HasCleanDisk}
+use Rattle.sqlite_rules.specs.Lists.{Has}
+use Rattle.sqlite_schema.specs.declared.schema.Column.{Column}
 use Rattle.table_access.specs.declared.StoreFault.{StoreFault}
 use Rattle.table_access.specs.declared.StoreFault.TheVariants.{Store}
-use Rattle.table_access.specs.Reading.{FailsToTake}
+use Rattle.table_access.specs.Calls.{HasFailed}
 use Rattle.broker_core.specs.Text.{Text}
-use Rattle.broker_tables.specs.Rows.{mark_of, IsTruthAt}
+use Rattle.broker_tables.specs.Schema.{broker_schema}
+use Rattle.broker_tables.specs.Rows.{rows_of, mark_of}
+use Rattle.registry_tables.specs.Format.{IsLike}
 
--- the question for the mark that says whether the environment is gated
-abbrev pub gate_question : List ℕ
-gate_question = codes "SELECT gated FROM environments WHERE name = ?1"
+-- ---- the tables
 
--- the environment's row has this mark, as it is there: 1 is gated, 0 isn't, and there is no third; none if there is no
--- such row
-abbrev pub IsMarkShown : Text → State → State → Option Bool → Type 0
-IsMarkShown environment old new gated =
-    (rows : List Row) × Shown gate_question (value.Text environment ∷ []) old new rows
-    × (option_map (λ g. value.Int (pos (mark_of g))) gated ≡ option_map (λ row. column row 0) (slice_get rows 0))
+-- a column has the name, the kind and the order of this one: with STRICT, NOT NULL or a default, or without
+abbrev pub IsColumnLike : Column → Column → Type 0
+IsColumnLike wanted c = IsLike wanted c × (c.collation ≡ wanted.collation)
 
--- the question, asked alone, is answered so, wherever SQLite takes it for a query
-abbrev pub IsMarkKnown : Text → State → Option Bool → Type 0
-IsMarkKnown environment s gated = IsPlain (understood s.now.schema gate_question) → IsMarkShown environment s s gated
+-- a table has the name, the place, the key and the columns of this one
+abbrev pub HasColumns : Table → Table → Type 0
+HasColumns wanted t = (t.name ≡ wanted.name) × (t.tree ≡ wanted.tree) × (t.key ≡ wanted.key)
+    × AllZip IsColumnLike wanted.columns t.columns
 
--- Store, since the mark is neither 0 nor 1
-abbrev pub TellsNoMark : Row → StoreFault → Type 0
-TellsNoMark row fault = (fault ≡ Store) × (¬ IsTruthAt 0 row)
+-- the broker's tables are there, with what CHECKs, keys and references they may have
+abbrev pub HasBrokerTables : Schema → Type 0
+HasBrokerTables schema = AllZip HasColumns broker_schema.tables schema.tables
 
--- the query was refused, and that is reported; or the mark is neither 0 nor 1
+-- and no query has a limit of steps
+abbrev pub CanBeAsked : State → Type 0
+CanBeAsked c = (c.step_limit ≡ None) × HasBrokerTables c.now.schema
+
+-- ---- the mark
+
+-- a row of the table environments with this name
+abbrev pub IsEnvironmentRow : Text → Database → Row → Type 0
+IsEnvironmentRow environment db row =
+    Has (rows_of db (codes "environments")) row × (column row 1 ≡ value.Text environment)
+
+-- the mark in such a row, as it is there: 1 is gated, 0 isn't; none if there is no such row
+abbrev pub IsMarkIn : Text → Database → Option Bool → Type 0
+IsMarkIn environment db gated = MatchOption gated ((row : Row) → ¬ IsEnvironmentRow environment db row)
+    (λ g. (row : Row) × IsEnvironmentRow environment db row × (column row 2 ≡ value.Int (pos (mark_of g))))
+
+-- the mark in such a row is neither 0 nor 1
+abbrev pub HasNoMark : Text → Database → Type 0
+HasNoMark environment db = (row : Row) × IsEnvironmentRow environment db row
+    × ((n : ℕ) → column row 2 ≡ value.Int (pos n) → 1 < n)
+
+-- the store failed, which ended the transaction; or Store, since the mark is neither
 abbrev pub FailsAsMark : Text → State → State → StoreFault → Type 0
 FailsAsMark environment old new fault =
-    FailsToTake TellsNoMark gate_question (value.Text environment ∷ []) old new fault
+    HasFailed old new fault ⊎ ((fault ≡ Store) × HasNoMark environment old.now)
 
--- The first mark couldn't be read; or it is known, and only the second wasn't read.
-abbrev pub FailsAsMarks : Text → State → State → StoreFault → Type 0
-FailsAsMarks environment old new fault =
-    FailsAsMark environment old new fault ⊎ ((gated : Bool) × IsMarkKnown environment old (Some gated))
+-- the mark that is there, or why none is told
+abbrev pub TellsMark : Text → State → State → Result (Option Bool) StoreFault → Type 0
+TellsMark environment old new r = HasCleanDisk new → CanBeAsked old
+    → MatchResult r (IsMarkIn environment old.now) (FailsAsMark environment old new)
+
+-- The answer fits the mark that is there. If there is none, that mark isn't told; or it is there, and only what else
+-- was asked isn't told.
+abbrev pub FitsMark : {A : Type 0} → Text → State → State → Result A StoreFault → (A → Option Bool → Type 0) → Type 0
+FitsMark environment old new r Fits = HasCleanDisk new → CanBeAsked old
+    → MatchResult r (λ a. (gated : Option Bool) × IsMarkIn environment old.now gated × Fits a gated)
+    (λ fault. FailsAsMark environment old new fault ⊎ ((g : Bool) × IsMarkIn environment old.now (Some g)))

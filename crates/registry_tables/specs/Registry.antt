@@ -12,7 +12,7 @@ use Rattle.table_access.specs.Sound.{IsKept}
 use Rattle.broker_tables.specs.Numbers.{number_of}
 use Rattle.broker_tables.specs.Schema.{schema_of, registry_part}
 use Rattle.broker_tables.specs.Rows.{rows_of}
-use Rattle.broker_tables.specs.Holds.{IsMeta}
+use Rattle.broker_tables.specs.Holds.{Holds, IsMeta}
 
 -- the name is new, and no team has a token of this digest
 abbrev pub AddsTeam : Text → Text → State → State → Type 0
@@ -49,6 +49,12 @@ AddsEnvironment e marks s t = (s.environments e ≡ None)
 abbrev pub MakesStrict : Text → State → State → Type 0
 MakesStrict e s t = (m : Marks) × (s.environments e ≡ Some m)
     × (t ≡ record s { environments = put_at same_text s.environments e (Some (marks m.gated true)) })
+
+-- For private clauses: a new environment is put in, and no environment becomes strict by it.
+abbrev pub KeepsStrict : Text → Database → Database → Type 0
+KeepsStrict e old new =
+    (s : State) → Holds old s → s.environments e ≡ None
+    → rows_of new (codes "strict_environments") ≡ rows_of old (codes "strict_environments")
 
 -- the version is new, its pacticipant is there, and there is room for one more
 abbrev pub AllowsVersion : Version → State → Type 0

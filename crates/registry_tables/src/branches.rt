@@ -1,5 +1,5 @@
 //! The branches that versions are on.
-ghost use Rattle.std.specs.Prelude.{◌≡◌, Some, false, pos};
+ghost use Rattle.std.specs.Prelude.{◌≡◌, [], ◌∷◌, codes, Some, false, pos};
 ghost use Rattle.std.specs.Ordering.{nat_cmp, flip_args};
 ghost use Rattle.sqlite.specs.Order.{column};
 ghost use Rattle.sqlite.specs.declared.types.Value.TheVariants.{Int};
@@ -9,6 +9,7 @@ ghost use Rattle.broker_core.specs.declared.command.Version.{Version as VersionM
 ghost use Rattle.broker_tables.specs.Numbers.{number_of as number_at};
 ghost use Rattle.broker_tables.specs.Holds.{Changes};
 ghost use Rattle.broker_tables.specs.Calm.{CalmQueries, CalmQueriesInPlace, IfNoVersion};
+ghost use Rattle.broker_tables.specs.Refusals.{IsCalmChange};
 ghost use Rattle.registry_tables.specs.Registry.{AddsBranch, IsBranchNumber, IsNewestBelow};
 
 use sqlite::{Alter, Connection, Row, params};
@@ -45,7 +46,9 @@ pub fn add_branch<S: Alter>(
     number: u32,
     branch: &str,
 ) -> Result<(), StoreFault>
-    ensures { Changes S.Store conn.old conn.new result (AddsBranch number branch.now) }
+    ensures changes { Changes S.Store conn.old conn.new result (AddsBranch number branch.now) }
+    ensures calm { IsCalmChange S.Store conn.old conn.new result (codes "branches" ∷ [])
+        (AddsBranch number branch.now) }
 {
     change(
         conn,

@@ -1,12 +1,14 @@
 //! Environments and their two marks: whether the gate judges what comes in, and whether it trusts only checked results.
-ghost use Rattle.std.specs.Prelude.{◌≡◌, ◌==◌, false, Option, Bool, Some, IfOk, IfErr, option_map, is_some};
+ghost use Rattle.std.specs.Prelude.{◌≡◌, ◌==◌, [], ◌∷◌, codes, false, Option, Bool, Some, IfOk, option_map, is_some};
 ghost use Rattle.sqlite.specs.Held.{state};
 ghost use Rattle.sqlite.specs.State.{HasCleanDisk};
 ghost use Rattle.broker_core.specs.declared.command.Marks.{Marks as MarksModel};
 ghost use Rattle.broker_tables.specs.Holds.{Changes};
+ghost use Rattle.broker_tables.specs.Rows.{mark_of};
 ghost use Rattle.broker_tables.specs.Calm.{CalmQueriesInPlace};
-ghost use Rattle.registry_tables.specs.Marks.{IsMarkShown, IsMarkKnown, FailsAsMark, FailsAsMarks};
-ghost use Rattle.registry_tables.specs.Registry.{AddsEnvironment, marks, MakesStrict};
+ghost use Rattle.registry_tables.specs.Marks.{TellsMark, FitsMark};
+ghost use Rattle.broker_tables.specs.Refusals.{IsCalmIf, IsCalmChange};
+ghost use Rattle.registry_tables.specs.Registry.{AddsEnvironment, KeepsStrict, marks, MakesStrict};
 
 use broker_core::command::Marks;
 use broker_tables::truth_of;
@@ -14,21 +16,18 @@ use sqlite::{Alter, Connection, params};
 use table_access::{StoreFault, change, has_row, number_of};
 
 /// Whether the environment is gated, or `None` if there is no such environment. A mark that is neither 0 nor 1 is never
-/// taken for one of both, in any database.
+/// taken for one of both, whatever CHECKs the tables have.
 ///
 /// # Errors
-/// `StoreFault::Memory` if the database is out of memory; `StoreFault::Store` if it refused the query or holds no truth
-/// value there, and only then.
+/// `StoreFault::Memory` if the database is out of memory; `StoreFault::Store` if it failed or holds no truth value
+/// there, and only then.
 pub fn gated<S: Alter>(
     conn: &mut Connection<S>,
     environment: &str,
 ) -> Result<Option<bool>, StoreFault>
     ensures answers { CalmQueriesInPlace S.Store conn.old conn.new result
         (λ found s. found ≡ option_map (λ m. m.gated) (s.environments environment.now)) }
-    ensures shown { HasCleanDisk (state S.Store conn.new) →
-        IfOk result (IsMarkShown environment.now (state S.Store conn.old) (state S.Store conn.new)) }
-    ensures cause { HasCleanDisk (state S.Store conn.new) →
-        IfErr result (FailsAsMark environment.now (state S.Store conn.old) (state S.Store conn.new)) }
+    ensures mark { TellsMark environment.now (state S.Store conn.old) (state S.Store conn.new) result }
 {
     let found = done!(number_of(
         conn,
@@ -62,10 +61,8 @@ pub fn marks_of<S: Alter>(
 ) -> Result<Option<Marks>, StoreFault>
     ensures answers { CalmQueriesInPlace S.Store conn.old conn.new result
         (λ found s. found ≡ s.environments environment.now) }
-    ensures known { HasCleanDisk (state S.Store conn.new) → IfOk result
-        (λ found. IsMarkKnown environment.now (state S.Store conn.old) (option_map (λ m. m.gated) found)) }
-    ensures cause { HasCleanDisk (state S.Store conn.new) →
-        IfErr result (FailsAsMarks environment.now (state S.Store conn.old) (state S.Store conn.new)) }
+    ensures mark { FitsMark environment.now (state S.Store conn.old) (state S.Store conn.new) result
+        (λ found gated. gated ≡ option_map (λ m. m.gated) found) }
 {
     match done!(gated(conn, environment)) {
         Some(gated) => {
@@ -88,10 +85,8 @@ pub fn strict_of<S: Alter>(
 ) -> Result<Option<bool>, StoreFault>
     ensures answers { CalmQueriesInPlace S.Store conn.old conn.new result
         (λ found s. found ≡ option_map (λ m. m.strict) (s.environments environment.now)) }
-    ensures known { HasCleanDisk (state S.Store conn.new) → IfOk result (λ found. (gated : Option Bool)
-        × IsMarkKnown environment.now (state S.Store conn.old) gated × (is_some gated ≡ is_some found)) }
-    ensures cause { HasCleanDisk (state S.Store conn.new) →
-        IfErr result (FailsAsMarks environment.now (state S.Store conn.old) (state S.Store conn.new)) }
+    ensures mark { FitsMark environment.now (state S.Store conn.old) (state S.Store conn.new) result
+        (λ found gated. is_some gated ≡ is_some found) }
 {
     match done!(marks_of(conn, environment)) {
         Some(marks) => Ok(Some(marks.strict)),
@@ -101,7 +96,7 @@ pub fn strict_of<S: Alter>(
 
 /// The number of a truth value.
 fn number_for(truth: bool) -> u32
-    ensures { (result == 1) ≡ truth }
+    ensures { result ≡ mark_of truth }
 {
     if truth { 1 } else { 0 }
 }
@@ -110,10 +105,15 @@ fn number_for(truth: bool) -> u32
 fn put_environment<S: Alter>(
     conn: &mut Connection<S>,
     environment: &str,
-    mark: u32,
+    gated: bool,
 ) -> Result<(), StoreFault>
-    ensures { Changes S.Store conn.old conn.new result (AddsEnvironment environment.now (marks (mark == 1) false)) }
+    ensures changes { Changes S.Store conn.old conn.new result (AddsEnvironment environment.now (marks gated false)) }
+    ensures strict { HasCleanDisk (state S.Store conn.new) → IfOk result
+        (λ _. KeepsStrict environment.now (state S.Store conn.old).now (state S.Store conn.new).now) }
+    ensures calm { IsCalmChange S.Store conn.old conn.new result (codes "environments" ∷ [])
+        (AddsEnvironment environment.now (marks gated false)) }
 {
+    let mark = number_for(gated);
     change(
         conn,
         "INSERT INTO environments (name, gated) VALUES (?1, ?2)",
@@ -123,7 +123,9 @@ fn put_environment<S: Alter>(
 
 /// Makes an environment strict.
 fn put_strict<S: Alter>(conn: &mut Connection<S>, environment: &str) -> Result<(), StoreFault>
-    ensures { Changes S.Store conn.old conn.new result (MakesStrict environment.now) }
+    ensures changes { Changes S.Store conn.old conn.new result (MakesStrict environment.now) }
+    ensures calm { IsCalmIf S.Store conn.old conn.new result (codes "strict_environments" ∷ [])
+        (λ s. (m : MarksModel) × (s.environments environment.now ≡ Some m) × (m.strict ≡ false)) }
 {
     change(
         conn,
@@ -142,9 +144,11 @@ pub fn add_environment<S: Alter>(
     gated: bool,
     strict: bool,
 ) -> Result<(), StoreFault>
-    ensures { Changes S.Store conn.old conn.new result (AddsEnvironment environment.now (marks gated strict)) }
+    ensures changes { Changes S.Store conn.old conn.new result (AddsEnvironment environment.now (marks gated strict)) }
+    ensures calm { IsCalmChange S.Store conn.old conn.new result (codes "environments" ∷ codes "strict_environments" ∷ [])
+        (AddsEnvironment environment.now (marks gated strict)) }
 {
-    done!(put_environment(conn, environment, number_for(gated)));
+    done!(put_environment(conn, environment, gated));
     if strict {
         put_strict(conn, environment)
     } else {

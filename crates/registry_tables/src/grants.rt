@@ -1,8 +1,8 @@
 //! Grants: the teams that may change what is in an environment.
-ghost use Rattle.std.specs.Prelude.{◌≡◌};
+ghost use Rattle.std.specs.Prelude.{◌≡◌, codes, [], ◌∷◌};
 ghost use Rattle.broker_tables.specs.Holds.{Changes};
 ghost use Rattle.broker_tables.specs.Calm.{CalmQueriesInPlace, IsCalmInPlace};
-ghost use Rattle.registry_tables.specs.Refusals.{IsCalmChange};
+ghost use Rattle.broker_tables.specs.Refusals.{IsCalmChange};
 ghost use Rattle.registry_tables.specs.Registry.{AddsGrant, RemovesGrant};
 
 use sqlite::{Alter, Connection, params};
@@ -37,7 +37,8 @@ pub fn add_grant<S: Alter>(
     environment: &str,
 ) -> Result<(), StoreFault>
     ensures changes { Changes S.Store conn.old conn.new result (AddsGrant team.now environment.now) }
-    ensures calm { IsCalmChange S.Store conn.old conn.new result (AddsGrant team.now environment.now) }
+    ensures calm { IsCalmChange S.Store conn.old conn.new result (codes "grants" ∷ [])
+        (AddsGrant team.now environment.now) }
 {
     change(
         conn,

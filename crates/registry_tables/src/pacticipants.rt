@@ -1,8 +1,9 @@
 //! Pacticipants, and the teams that own them.
-ghost use Rattle.std.specs.Prelude.{◌≡◌, None, option_map, string_bytes};
+ghost use Rattle.std.specs.Prelude.{◌≡◌, [], ◌∷◌, codes, None, option_map, string_bytes};
 ghost use Rattle.broker_tables.specs.Holds.{Changes};
 ghost use Rattle.broker_tables.specs.Calm.{CalmQueries};
 ghost use Rattle.registry_tables.specs.Missing.{NeedsNoRoom};
+ghost use Rattle.broker_tables.specs.Refusals.{IsCalmChange};
 ghost use Rattle.registry_tables.specs.Registry.{AddsPacticipant};
 
 use sqlite::{Alter, Connection, params};
@@ -37,7 +38,9 @@ pub fn add_pacticipant<S: Alter>(
     pacticipant: &str,
     team: &str,
 ) -> Result<(), StoreFault>
-    ensures { Changes S.Store conn.old conn.new result (AddsPacticipant pacticipant.now team.now) }
+    ensures changes { Changes S.Store conn.old conn.new result (AddsPacticipant pacticipant.now team.now) }
+    ensures calm { IsCalmChange S.Store conn.old conn.new result (codes "pacticipants" ∷ [])
+        (AddsPacticipant pacticipant.now team.now) }
 {
     change(
         conn,

@@ -1,8 +1,9 @@
 //! Teams, and the digests of their tokens.
-ghost use Rattle.std.specs.Prelude.{◌≡◌, ℕ, List, Some, None, MatchOption, option_map, string_bytes, is_some};
+ghost use Rattle.std.specs.Prelude.{◌≡◌, ℕ, List, [], ◌∷◌, codes, Some, None, MatchOption, option_map, string_bytes, is_some};
 ghost use Rattle.broker_tables.specs.Holds.{Changes};
 ghost use Rattle.broker_tables.specs.Calm.{CalmQueries, CalmQueriesInPlace};
 ghost use Rattle.registry_tables.specs.Missing.{NeedsNoRoom};
+ghost use Rattle.broker_tables.specs.Refusals.{IsCalmChange};
 ghost use Rattle.registry_tables.specs.Registry.{AddsTeam};
 
 use sqlite::{Alter, Connection, params};
@@ -68,7 +69,9 @@ pub fn add_team<S: Alter>(
     team: &str,
     digest: &str,
 ) -> Result<(), StoreFault>
-    ensures { Changes S.Store conn.old conn.new result (AddsTeam team.now digest.now) }
+    ensures changes { Changes S.Store conn.old conn.new result (AddsTeam team.now digest.now) }
+    ensures calm { IsCalmChange S.Store conn.old conn.new result (codes "teams" ∷ [])
+        (AddsTeam team.now digest.now) }
 {
     change(
         conn,

@@ -11,9 +11,9 @@ returns-clause-call g c =
     let old = state g.S.Store c.args.conn.now in
     let new = state g.S.Store c.select.new.conn in
     statement_result old new c.in-Ok.value c.number_among.result _ _
-    (IfOk-weaker c.number_among.result _ _ (λ found read shown by is texts held.
+    (IfOk-weaker c.number_among.result _ _ (λ found read shown.
     let asked = sharing c.args.digest.now in
-    (number_found by c.args.body.now c.args.digest.now is _ _ texts found held (is_answer asked old new held.broker _ shown) read, still asked old new held.broker _ shown))
+    (λ broker. still asked old new broker _ shown, λ by is texts held. (number_found by c.args.body.now c.args.digest.now is _ _ texts found held (is_answer asked old new held.broker _ shown) read, still asked old new held.broker _ shown)))
     (rw c.deref.ensures.value at c.number_among.ensures.ok)) (IfErr-weaker c.number_among.result _ _ (λ fault why. why.0) c.number_among.ensures.cause) c.in-Ok.ensures.leaves
 
 -- no row that is shown is unreadable

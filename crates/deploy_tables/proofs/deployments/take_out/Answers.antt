@@ -1,8 +1,10 @@
-use Rattle.std.proofs.Common.{refl}
+use Rattle.std.proofs.Common.{Bool, Err, refl}
 use Rattle.sqlite.specs.Held.{state}
 use Rattle.sqlite_tied.specs.Compute.{everything}
 use Rattle.table_access.proofs.CallLemmas.{statement_ok, statement_err}
+use Rattle.broker_tables.proofs.QueryLemmas.{calm_by}
 use Rattle.deploy_tables.proofs.DeployedState.{taken_out, none_taken}
+use Rattle.deploy_tables.proofs.Removals.{taking_out_ends}
 use Rattle.deploy_tables.proofs.deployments.take_out.Goals as goal
 
 pub change_counted-requires : goal.change_counted-requires
@@ -28,3 +30,10 @@ returns-in-Err-clause-taken g c = statement_err (state g.S.Store c.args.conn.now
 
 pub returns-in-Err-clause-unknown : goal.returns-in-Err-clause-unknown
 returns-in-Err-clause-unknown g c = statement_err (state g.S.Store c.args.conn.now) (state g.S.Store c.change_counted.new.conn) c.in-Err.fault _ _ c.in-Err.ensures.leaves
+
+pub returns-in-Err-clause-calm : goal.returns-in-Err-clause-calm
+returns-in-Err-clause-calm g c =
+    let old = state g.S.Store c.args.conn.now in
+    let new = state g.S.Store c.change_counted.new.conn in
+    calm_by {A = Bool} old new (Err c.in-Err.fault) _ _ (taking_out_ends c.args.environment.now c.args.pacticipant.now c.args.instance.now c.args.number old new)
+    (rw (c.params-to_sql.ensures, c.params-to_sql-2.ensures, c.params-to_sql-3.ensures, c.params-to_sql-4.ensures) at c.in-Err.ensures.cause)

@@ -7,7 +7,7 @@ use Rattle.broker_core.specs.Text.{version}
 use Rattle.broker_tables.specs.Numbers.{number_of}
 use Rattle.broker_tables.proofs.QueryLemmas.{in_place, query_ok}
 use Rattle.contract_tables.proofs.QueryLemmas.{query_then}
-use Rattle.deploy_tables.proofs.CalmWhere.{where_then}
+use Rattle.broker_tables.proofs.FailLemmas.{calm_after}
 use Rattle.deploy_tables.proofs.UnknownVersion.{no_rows}
 use Rattle.deploy_tables.proofs.matrix_rows.matrix.Goals as goal
 
@@ -22,8 +22,8 @@ returns-in-Some g c =
     record {
       call = query_then old mid new (Some n) c.matrix_numbered.result _ _ _
           (λ s told rows listed. listed ((λ i. number_of s.versions (version (sym c.as_str.ensures i) (sym c.as_str-2.ensures i))) ∙ sym told.0)) found.call c.matrix_numbered.ensures.answers;
-      calm = λ clean s here. where_then old mid new (Some n) c.matrix_numbered.result _ _ (λ _. ⊤) (λ s. number_of s.versions v ≡ Some n)
-          (λ s may told. (λ i. number_of s.versions (version (sym c.as_str.ensures i) (sym c.as_str-2.ensures i))) ∙ sym told.0) found c.matrix_numbered.ensures.answers c.matrix_numbered.ensures.calm clean s here tt;
+      calm = λ clean s here. calm_after old mid new (Some n) c.matrix_numbered.result _ _ (λ _. ⊤) (λ s. number_of s.versions v ≡ Some n)
+          (λ s held may told. (λ i. number_of s.versions (version (sym c.as_str.ensures i) (sym c.as_str-2.ensures i))) ∙ sym told.0) found.call c.matrix_numbered.ensures.answers c.matrix_numbered.ensures.calm clean s here tt;
     }
 
 pub returns-in-None : goal.returns-in-None

@@ -6,7 +6,7 @@ use Rattle.contract_tables.specs.Listings.{contract_cmp}
 use Rattle.contract_tables.proofs.QueryLemmas.{query_then, calm_then}
 use Rattle.deploy_tables.specs.Matrix.{IsEntry, entry_cmp}
 use Rattle.deploy_tables.specs.Needs.{IsOwnContract}
-use Rattle.deploy_tables.proofs.CalmWhere.{where_then, where_failed}
+use Rattle.broker_tables.proofs.FailLemmas.{calm_after, failed_after}
 use Rattle.deploy_tables.proofs.matrix_rows.matrix_numbered.Goals as goal
 
 pub returns-clause-answers : goal.returns-clause-answers
@@ -37,13 +37,13 @@ returns-clause-calm g c =
     let n = c.args.number in
     let contracts = c.in-Ok.value in
     let entries = c.in-Ok-entries_of.value in
-    where_then old paired new entries c.with_results.result
+    calm_after old paired new entries c.with_results.result
     (λ found s. number_of s.versions v ≡ Some n → Lists contract_cmp (IsOwnContract s v) contracts.items × Lists entry_cmp (IsEntry s v) found.items) _
     (λ s. number_of s.versions v ≡ Some n) _
-    (λ s is both. let it = both is in
+    (λ s held is both. let it = both is in
     (v, (is, subst (Lists contract_cmp (IsOwnContract s v)) (sym c.deref-2.ensures.value) it.0, subst (Lists entry_cmp (IsEntry s v)) (sym c.deref-3.ensures.value) it.1)))
     (calm_then old read paired contracts (Ok entries) _ _ (λ found s. number_of s.versions v ≡ Some n → Lists contract_cmp (IsOwnContract s v) contracts.items × Lists entry_cmp (IsEntry s v) found.items)
-    (λ s one found two is. let own = one v is in (own, two is (subst (Lists contract_cmp (IsOwnContract s v)) (sym c.deref.ensures.value) own))) c.in-Ok.ensures.answers c.in-Ok-entries_of.ensures)
+    (λ s one found two is. let own = one v is in (own, two is (subst (Lists contract_cmp (IsOwnContract s v)) (sym c.deref.ensures.value) own))) c.in-Ok.ensures.answers c.in-Ok-entries_of.ensures).call
     c.with_results.ensures.answers c.with_results.ensures.calm
 
 pub returns-in-Err-clause-calm : goal.returns-in-Err-clause-calm
@@ -54,4 +54,4 @@ returns-in-Err-entries_of-clause-calm g c clean s here may =
     let old = state g.S.Store c.args.conn.now in
     let mid = state g.S.Store c.contracts_of.new.conn in
     let new = state g.S.Store c.entries_of.new.conn in
-    where_failed old mid new c.in-Ok.value c.in-Err-entries_of.fault _ _ c.in-Ok.ensures.answers c.in-Err-entries_of.ensures clean s here
+    failed_after old mid new c.in-Ok.value c.in-Err-entries_of.fault _ _ c.in-Ok.ensures.answers c.in-Err-entries_of.ensures clean s here

@@ -7,7 +7,7 @@ use Rattle.sqlite.specs.State.{HasCleanDisk}
 use Rattle.table_access.specs.Reading.{AreRead}
 use Rattle.contract_tables.proofs.QueryLemmas.{query_then, computed}
 use Rattle.deploy_tables.specs.ToldResults.{TellPasses, TellChecked, ArePassesByNumber, IsMeant, IsRowTold}
-use Rattle.deploy_tables.proofs.CalmWhere.{where_failed}
+use Rattle.broker_tables.proofs.FailLemmas.{failed_after}
 use Rattle.deploy_tables.proofs.ToldLists.{matrix_told, none_untold}
 use Rattle.deploy_tables.proofs.matrix_rows.with_results.Goals as goal
 
@@ -47,4 +47,4 @@ returns-in-Err-checked_told-clause-calm g c clean s here may =
     let old = state g.S.Store c.args.conn.now in
     let mid = state g.S.Store c.passes_told.new.conn in
     let new = state g.S.Store c.checked_told.new.conn in
-    where_failed old mid new c.in-Ok.value c.in-Err-checked_told.fault _ _ c.in-Ok.ensures c.in-Err-checked_told.ensures clean s here
+    failed_after old mid new c.in-Ok.value c.in-Err-checked_told.fault _ _ c.in-Ok.ensures c.in-Err-checked_told.ensures clean s here

@@ -6,7 +6,7 @@ use Rattle.broker_tables.proofs.QueryLemmas.{in_place}
 use Rattle.contract_tables.proofs.QueryLemmas.{calm_computed, calm_known}
 use Rattle.deploy_tables.specs.Partners.{ArePartners}
 use Rattle.deploy_tables.specs.Needs.{IsNeedOfContract}
-use Rattle.deploy_tables.proofs.CalmWhere.{query_with}
+use Rattle.broker_tables.proofs.QueryLemmas.{query_with}
 use Rattle.deploy_tables.proofs.NeedLemmas.{both_ways, partners_versions, when_none, when_some, with_some, with_none}
 use Rattle.deploy_tables.proofs.open_needs.with_all.Goals as goal
 

@@ -1,18 +1,20 @@
-use Rattle.std.proofs.Common.{refl, false}
+use Rattle.std.proofs.Common.{Bool, Err, refl, false}
 use Rattle.sqlite.specs.Held.{state}
 use Rattle.sqlite_tied.specs.Compute.{everything}
 use Rattle.table_access.proofs.CallLemmas.{statement_ok, statement_err}
 use Rattle.broker_core.specs.Text.{put_at, same_pair, same_text, same_version}
 use Rattle.broker_core.specs.State.{State}
+use Rattle.broker_tables.proofs.QueryLemmas.{calm_by}
 use Rattle.deploy_tables.proofs.ReleasedRows.{now_ended, ended_count}
+use Rattle.deploy_tables.proofs.Removals.{support_ends}
 use Rattle.deploy_tables.proofs.releases.end_support.Goals as goal
 
 pub change_counted-requires : goal.change_counted-requires
 unfolding everything
 change_counted-requires g c = refl
 
-pub returns : goal.returns
-returns g c =
+pub returns-clause-ended : goal.returns-clause-ended
+returns-clause-ended g c =
     let old = state g.S.Store c.args.conn.now in
     let new = state g.S.Store c.change_counted.new.conn in
     let e = c.args.environment.now in
@@ -23,5 +25,12 @@ returns g c =
     (t, ((version.0, version.1, refl), λ v is. ended_count e n old new count s v held is h), now_ended e n old new count s version.0 held version.1 h))
     (rw (c.params-to_sql.ensures, c.params-to_sql-2.ensures) at c.in-Ok.ensures.leaves)
 
-pub returns-in-Err : goal.returns-in-Err
-returns-in-Err g c = statement_err (state g.S.Store c.args.conn.now) (state g.S.Store c.change_counted.new.conn) c.in-Err.fault _ _ c.in-Err.ensures.leaves
+pub returns-in-Err-clause-ended : goal.returns-in-Err-clause-ended
+returns-in-Err-clause-ended g c = statement_err (state g.S.Store c.args.conn.now) (state g.S.Store c.change_counted.new.conn) c.in-Err.fault _ _ c.in-Err.ensures.leaves
+
+pub returns-in-Err-clause-calm : goal.returns-in-Err-clause-calm
+returns-in-Err-clause-calm g c =
+    let old = state g.S.Store c.args.conn.now in
+    let new = state g.S.Store c.change_counted.new.conn in
+    calm_by {A = Bool} old new (Err c.in-Err.fault) _ _ (support_ends c.args.environment.now c.args.number old new)
+    (rw (c.params-to_sql.ensures, c.params-to_sql-2.ensures) at c.in-Err.ensures.cause)

@@ -1,36 +1,61 @@
-use Rattle.std.proofs.Common.{◌≡◌, ◌==◌, refl, sym, ap, subst, ◌∙◌, Some, true, false, Ok}
+use Rattle.std.proofs.Common.{◌≡◌, refl, sym, ap, subst, ◌∙◌, Some, true, false, Ok, arith}
+use Rattle.std.proofs.lemmas.Result.{IfErr-weaker}
+use Rattle.sqlite.specs.Edit.{next_rowid}
+use Rattle.sqlite.specs.State.{HasCleanDisk}
+use Rattle.sqlite_sql.specs.Ops.{fits_i64}
 use Rattle.sqlite.specs.Held.{state}
 use Rattle.broker_core.specs.declared.command.Marks.{Marks}
 use Rattle.broker_core.specs.Text.{put_at, same_text}
 use Rattle.broker_core.specs.State.{State}
-use Rattle.table_access.proofs.CallLemmas.{statement_with, statement_seq}
+use Rattle.table_access.proofs.CallLemmas.{statement_with, statement_seq, ended_since}
 use Rattle.broker_tables.specs.Holds.{Holds}
 use Rattle.registry_tables.specs.Registry.{marks}
+use Rattle.broker_tables.specs.Refusals.{HoldsOpen}
 use Rattle.registry_tables.proofs.EnvironmentRows.{put_both, there_now}
 use Rattle.registry_tables.proofs.environments.add_environment.Goals as goal
 
-pub returns-then-strict : goal.returns-then-strict
-returns-then-strict g c =
+pub returns-then-strict-clause-changes : goal.returns-then-strict-clause-changes
+returns-then-strict-clause-changes g c =
     let old = state g.S.Store c.args.conn.now in
     let mid = state g.S.Store c.put_environment.new.conn in
     let new = state g.S.Store c.put_strict.new.conn in
     let e = c.args.environment.now in
-    let first = marks (c.number_for.result == 1) false in
-    let last = marks (c.number_for.result == 1) true in
+    let first = marks c.args.gated false in
+    let last = marks c.args.gated true in
     statement_seq old mid new c.in-Ok.value c.put_strict.result _ _ _ (λ one _ two s held t next.
     let between : State = record s { environments = put_at same_text s.environments e (Some first) } in
-    let same : last ≡ marks c.args.gated c.args.strict = λ i. marks (c.number_for.ensures i) (sym c.if-strict.true i) in
+    let same : last ≡ marks c.args.gated c.args.strict = ap (marks c.args.gated) (sym c.if-strict.true) in
     subst (Holds new.now) (put_both s e first last ∙ ap (λ (m : Marks). record s { environments = put_at same_text s.environments e (Some m) }) same ∙ sym next.1)
     (two between (one s held between (next.0, refl)) _ (first, there_now s.environments e first, refl)))
-    c.in-Ok.ensures c.put_strict.ensures
+    c.in-Ok.ensures.changes c.put_strict.ensures.changes
 
-pub returns-else-strict : goal.returns-else-strict
-returns-else-strict g c =
+pub returns-then-strict-clause-calm : goal.returns-then-strict-clause-calm
+returns-then-strict-clause-calm g c =
+    let old = state g.S.Store c.args.conn.now in
+    let mid = state g.S.Store c.put_environment.new.conn in
+    let new = state g.S.Store c.put_strict.new.conn in
+    let e = c.args.environment.now in
+    let first = marks c.args.gated false in
+    λ clean s here next numbers.
+    let call = c.in-Ok.ensures.changes.call in
+    let mid_clean : HasCleanDisk mid = omega (arith, c.put_strict.ensures.changes.call.survives.clean, clean) in
+    let between : State = record s { environments = put_at same_text s.environments e (Some first) } in
+    let now : HoldsOpen mid between = record {
+      inside = (call.goes_on mid_clean here.inside).0;
+      unlimited = call.survives.limit ∙ here.unlimited;
+      held = call.ok mid_clean s here.held between (next.1.0, refl);
+    } in
+    let room = ap (λ rows. fits_i64 (next_rowid rows)) (c.in-Ok.ensures.strict mid_clean s here.held next.1.0) ∙ numbers.1.0 in
+    IfErr-weaker c.put_strict.result _ _ (λ e why. ended_since old mid new e (call.goes_on mid_clean here.inside) call.survives.counts why)
+    (c.put_strict.ensures.calm clean between now (first, there_now s.environments e first, refl) (room, tt))
+
+pub returns-else-strict-clause-changes : goal.returns-else-strict-clause-changes
+returns-else-strict-clause-changes g c =
     let old = state g.S.Store c.args.conn.now in
     let new = state g.S.Store c.put_environment.new.conn in
     let e = c.args.environment.now in
-    let first = marks (c.number_for.result == 1) false in
+    let first = marks c.args.gated false in
     statement_with old new (Ok c.in-Ok.value) _ _ (λ _ one s held t next.
-    let same : first ≡ marks c.args.gated c.args.strict = λ i. marks (c.number_for.ensures i) (sym c.if-strict.false i) in
+    let same : first ≡ marks c.args.gated c.args.strict = ap (marks c.args.gated) (sym c.if-strict.false) in
     subst (Holds new.now) (ap (λ (m : Marks). record s { environments = put_at same_text s.environments e (Some m) }) same ∙ sym next.1) (one s held _ (next.0, refl)))
-    c.in-Ok.ensures
+    c.in-Ok.ensures.changes

@@ -3,11 +3,12 @@ use Rattle.std.specs.Prelude.{option_map}
 use Rattle.std.proofs.lemmas.Result.{IfOk-weaker, IfErr-weaker}
 use Rattle.sqlite.specs.Held.{state}
 use Rattle.sqlite.specs.declared.types.Value.TheVariants.{Int}
-use Rattle.table_access.proofs.Answered.{number_ends}
+use Rattle.table_access.proofs.Answered.{number_ends, refusal_ends}
 use Rattle.broker_tables.proofs.QueryLemmas.{looked_result, looked_err}
 use Rattle.broker_tables.proofs.Frames.{held_still}
 use Rattle.broker_tables.proofs.TruthLemmas.{mark_in_column}
 use Rattle.registry_tables.proofs.EnvironmentRows.{gated_means, gated_runs, gated_found, gated_stands, gated_true, no_mark, mark_is_number}
+use Rattle.registry_tables.proofs.MarkText.{either_result, mark_means, mark_runs, mark_found, mark_lost}
 use Rattle.registry_tables.proofs.environments.gated.Goals as goal
 
 pub returns-clause-answers : goal.returns-clause-answers
@@ -29,20 +30,19 @@ returns-in-Err-clause-answers g c =
     (λ s here. number_ends _ _ old new _ _ (gated_means old.now here.held.broker) (gated_runs old.now here.held.broker c.args.environment.now) here.unlimited (λ rows row h head. gated_stands c.args.environment.now old new rows row s here.held h head))
     said.leaves said.cause
 
-pub returns-clause-shown : goal.returns-clause-shown
-returns-clause-shown g c clean =
+pub returns-clause-mark : goal.returns-clause-mark
+returns-clause-mark g c clean asked =
+    let old = state g.S.Store c.args.conn.now in
     let shown = (rw c.params-to_sql.ensures at c.in-Ok.ensures.leaves).call.ok clean in
-    IfOk-weaker c.truth_of.result _ _ (λ truth exact. (shown.0, shown.1, mark_in_column truth ∙ ap (option_map (λ n. Int (pos n))) exact ∙ shown.2)) c.truth_of.ensures.exact
+    either_result c.truth_of.result _ _
+    (IfOk-weaker c.truth_of.result _ _ (λ truth exact. mark_found c.args.environment.now old (state g.S.Store c.number_of.new.conn) asked.1 shown.0 shown.1 truth (mark_in_column truth ∙ ap (option_map (λ n. Int (pos n))) exact ∙ shown.2)) c.truth_of.ensures.exact)
+    (IfErr-weaker c.truth_of.result _ _ (λ fault why. let it = no_mark c.in-Ok.value _ shown.2 why.1 in inr (why.0, mark_lost c.args.environment.now old (state g.S.Store c.number_of.new.conn) asked.1 shown.0 shown.1 it.0 it.1 it.2)) c.truth_of.ensures.cause)
 
-pub returns-clause-cause : goal.returns-clause-cause
-returns-clause-cause g c clean =
-    let shown = (rw c.params-to_sql.ensures at c.in-Ok.ensures.leaves).call.ok clean in
-    IfErr-weaker c.truth_of.result _ _ (λ fault why. let it = no_mark c.in-Ok.value _ shown.2 why.1 in inr (shown.0, shown.1, it.0, it.1, (why.0, it.2))) c.truth_of.ensures.cause
-
-pub returns-in-Err-clause-cause : goal.returns-in-Err-clause-cause
-returns-in-Err-clause-cause g c clean =
-    let said = (rw c.params-to_sql.ensures at c.in-Err.ensures.cause) clean in
-    elim said [
-      | inl refused ↦ inl refused
-      | inr told ↦ inr (told.0, told.1, told.2, told.3, (told.4.0, λ stands. told.4.1 (mark_is_number told.2 stands)))
+pub returns-in-Err-clause-mark : goal.returns-in-Err-clause-mark
+returns-in-Err-clause-mark g c clean asked =
+    let old = state g.S.Store c.args.conn.now in
+    let new = state g.S.Store c.number_of.new.conn in
+    elim ((rw c.params-to_sql.ensures at c.in-Err.ensures.cause) clean) [
+      | inl refused ↦ inl (refusal_ends _ _ old new _ _ (mark_means old.now.schema asked.1) (mark_runs old.now.schema asked.1 c.args.environment.now) asked.0 c.in-Err.fault refused)
+      | inr told ↦ inr (told.4.0, mark_lost c.args.environment.now old new asked.1 told.0 told.1 told.2 told.3 (λ stands. told.4.1 (mark_is_number told.2 stands)))
     ]

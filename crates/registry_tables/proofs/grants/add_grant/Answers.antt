@@ -23,4 +23,4 @@ returns-clause-calm g c =
     let old = state g.S.Store c.args.conn.now in
     let new = state g.S.Store c.change.new.conn in
     let said = rw (c.params-to_sql.ensures, c.params-to_sql-2.ensures) at c.change.ensures.cause in
-    λ clean s here numbers t next. IfErr-weaker c.change.result _ _ (grant_ends c.args.team.now c.args.environment.now old new s t here.held numbers next here.unlimited) (said clean)
+    λ clean s here next numbers. IfErr-weaker c.change.result _ _ (grant_ends c.args.team.now c.args.environment.now old new s next.0 here.held numbers next.1 here.unlimited) (said clean)

@@ -8,8 +8,8 @@ use Rattle.broker_tables.proofs.QueryLemmas.{in_store}
 use Rattle.registry_tables.specs.Registry.{AllowsVersionAs, AddsVersion}
 use Rattle.registry_tables.proofs.versions.add_version.Goals as goal
 
-pub returns : goal.returns
-returns g c =
+pub returns-clause-changes : goal.returns-clause-changes
+returns-clause-changes g c =
     let old = state g.S.Store c.args.conn.now in
     let mid = state g.S.Store c.version_count.new.conn in
     let new = state g.S.Store c.add_version_as.new.conn in
@@ -19,4 +19,4 @@ returns g c =
     two s read.1 (allowed, c.in-Some.ensures.some ∙ ap (λ k. k + 1) read.0))
     (in_store old mid (Ok c.in-Ok.value) _ c.in-Ok.ensures)
     (statement_ok mid new c.in-Ok-add_version_as.value c.in-Some.number _
-    (λ number. (s : State) → Holds mid.now s → AllowsVersionAs c.in-Some.number v s → (t : State) × AddsVersion v number s t × Holds new.now t) (λ adds. adds) c.in-Ok-add_version_as.ensures)
+    (λ number. (s : State) → Holds mid.now s → AllowsVersionAs c.in-Some.number v s → (t : State) × AddsVersion v number s t × Holds new.now t) (λ adds. adds) c.in-Ok-add_version_as.ensures.changes)

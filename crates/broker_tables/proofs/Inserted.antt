@@ -1,0 +1,400 @@
+-- Why an INSERT of one row into a table of the broker fails: if the row suits its table, only as the store fails.
+use Rattle.std.proofs.Common.{◌≡◌, inl, inr, ℕ, ℤ, ◌≢◌, List, [], ◌∷◌, map, filter, length, slice_get, Bool, true, false, not, ◌&&◌, ◌||◌, cond, nat_lt, refl, sym, ap, subst, ◌∙◌, ◌==◌, ◌<◌, ◌/◌, arith, Some, None, Option, Ok, Err, append-nil, ◌+◌, pos, IsTrue, Ordering, codes}
+use Rattle.std.specs.Prelude.{⊤, is_some}
+use Rattle.std.specs.List.{AllByRecursion, list_all, list_any}
+use Rattle.std.specs.Ordering.{is_ne, int_cmp, eq_by_cmp, is_eq}
+use Rattle.std.specs.Cmp.{Equal-is, eq_by_cmp_equiv, int_cmp_total, nat_eq_equiv, IsTotalOrder}
+use Rattle.std.proofs.lemmas.Bool.{both_ways, false_from_ne_true, and_parts, or_cases, or_left, or_right, cases_eq, eqb-true, ltb-true, and_from}
+use Rattle.sqlite.specs.declared.types.Value.TheVariants.{Int, Text}
+use Rattle.sqlite.specs.declared.error.Error.{Error}
+use Rattle.sqlite.specs.Cast.{cast_row}
+use Rattle.sqlite.specs.Term.{Term}
+use Rattle.sqlite.specs.Command.TheVariants.{Insert}
+use Rattle.sqlite.specs.Source.TheVariants.{Values}
+use Rattle.sqlite.specs.Listing.{understood}
+use Rattle.sqlite.specs.Order.{Row, column, value_cmp}
+use Rattle.sqlite.specs.Tree.{Trees, rowid, IsAscending, put_row, with_tree}
+use Rattle.sqlite.specs.Schema.{Schema}
+use Rattle.sqlite.specs.Table.{Table}
+use Rattle.sqlite.specs.Effect.{Database, value_rows}
+use Rattle.sqlite.specs.Rows.{Written, Inserts, Edited}
+use Rattle.sqlite.specs.State.{State, Executes, Fails, mode_of}
+use Rattle.sqlite.proofs.Callers.{one_step}
+use Rattle.sqlite_value.specs.Keys.{plain, first_key}
+use Rattle.sqlite_value.specs.declared.keys.Order.{Order}
+use Rattle.sqlite_sql.specs.Ops.{fits_i64, binary, is_true, from_truth}
+use Rattle.sqlite_schema.specs.declared.schema.Keys.{Keys}
+use Rattle.sqlite_schema.specs.declared.schema.Keys.TheVariants.{Enforced, Deferred, Off}
+use Rattle.sqlite_schema.specs.declared.schema.Index.{Index}
+use Rattle.sqlite_schema.specs.declared.schema.Constraint.TheVariants.{Datatype, NotNull, Check, PrimaryKey, Unique, ForeignKey}
+use Rattle.sqlite_schema.specs.declared.schema.Reference.{Reference}
+use Rattle.sqlite_schema.specs.declared.schema.Among.TheVariants.{All}
+use Rattle.sqlite_schema.specs.Rules.{ParentKey, agree, differ, clashes, guards, Keeps, Refers, has_parent, has_null, is_held, parent_key, is_key_of, equal}
+use Rattle.sqlite_rules.specs.Lists.{Has}
+use Rattle.sqlite_rules.specs.Steps.{PassAlone}
+use Rattle.sqlite_rules.specs.Edit.{Edit, IsRefused, id_in, is_taken, are_fresh, is_referred, edit_of, with_rowid}
+use Rattle.sqlite_rules.specs.declared.error.Refusal.{Refusal}
+use Rattle.sqlite_rules.specs.declared.error.Refusal.TheVariants.{Violates, Mismatch, NoRowid, BadReference, TooDeep}
+use Rattle.sqlite_rules.specs.declared.error.Rowids.TheVariants.{Chosen}
+use Rattle.sqlite_rules.proofs.ListLemmas.{some_has, some_from, test_has, test_from, has_kept}
+use Rattle.sqlite_rules.proofs.RuleLemmas.{Turns, unique_kept, parent_is_table, keeps_at, refers_from, origin}
+use Rattle.sqlite_rules.proofs.EditLemmas.{turns}
+use Rattle.sqlite_rules.proofs.TableLemmas.{put_has, int_is}
+use Rattle.sqlite.specs.View.{is_int}
+use Rattle.sqlite_value.proofs.OrderLemmas.{value_cmp-Int}
+use Rattle.sqlite_typing.specs.Types.{accepts_terms}
+use Rattle.sqlite_tied.specs.Compute.{everything}
+use Rattle.table_access.specs.declared.StoreFault.{StoreFault}
+use Rattle.table_access.specs.Calls.{IsEnded, FailsToRun, fault_of}
+use Rattle.table_access.specs.Statements.{plain_table, ChangesOnly, IsAdded}
+use Rattle.table_access.proofs.Answered.{is_whole}
+use Rattle.table_access.proofs.Members.{has_map, map_has}
+use Rattle.table_access.proofs.Refused.{insert_fails}
+use Rattle.table_access.proofs.SoundLemmas.{has_place, at_has, all_of, text_at}
+use Rattle.table_access.proofs.Steps.{Means, inserts, no_works, went, same_value}
+use Rattle.broker_tables.specs.Schema.{broker_schema, to}
+use Rattle.broker_tables.specs.Holds.{IsBroker, Holds, marks_in}
+use Rattle.broker_tables.proofs.Frames.{meant}
+use Rattle.std.specs.Cmp.Lexicographic.{nat_list_cmp_total}
+use Rattle.sqlite.specs.declared.types.Value.{Value}
+use Rattle.sqlite.specs.Edit.{next_rowid, with_rowid}
+use Rattle.sqlite.specs.Collation.TheVariants.{Binary}
+use Rattle.sqlite_rules.proofs.PlaceLemmas.{next_is_free}
+use Rattle.table_access.specs.Columns.{text, text_cmp, whole_at, by_both}
+use Rattle.std.specs.FinMap.{int_cmp-IsAntisymmetric}
+use Rattle.table_access.specs.Sound.{IsNumbered}
+use Rattle.broker_tables.specs.Numbers.{numbered, number_of}
+use Rattle.broker_tables.proofs.References.{row_number}
+use Rattle.table_access.proofs.Maps.{find_has}
+use Rattle.table_access.proofs.Parts.{Part, text_part, whole_part, agree_last, agree_and}
+use Rattle.sqlite_schema.specs.Names.{is_key}
+use Rattle.sqlite_schema.specs.declared.schema.Column.{Column}
+use Rattle.broker_tables.proofs.Placed.{teams, teams_there, pacticipants, pacticipants_there, environments, environments_there}
+use Rattle.table_access.proofs.Values.{same_texts, same_ints}
+use Rattle.broker_core.specs.declared.command.Version.{Version}
+use Rattle.broker_core.specs.State.{State as Broker}
+use Rattle.broker_tables.specs.Rows.{rows_of, value_at, stands_at}
+use Rattle.broker_tables.proofs.Orders.{exact_texts}
+use Rattle.broker_tables.proofs.VersionRows.{find_version, version_number}
+use Rattle.sqlite.specs.Kind.TheVariants as kind
+
+-- ---- the tables of a broker
+
+-- tables whose trees rise are apart
+abbrev rising : List Table → Bool
+rising [] = true
+rising (t ∷ ts) = list_all (λ u. nat_lt t.tree u.tree) ts && rising ts
+
+apart_of : (ts : List Table) → rising ts ≡ true → IsAscending (λ a b. a.tree ≡ b.tree → ⊥) ts
+apart_of [] h = tt
+apart_of (t ∷ ts) h =
+    let both = and_parts _ _ h in
+    (all_of _ ts (λ u has same. let low : t.tree < u.tree = ltb-true t.tree u.tree (test_has (λ (u : Table). nat_lt t.tree u.tree) ts u both.0 has) in omega (arith, low, same)), apart_of ts both.1)
+
+rise : rising broker_schema.tables ≡ true
+unfolding everything
+rise = refl
+
+-- no two tables have one tree
+pub apart : IsAscending (λ a b. a.tree ≡ b.tree → ⊥) broker_schema.tables
+apart = apart_of broker_schema.tables rise
+
+-- a table without AUTOINCREMENT and computed defaults
+abbrev pub plainly : Table → Table
+plainly t = plain_table t.name t.tree t.columns t.key t.primary t.uniques t.orders t.checks t.references
+
+-- what an INSERT needs of a table: it is such a table, the unique indexes on it are its keys, and each of its
+-- references points to a key
+abbrev Need : Type 0
+Need = Table × List (Order × List ℕ) × Bool
+
+abbrev needed : Schema → Table → Need
+needed schema t = (plainly t, map (λ i. (i.order, i.columns)) (filter (λ i. guards i t) schema.indexes), list_all (is_key_of schema) t.references)
+
+abbrev IsReady : Schema → Table → Type 0
+IsReady schema t = needed schema t ≡ (t, map (λ places. (plain, places)) t.uniques, true)
+
+ready : AllByRecursion (IsReady broker_schema) broker_schema.tables
+unfolding everything
+ready = (refl, (refl, (refl, (refl, (refl, (refl, (refl, (refl, (refl, (refl, (refl, (refl, (refl, (refl, (refl, tt)))))))))))))))
+
+ready_at : (db : Database) → IsBroker db → (t : Table) → Has db.schema.tables t → IsReady db.schema t
+ready_at db broker t listed = at_has _ db.schema.tables t (subst (λ (s : Schema). AllByRecursion (IsReady s) s.tables) (sym broker.schema) ready) listed
+
+-- ---- a row that nothing is against
+
+-- no row has the values of this one at these places
+abbrev pub IsFree : List Row → Row → List ℕ → Type 0
+IsFree rows made places = (r : Row) → Has rows r → agree plain places r places made ≡ false
+
+-- the row fits the columns and CHECKs of its table, nothing has its number or one of its keys, and what it refers to is there
+pub record Suits (db : Database) (t : Table) (made : Row) : Type 0 where
+  pub pass : PassAlone t (made ∷ [])
+  pub fits : fits_i64 (id_in (rowid made)) ≡ true
+  pub keyed : is_int (rowid made) ≡ true
+  pub fresh : is_taken (db.trees t.tree) made ≡ false
+  pub free : AllByRecursion (IsFree (db.trees t.tree) made) t.uniques
+  pub parents : AllByRecursion (λ ref. has_parent broker_schema.tables db.trees made ref ≡ true) t.references
+
+differs_not : (n : ℤ) → differ (Int n) (Int n) ≡ false
+unfolding binary
+differs_not n = ap (λ o. is_true (from_truth (Some (is_ne o)))) (value_cmp-Int n n ∙ (Equal-is (int_cmp n n)).0 ((eq_by_cmp_equiv int_cmp_total).refl n))
+
+module _ (db : Database) (broker : IsBroker db) (t : Table) (listed : Has db.schema.tables t) (made : Row) (suits : Suits db t made) where
+  abbrev putting : Edit
+  putting = record { table = t; gone = []; news = made ∷ [] }
+
+  fresh : are_fresh (db.trees t.tree) (made ∷ []) ≡ true
+  fresh = ap (λ b. not b && true) suits.fresh
+
+  turned : (next : Trees) → next t.tree ≡ put_row made (db.trees t.tree) → AllByRecursion (λ u. u.tree ≢ t.tree → next u.tree ≡ db.trees u.tree) db.schema.tables → Turns db.schema db.trees next t (db.trees t.tree) [] (made ∷ [])
+  turned next here others =
+      turns db.schema db.trees next putting (subst (λ (s : Schema). IsAscending (λ a b. a.tree ≡ b.tree → ⊥) s.tables) (sym broker.schema) apart) listed (at_has _ db.schema.tables t broker.kept.numbered listed).0 fresh here others
+
+  -- ---- no rule refuses it
+
+  no_clash : (i : Index) → Has db.schema.indexes i → guards i t ≡ true → clashes i.order i.columns (put_row made (db.trees t.tree)) made ≡ false
+  no_clash i known guard = false_from_ne_true _ (λ clash. against (some_has _ _ clash))
+    where
+      key : Index → Order × List ℕ
+      key i = (i.order, i.columns)
+
+      places : (ps : List ℕ) × Has t.uniques ps × (key i ≡ (plain, ps))
+      places = map_has (λ ps. (plain, ps)) t.uniques (key i) (subst (λ keys. Has keys (key i)) (ap (λ (x : Need). x.1) (ready_at db broker t listed)) (has_map key _ i (has_kept (λ i. guards i t) db.schema.indexes i known guard)))
+
+      other : (r : Row) → Has (db.trees t.tree) r → agree i.order i.columns r i.columns made ≡ false
+      other r has = ap (λ (k : Order × List ℕ). agree k.0 k.1 r k.1 made) places.2 ∙ at_has _ t.uniques places.0 suits.free places.1 r has
+
+      against : (r : Row) × Has (put_row made (db.trees t.tree)) r × ((agree i.order i.columns r i.columns made && differ (rowid r) (rowid made)) ≡ true) → ⊥
+      against (r, there, hit) =
+          let both = and_parts _ _ hit in
+          elim (put_has made (db.trees t.tree) r there) [
+            | inl same ↦ both_ways _ (ap (λ x. differ (rowid x) (rowid made)) same ∙ ap (λ v. differ v v) (int_is (rowid made) suits.keyed) ∙ differs_not _) both.1
+            | inr was ↦ both_ways _ (other r was) both.0
+          ]
+
+  abbrev put : Trees
+  put = with_tree db.trees t.tree (put_row made (db.trees t.tree))
+
+  unique : Keeps Unique db.schema put
+  unique =
+      let here : put t.tree ≡ put_row made (db.trees t.tree) = ap (λ b. cond b (put_row made (db.trees t.tree)) (db.trees t.tree)) (nat_eq_equiv.refl t.tree) in
+      let turn = turned put here (all_of _ db.schema.tables (λ u known other. ap (λ b. cond b (put_row made (db.trees t.tree)) (db.trees u.tree)) (false_from_ne_true (u.tree == t.tree) (λ same. other (eqb-true u.tree t.tree same))))) in
+      unique_kept db.schema db.trees put t _ _ (made ∷ []) turn (test_from _ db.schema.indexes (λ i known. one i known (guards i t) refl here)) (broker.kept.sound.obeys.rules Unique)
+    where
+      one : (i : Index) → Has db.schema.indexes i → (b : Bool) → guards i t ≡ b → put t.tree ≡ put_row made (db.trees t.tree) → not (b && list_any (clashes i.order i.columns (put t.tree)) (made ∷ [])) ≡ true
+      one i known true guard here = ap (λ rows. not (clashes i.order i.columns rows made || false)) here ∙ ap (λ b. not (b || false)) (no_clash i known guard)
+      one i known false guard here = refl
+
+  referred : (keys : Keys) → is_referred db.schema keys putting ≡ true
+  referred Enforced = ap (λ (x : Need). x.2 && true) (ready_at db broker t listed)
+  referred Deferred = ap (λ (x : Need). x.2 && true) (ready_at db broker t listed)
+  referred Off = refl
+
+  no_rule : (keys : Keys) (why : Refusal) → IsRefused db.schema keys db.trees putting why → ⊥
+  no_rule keys (Violates Datatype) h = let clash : true ≡ false = sym suits.pass.typed ∙ h in cc
+  no_rule keys (Violates NotNull) h = let clash : true ≡ false = sym suits.pass.present ∙ h in cc
+  no_rule keys (Violates Check) h = let clash : true ≡ false = sym suits.pass.checked ∙ h in cc
+  no_rule keys (Violates PrimaryKey) h = let clash : true ≡ false = sym fresh ∙ h in cc
+  no_rule keys (Violates Unique) h = h unique
+  no_rule keys (Violates ForeignKey) h = h
+  no_rule keys Mismatch h = let clash : true ≡ false = sym (ap (λ b. b && true) suits.keyed) ∙ h in cc
+  no_rule keys NoRowid h = let clash : true ≡ false = sym (ap (λ b. b && true) suits.fits) ∙ h in cc
+  no_rule keys BadReference h = let clash : true ≡ false = sym (referred keys) ∙ h in cc
+  no_rule keys TooDeep h = h
+
+  -- ---- what it refers to is there, also after it was put in
+
+  module _ (next : Trees) (here : next t.tree ≡ put_row made (db.trees t.tree)) (others : AllByRecursion (λ u. u.tree ≢ t.tree → next u.tree ≡ db.trees u.tree) db.schema.tables) where
+    turn : Turns db.schema db.trees next t (db.trees t.tree) [] (made ∷ [])
+    turn = turned next here others
+
+    grows : (u : Table) → Has db.schema.tables u → (r : Row) → Has (db.trees u.tree) r → Has (next u.tree) r
+    grows u known r has = elim (cases_eq u.tree t.tree) [
+      | inl same ↦ subst (λ k. Has (next k) r) (sym same) (turn.stays r (subst (λ k. Has (db.trees k) r) same has))
+      | inr other ↦ subst (λ rows. Has rows r) (sym (turn.others u known other)) has
+    ]
+
+    still_held : (ref : Reference) (row : Row) (o : Option ParentKey) → parent_key db.schema.tables ref ≡ o → is_held db.trees ref.columns row o ≡ true → is_held next ref.columns row o ≡ true
+    still_held ref row None is h = absurd cc
+    still_held ref row (Some key) is h =
+        let u = parent_is_table db.schema.tables ref key is in
+        let found = some_has (λ parent. agree key.2 key.1 parent ref.columns row) (db.trees key.0) h in
+        some_from (λ parent. agree key.2 key.1 parent ref.columns row) (next key.0) found.0 (subst (λ k. Has (next k) found.0) u.2 (grows u.0 u.1 found.0 (subst (λ k. Has (db.trees k) found.0) (sym u.2) found.1))) found.2
+
+    still_parent : (ref : Reference) (row : Row) → has_parent db.schema.tables db.trees row ref ≡ true → has_parent db.schema.tables next row ref ≡ true
+    still_parent ref row h = elim (or_cases (has_null ref.columns row) _ h) [ inl null ↦ or_left _ _ null | inr held ↦ or_right _ _ (still_held ref row (parent_key db.schema.tables ref) refl held) ]
+
+    new_parent : (ref : Reference) → Has t.references ref → has_parent db.schema.tables db.trees made ref ≡ true
+    new_parent ref known = ap (λ (s : Schema). has_parent s.tables db.trees made ref) broker.schema ∙ at_has _ t.references ref suits.parents known
+
+    refers : Refers All db.schema next
+    refers = refers_from All db.schema next (λ u ref row known named is there. elim (origin db.schema db.trees next t _ _ (made ∷ []) turn u row known there) [
+      | inl (same, inl new) ↦ subst (λ r. has_parent db.schema.tables next r ref ≡ true) (sym new) (still_parent ref made (new_parent ref (subst (λ (x : Table). Has x.references ref) same named)))
+      | inl (same, inr none) ↦ absurd none
+      | inr was ↦ still_parent ref row (test_has (has_parent db.schema.tables db.trees row) u.references ref (keeps_at ForeignKey db.schema db.trees u row (broker.kept.sound.obeys.rules ForeignKey) known was) named)
+    ])
+
+-- ---- the statement
+
+-- without a limit of steps it fails only as the store fails, or since a row was too big
+abbrev pub EndsOnly : List ℕ → Row → State → State → Type 0
+EndsOnly sql params old new = old.step_limit ≡ None → (fault : StoreFault) → FailsToRun sql params old new fault → IsEnded old new fault
+
+-- the text, with these parameters, puts one row into the table at this place
+pub record Puts (at : ℕ) (sql : List ℕ) (params row : Row) : Type 0 where
+  pub terms : List Term
+  pub width : ℕ
+  pub means : Means broker_schema sql (Insert at (Values terms width))
+  pub whole : is_whole sql (length params) (understood broker_schema sql) ≡ true
+  pub kinds : accepts_terms terms params ≡ true
+  pub one : value_rows params width (length terms / width) terms ≡ row ∷ []
+
+module _ (sql : List ℕ) (params : Row) (old new : State) (broker : IsBroker old.now) (t : Table) (at : ℕ) (there : slice_get old.now.schema.tables at ≡ Some t) (row made : Row) (puts : Puts at sql params row)
+    (stored : with_rowid Chosen (old.now.trees t.tree) (cast_row t row) ≡ made) where
+  listed : Has old.now.schema.tables t
+  listed = has_place _ at t there
+
+  same : plainly t ≡ t
+  same = ap (λ (x : Need). x.0) (ready_at old.now broker t listed)
+
+  -- where it is done, the row is added, and no other table changes
+  pub inserted : (count : ℕ) → Executes sql params old new (Ok count) → ChangesOnly t.tree old new × IsAdded (old.now.trees t.tree) (new.now.trees t.tree) made
+  inserted count h =
+      inserts t.name t.tree t.columns t.key t.primary t.uniques t.orders t.checks t.references sql params old new at (there ∙ ap Some (sym same)) puts.terms puts.width row made puts.one stored (meant old.now broker sql puts.means) count h
+
+  module _ (suits : Suits old.now t made) where
+    -- the edit is the one of this row
+    edit_is : (rows : List Row) → rows ≡ row ∷ [] → edit_of old.now.trees (plainly t) [] Chosen 0 rows ≡ putting old.now broker t listed made suits
+    edit_is rows is =
+        ap (edit_of old.now.trees (plainly t) [] Chosen 0) is ∙ ap (λ u. edit_of old.now.trees u [] Chosen 0 (row ∷ [])) same ∙ ap (λ r. record { table = t; gone = []; news = r ∷ [] }) stored
+
+    left : (w : Written) → Inserts (record { limit = old.step_limit; keys = (mode_of old).keys; schema = old.now.schema; table = plainly t; params = params }) (Values puts.terms puts.width) old.now.trees (Ok w) → Refers All old.now.schema w.trees
+    left w h =
+        let given = went h in
+        let written = went (went given.2).2 in
+        let counted = went written.2 in
+        let one = subst (λ (e : Edit). Edited old.now.schema (mode_of old).keys old.now.trees e (Ok written.0))
+        (edit_is _ (given.1.1 ∙ ap (λ ps. value_rows ps puts.width (length puts.terms / puts.width) puts.terms) (append-nil params) ∙ puts.one)) written.1 in
+        let step = one_step old.now.schema (mode_of old).keys old.now.trees written.0 (putting old.now broker t listed made suits) (no_works old.now.schema (mode_of old).keys 0 t.tree (made ∷ [])) one in
+        subst (λ trees. Refers All old.now.schema trees) (sym (ap (λ (it : Written). it.trees) (same_value counted.2) ∙ same_value counted.1)) (refers old.now broker t listed made suits written.0 step.rows step.tables)
+
+    fails : old.step_limit ≡ None → (error : Error) → Executes sql params old new (Err error) → Fails old new ⊤ error
+    fails unlimited error h =
+        elim (insert_fails t.name t.tree t.columns t.key t.primary t.uniques t.orders t.checks t.references sql params old new at (there ∙ ap Some (sym same)) puts.terms puts.width (meant old.now broker sql puts.means)
+        (subst (λ (s : Schema). is_whole sql (length params) (understood s sql) ≡ true) (sym broker.schema) puts.whole) puts.kinds unlimited error h) [
+          | inl store ↦ store
+          | inr (inl (why, refused, is)) ↦ absurd (no_rule old.now broker t listed made suits (mode_of old).keys why (subst (λ (e : Edit). IsRefused old.now.schema (mode_of old).keys old.now.trees e why) (edit_is _ puts.one) refused))
+          | inr (inr (w, writes, stray)) ↦ absurd (stray (left w writes))
+        ]
+
+    pub insert_ends : EndsOnly sql params old new
+    insert_ends unlimited fault (error, is, h) = let it = fails unlimited error h in record { cause = it.0; fault_is = is ∙ ap fault_of it.1; has = it.2; over = it.3.autocommit; blamed = it.4 }
+
+-- ---- keys
+
+module _ (rows : List Row) (made : Row) where
+  with_new : (P : Row → Type 0) → P made → ((r : Row) → Has rows r → P r) → (r : Row) → Has (made ∷ rows) r → P r
+  with_new P new old r (inl same) = subst P (sym same) new
+  with_new P new old r (inr was) = old r was
+
+  -- a column of texts, and one of whole numbers, of the rows and of the new one
+  pub new_text : (p : ℕ) → ((r : Row) → Has rows r → column r p ≡ Text (text p r)) → column made p ≡ Text (text p made) → Part text_cmp Text (made ∷ rows) p (text p)
+  new_text p typed new = text_part (made ∷ rows) p (with_new (λ r. column r p ≡ Text (text p r)) new typed)
+
+  pub new_whole : (p : ℕ) → ((r : Row) → Has rows r → column r p ≡ Int (whole_at p r)) → column made p ≡ Int (whole_at p made) → Part int_cmp Int (made ∷ rows) p (whole_at p)
+  new_whole p typed new = whole_part (made ∷ rows) p (with_new (λ r. column r p ≡ Int (whole_at p r)) new typed)
+
+  free_if : {K : Type 0} {R : K → K → Ordering} (o : IsTotalOrder R) (key : Row → K) (places : List ℕ) → ((r : Row) → Has rows r → agree plain places r places made ≡ eq_by_cmp R (key r) (key made)) → stands_at R key rows (key made) ≡ false → IsFree rows made places
+  free_if {K} {R} o key places same none r has =
+      same r has ∙ (eq_by_cmp_equiv o).symm (key r) (key made) ∙ false_from_ne_true _ (λ hit. let clash : true ≡ false = sym (some_from (λ x. eq_by_cmp R (key made) (key x)) rows r has hit) ∙ none in cc)
+
+  module _ {K : Type 0} {R : K → K → Ordering} {code : K → Value} (o : IsTotalOrder R) (p : ℕ) (key : Row → K) (part : Part R code (made ∷ rows) p key) where
+    -- a key of one column is free if no row stands by its value
+    pub free_one : stands_at R key rows (key made) ≡ false → IsFree rows made (p ∷ [])
+    free_one = free_if o key (p ∷ []) (λ r has. agree_last o (made ∷ rows) p key part r made (inr has) (inl refl))
+
+    -- and one of two if none stands by both
+    pub free_two : {L : Type 0} {S : L → L → Ordering} {mark : L → Value} (both : IsTotalOrder (by_both R S)) (other_order : IsTotalOrder S) (q : ℕ) (other : Row → L) → Part S mark (made ∷ rows) q other
+        → stands_at (by_both R S) (λ r. (key r, other r)) rows (key made, other made) ≡ false → IsFree rows made (p ∷ q ∷ [])
+    free_two {L} {S} both other_order q other second = free_if both (λ r. (key r, other r)) (p ∷ q ∷ []) (λ r has.
+        agree_and o (made ∷ rows) p key part S other (q ∷ []) r made (inr has) (inl refl) (agree_last other_order (made ∷ rows) q other second r made (inr has) (inl refl)))
+
+-- ---- what it refers to
+
+-- the reference leads to this column of the table at this tree
+abbrev IsTo : ℕ → List ℕ → List ℕ → ℕ → ℕ → Type 0
+IsTo p parent key tree place = (o : Order) × (parent_key broker_schema.tables (to p parent key) ≡ Some (tree, place ∷ [], o)) × ((first_key o).collation ≡ Binary)
+
+leads : (p : ℕ) → IsTo p (codes "teams") (codes "name") 1 1 × IsTo p (codes "pacticipants") (codes "name") 4 1 × IsTo p (codes "environments") (codes "name") 10 1 × IsTo p (codes "versions") (codes "number") 6 0
+unfolding everything
+leads p = ((_, refl, refl), (_, refl, refl), (_, refl, refl), (_, refl, refl))
+
+module _ (db : Database) (s : Broker) (held : Holds db s) (made : Row) (p : ℕ) where
+  abbrev IsThere : List ℕ → List ℕ → Type 0
+  IsThere parent key = has_parent broker_schema.tables db.trees made (to p parent key) ≡ true
+
+  stands : (parent key : List ℕ) (tree place : ℕ) → IsTo p parent key tree place → (r : Row) → Has (db.trees tree) r → equal Binary (column r place) (column made p) ≡ true → IsThere parent key
+  stands parent key tree place (o, keyed, binary) r has ties =
+      let tied : equal (first_key o).collation (column r place) (column made p) ≡ true = ap (λ c. equal c (column r place) (column made p)) binary ∙ ties in
+      or_right _ _ (ap (is_held db.trees (p ∷ []) made) keyed ∙ some_from (λ x. agree o (place ∷ []) x (p ∷ []) made) (db.trees tree) r has (and_from _ _ tied refl))
+
+  names : (at : ℕ) (t : Table) → slice_get db.schema.tables at ≡ Some t → (c : Column) → slice_get t.columns 0 ≡ Some c → is_key t.key 0 ≡ false → c.is_strict ≡ true → c.not_null ≡ true → c.kind ≡ kind.Text → (r : Row) → Has (db.trees t.tree) r → column r 1 ≡ Text (text 1 r)
+  names at t there c first free strict needed is r has = text_at db held.broker.kept.sound t (has_place _ at t there) r has 0 c first free strict needed is
+
+  named : {V : Type 0} (parent : List ℕ) (tree : ℕ) → IsTo p parent (codes "name") tree 1 → ((r : Row) → Has (db.trees tree) r → column r 1 ≡ Text (text 1 r)) → (value : Row → V) (name : List ℕ) (found : Option V)
+      → value_at text_cmp (text 1) value (db.trees tree) name ≡ found → IsTrue (is_some found) → column made p ≡ Text name → IsThere parent (codes "name")
+  named parent tree leads typed value name None is has refer = absurd cc
+  named parent tree leads typed value name (Some v) is has refer =
+      let row = find_has nat_list_cmp_total exact_texts (text 1) value name v (db.trees tree) is in
+      stands parent (codes "name") tree 1 leads row.0 row.1 (ap (λ v. equal Binary v (column made p)) (typed row.0 row.1 ∙ ap Text (sym row.2)) ∙ ap (equal Binary (Text name)) refer ∙ same_texts name name ∙ (eq_by_cmp_equiv nat_list_cmp_total).refl name)
+
+  -- a team that is there has the row that a reference to its name leads to
+  pub team_there : (name : List ℕ) → IsTrue (is_some (s.teams name)) → column made p ≡ Text name → IsThere (codes "teams") (codes "name")
+  team_there name = named (codes "teams") 1 (leads p).0 (names 1 teams (teams_there db held.broker) _ refl refl refl refl refl) (text 2) name (s.teams name) (held.teams name)
+
+  -- and so do a pacticipant, an environment, and a version for its number
+  pub pacticipant_there : (name : List ℕ) → IsTrue (is_some (s.pacticipants name)) → column made p ≡ Text name → IsThere (codes "pacticipants") (codes "name")
+  pacticipant_there name = named (codes "pacticipants") 4 (leads p).1 (names 2 pacticipants (pacticipants_there db held.broker) _ refl refl refl refl refl) (text 2) name (s.pacticipants name) (held.pacticipants name)
+
+  pub environment_there : (name : List ℕ) → IsTrue (is_some (s.environments name)) → column made p ≡ Text name → IsThere (codes "environments") (codes "name")
+  environment_there name = named (codes "environments") 10 (leads p).2 (names 5 environments (environments_there db held.broker) _ refl refl refl refl refl) (marks_in (rows_of db (codes "strict_environments"))) name (s.environments name) (held.environments name)
+
+  pub version_there : (v : Version) (n : ℕ) → number_of s.versions v ≡ Some n → column made p ≡ Int (pos n) → IsThere (codes "versions") (codes "number")
+  version_there v n is refer =
+      let row = find_version db held.broker s.versions v n held.versions is in
+      stands (codes "versions") (codes "number") 6 0 (leads p).3 row.0 row.1
+      (ap (λ x. equal Binary x (column made p)) (version_number db held.broker row.0 row.1 ∙ ap Int row.4) ∙ ap (equal Binary (Int (pos n))) refer ∙ same_ints (pos n) (pos n) ∙ (eq_by_cmp_equiv int_cmp_total).refl (pos n))
+
+-- ---- numbers
+
+-- in a table whose rows are numbered from 1 without gaps, none has the next number
+pub next_counted : {X : Type 0} (f : Row → X) (rows : List Row) (xs : List X) (rest : Row) → map {B = ℤ × X} (λ r. (whole_at 0 r, f r)) rows ≡ numbered xs → IsNumbered rows → is_taken rows (Int (pos (length xs + 1)) ∷ rest) ≡ false
+next_counted f rows xs rest are rising = false_from_ne_true _ (λ taken.
+    let hit = some_has (λ r. is_eq (value_cmp (rowid r) (Int (pos (length xs + 1))))) rows taken in
+    let low = row_number f rows xs 1 are hit.0 hit.1 in
+    let ties : is_eq (int_cmp (pos low.0) (pos (length xs + 1))) ≡ true =
+    ap is_eq (sym (value_cmp-Int (pos low.0) (pos (length xs + 1)))) ∙ ap (λ v. is_eq (value_cmp v (Int (pos (length xs + 1))))) (ap Int (sym low.1) ∙ sym (int_is (rowid hit.0) (at_has _ rows hit.0 rising.1 hit.1))) ∙ hit.2 in
+    let same : pos low.0 ≡ pos (length xs + 1) = int_cmp-IsAntisymmetric _ _ ((Equal-is (int_cmp (pos low.0) (pos (length xs + 1)))).0 ties) in
+    let nats : low.0 ≡ length xs + 1 = cc in
+    omega (arith, low.2, nats))
+
+-- ---- the statement
+
+-- If the table gives the row the number after the last one's, that is free: it fails only as the store fails, if there
+-- is such a number, its columns and keys are as they have to be, and what it refers to is there.
+pub next_ends : (sql : List ℕ) (params : Row) (old new : State) (broker : IsBroker old.now) (t : Table) (at : ℕ) (there : slice_get old.now.schema.tables at ≡ Some t) (row rest : Row) → Puts at sql params row
+    → with_rowid Chosen (old.now.trees t.tree) (cast_row t row) ≡ Int (next_rowid (old.now.trees t.tree)) ∷ rest → fits_i64 (next_rowid (old.now.trees t.tree)) ≡ true
+    → PassAlone t ((Int (next_rowid (old.now.trees t.tree)) ∷ rest) ∷ []) → AllByRecursion (IsFree (old.now.trees t.tree) (Int (next_rowid (old.now.trees t.tree)) ∷ rest)) t.uniques
+    → AllByRecursion (λ ref. has_parent broker_schema.tables old.now.trees (Int (next_rowid (old.now.trees t.tree)) ∷ rest) ref ≡ true) t.references
+    → EndsOnly sql params old new
+next_ends sql params old new broker t at there row rest puts stored room pass free parents =
+    let numbered = at_has _ old.now.schema.tables t broker.kept.numbered (has_place _ at t there) in
+    insert_ends sql params old new broker t at there row _ puts stored (record {
+      pass = pass;
+      fits = room;
+      keyed = refl;
+      fresh = next_is_free Chosen (old.now.trees t.tree) rest numbered.0 numbered.1;
+      free = free;
+      parents = parents;
+    })
