@@ -15,7 +15,7 @@ use Rattle.broker_core.specs.declared.command.Command.{Command}
 use Rattle.broker_core.specs.declared.policy.Caller.{Caller}
 use Rattle.broker_core.specs.Machine.{StepOfCaller, Step}
 use Rattle.broker_core.specs.Text.{Text}
-use Rattle.broker_tables.specs.Calm.{Serves, HasFailedOrMemory}
+use Rattle.broker_tables.specs.Calm.{Serves, HasFailedOrMemory, FailsFromBetween}
 use Rattle.broker_tables.specs.Holds.{Holds}
 use Rattle.command_facts.specs.Primitives.{broker_primitives}
 use Rattle.command_facts.specs.Patterns.{RefusesPattern, ComparesPattern, AsksPattern}
@@ -79,3 +79,7 @@ module _ {X : Type 0} (store : Ghosts X) (old new : Held X) where
 
   abbrev pub FailsOnlyAt : {A : Type 0} → Result A StoreFault → (Broker → Type 0) → Type 0
   FailsOnlyAt r At = FailsOnlyAtBetween (state store old) (state store new) At r
+
+  -- and from states that allow the command
+  abbrev pub FailsToChangeFrom : Result Answer StoreFault → (Broker → Type 0) → (Broker → Transition → Type 0) → Type 0
+  FailsToChangeFrom r Allows P = FailsFromBetween (state store old) (state store new) r Allows (IsToChange P)

@@ -26,8 +26,7 @@ use Rattle.broker_tables.proofs.Placed.{contracts, contracts_there}
 use Rattle.broker_tables.proofs.References.{refers_content}
 use Rattle.contract_tables.proofs.ContractRows.{key, content_at, contents}
 use Rattle.contract_commands.specs.BranchPact.{ReachesBranch}
-use Rattle.contract_commands.specs.Failures.{HasContent}
-use Rattle.contract_commands.specs.Pacts.{Reaches, HasReachedContent}
+use Rattle.contract_commands.specs.Pacts.{HasContent, Reaches, HasReachedContent}
 
 -- rows that are numbered from m on have the numbers from m to the last
 within : {X : Type 0} (f : Row → X) (rows : List Row) (xs : List X) (m n : ℕ) → map {B = ℤ × X} (λ r. (whole_at 0 r, f r)) rows ≡ map (λ e. (pos e.0, e.1)) (enumerate_from m xs) → (r : Row) → Has rows r → whole_at 0 r ≡ pos n → (m ≤ n) × (n < m + length xs)

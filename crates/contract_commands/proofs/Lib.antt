@@ -1,7 +1,6 @@
 pub mod BranchLast
 pub mod CheckLemmas
 pub mod ContentThere
-pub mod FailLemmas
 pub mod NumberingLemmas
 pub mod PactLemmas
 pub mod ResultLemmas

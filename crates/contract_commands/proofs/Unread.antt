@@ -9,7 +9,7 @@ use Rattle.broker_core.specs.Change.{Transition, unchanged_with}
 use Rattle.broker_core.specs.declared.answer.Answer.{Answer}
 use Rattle.broker_core.specs.declared.answer.Answer.TheVariants.{BadForm}
 use Rattle.command_facts.specs.Performs.{PerformsBetween}
-use Rattle.contract_commands.specs.Failures.{FailsFromBetween}
+use Rattle.broker_tables.specs.Calm.{FailsFromBetween}
 use Rattle.contract_commands.specs.Pacts.{answer_to}
 use Rattle.broker_core.specs.declared.command.FormFault.{FormFault}
 use Rattle.pact_reading.specs.declared.reading.ReadFault.{ReadFault}

@@ -24,7 +24,6 @@ use Rattle.broker_core.specs.declared.policy.Caller.{Caller}
 use Rattle.broker_core.specs.declared.policy.Rule.{Rule}
 use Rattle.broker_tables.specs.Numbers.{number_of}
 use Rattle.command_facts.specs.Primitives.{broker_primitives}
-use Rattle.contract_commands.specs.Failures.{HasContent}
 use Rattle.contract_commands.specs.Numbering.{CanName}
 use Rattle.contract_commands.specs.declared.numbers.VersionNumber.{VersionNumber}
 use Rattle.contract_commands.specs.declared.sides.ContractPlace.{ContractPlace}
@@ -42,6 +41,10 @@ pub record AreSidesRead (s : Broker) (caller : Caller) (rule : Rule) (owned : Li
 abbrev pub missing_side : Sides → Option Missing → Option Missing
 missing_side sides rest =
     unless sides.has_provider missing.Pacticipant (unless sides.has_consumer missing.Pacticipant rest)
+
+-- the content of this number has a text
+abbrev pub HasContent : Broker → ℕ → Type 0
+HasContent s content = (text : Text) × (text_of s content ≡ Some text)
 
 -- what is missing first of a contract that is asked for by its version
 abbrev pub missing_part : ContractPlace → Option Missing

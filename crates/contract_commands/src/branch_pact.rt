@@ -2,9 +2,7 @@
 ghost use Rattle.std.specs.Prelude.{◌≡◌, ◌+◌, ◌<◌, IfOk, IfSome, length};
 ghost use Rattle.broker_core.specs.declared.command.Command.TheVariants.{GetBranchPact};
 ghost use Rattle.broker_core.specs.declared.policy.Rule.TheVariants.{A5};
-ghost use Rattle.broker_tables.specs.Holds.{Queries};
-ghost use Rattle.broker_tables.specs.Calm.{CalmQueriesInPlace};
-ghost use Rattle.contract_commands.specs.Failures.{CanNumberNext, IsCalmFrom};
+ghost use Rattle.broker_tables.specs.Calm.{CalmQueries, CalmQueriesInPlace, IsCalm};
 ghost use Rattle.contract_commands.specs.BranchPact.{IsNextBelow, IsBranchContent, IsContentBelow, ReachesBranch};
 ghost use Rattle.contract_commands.specs.Pacts.{missing_of_branch, Admits};
 ghost use Rattle.command_facts.specs.Performs.{Performs, IsStepOf};
@@ -31,8 +29,7 @@ struct BranchVersion {
 
 /// The number that the next version gets: those of all others are below.
 fn read_bound<S: Alter>(conn: &mut Connection<S>) -> Result<u32, StoreFault>
-    ensures answers { Queries S.Store conn.old conn.new result (λ bound s. bound ≡ length s.versions + 1) }
-    ensures calm { IsCalmFrom S.Store conn.old conn.new result CanNumberNext }
+    ensures { CalmQueries S.Store conn.old conn.new result (λ bound s. bound ≡ length s.versions + 1) }
 {
     let count = done!(version_count(conn));
     match next_number(count) {
@@ -94,9 +91,8 @@ fn read_branch<S: Alter>(
     consumer: &Name,
     branch: &Name,
 ) -> Result<Option<u32>, StoreFault>
-    ensures answers { Queries S.Store conn.old conn.new result
+    ensures { CalmQueries S.Store conn.old conn.new result
         (λ content s. IsBranchContent s provider.now consumer.now branch.now content) }
-    ensures calm { IsCalmFrom S.Store conn.old conn.new result CanNumberNext }
 {
     let bound = done!(read_bound(conn));
     content_below(conn, provider, consumer, branch, bound)
@@ -128,9 +124,8 @@ fn read_branch_to_show<S: Alter>(
     consumer: &Name,
     branch: &Name,
 ) -> Result<Result<u32, Answer>, StoreFault>
-    ensures answers { Queries S.Store conn.old conn.new result
+    ensures { CalmQueries S.Store conn.old conn.new result
         (λ place s. ReachesBranch s caller.now provider.now consumer.now branch.now place) }
-    ensures calm { IsCalmFrom S.Store conn.old conn.new result CanNumberNext }
 {
     let sides = done!(read_sides_to_show(alloc, conn, caller, provider, consumer));
     let content = done!(read_branch(conn, provider, consumer, branch));
@@ -148,7 +143,7 @@ pub fn get_branch_pact<S: Alter>(
 ) -> Result<Answer, StoreFault>
     ensures answers { Performs S.Store conn.old conn.new result
         (IsStepOf caller.now (GetBranchPact provider.now consumer.now branch.now)) }
-    ensures calm { IsCalmFrom S.Store conn.old conn.new result CanNumberNext }
+    ensures calm { IsCalm S.Store conn.old conn.new result }
 {
     let place = done!(read_branch_to_show(alloc, conn, caller, provider, consumer, branch));
     show_pact(conn, place)

@@ -1,13 +1,12 @@
 //! Contracts, shown by their version.
 ghost use Rattle.std.specs.Prelude.{◌≡◌, ℕ, List, Some};
 ghost use Rattle.broker_core.specs.Change.{text_of};
-ghost use Rattle.contract_commands.specs.Failures.{HasContent, IsCalmFrom};
-ghost use Rattle.contract_commands.specs.Pacts.{ShowsReached, HasReachedContent};
+ghost use Rattle.contract_commands.specs.Pacts.{ShowsReached, HasContent, HasReachedContent};
 ghost use Rattle.broker_core.specs.declared.command.Command.TheVariants.{GetPact};
 ghost use Rattle.broker_core.specs.declared.answer.Answer.TheVariants as told;
 ghost use Rattle.broker_core.specs.declared.answer.Shown.TheVariants as shown;
 ghost use Rattle.broker_tables.specs.Holds.{Queries};
-ghost use Rattle.broker_tables.specs.Calm.{IsCalm};
+ghost use Rattle.broker_tables.specs.Calm.{IsCalm, IsCalmFrom};
 ghost use Rattle.command_facts.specs.Performs.{Performs, IsStepOf};
 
 use crate::sides::{read_contract_to_show, read_text};

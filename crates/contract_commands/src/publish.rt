@@ -1,20 +1,19 @@
 //! Publication of a pact.
-ghost use Rattle.std.specs.Prelude.{◌≡◌, ◌&&◌, true, Some, IfOk, IfErr, ⊤};
+ghost use Rattle.std.specs.Prelude.{◌≡◌, ◌&&◌, Some, IfOk, IfErr, ⊤};
 ghost use Rattle.broker_core.specs.State.{State as BrokerState};
 ghost use Rattle.broker_core.specs.Text.{same_text};
 ghost use Rattle.broker_core.specs.Change.{text_of, republished};
-ghost use Rattle.broker_core.specs.Limit.{has_room};
 ghost use Rattle.broker_core.specs.Machine.{FindsFault};
 ghost use Rattle.broker_core.specs.Machine.Reading.{IsPact};
 ghost use Rattle.broker_core.specs.declared.command.Command.TheVariants.{PutPact};
 ghost use Rattle.broker_core.specs.declared.command.FormFault.{FormFault as FormFaultModel};
 ghost use Rattle.broker_tables.specs.Holds.{Queries, ChangesAndAnswers};
+ghost use Rattle.broker_tables.specs.Calm.{IsCalmFrom};
 ghost use Rattle.pact_reading.specs.declared.reading.ReadFault.TheVariants.{Form};
 ghost use Rattle.command_facts.specs.Primitives.{broker_primitives};
-ghost use Rattle.command_facts.specs.Performs.{Performs, PerformsWhere, IsStepOf};
-ghost use Rattle.content_store.specs.Contents.{StoresIfRoom};
-ghost use Rattle.contract_commands.specs.Failures.{HasContent, IsCalmFrom, FailsToChangeFrom};
-ghost use Rattle.contract_commands.specs.Pacts.{HasSides, HasNoContract, CanPublish, CanRecord, RecordsContract, PutsPact, Publishes, answer_to};
+ghost use Rattle.command_facts.specs.Performs.{Performs, PerformsWhere, FailsOnlyAt, FailsToChange, FailsToChangeFrom, IsStepOf};
+ghost use Rattle.content_store.specs.Contents.{CanBeAdded, StoresIfRoom};
+ghost use Rattle.contract_commands.specs.Pacts.{HasContent, HasSides, HasNoContract, CanPublish, CanRecord, RecordsContract, PutsPact, Publishes, answer_to};
 
 use crate::numbers::{VersionNumber, name_version, number_version};
 use crate::sides::{read_contract, read_sides_to_publish, read_text, refuse_sides};
@@ -81,7 +80,8 @@ fn publish_again<S: Alter>(
 /// The number of the text, which is stored if it wasn't; `None` if it isn't and there is no room for one more content,
 /// and then nothing changes.
 fn put_text<S: Alter>(conn: &mut Connection<S>, text: &Text) -> Result<Option<u32>, StoreFault>
-    ensures { ChangesAndAnswers S.Store conn.old conn.new result (λ s. ⊤) (StoresIfRoom text.now) }
+    ensures answers { ChangesAndAnswers S.Store conn.old conn.new result (λ s. ⊤) (StoresIfRoom text.now) }
+    ensures calm { FailsOnlyAt S.Store conn.old conn.new result (λ s. CanBeAdded text.now s.contents) }
 {
     put_if_room(conn, &Sha256Digester, text.as_str())
 }
@@ -110,7 +110,7 @@ fn publish_numbered<S: Alter>(
     ensures answers { PerformsWhere S.Store conn.old conn.new result
         (CanPublish path.now version) (PutsPact path.now text.now) }
     ensures calm { FailsToChangeFrom S.Store conn.old conn.new result
-        (λ s. CanPublish path.now version s × (has_room s.contents ≡ true)) (PutsPact path.now text.now) }
+        (CanPublish path.now version) (PutsPact path.now text.now) }
 {
     match done!(put_text(conn, text)) {
         Some(content) => {
@@ -132,7 +132,7 @@ fn publish_first<S: Alter>(
     ensures answers { PerformsWhere S.Store conn.old conn.new result
         (HasNoContract path.now number) (PutsPact path.now text.now) }
     ensures calm { FailsToChangeFrom S.Store conn.old conn.new result
-        (λ s. HasNoContract path.now number s × (has_room s.contents ≡ true)) (PutsPact path.now text.now) }
+        (HasNoContract path.now number) (PutsPact path.now text.now) }
 {
     match done!(number_version(conn, number)) {
         Some(version) => publish_numbered(conn, path, text, version),
@@ -149,7 +149,7 @@ fn publish_between<S: Alter>(
     ensures answers { PerformsWhere S.Store conn.old conn.new result (λ s. HasSides s path.now)
         (PutsPact path.now text.now) }
     ensures calm { FailsToChangeFrom S.Store conn.old conn.new result
-        (λ s. HasSides s path.now × (has_room s.contents ≡ true)) (PutsPact path.now text.now) }
+        (λ s. HasSides s path.now) (PutsPact path.now text.now) }
 {
     let contract = done!(read_contract(conn, &path.provider, &path.consumer, &path.version));
     match contract.content {
@@ -168,7 +168,7 @@ fn publish<S: Alter>(
 ) -> Result<Answer, StoreFault>
     ensures answers { Performs S.Store conn.old conn.new result
         (λ s out. Publishes s caller.now path.now text.now out) }
-    ensures calm { FailsToChangeFrom S.Store conn.old conn.new result (λ s. has_room s.contents ≡ true)
+    ensures calm { FailsToChange S.Store conn.old conn.new result
         (λ s out. Publishes s caller.now path.now text.now out) }
 {
     let sides = done!(read_sides_to_publish(alloc, conn, caller, &path.provider, &path.consumer));
@@ -198,7 +198,7 @@ pub fn put_pact<S: Alter>(
 ) -> Result<Answer, StoreFault>
     ensures answers { Performs S.Store conn.old conn.new result
         (IsStepOf caller.now (PutPact path.now file.now)) }
-    ensures calm { FailsToChangeFrom S.Store conn.old conn.new result (λ s. has_room s.contents ≡ true)
+    ensures calm { FailsToChange S.Store conn.old conn.new result
         (IsStepOf caller.now (PutPact path.now file.now)) }
 {
     match read_form(alloc, path, file) {

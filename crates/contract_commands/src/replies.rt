@@ -5,9 +5,8 @@ ghost use Rattle.broker_core.specs.declared.command.Command.TheVariants.{PostRep
 ghost use Rattle.pact_reading.specs.declared.checking.Comparison.TheVariants.{Failing};
 ghost use Rattle.reply_check.specs.Replies.{RepliesRead};
 ghost use Rattle.broker_core.specs.Contents.{HasSoundContents};
-ghost use Rattle.command_facts.specs.Performs.{Performs, PerformsWhere, CallersStep, IsStepOf};
+ghost use Rattle.command_facts.specs.Performs.{Performs, PerformsWhere, FailsToChangeFrom, CallersStep, IsStepOf};
 ghost use Rattle.command_facts.specs.Primitives.{broker_primitives};
-ghost use Rattle.contract_commands.specs.Failures.{FailsToChangeFrom};
 ghost use Rattle.contract_commands.specs.Results.{HasPacticipant, told_as};
 ghost use Rattle.contract_commands.specs.Checks.{Leads, Checks, CanLead, CanCheck};
 

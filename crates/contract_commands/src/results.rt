@@ -6,10 +6,9 @@ ghost use Rattle.broker_core.specs.Change.{result_of_run as run_result};
 ghost use Rattle.broker_core.specs.declared.answer.Detail.TheVariants as detail;
 ghost use Rattle.broker_core.specs.declared.command.Command.TheVariants.{PostResult};
 ghost use Rattle.broker_tables.specs.Holds.{ChangesAndAnswers};
-ghost use Rattle.broker_tables.specs.Calm.{CalmQueriesInPlace};
+ghost use Rattle.broker_tables.specs.Calm.{CalmQueriesInPlace, FailsFrom};
 ghost use Rattle.contract_tables.specs.Verified.{told_of};
-ghost use Rattle.command_facts.specs.Performs.{Performs, PerformsWhere, FailsToChange, IsStepOf};
-ghost use Rattle.contract_commands.specs.Failures.{FailsFrom, FailsToChangeFrom};
+ghost use Rattle.command_facts.specs.Performs.{Performs, PerformsWhere, FailsToChange, FailsToChangeFrom, IsStepOf};
 ghost use Rattle.contract_commands.specs.Results.{HasPacticipant, IsToReport, told_as, Receives, Claims, told_row, TellsSame, TellsAgain, IsUnused, CanReport, CanRecordReport, RecordsReport};
 
 use crate::numbers::{VersionNumber, name_version, next_result, number_version};

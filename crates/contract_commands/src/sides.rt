@@ -6,9 +6,8 @@ ghost use Rattle.broker_core.specs.Request.{refused, rule_of};
 ghost use Rattle.broker_core.specs.declared.policy.Rule.TheVariants.{A3, A4, A5};
 ghost use Rattle.broker_core.specs.declared.command.Command.{Command as CommandModel};
 ghost use Rattle.broker_tables.specs.Holds.{Queries};
-ghost use Rattle.broker_tables.specs.Calm.{CalmQueries, CalmQueriesInPlace};
-ghost use Rattle.contract_commands.specs.Failures.{HasContent, IsCalmFrom};
-ghost use Rattle.contract_commands.specs.Pacts.{AreSidesRead, IsContractRead, missing_side, missing_part, Admits, Reaches};
+ghost use Rattle.broker_tables.specs.Calm.{CalmQueries, CalmQueriesInPlace, IsCalmFrom};
+ghost use Rattle.contract_commands.specs.Pacts.{AreSidesRead, HasContent, IsContractRead, missing_side, missing_part, Admits, Reaches};
 
 use broker_core::answer::{Answer, Missing};
 use broker_core::command::PactPath;

@@ -1,5 +1,5 @@
 -- The judgement of an environment with these marks, from all faults of a version there.
-use Rattle.std.proofs.Common.{◌≡◌, ◌==◌, ◌∷◌, [], List, Bool, true, false, ◌||◌, not, length, refl, sym, subst, ap, arith}
+use Rattle.std.proofs.Common.{◌≡◌, ◌==◌, ◌∷◌, [], List, Bool, true, false, ◌||◌, not, length, refl, subst, ap, arith}
 use Rattle.std.proofs.lemmas.Bool.{eqb-true}
 use Rattle.std.specs.Prelude.{Option, Some}
 use Rattle.std.specs.Option.{option_map_or}

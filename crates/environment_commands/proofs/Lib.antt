@@ -1,3 +1,4 @@
+pub mod FailLemmas
 pub mod FollowLemmas
 pub mod GateJudgement
 pub mod PlaceLemmas

@@ -1,8 +1,9 @@
 -- What refuses a command on a version and an environment, from what was read.
 use Rattle.std.proofs.Common.{◌≡◌, inl, inr, Bool, true, false, ◌∷◌, [], refl, ap, ◌∙◌}
-use Rattle.std.specs.Prelude.{Option, Some, None, Result, Ok, Err, is_some, filter_map}
+use Rattle.std.specs.Prelude.{⊤, Option, Some, None, Result, Ok, Err, is_some, filter_map}
 use Rattle.sqlite.specs.State.{State as View}
 use Rattle.table_access.specs.declared.StoreFault.{StoreFault}
+use Rattle.table_access.specs.Calls.{CallsTablesBetween}
 use Rattle.broker_core.specs.Text.{Text}
 use Rattle.broker_core.specs.State.{State}
 use Rattle.broker_core.specs.Policy.{allows}
@@ -21,8 +22,9 @@ use Rattle.broker_core.specs.declared.policy.Caller.{Caller}
 use Rattle.broker_core.specs.declared.policy.Rule.{Rule}
 use Rattle.broker_core.specs.declared.policy.Rule.TheVariants.{A7}
 use Rattle.broker_tables.specs.Holds.{QueriesBetween}
+use Rattle.broker_tables.specs.Calm.{FailsFromBetween}
 use Rattle.command_facts.specs.Owners.{owners_of}
-use Rattle.command_facts.specs.Performs.{PerformsBetween, PerformsWhereBetween, IsStepOf}
+use Rattle.command_facts.specs.Performs.{PerformsBetween, PerformsWhereBetween, FailsToChangeBetween, IsToChange, IsStepOf}
 use Rattle.command_facts.specs.Primitives.{broker_primitives}
 use Rattle.command_facts.proofs.CallerSteps.{refuses, acts}
 use Rattle.command_facts.proofs.PerformLemmas.{answered_then, performs_where}
@@ -30,6 +32,7 @@ use Rattle.environment_commands.specs.Effects.{Enacts}
 use Rattle.environment_commands.specs.Places.{IsVersionRead, IsAdmitted, IsAdmission, ChangesPlace}
 use Rattle.environment_commands.specs.declared.places.Admitted.{Admitted}
 use Rattle.environment_commands.specs.declared.places.VersionFacts.{VersionFacts}
+use Rattle.environment_commands.proofs.FailLemmas.{fails_next}
 
 -- the owner of one pacticipant, as the policy asks for it
 owner_listed : (rule : Rule) (caller : Caller) (p : Text) (granted : Bool) (o : Option Text) → allows rule caller (filter_map (λ (q : Text). o) (p ∷ [])) granted ≡ allows rule caller (owners_of o) granted
@@ -75,3 +78,10 @@ module _ (old mid : View) (caller : Caller) (e : Text) (v : Version) (command : 
       → QueriesBetween old mid (Ok (Ok place)) (IsAdmission caller e v) → PerformsWhereBetween mid new Allows Q r → PerformsBetween old new (IsStepOf caller command) r
   admitted_then new place r Allows Q allows enacts one two =
       performs_where old mid new (Ok place) r (IsAdmission caller e v) Allows Q (IsStepOf caller command) (λ s h. (allows s h.0, λ out q. acts s caller command form out (h.1 command change) (enacts s out q))) one two
+
+  -- it is admitted, and it fails as what is done then
+  pub admitted_fails : (new : View) (place : Admitted) (r : Result Answer StoreFault) (Q : Answer → Type 0)
+      → QueriesBetween old mid (Ok (Ok place)) (IsAdmission caller e v) → CallsTablesBetween mid new r Q → FailsFromBetween mid new r (IsAdmitted e v place) (IsToChange (Enacts command)) → FailsToChangeBetween old new (IsStepOf caller command) r
+  admitted_fails new place r Q one two why clean s here =
+      fails_next old mid new (Ok place) r (IsAdmission caller e v) Q one two (λ s. ⊤) (IsAdmitted e v place) (Enacts command) (IsStepOf caller command)
+      (λ s all h. (h.0, λ out enacts. acts s caller command form out (h.1 command change) enacts)) why clean s here tt

@@ -2,8 +2,7 @@
 ghost use Rattle.std.specs.Prelude.{◌≡◌, Some, None, false, IfOk, IfErr};
 ghost use Rattle.broker_core.specs.declared.command.Command.TheVariants.{CanIDeploy};
 ghost use Rattle.broker_core.specs.declared.policy.Rule.TheVariants.{A6};
-ghost use Rattle.broker_tables.specs.Holds.{Queries};
-ghost use Rattle.broker_tables.specs.Calm.{CalmQueries};
+ghost use Rattle.broker_tables.specs.Calm.{CalmQueries, IsCalm};
 ghost use Rattle.command_facts.specs.Performs.{Performs, IsStepOf};
 ghost use Rattle.environment_commands.specs.Effects.{IsGateShown, shows_gate};
 ghost use Rattle.environment_commands.specs.Places.{IsVersionRead, GateHasRefusal};
@@ -47,7 +46,7 @@ fn read_gate_facts<S: Alter>(
     version: &Version,
     environment: &Name,
 ) -> Result<(VersionFacts, Option<Marks>), StoreFault>
-    ensures { Queries S.Store conn.old conn.new result
+    ensures { CalmQueries S.Store conn.old conn.new result
         (λ found s. IsVersionRead s caller.now A6 version.now false found.0
         × (s.environments environment.now ≡ found.1)) }
 {
@@ -100,8 +99,9 @@ pub fn can_i_deploy<S: Alter>(
     version: &Version,
     environment: &Name,
 ) -> Result<Answer, StoreFault>
-    ensures { Performs S.Store conn.old conn.new result
+    ensures answers { Performs S.Store conn.old conn.new result
         (IsStepOf caller.now (CanIDeploy version.now environment.now)) }
+    ensures calm { IsCalm S.Store conn.old conn.new result }
 {
     let (facts, marks) = done!(read_gate_facts(alloc, conn, caller, version, environment));
     match admitted_to_ask(facts, marks) {

@@ -2,7 +2,7 @@
 ghost use Rattle.std.specs.Prelude.{◌≡◌};
 ghost use Rattle.broker_core.specs.Change.{deploy as deployment};
 ghost use Rattle.broker_core.specs.declared.command.Command.TheVariants.{Deploy};
-ghost use Rattle.command_facts.specs.Performs.{Performs, PerformsWhere, IsStepOf};
+ghost use Rattle.command_facts.specs.Performs.{Performs, PerformsWhere, FailsToChange, FailsToChangeFrom, IsStepOf};
 ghost use Rattle.environment_commands.specs.Effects.{Enacts};
 ghost use Rattle.environment_commands.specs.Places.{HasNumber, IsAdmitted};
 
@@ -25,7 +25,9 @@ fn record_deployment<S: Alter>(
     instance: &str,
     number: u32,
 ) -> Result<Answer, StoreFault>
-    ensures { PerformsWhere S.Store conn.old conn.new result
+    ensures answers { PerformsWhere S.Store conn.old conn.new result
+        (HasNumber version.now number) (λ s out. out ≡ deployment s environment.now version.now instance.now) }
+    ensures calm { FailsToChangeFrom S.Store conn.old conn.new result
         (HasNumber version.now number) (λ s out. out ≡ deployment s environment.now version.now instance.now) }
 {
     if done!(is_deployed(
@@ -56,7 +58,10 @@ fn deploy_judged<S: Alter>(
     instance: &Option<Name>,
     place: Admitted,
 ) -> Result<Answer, StoreFault>
-    ensures { PerformsWhere S.Store conn.old conn.new result
+    ensures answers { PerformsWhere S.Store conn.old conn.new result
+        (IsAdmitted environment.now version.now place)
+        (Enacts (Deploy environment.now version.now instance.now)) }
+    ensures calm { FailsToChangeFrom S.Store conn.old conn.new result
         (IsAdmitted environment.now version.now place)
         (Enacts (Deploy environment.now version.now instance.now)) }
 {
@@ -83,7 +88,9 @@ pub fn deploy<S: Alter>(
     version: &Version,
     instance: &Option<Name>,
 ) -> Result<Answer, StoreFault>
-    ensures { Performs S.Store conn.old conn.new result
+    ensures answers { Performs S.Store conn.old conn.new result
+        (IsStepOf caller.now (Deploy environment.now version.now instance.now)) }
+    ensures calm { FailsToChange S.Store conn.old conn.new result
         (IsStepOf caller.now (Deploy environment.now version.now instance.now)) }
 {
     match done!(read_admitted(alloc, conn, caller, environment, version)) {

@@ -2,6 +2,7 @@
 ghost use Rattle.std.specs.Prelude.{◌≡◌};
 ghost use Rattle.broker_core.specs.Change.{end_support as unsupported};
 ghost use Rattle.broker_core.specs.declared.command.Command.TheVariants.{EndSupport};
+ghost use Rattle.broker_tables.specs.Calm.{IsCalm};
 ghost use Rattle.command_facts.specs.Performs.{Performs, PerformsWhere, IsStepOf};
 ghost use Rattle.environment_commands.specs.Places.{HasNumber};
 
@@ -21,8 +22,9 @@ fn remove_release<S: Alter>(
     version: &Version,
     number: u32,
 ) -> Result<Answer, StoreFault>
-    ensures { PerformsWhere S.Store conn.old conn.new result
+    ensures answers { PerformsWhere S.Store conn.old conn.new result
         (HasNumber version.now number) (λ s out. out ≡ unsupported s environment.now version.now) }
+    ensures calm { IsCalm S.Store conn.old conn.new result }
 {
     if done!(deploy_tables::end_support(conn, environment.as_str(), number)) {
         Ok(Answer::Done(Detail::Plain))
@@ -39,8 +41,9 @@ pub fn end_support<S: Alter>(
     environment: &Name,
     version: &Version,
 ) -> Result<Answer, StoreFault>
-    ensures { Performs S.Store conn.old conn.new result
+    ensures answers { Performs S.Store conn.old conn.new result
         (IsStepOf caller.now (EndSupport environment.now version.now)) }
+    ensures calm { IsCalm S.Store conn.old conn.new result }
 {
     match done!(read_admitted(alloc, conn, caller, environment, version)) {
         Ok(place) => remove_release(conn, environment, version, place.number),

@@ -4,7 +4,7 @@ ghost use Rattle.std.specs.Prelude.{◌≡◌, Some, IfOk, IfErr};
 ghost use Rattle.broker_core.specs.Change.{instance_of};
 ghost use Rattle.broker_core.specs.Request.{has_grant};
 ghost use Rattle.broker_core.specs.declared.policy.Rule.TheVariants.{A7};
-ghost use Rattle.broker_tables.specs.Holds.{Queries};
+ghost use Rattle.broker_tables.specs.Calm.{CalmQueries};
 ghost use Rattle.environment_commands.specs.Places.{IsVersionRead, IsPlaceRead, IsAdmission, MissesFirst, Admits};
 
 use broker_core::answer::{Answer, Missing};
@@ -91,7 +91,7 @@ pub(crate) fn read_version<S: Alter>(
     version: &Version,
     granted: bool,
 ) -> Result<VersionFacts, StoreFault>
-    ensures { Queries S.Store conn.old conn.new result
+    ensures { CalmQueries S.Store conn.old conn.new result
         (λ found s. IsVersionRead s caller.now rule version.now granted found) }
 {
     let owner = done!(read_owner(alloc, conn, caller, rule, &version.pacticipant, granted));
@@ -108,7 +108,7 @@ fn read_granted<S: Alter>(
     environment: &Name,
     version: &Version,
 ) -> Result<VersionFacts, StoreFault>
-    ensures { Queries S.Store conn.old conn.new result
+    ensures { CalmQueries S.Store conn.old conn.new result
         (λ found s. IsVersionRead s caller.now A7 version.now (has_grant s caller.now (Some environment.now)) found) }
 {
     let granted = done!(read_grant(conn, caller, environment));
@@ -123,7 +123,7 @@ fn read_place<S: Alter>(
     environment: &Name,
     version: &Version,
 ) -> Result<PlaceFacts, StoreFault>
-    ensures { Queries S.Store conn.old conn.new result
+    ensures { CalmQueries S.Store conn.old conn.new result
         (λ found s. IsPlaceRead s caller.now environment.now version.now found) }
 {
     let version = done!(read_granted(alloc, conn, caller, environment, version));
@@ -140,7 +140,7 @@ pub(crate) fn read_admitted<S: Alter>(
     environment: &Name,
     version: &Version,
 ) -> Result<Result<Admitted, Answer>, StoreFault>
-    ensures { Queries S.Store conn.old conn.new result (IsAdmission caller.now environment.now version.now) }
+    ensures { CalmQueries S.Store conn.old conn.new result (IsAdmission caller.now environment.now version.now) }
 {
     let place = done!(read_place(alloc, conn, caller, environment, version));
     Ok(admitted_to_change(place))

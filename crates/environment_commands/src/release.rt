@@ -2,7 +2,7 @@
 ghost use Rattle.std.specs.Prelude.{◌≡◌};
 ghost use Rattle.broker_core.specs.Change.{release as released};
 ghost use Rattle.broker_core.specs.declared.command.Command.TheVariants.{Release};
-ghost use Rattle.command_facts.specs.Performs.{Performs, PerformsWhere, IsStepOf};
+ghost use Rattle.command_facts.specs.Performs.{Performs, PerformsWhere, FailsToChange, FailsToChangeFrom, IsStepOf};
 ghost use Rattle.environment_commands.specs.Effects.{Enacts};
 ghost use Rattle.environment_commands.specs.Places.{HasNumber, IsAdmitted};
 
@@ -24,7 +24,9 @@ fn record_release<S: Alter>(
     version: &Version,
     number: u32,
 ) -> Result<Answer, StoreFault>
-    ensures { PerformsWhere S.Store conn.old conn.new result
+    ensures answers { PerformsWhere S.Store conn.old conn.new result
+        (HasNumber version.now number) (λ s out. out ≡ released s environment.now version.now) }
+    ensures calm { FailsToChangeFrom S.Store conn.old conn.new result
         (HasNumber version.now number) (λ s out. out ≡ released s environment.now version.now) }
 {
     if done!(is_released(conn, environment.as_str(), number)) {
@@ -42,7 +44,10 @@ fn release_judged<S: Alter>(
     version: &Version,
     place: Admitted,
 ) -> Result<Answer, StoreFault>
-    ensures { PerformsWhere S.Store conn.old conn.new result
+    ensures answers { PerformsWhere S.Store conn.old conn.new result
+        (IsAdmitted environment.now version.now place)
+        (Enacts (Release environment.now version.now)) }
+    ensures calm { FailsToChangeFrom S.Store conn.old conn.new result
         (IsAdmitted environment.now version.now place)
         (Enacts (Release environment.now version.now)) }
 {
@@ -62,7 +67,9 @@ pub fn release<S: Alter>(
     environment: &Name,
     version: &Version,
 ) -> Result<Answer, StoreFault>
-    ensures { Performs S.Store conn.old conn.new result
+    ensures answers { Performs S.Store conn.old conn.new result
+        (IsStepOf caller.now (Release environment.now version.now)) }
+    ensures calm { FailsToChange S.Store conn.old conn.new result
         (IsStepOf caller.now (Release environment.now version.now)) }
 {
     match done!(read_admitted(alloc, conn, caller, environment, version)) {

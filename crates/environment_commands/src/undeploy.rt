@@ -2,6 +2,7 @@
 ghost use Rattle.std.specs.Prelude.{◌≡◌};
 ghost use Rattle.broker_core.specs.Change.{undeploy as undeployment};
 ghost use Rattle.broker_core.specs.declared.command.Command.TheVariants.{Undeploy};
+ghost use Rattle.broker_tables.specs.Calm.{IsCalm};
 ghost use Rattle.command_facts.specs.Performs.{Performs, PerformsWhere, IsStepOf};
 ghost use Rattle.environment_commands.specs.Places.{HasNumber};
 
@@ -23,8 +24,9 @@ fn remove_deployment<S: Alter>(
     instance: &str,
     number: u32,
 ) -> Result<Answer, StoreFault>
-    ensures { PerformsWhere S.Store conn.old conn.new result
+    ensures answers { PerformsWhere S.Store conn.old conn.new result
         (HasNumber version.now number) (λ s out. out ≡ undeployment s environment.now version.now instance.now) }
+    ensures calm { IsCalm S.Store conn.old conn.new result }
 {
     if done!(take_out(
         conn,
@@ -48,8 +50,9 @@ pub fn undeploy<S: Alter>(
     version: &Version,
     instance: &Option<Name>,
 ) -> Result<Answer, StoreFault>
-    ensures { Performs S.Store conn.old conn.new result
+    ensures answers { Performs S.Store conn.old conn.new result
         (IsStepOf caller.now (Undeploy environment.now version.now instance.now)) }
+    ensures calm { IsCalm S.Store conn.old conn.new result }
 {
     match done!(read_admitted(alloc, conn, caller, environment, version)) {
         Ok(place) => remove_deployment(

@@ -1,7 +1,7 @@
 //! PUT and DELETE of a grant.
 ghost use Rattle.std.specs.Prelude.{IfSome, IfNone};
 ghost use Rattle.broker_core.specs.declared.command.Command.TheVariants.{PutGrant, DeleteGrant};
-ghost use Rattle.broker_tables.specs.Calm.{CalmQueriesInPlace};
+ghost use Rattle.broker_tables.specs.Calm.{CalmQueriesInPlace, IsCalm};
 ghost use Rattle.command_facts.specs.Performs.{Performs, FailsToChange, IsStepOf};
 ghost use Rattle.registry_commands.specs.Facts.{IsGrantRead, AnswersPutGrant, AddsNewGrant, AnswersDeleteGrant, TakesGrant};
 
@@ -111,7 +111,8 @@ pub fn put_grant<S: Alter>(
     }
 }
 
-/// Takes a grant away, for the office; or answers why not, and nothing changes.
+/// Takes a grant away, for the office; or answers why not, and nothing changes. In a state that can be read back only a
+/// failure of the store keeps it from either.
 ///
 /// # Errors
 /// `StoreFault::Memory` if the database is out of memory; `StoreFault::Store` if it refused a statement, or a row
@@ -125,8 +126,7 @@ pub fn delete_grant<S: Alter>(
 ) -> Result<Answer, StoreFault>
     ensures answers { Performs S.Store conn.old conn.new result
         (IsStepOf caller.now (DeleteGrant team.now environment.now)) }
-    ensures calm { FailsToChange S.Store conn.old conn.new result
-        (IsStepOf caller.now (DeleteGrant team.now environment.now)) }
+    ensures calm { IsCalm S.Store conn.old conn.new result }
 {
     let facts = done!(read_grant_facts(conn, team, environment));
     match decide_delete_grant(alloc, caller, facts) {

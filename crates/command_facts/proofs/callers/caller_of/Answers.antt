@@ -1,20 +1,15 @@
 use Rattle.std.proofs.Common.{Option, List, ℕ, Bor, sym, subst, ◌∙◌, option_map}
 use Rattle.sqlite.specs.Held.{state}
-use Rattle.table_access.proofs.CallLemmas.{call_with}
 use Rattle.broker_core.specs.Machine.{IsCallerOfDigest, IsCallerOfToken}
 use Rattle.broker_core.specs.Text.{Text}
+use Rattle.broker_tables.proofs.QueryLemmas.{query_with}
 use Rattle.command_facts.specs.Primitives.{broker_primitives}
 use Rattle.command_facts.proofs.callers.caller_of.Goals as goal
 
 pub returns-in-Ok : goal.returns-in-Ok
 returns-in-Ok g c =
-    let old = state g.S.Store c.args.conn.now in
-    let new = state g.S.Store c.holder_of.new.conn in
-    record {
-      call = call_with old new c.holder_of.result _ _ (λ who h s held. (
-        subst (λ (o : Option (Bor (List ℕ))). IsCallerOfToken broker_primitives s (option_map (λ text. text.now) o) who) (sym c.in-Some.is)
-            (subst (λ (d : Text). IsCallerOfDigest s d who) (c.as_str.ensures.value ∙ c.in-Ok.ensures.ok) (h s held).0),
-        (h s held).1,
-      )) c.holder_of.ensures.call;
-      calm = c.holder_of.ensures.calm;
-    }
+    query_with (state g.S.Store c.args.conn.now) (state g.S.Store c.holder_of.new.conn) c.holder_of.result _ _ (λ who h s held. (
+      subst (λ (o : Option (Bor (List ℕ))). IsCallerOfToken broker_primitives s (option_map (λ text. text.now) o) who) (sym c.in-Some.is)
+          (subst (λ (d : Text). IsCallerOfDigest s d who) (c.as_str.ensures.value ∙ c.in-Ok.ensures.ok) (h s held).0),
+      (h s held).1,
+    )) c.holder_of.ensures

@@ -6,7 +6,7 @@ use Rattle.broker_tables.specs.Holds.{QueriesBetween}
 use Rattle.contract_commands.specs.BranchPact.{IsNextBelow}
 use Rattle.contract_commands.specs.declared.branch_pact.BranchVersion.{BranchVersion}
 use Rattle.command_facts.proofs.CalmLemmas.{place_failed}
-use Rattle.contract_commands.proofs.FailLemmas.{placed}
+use Rattle.broker_tables.proofs.QueryLemmas.{placed}
 use Rattle.contract_commands.proofs.BranchLast.{none_there, none_shown, found_shown}
 use Rattle.command_facts.proofs.PerformLemmas.{read_both, read_held}
 use Rattle.contract_commands.proofs.branch_pact.content_below.Goals as goal

@@ -3,7 +3,7 @@ use Rattle.sqlite.specs.Held.{state}
 use Rattle.broker_core.specs.Text.{Text}
 use Rattle.registry_tables.specs.Registry.{IsNewestBelow}
 use Rattle.command_facts.proofs.PerformLemmas.{answers, read_both}
-use Rattle.contract_commands.proofs.FailLemmas.{placed}
+use Rattle.broker_tables.proofs.QueryLemmas.{placed}
 use Rattle.contract_commands.proofs.branch_pact.next_below.Goals as goal
 
 pub returns-in-Ok-contract_of-clause-read : goal.returns-in-Ok-contract_of-clause-read

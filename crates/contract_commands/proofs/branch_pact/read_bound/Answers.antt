@@ -1,15 +1,18 @@
-use Rattle.std.proofs.Common.{◌+◌, ap, ◌∙◌, arith}
+use Rattle.std.proofs.Common.{Ok, ◌+◌, ap, ◌∙◌, arith}
 use Rattle.sqlite.specs.Held.{state}
-use Rattle.command_facts.proofs.PerformLemmas.{answers}
+use Rattle.table_access.specs.declared.StoreFault.TheVariants.{Store}
+use Rattle.broker_tables.proofs.QueryLemmas.{in_place, read_never}
+use Rattle.command_facts.proofs.CalmLemmas.{calm_answers}
 use Rattle.contract_commands.proofs.branch_pact.read_bound.Goals as goal
 
-pub returns-in-Some-clause-answers : goal.returns-in-Some-clause-answers
-returns-in-Some-clause-answers g c =
-    answers (state g.S.Store c.args.conn.now) (state g.S.Store c.version_count.new.conn) c.in-Ok.value c.in-Some.bound _ _
-    (λ s is. c.in-Some.ensures.some ∙ ap (λ k. k + 1) is) c.in-Ok.ensures.call
+pub returns-in-Some : goal.returns-in-Some
+returns-in-Some g c =
+    let old = state g.S.Store c.args.conn.now in
+    let new = state g.S.Store c.version_count.new.conn in
+    calm_answers old new c.in-Ok.value c.in-Some.bound _ _ (λ s is. c.in-Some.ensures.some ∙ ap (λ k. k + 1) is) (in_place old new (Ok c.in-Ok.value) _ c.in-Ok.ensures)
 
-pub returns-in-None-clause-calm : goal.returns-in-None-clause-calm
-returns-in-None-clause-calm g c = λ clean s here few.
-    let is = (c.in-Ok.ensures.call.ok clean s here.held).0 in
-    let high = c.in-None.ensures.none in
-    absurd (omega (arith, is, high, few))
+-- there are fewer than 2^32 - 1
+pub returns-in-None : goal.returns-in-None
+returns-in-None g c =
+    read_never (state g.S.Store c.args.conn.now) (state g.S.Store c.version_count.new.conn) c.in-Ok.value Store _ _
+    (λ s here is. let count = (is s here.held).0 in let high = c.in-None.ensures.none in let few = here.readable.few_versions in omega (arith, count, high, few)) c.in-Ok.ensures.call

@@ -28,4 +28,4 @@ returns-in-Ok g c =
     let may = subst (λ (n : VersionNumber). CanName s v n) c.in-New.is can in
     let it = subst (λ (w : Version). AllowsVersionAs number w s → (t : State) × AddsVersion w number s t × Holds new.now t) same (adds s held) (new_allowed s v number may) in
     (it.0, new_named s v number it.0 may it.1, it.2))
-    c.in-Ok.ensures
+    c.in-Ok.ensures.changes

@@ -6,7 +6,7 @@ use Rattle.command_facts.specs.Primitives.{broker_primitives}
 use Rattle.command_facts.proofs.PerformLemmas.{shown_then}
 use Rattle.contract_commands.specs.Pacts.{HasReachedContent}
 use Rattle.contract_commands.proofs.ContentThere.{text_reached}
-use Rattle.contract_commands.proofs.FailLemmas.{calm_after}
+use Rattle.broker_tables.proofs.FailLemmas.{calm_after}
 use Rattle.contract_commands.proofs.PactLemmas.{shown_reached}
 use Rattle.contract_commands.proofs.pacts.get_pact.Goals as goal
 

@@ -8,7 +8,7 @@ use Rattle.command_facts.specs.Performs.{IsToChange}
 use Rattle.command_facts.proofs.PerformLemmas.{where_answered, where_then}
 use Rattle.contract_commands.specs.Numbering.{IsNumberFor}
 use Rattle.contract_commands.specs.Pacts.{HasNoContract, CanPublish, PutsPact}
-use Rattle.contract_commands.proofs.FailLemmas.{fails_after}
+use Rattle.broker_tables.proofs.FailLemmas.{fails_after}
 use Rattle.contract_commands.proofs.NumberingLemmas.{may_not_be_named, as_numbered}
 use Rattle.contract_commands.proofs.PactLemmas.{put_first}
 use Rattle.contract_commands.proofs.publish.publish_first.Goals as goal
@@ -39,6 +39,6 @@ returns-in-Some-clause-calm g c =
     let path = c.args.path.now in
     let version = c.in-Some.version in
     let to = IsToChange (PutsPact path c.args.text.now) in
-    fails_after old mid (state g.S.Store c.publish_numbered.new.conn) (Some version) c.publish_numbered.result (λ found s. IsNumberFor s.versions c.args.number found) _ (λ s. HasNoContract path c.args.number s × (has_room s.contents ≡ true)) (λ s. CanPublish path version s × (has_room s.contents ≡ true)) to to
-    (λ s held may it. (((as_numbered s (consumer_version path) c.args.number version may.0.1.number_is may.0.1.known_is may.0.0.1 it, may.0.1.content_is, may.0.0), may.1), λ made. made))
+    fails_after old mid (state g.S.Store c.publish_numbered.new.conn) (Some version) c.publish_numbered.result (λ found s. IsNumberFor s.versions c.args.number found) _ (HasNoContract path c.args.number) (CanPublish path version) to to
+    (λ s held may it. ((as_numbered s (consumer_version path) c.args.number version may.1.number_is may.1.known_is may.0.1 it, may.1.content_is, may.0), λ made. made))
     (rw c.in-Some.is at c.in-Ok.ensures.call) c.publish_numbered.ensures.answers c.publish_numbered.ensures.calm

@@ -1,13 +1,12 @@
-use Rattle.std.proofs.Common.{◌≡◌, inr, None, Some, true, false, refl, ◌||◌, Bool, sym, subst, ap, ◌∙◌, ◌&&◌}
+use Rattle.std.proofs.Common.{◌≡◌, inl, inr, None, Some, true, false, ◌||◌, sym, subst, ap, ◌∙◌, ◌&&◌, arith}
 use Rattle.std.specs.Prelude.{⊤}
-use Rattle.broker_core.specs.Limit.{has_room}
 use Rattle.sqlite.specs.Held.{state}
-use Rattle.broker_core.specs.Change.{Transition, put_pact, content_number, is_stored, named}
+use Rattle.broker_core.specs.Change.{Transition, put_pact, content_number, named}
 use Rattle.broker_core.specs.Request.{consumer_version}
 use Rattle.broker_core.specs.State.{State}
 use Rattle.broker_core.specs.declared.answer.Answer.TheVariants.{Done, Full}
 use Rattle.broker_core.specs.declared.answer.Detail.TheVariants.{Content}
-use Rattle.content_store.specs.Contents.{StoresIfRoom}
+use Rattle.content_store.specs.Contents.{has_place, StoresIfRoom}
 use Rattle.command_facts.specs.Performs.{IsToChange}
 use Rattle.command_facts.proofs.PerformLemmas.{where_told, where_told_then}
 use Rattle.broker_core.specs.Text.{Text}
@@ -19,14 +18,10 @@ use Rattle.contract_commands.proofs.PactLemmas.{published, put_first, can_record
 use Rattle.contract_commands.proofs.publish.publish_numbered.Goals as goal
 
 -- the pact is to be published
-to_publish : (path : PactPath) (text : Text) (version : VersionNumber) (s : State) → CanPublish path version s → has_room s.contents ≡ true → IsToChange (PutsPact path text) s
-to_publish path text version s can room =
+to_publish : (path : PactPath) (text : Text) (version : VersionNumber) (s : State) → CanPublish path version s → has_place s.contents text ≡ true → IsToChange (PutsPact path text) s
+to_publish path text version s can place =
     let v = consumer_version path in
-    (Content (content_number s text), published s v path.provider text, put_first s v path.provider text true can.1 (λ i. may_be_named s v version can.0 i && stored_or_room (is_stored s text) (has_room s.contents) room i))
-  where
-    stored_or_room : (a b : Bool) → b ≡ true → (a || b) ≡ true
-    stored_or_room true b is = refl
-    stored_or_room false b is = is
+    (Content (content_number s text), published s v path.provider text, put_first s v path.provider text true can.1 (λ i. may_be_named s v version can.0 i && place i))
 
 pub returns-in-None-clause-answers : goal.returns-in-None-clause-answers
 returns-in-None-clause-answers g c =
@@ -40,7 +35,7 @@ returns-in-None-clause-answers g c =
           let same : ◌≡◌ {A = Transition} (record { answer = Full; state = t }) (record { answer = Full; state = s }) = (λ i. record { answer = Full; state = next.0 i }) in
           same ∙ put_first s v path.provider text false can.1 (λ i. may_be_named s v c.args.version can.0 i && next.1 i),
     ))
-    (rw c.in-None.is at c.in-Ok.ensures)
+    (rw c.in-None.is at c.in-Ok.ensures.answers)
 
 pub returns-in-Ok-record_contract-clause-answers : goal.returns-in-Ok-record_contract-clause-answers
 returns-in-Ok-record_contract-clause-answers g c =
@@ -60,10 +55,16 @@ returns-in-Ok-record_contract-clause-answers g c =
             made ∙ put_first s v path.provider text true can.1 (λ i. may_be_named s v c.args.version can.0 i && next.2 i),
       ),
     ))
-    (rw c.in-Some.is at c.in-Ok.ensures) c.in-Ok-record_contract.ensures
+    (rw c.in-Some.is at c.in-Ok.ensures.answers) c.in-Ok-record_contract.ensures
 
 pub returns-in-Err-clause-calm : goal.returns-in-Err-clause-calm
-returns-in-Err-clause-calm g c = λ clean s here can. inr (to_publish c.args.path.now c.args.text.now c.args.version s can.0 can.1)
+returns-in-Err-clause-calm g c = λ clean s here can. elim (c.in-Err.ensures.calm clean s here) [
+  | inl ended ↦ inl ended
+  | inr adds ↦ inr (to_publish c.args.path.now c.args.text.now c.args.version s can (λ i. adds.0 i || adds.1 i))
+]
 
 pub returns-in-Err-record_contract-clause-calm : goal.returns-in-Err-record_contract-clause-calm
-returns-in-Err-record_contract-clause-calm g c = λ clean s here can. inr (to_publish c.args.path.now c.args.text.now c.args.version s can.0 can.1)
+returns-in-Err-record_contract-clause-calm g c = λ clean s here can.
+    let stored = rw c.in-Some.is at c.in-Ok.ensures.answers in
+    let it = stored.call.ok (omega (arith, c.in-Err-record_contract.ensures.call.survives.clean, clean)) s here.held tt in
+    inr (to_publish c.args.path.now c.args.text.now c.args.version s can it.1.2)

@@ -1,12 +1,11 @@
-use Rattle.std.proofs.Common.{◌≡◌, true}
+use Rattle.std.specs.Prelude.{⊤}
 use Rattle.sqlite.specs.Held.{state}
-use Rattle.broker_core.specs.Limit.{has_room}
 use Rattle.broker_core.specs.Machine.{StepOfCaller}
 use Rattle.broker_core.specs.declared.command.Command.TheVariants.{PutPact}
 use Rattle.command_facts.specs.Performs.{IsStepOf, IsToChange}
 use Rattle.command_facts.specs.Primitives.{broker_primitives}
 use Rattle.contract_commands.specs.Pacts.{Publishes}
-use Rattle.contract_commands.proofs.FailLemmas.{fails_with}
+use Rattle.command_facts.proofs.FailLemmas.{fails_with}
 use Rattle.contract_commands.proofs.PactLemmas.{form_fault}
 use Rattle.contract_commands.proofs.Unread.{unread, unread_fails}
 use Rattle.contract_commands.proofs.publish.put_pact.Goals as goal
@@ -17,12 +16,13 @@ returns-in-Err-clause-answers g c =
     (λ found is s. form_fault s c.args.caller.now c.args.path.now c.args.file.now found (c.in-Err.ensures.fault found is))
 
 pub returns-in-Err-clause-calm : goal.returns-in-Err-clause-calm
-returns-in-Err-clause-calm g c = unread_fails (state g.S.Store c.args.conn.now) c.in-Err.fault c.tell_unread.result _ _ c.tell_unread.ensures
+returns-in-Err-clause-calm g c = λ clean s here.
+    unread_fails (state g.S.Store c.args.conn.now) c.in-Err.fault c.tell_unread.result (λ s. ⊤) (IsToChange (IsStepOf c.args.caller.now (PutPact c.args.path.now c.args.file.now))) c.tell_unread.ensures clean s here tt
 
 pub returns-in-Ok-clause-calm : goal.returns-in-Ok-clause-calm
 returns-in-Ok-clause-calm g c =
     let caller = c.args.caller.now in
     let path = c.args.path.now in
     let file = c.args.file.now in
-    fails_with (state g.S.Store c.args.conn.now) (state g.S.Store c.publish.new.conn) c.publish.result (λ s. has_room s.contents ≡ true) (IsToChange (IsStepOf caller (PutPact path file))) (IsToChange (λ s out. Publishes s caller path c.in-Ok.pact.text out))
-    (λ s room made. (made.0, made.1, made.2 file c.in-Ok.ensures.pact)) c.publish.ensures.calm
+    fails_with (state g.S.Store c.args.conn.now) (state g.S.Store c.publish.new.conn) c.publish.result (IsToChange (λ s out. Publishes s caller path c.in-Ok.pact.text out)) (IsToChange (IsStepOf caller (PutPact path file)))
+    (λ s made. (made.0, made.1, made.2 file c.in-Ok.ensures.pact)) c.publish.ensures.calm

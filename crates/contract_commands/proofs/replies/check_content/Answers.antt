@@ -4,7 +4,7 @@ use Rattle.pact_reading.specs.Readings.{Tells}
 use Rattle.command_facts.specs.Performs.{IsToChange}
 use Rattle.contract_commands.specs.Checks.{Leads, Checks, CanLead, CanCheck}
 use Rattle.contract_commands.proofs.CheckLemmas.{pact_told}
-use Rattle.contract_commands.proofs.FailLemmas.{fails_after}
+use Rattle.broker_tables.proofs.FailLemmas.{fails_after}
 use Rattle.command_facts.proofs.PerformLemmas.{where_then}
 use Rattle.contract_commands.proofs.replies.check_content.Goals as goal
 

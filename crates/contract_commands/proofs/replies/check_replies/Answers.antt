@@ -8,7 +8,7 @@ use Rattle.command_facts.specs.Performs.{CallersStep, IsStepOf, IsToChange}
 use Rattle.command_facts.specs.Primitives.{broker_primitives}
 use Rattle.contract_commands.specs.Checks.{Checks, CanCheck}
 use Rattle.contract_commands.proofs.CheckLemmas.{replies_refused, replies_checked, step_checked, pact_there}
-use Rattle.contract_commands.proofs.FailLemmas.{fails_after}
+use Rattle.broker_tables.proofs.FailLemmas.{fails_after}
 use Rattle.command_facts.proofs.PerformLemmas.{performs_where, answered_then}
 use Rattle.contract_commands.proofs.ResultLemmas.{asks_to_check, provider_there}
 use Rattle.contract_commands.proofs.replies.check_replies.Goals as goal

@@ -9,7 +9,7 @@ use Rattle.pact_reading.specs.declared.checking.Comparison.TheVariants.{Failing}
 use Rattle.contract_commands.specs.Checks.{Leads}
 use Rattle.contract_commands.specs.Results.{HasPacticipant, IsToReport, told_as, reported_version}
 use Rattle.contract_commands.specs.declared.results.Reported.{Reported}
-use Rattle.contract_commands.proofs.FailLemmas.{fails_as}
+use Rattle.broker_tables.proofs.FailLemmas.{fails_as}
 use Rattle.contract_commands.proofs.CheckLemmas.{empty_is}
 use Rattle.command_facts.specs.Performs.{IsToChange}
 use Rattle.command_facts.proofs.PerformLemmas.{where_told}

@@ -7,7 +7,7 @@ use Rattle.broker_core.specs.declared.command.FormFault.TheVariants.{UnknownRepl
 use Rattle.command_facts.specs.Performs.{PerformsWhereBetween, IsToChange}
 use Rattle.contract_commands.specs.Results.{HasPacticipant}
 use Rattle.contract_commands.specs.Checks.{Leads}
-use Rattle.contract_commands.specs.Failures.{FailsFromBetween}
+use Rattle.broker_tables.specs.Calm.{FailsFromBetween}
 use Rattle.contract_commands.proofs.replies.tell_compared.Goals as goal
 
 pub returns-in-Failing-clause-answers : goal.returns-in-Failing-clause-answers

@@ -8,7 +8,7 @@ use Rattle.contract_commands.specs.Results.{HasPacticipant, IsToReport, Claims, 
 use Rattle.command_facts.specs.Performs.{IsToChange}
 use Rattle.command_facts.proofs.PerformLemmas.{where_told}
 use Rattle.contract_commands.specs.declared.results.Reported.{Reported}
-use Rattle.contract_commands.proofs.FailLemmas.{fails_as}
+use Rattle.broker_tables.proofs.FailLemmas.{fails_as}
 use Rattle.contract_commands.proofs.results.claim.Goals as goal
 
 pub returns-clause-answers : goal.returns-clause-answers

@@ -10,7 +10,7 @@ use Rattle.command_facts.specs.Primitives.{broker_primitives}
 use Rattle.command_facts.proofs.CallerSteps.{acts, refuses}
 use Rattle.command_facts.proofs.PerformLemmas.{performs_where, answered_then}
 use Rattle.contract_commands.specs.Results.{HasPacticipant, Claims}
-use Rattle.contract_commands.proofs.FailLemmas.{fails_after}
+use Rattle.broker_tables.proofs.FailLemmas.{fails_after}
 use Rattle.contract_commands.proofs.ResultLemmas.{asks_to_claim, provider_there}
 use Rattle.contract_commands.proofs.results.post_result.Goals as goal
 

@@ -14,7 +14,7 @@ use Rattle.broker_tables.proofs.QueryLemmas.{in_store, place_seq}
 use Rattle.contract_tables.specs.Verified.{told_of}
 use Rattle.contract_tables.specs.declared.lookups.ResultRow.{ResultRow}
 use Rattle.contract_commands.specs.Results.{HasPacticipant, IsToReport, IsUnused, reported_version, IsNumbered, told_row}
-use Rattle.contract_commands.proofs.FailLemmas.{fails_after}
+use Rattle.broker_tables.proofs.FailLemmas.{fails_after}
 use Rattle.contract_commands.proofs.ResultLemmas.{row_told, none_told, numbered}
 use Rattle.contract_commands.proofs.results.receive.Goals as goal
 

@@ -5,7 +5,7 @@ use Rattle.broker_tables.proofs.QueryLemmas.{in_store}
 use Rattle.broker_core.specs.Limit.{has_room}
 use Rattle.contract_commands.specs.Results.{reported_version, reported_result, CanReport, IsUnused, IsToReport}
 use Rattle.contract_commands.specs.declared.results.Reported.TheVariants.{Full}
-use Rattle.contract_commands.proofs.FailLemmas.{fails_after}
+use Rattle.broker_tables.proofs.FailLemmas.{fails_after}
 use Rattle.contract_commands.proofs.NumberingLemmas.{may_not_be_named, as_numbered}
 use Rattle.contract_commands.proofs.ResultLemmas.{no_place}
 use Rattle.contract_commands.proofs.results.receive_new.Goals as goal

@@ -6,7 +6,7 @@ use Rattle.broker_core.specs.State.{State}
 use Rattle.broker_tables.specs.Holds.{Holds}
 use Rattle.contract_commands.specs.Results.{reported_version, reported_result, recorded, Reports, CanReport, IsToReport}
 use Rattle.contract_commands.specs.declared.results.Reported.TheVariants.{Recorded, Full}
-use Rattle.contract_commands.proofs.FailLemmas.{fails_changing}
+use Rattle.broker_tables.proofs.FailLemmas.{fails_changing}
 use Rattle.contract_commands.proofs.NumberingLemmas.{may_be_named}
 use Rattle.contract_commands.proofs.ResultLemmas.{newly_recorded, no_place}
 use Rattle.contract_commands.proofs.results.receive_numbered.Goals as goal

@@ -6,9 +6,14 @@ use Rattle.broker_core.specs.declared.command.Command.TheVariants.{GetMatrix}
 use Rattle.command_facts.specs.Primitives.{broker_primitives}
 use Rattle.command_facts.proofs.CallerSteps.{acts}
 use Rattle.command_facts.proofs.PerformLemmas.{shown_then}
+use Rattle.environment_commands.proofs.FailLemmas.{calm_next}
 use Rattle.environment_commands.proofs.matrix.get_matrix.Goals as goal
 
-pub returns-in-Ok-admitted_to_matrix : goal.returns-in-Ok-admitted_to_matrix
-returns-in-Ok-admitted_to_matrix g c =
+pub returns-in-Ok-admitted_to_matrix-clause-answers : goal.returns-in-Ok-admitted_to_matrix-clause-answers
+returns-in-Ok-admitted_to_matrix-clause-answers g c =
     shown_then (state g.S.Store c.args.conn.now) (state g.S.Store c.read_version.new.conn) (state g.S.Store c.show_matrix.new.conn) c.in-Ok.value c.show_matrix.result _ _ (λ s out. StepOfCaller broker_primitives s c.args.caller.now (GetMatrix c.args.version.now) out)
-    (λ s h answer shows. acts s c.args.caller.now (GetMatrix c.args.version.now) refl (unchanged_with s answer) (c.in-Ok-admitted_to_matrix.ensures.let_through s c.args.caller.now c.args.version.now h) shows) c.in-Ok.ensures c.show_matrix.ensures.call
+    (λ s h answer shows. acts s c.args.caller.now (GetMatrix c.args.version.now) refl (unchanged_with s answer) (c.in-Ok-admitted_to_matrix.ensures.let_through s c.args.caller.now c.args.version.now h) shows) c.in-Ok.ensures.call c.show_matrix.ensures.call
+
+pub returns-in-Ok-admitted_to_matrix-clause-calm : goal.returns-in-Ok-admitted_to_matrix-clause-calm
+returns-in-Ok-admitted_to_matrix-clause-calm g c =
+    calm_next (state g.S.Store c.args.conn.now) (state g.S.Store c.read_version.new.conn) (state g.S.Store c.show_matrix.new.conn) c.in-Ok.value c.show_matrix.result _ _ c.in-Ok.ensures.call c.show_matrix.ensures.call c.show_matrix.ensures.calm

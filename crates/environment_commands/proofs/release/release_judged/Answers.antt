@@ -1,33 +1,55 @@
-use Rattle.std.proofs.Common.{◌≡◌, Some, sym, ap, ◌∙◌}
+use Rattle.std.proofs.Common.{◌≡◌, Some, Bool, true, List, sym, ap, ◌∙◌}
 use Rattle.sqlite.specs.Held.{state}
-use Rattle.std.specs.Prelude.{Bool, List, if◌then◌else◌}
-use Rattle.broker_core.specs.Change.{release as released, unchanged_with}
+use Rattle.std.specs.Prelude.{if◌then◌else◌}
+use Rattle.broker_core.specs.Change.{Transition, release as released, unchanged_with}
+use Rattle.broker_core.specs.Gate.{Judges}
 use Rattle.broker_core.specs.Machine.{TakesEffect}
+use Rattle.broker_core.specs.State.{State}
+use Rattle.broker_core.specs.Text.{Text}
 use Rattle.broker_core.specs.declared.answer.Answer.TheVariants.{NotPermitted}
 use Rattle.broker_core.specs.declared.command.Command.TheVariants.{Release}
+use Rattle.broker_core.specs.declared.command.Version.{Version}
 use Rattle.broker_core.specs.declared.need.PairFault.{PairFault}
 use Rattle.broker_tables.specs.Numbers.{number_of}
+use Rattle.environment_commands.specs.Effects.{Enacts}
 use Rattle.environment_commands.specs.Places.{IsAdmitted}
 use Rattle.command_facts.specs.Primitives.{broker_primitives}
 use Rattle.command_facts.proofs.PerformLemmas.{where_then, where_answered}
+use Rattle.environment_commands.proofs.FailLemmas.{fails_next}
 use Rattle.environment_commands.proofs.release.release_judged.Goals as goal
 
-pub returns-then-permitted : goal.returns-then-permitted
-returns-then-permitted g c =
-    where_then (state g.S.Store c.args.conn.now) (state g.S.Store c.judge.new.conn) (state g.S.Store c.record_release.new.conn) c.in-Ok.value c.record_release.result
-    (IsAdmitted c.args.environment.now c.args.version.now c.args.place) _ (λ s. number_of s.versions c.args.version.now ≡ Some c.args.place.number) _ (λ s out. TakesEffect broker_primitives s (Release c.args.environment.now c.args.version.now) out)
-    (λ s admitted judged. (
-      admitted.1,
-      λ out is. (
-        c.in-Ok.value.0,
-        c.in-Ok.value.1.items,
-        judged admitted,
-        is ∙ sym (ap (λ (b : Bool). if b then released s c.args.environment.now c.args.version.now else unchanged_with s (NotPermitted c.in-Ok.value.1.items)) c.if-permitted.true),
-      ),
-    )) c.in-Ok.ensures.call c.record_release.ensures
+-- what the gate permits is done
+permitted_releases : (s : State) (e : Text) (v : Version) (permitted : Bool) (faults : List PairFault) → permitted ≡ true → Judges s v e permitted faults
+    → (out : Transition) → out ≡ released s e v → Enacts (Release e v) s out
+permitted_releases s e v permitted faults may judged out is = (
+  permitted,
+  faults,
+  judged,
+  is ∙ sym (ap (λ (b : Bool). if b then released s e v else unchanged_with s (NotPermitted faults)) may),
+)
 
-pub returns-else-permitted : goal.returns-else-permitted
-returns-else-permitted g c =
+pub returns-then-permitted-clause-answers : goal.returns-then-permitted-clause-answers
+returns-then-permitted-clause-answers g c =
+    let e = c.args.environment.now in
+    let v = c.args.version.now in
+    let judged = c.in-Ok.value in
+    where_then (state g.S.Store c.args.conn.now) (state g.S.Store c.judge.new.conn) (state g.S.Store c.record_release.new.conn) judged c.record_release.result
+    (IsAdmitted e v c.args.place) _ (λ s. number_of s.versions v ≡ Some c.args.place.number) _ (Enacts (Release e v))
+    (λ s admitted says. (admitted.1, permitted_releases s e v judged.0 judged.1.items c.if-permitted.true (says admitted)))
+    c.in-Ok.ensures.call c.record_release.ensures.answers
+
+pub returns-then-permitted-clause-calm : goal.returns-then-permitted-clause-calm
+returns-then-permitted-clause-calm g c =
+    let e = c.args.environment.now in
+    let v = c.args.version.now in
+    let judged = c.in-Ok.value in
+    fails_next (state g.S.Store c.args.conn.now) (state g.S.Store c.judge.new.conn) (state g.S.Store c.record_release.new.conn) judged c.record_release.result _ _ c.in-Ok.ensures.call c.record_release.ensures.answers
+    (IsAdmitted e v c.args.place) (λ s. number_of s.versions v ≡ Some c.args.place.number) _ (Enacts (Release e v))
+    (λ s admitted says. (admitted.1, permitted_releases s e v judged.0 judged.1.items c.if-permitted.true (says admitted)))
+    c.record_release.ensures.calm
+
+pub returns-else-permitted-clause-answers : goal.returns-else-permitted-clause-answers
+returns-else-permitted-clause-answers g c =
     where_answered (state g.S.Store c.args.conn.now) (state g.S.Store c.judge.new.conn) c.in-Ok.value (NotPermitted c.new.result)
     (IsAdmitted c.args.environment.now c.args.version.now c.args.place) _ (λ s out. TakesEffect broker_primitives s (Release c.args.environment.now c.args.version.now) out)
     (λ s admitted judged. (

@@ -12,8 +12,8 @@ use Rattle.deploy_tables.specs.Deployments.{without_instance}
 use Rattle.command_facts.proofs.PerformLemmas.{where_told}
 use Rattle.environment_commands.proofs.undeploy.remove_deployment.Goals as goal
 
-pub returns-then-value : goal.returns-then-value
-returns-then-value g c =
+pub returns-then-value-clause-answers : goal.returns-then-value-clause-answers
+returns-then-value-clause-answers g c =
     where_told (state g.S.Store c.args.conn.now) (state g.S.Store c.take_out.new.conn) c.in-Ok.value (Done Plain)
     (λ s. number_of s.versions c.args.version.now ≡ Some c.args.number) _ _ (λ s out. out ≡ undeployment s c.args.environment.now c.args.version.now c.args.instance.now)
     (λ s number. (
@@ -25,8 +25,8 @@ returns-then-value g c =
           ap (λ (t : State). record { answer = Done Plain; state = t }) same ∙ sym (ap (λ (b : Bool). if b then done after else unchanged_with s (Unknown missing.Deployed)) stood),
     )) c.in-Ok.ensures.taken
 
-pub returns-else-value : goal.returns-else-value
-returns-else-value g c =
+pub returns-else-value-clause-answers : goal.returns-else-value-clause-answers
+returns-else-value-clause-answers g c =
     where_told (state g.S.Store c.args.conn.now) (state g.S.Store c.take_out.new.conn) c.in-Ok.value (Unknown missing.Deployed)
     (λ s. number_of s.versions c.args.version.now ≡ Some c.args.number) _ _ (λ s out. out ≡ undeployment s c.args.environment.now c.args.version.now c.args.instance.now)
     (λ s number. (

@@ -18,9 +18,9 @@ returns-in-Ok-add_environment-clause-answers g c =
       record s { environments = put_at same_text s.environments c.args.environment.now (Some c.args.marks) },
       (ap s.environments c.as_str-in-None.ensures ∙ it.0, ap (λ (e : Text). record s { environments = put_at same_text s.environments e (Some c.args.marks) }) (sym c.as_str-in-None.ensures)),
       it.1,
-    )) c.in-Ok.ensures.answers.call c.in-Ok-add_environment.ensures
+    )) c.in-Ok.ensures.answers.call c.in-Ok-add_environment.ensures.changes
 
 pub returns-in-Err-add_environment-clause-calm : goal.returns-in-Err-add_environment-clause-calm
 returns-in-Err-add_environment-clause-calm g c =
     change_fails (state g.S.Store c.args.conn.now) (state g.S.Store c.marks_of.new.conn) (state g.S.Store c.add_environment.new.conn) c.in-Ok.value (Err c.in-Err-add_environment.fault) _ _ _
-    (λ s h. (Plain, _, (c.in-None.ensures.changes s c.args.environment.now c.requires (ap s.environments (sym c.as_str.ensures) ∙ sym h)).1)) c.in-Ok.ensures.answers.call c.in-Err-add_environment.ensures.call
+    (λ s h. (Plain, _, (c.in-None.ensures.changes s c.args.environment.now c.requires (ap s.environments (sym c.as_str.ensures) ∙ sym h)).1)) c.in-Ok.ensures.answers.call c.in-Err-add_environment.ensures.changes.call

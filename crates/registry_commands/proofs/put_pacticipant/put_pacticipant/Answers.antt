@@ -24,9 +24,9 @@ returns-clause-answers g c =
       record s { pacticipants = put_at same_text s.pacticipants c.args.pacticipant.now (Some c.args.team.now) },
       (ap s.pacticipants c.as_str.ensures ∙ it.0, ap (λ t. is_some (s.teams t)) c.as_str-in-None.ensures ∙ it.1, λ i. record s { pacticipants = put_at same_text s.pacticipants (sym c.as_str.ensures i) (Some (sym c.as_str-in-None.ensures i)) }),
       it.2,
-    )) c.in-Ok.ensures.call c.in-Ok-add_pacticipant.ensures
+    )) c.in-Ok.ensures.call c.in-Ok-add_pacticipant.ensures.changes
 
 pub returns-in-Err-add_pacticipant-clause-calm : goal.returns-in-Err-add_pacticipant-clause-calm
 returns-in-Err-add_pacticipant-clause-calm g c =
     change_fails (state g.S.Store c.args.conn.now) (state g.S.Store c.read_pacticipant_facts.new.conn) (state g.S.Store c.add_pacticipant.new.conn) c.in-Ok.value (Err c.in-Err-add_pacticipant.fault) _ _ _
-    (λ s h. (Plain, _, (c.in-None.ensures.changes s c.args.pacticipant.now h).2)) c.in-Ok.ensures.call c.in-Err-add_pacticipant.ensures.call
+    (λ s h. (Plain, _, (c.in-None.ensures.changes s c.args.pacticipant.now h).2)) c.in-Ok.ensures.call c.in-Err-add_pacticipant.ensures.changes.call

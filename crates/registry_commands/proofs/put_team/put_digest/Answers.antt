@@ -6,6 +6,7 @@ use Rattle.broker_core.specs.declared.answer.Detail.TheVariants.{Plain}
 use Rattle.registry_commands.specs.Facts.{PutsTeam}
 use Rattle.command_facts.proofs.FailLemmas.{change_fails}
 use Rattle.command_facts.proofs.PerformLemmas.{answered_then, changed_then}
+use Rattle.table_access.proofs.CallLemmas.{failed_then}
 use Rattle.registry_commands.proofs.put_team.put_digest.Goals as goal
 
 pub returns-in-Some-clause-answers : goal.returns-in-Some-clause-answers
@@ -18,9 +19,13 @@ returns-clause-answers g c =
       record s { teams = put_at same_text s.teams c.args.team.now (Some c.args.digest.now) },
       (ap s.teams c.as_str.ensures ∙ it.0, c.in-None.ensures.unused s h.holder_is, ap (λ (team : Text). record s { teams = put_at same_text s.teams team (Some c.args.digest.now) }) (sym c.as_str.ensures)),
       it.1,
-    )) c.in-Ok.ensures.call c.in-Ok-add_team.ensures
+    )) c.in-Ok.ensures.call c.in-Ok-add_team.ensures.changes
 
 pub returns-in-Err-add_team-clause-calm : goal.returns-in-Err-add_team-clause-calm
 returns-in-Err-add_team-clause-calm g c =
     change_fails (state g.S.Store c.args.conn.now) (state g.S.Store c.read_team_facts.new.conn) (state g.S.Store c.add_team.new.conn) c.in-Ok.value (Err c.in-Err-add_team.fault) _ _ _
-    (λ s h. (Plain, _, (c.in-None.ensures.changes s c.args.team.now h).1)) c.in-Ok.ensures.call c.in-Err-add_team.ensures.call
+    (λ s h. (Plain, _, (c.in-None.ensures.changes s c.args.team.now h).1)) c.in-Ok.ensures.call c.in-Err-add_team.ensures.changes.call
+
+pub returns-in-Err-add_team-clause-answers : goal.returns-in-Err-add_team-clause-answers
+returns-in-Err-add_team-clause-answers g c =
+    failed_then (state g.S.Store c.args.conn.now) (state g.S.Store c.read_team_facts.new.conn) (state g.S.Store c.add_team.new.conn) c.in-Ok.value c.in-Err-add_team.fault _ _ _ c.in-Ok.ensures.call c.in-Err-add_team.ensures.changes.call

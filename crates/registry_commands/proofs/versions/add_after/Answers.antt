@@ -16,4 +16,4 @@ returns g c =
     let same : version_named c.as_str.result.now c.as_str-2.result.now ≡ c.args.version.now = λ i. version_named (c.as_str.ensures i) (c.as_str-2.ensures i) in
     statement_ok old new c.in-Ok.value number _ _ (λ adds s held h.
     subst (λ (v : Version). AllowsVersionAs number v s → (t : State) × AddsVersion v number s t × Holds new.now t) same (adds s held)
-    (h.0, c.in-Some.ensures.some ∙ ap (λ k. k + 1) h.1)) c.in-Ok.ensures
+    (h.0, c.in-Some.ensures.some ∙ ap (λ k. k + 1) h.1)) c.in-Ok.ensures.changes

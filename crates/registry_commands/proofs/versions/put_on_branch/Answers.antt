@@ -13,4 +13,4 @@ returns-in-Some g c =
     let is_branch : c.args.branch.now ≡ Some c.as_str.result.now = c.in-Some.is ∙ ap Some (sym c.as_str.ensures) in
     statement_with old new c.add_branch.result _ _
     (λ u h s held v is apart. subst (λ (o : Option Text). Holds (state g.S.Store c.add_branch.new.conn).now (joined s v o)) (sym is_branch)
-    (h s held (joined s v (Some c.as_str.result.now)) (v, is, apart c.as_str.result.now is_branch, refl))) c.add_branch.ensures
+    (h s held (joined s v (Some c.as_str.result.now)) (v, is, apart c.as_str.result.now is_branch, refl))) c.add_branch.ensures.changes
