@@ -92,7 +92,7 @@ REPLIES = TWO_TEAMS + [
      '"providerVersion":"1","result":3,"success":false}]}'),
 ]
 STREAMS = {"the first run": FIRST_RUN, "a contract goes live": GOES_LIVE, "replies": REPLIES}
-# How often one COMMIT or ROLLBACK asks for memory at most, that of the making and that of a command.
+# How often one COMMIT asks for memory at most, that of the making and that of a command.
 MOST_AT_AN_END = {"making": 1, "command": 1}
 PHRASES = {200: "OK", 409: "Conflict", 422: "Unprocessable Entity", 500: "Internal Server Error",
            503: "Service Unavailable"}
@@ -178,6 +178,8 @@ class Stream:
         if STORE in answers:
             failed = answers.index(STORE)
             behind = answers[failed + 1:]
+            if self.is_rolled_back(failed):
+                raise ValueError(f"the broker was stopped by {self.at(failed)}, which changes nothing")
             if self.is_begun(answers[:failed]) and behind == [STOPPED] * len(behind):
                 return STORE_FAILED, failed
         elif self.is_begun(answers):
@@ -191,7 +193,7 @@ class Stream:
         return self.wanted(refused)[:len(others)] == others
 
     def try_failures(self, failures):
-        """Tries how often the store failed at each place: only if a COMMIT or a ROLLBACK was refused."""
+        """Tries how often the store failed at each place: only if a COMMIT was refused."""
         for place, times in failures.items():
             most = MOST_AT_AN_END["making" if place == "making" else "command"]
             if times > most:
@@ -219,8 +221,7 @@ def coarse_to_fine(count):
 
 
 def bring_out(program, folder):
-    """Refuses requests for memory until each of the ENDINGS has been seen; the store has to fail as a ROLLBACK is
-    refused."""
+    """Refuses requests for memory until each of the ENDINGS has been seen."""
     stream = Stream(program, folder, FIRST_RUN)
     numbers, found = coarse_to_fine(stream.count()), {}
     with concurrent.futures.ThreadPoolExecutor(len(os.sched_getaffinity(0))) as workers:
@@ -228,9 +229,8 @@ def bring_out(program, folder):
             batch = list(itertools.islice(numbers, 16))
             if not batch:
                 raise ValueError(f"not every ending is brought out: {found}")
-            for number, (outcome, place) in zip(batch, workers.map(stream.outcome, batch)):
-                if outcome != STORE_FAILED or stream.is_rolled_back(place):
-                    found.setdefault(outcome, number)
+            for number, (outcome, _) in zip(batch, workers.map(stream.outcome, batch)):
+                found.setdefault(outcome, number)
     for outcome in ENDINGS:
         print(f"{outcome}: request {found[outcome]} refused")
 
@@ -256,8 +256,8 @@ def refuse_each(program, folder, step):
             print(f"  {times}: {outcome}")
         failures = collections.Counter(place for _, place in found if place is not None)
         stream.try_failures(failures)
-        if step == 1 and not any(place != "making" and stream.is_rolled_back(place) for place in failures):
-            raise ValueError("no refused ROLLBACK is reported")
+        if step == 1 and not any(place != "making" for place in failures):
+            raise ValueError("no refused COMMIT is reported")
 
 
 main()

@@ -2,12 +2,12 @@
 # Refuses each request of the program for memory, one in each run, over three streams of requests: the first run, a
 # contract that goes live, and replies that are checked. In each run the command that the refusal met must be answered
 # 503 {"answer":"memory"} and all others as if it hadn't been sent; or the program ends with status 3 after whole
-# answers; or a commit or a rollback was refused, and the broker is stopped: at most once in the making, and at most once
-# at a command. Ends with 0 if all is so.
+# answers; or a commit was refused, and the broker is stopped: at most once in the making, and at most once at a command,
+# and never at one that changes nothing. Ends with 0 if all is so.
 # Usage: checks/refused-memory.sh PATH_OF_THE_PROGRAM [STEP]     with a STEP only each STEPth of them is refused
 #        checks/refused-memory.sh PATH_OF_THE_PROGRAM once       only until the program has ended with `memory`, with
 #                                                                `open 4` and with `serve 3`, and has reported a refused
-#                                                                ROLLBACK, each once: seconds
+#                                                                COMMIT, each once: seconds
 # Takes minutes: one run of the program for each time that it asks for memory, on each processor. `.ci/program` runs it
 # with `once`; the whole is run by hand.
 # Needs a C compiler (cc), the GNU C library, and python3. Ends with 77 if cc or python3 isn't there.

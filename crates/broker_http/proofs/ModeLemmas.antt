@@ -1,10 +1,15 @@
 -- From brokers to the machine.
-use Rattle.std.proofs.Common.{◌≡◌, ◌≢◌, ◌↔◌, inl, inr, ℕ, suc, ◌≤◌, Bool, true, false, IsTrue, List, [], ◌∷◌, Option, refl, sym, ap, ◌∙◌, subst, arith}
+use Rattle.std.proofs.Common.{◌≡◌, ◌≢◌, ◌↔◌, ◌⊎◌, inl, inr, ℕ, suc, ◌≤◌, Bool, true, false, IsTrue, List, [], ◌∷◌, Option, refl, sym, ap, ◌∙◌, subst, arith}
 use Rattle.std.specs.Prelude.{length, Contains}
+use Rattle.std.proofs.lemmas.Bool.{cases_Bool}
 use Rattle.sqlite.specs.Tree.{Trees}
 use Rattle.sqlite.proofs.StateLemmas.{survives_then}
 use Rattle.sqlite.specs.Held.{Held}
-use Rattle.sqlite.specs.State.{State, HasCleanDisk, Survives}
+use Rattle.sqlite.specs.State.{State, HasCleanDisk, Survives, HasCause, store_error}
+use Rattle.sqlite_trees.specs.declared.error.StoreError.{StoreError}
+use Rattle.sqlite_trees.specs.declared.error.StoreError.TheVariants.{OutOfMemory, Io, Corrupt, Full, Broken, Unstorable}
+use Rattle.table_access.specs.Calls.{HasFailed, fault_of}
+use Rattle.table_access.specs.declared.StoreFault.TheVariants.{Memory, Store}
 use Rattle.broker_core.specs.Machine.{is_step}
 use Rattle.broker_core.specs.State.{State as Broker}
 use Rattle.broker_core.specs.Text.{Text}
@@ -20,7 +25,7 @@ use Rattle.broker_http.specs.Stream.{Responses}
 use Rattle.http_requests.specs.declared.requests.Request.{Request}
 use Rattle.http_requests.specs.declared.requests.Request.TheVariants.{Refused, NoRoute, NoMethod, Asks}
 use Rattle.broker_http.specs.Exchange as exchange
-use Rattle.broker_http.specs.Serving.{Mode, ModeStep, IsInMode}
+use Rattle.broker_http.specs.Serving.{Mode, ModeStep, IsInMode, IsDiskAtFault, StopsOnlyBy}
 use Rattle.broker_http.specs.Serving.Mode.{Running, IsStopped}
 
 not_true : (b : Bool) → ¬ (b ≡ true) → b ≡ false
@@ -40,7 +45,48 @@ first_commit commit commits trees is = (0, omega arith, sym is)
 later_commit : (commit : Trees) (commits : List Trees) (trees : Trees) → Contains commits trees → Contains (commit ∷ commits) trees
 later_commit commit commits trees it = (suc it.0, omega (arith, it.1), it.2)
 
-module _ {X : Type 0} (shown : Held X → State) where
+-- ---- what stays of a connection
+
+-- the disk has failed no less often, the limit of steps is the same, and only a fault of the disk shuts it
+pub record IsSince (first here : State) : Type 0 where
+  pub up : first.faults ≤ here.faults
+  pub limit : here.step_limit ≡ first.step_limit
+  pub closes : HasCleanDisk here → IsTrue first.is_open → IsTrue here.is_open ⊎ HasCause first here ⊥ Io
+
+pub since_itself : (c : State) → IsSince c c
+since_itself c = record { up = omega arith; limit = refl; closes = λ clean is_open. inl is_open }
+
+since_then : {P : Trees → Type 0} (first here next : State) → IsSince first here → Survives here next P → HasCleanDisk next → IsSince first next
+since_then first here next since s clean = record {
+  up = omega (arith, since.up, s.counts);
+  limit = s.limit ∙ since.limit;
+  closes = λ _ is_open. elim (since.closes (still_clean _ _ s.clean clean) is_open) [ inl still ↦ elim (s.closes clean still) [ inl now ↦ inl now | inr more ↦ inr (omega (arith, since.up, more)) ] | inr more ↦ inr (omega (arith, s.counts, more)) ];
+}
+
+-- a failure of the store that isn't want of memory is one of the disk
+disk_at_fault : (old new : State) → HasFailed old new Store → IsDiskAtFault old new
+disk_at_fault old new failed = by failed.cause failed.fault_is failed.has
+  where
+    by : (cause : StoreError) → Store ≡ fault_of (store_error cause) → HasCause old new ⊥ cause → IsDiskAtFault old new
+    by OutOfMemory is has = absurd (let clash : Store ≡ Memory = is in cc)
+    by Io is has = inl has
+    by Corrupt is has = inl has
+    by Full is has = inl has
+    by Broken is has = inr has
+    by Unstorable is has = absurd has
+
+fault_since : (first old new : State) → IsSince first old → HasCleanDisk old → old.faults ≤ new.faults → IsDiskAtFault old new → IsDiskAtFault first new
+fault_since first old new since clean up (inl more) = inl (omega (arith, since.up, more))
+fault_since first old new since clean up (inr shut) = elim (cases_Bool first.is_open) [
+  | inl is_open ↦ elim (since.closes clean is_open) [ inl still ↦ absurd (let clash : true ≡ false = sym still ∙ shut in cc) | inr more ↦ inl (omega (arith, up, more)) ]
+  | inr was ↦ inr was
+]
+
+-- it is stopped only so, but for one that was stopped before
+abbrev pub StopsLater : Type 0 → State → State → Mode → Type 0
+StopsLater Before first here mode = Before ⊎ StopsOnlyBy first here mode
+
+module _ {X : Type 0} (Before : Type 0) (shown : Held X → State) where
   untouched : {P : Trees → Type 0} (old new : BrokerView X) → new ≡ old → Survives (shown old.connection) (shown new.connection) P
   untouched {P} old new same =
       subst (λ (b : BrokerView X). Survives (shown old.connection) (shown b.connection) P) (sym same) (outlives_itself (shown old.connection))
@@ -49,36 +95,48 @@ module _ {X : Type 0} (shown : Held X → State) where
   unwritten old new same = ((shown old.connection).now.trees, untouched old new same)
 
   -- an answer of a broker that runs
-  applied : (s : Broker) (token : Option Text) (command : Command) (answer : Answer) (new : BrokerView X)
+  applied : (first : State) (s : Broker) (token : Option Text) (command : Command) (answer : Answer) (new : BrokerView X)
       → (IsTrue new.is_stopped ↔ (answer ≡ answers.Store)) → Applies s token command (shown new.connection) answer
-      → (next : Mode) × ModeStep (Running s) token command answer next × IsInMode shown next new
-  applied s token command answer new stops (inl p) =
-      (Running p.next, inl (p.is_machines, p.step, p.teams_differ), (not_true new.is_stopped (λ yes. no_step answer p.is_machines (stops.0 yes)), p.keeps))
-  applied s token command answer new stops (inr (inl p)) =
-      (Running s, inr (inr (p.0, p.1, refl)), (not_true new.is_stopped (λ yes. let wrong = sym p.0 ∙ stops.0 yes in cc), p.2))
-  applied s token command answer new stops (inr (inr (inl p))) =
-      (Running s, inr (inl (p.0, refl)), (not_true new.is_stopped (λ yes. let wrong = sym p.0 ∙ stops.0 yes in cc), p.1))
-  applied s token command answer new stops (inr (inr (inr p))) =
-      (IsStopped s token command, (p.0, refl, refl, refl), (stops.1 p.0, p.1))
+      → (answer ≡ answers.Store → StopsOnlyBy first (shown new.connection) (IsStopped s token command))
+      → (next : Mode) × ModeStep (Running s) token command answer next × IsInMode shown next new × StopsLater Before first (shown new.connection) next
+  applied first s token command answer new stops (inl p) why =
+      (Running p.next, inl (p.is_machines, p.step, p.teams_differ), (not_true new.is_stopped (λ yes. no_step answer p.is_machines (stops.0 yes)), p.keeps), inr tt)
+  applied first s token command answer new stops (inr (inl p)) why =
+      (Running s, inr (inr (p.0, p.1, refl)), (not_true new.is_stopped (λ yes. let wrong = sym p.0 ∙ stops.0 yes in cc), p.2), inr tt)
+  applied first s token command answer new stops (inr (inr (inl p))) why =
+      (Running s, inr (inl (p.0, refl)), (not_true new.is_stopped (λ yes. let wrong = sym p.0 ∙ stops.0 yes in cc), p.1), inr tt)
+  applied first s token command answer new stops (inr (inr (inr p))) why =
+      (IsStopped s token command, (p.0, refl, refl, refl), (stops.1 p.0, p.1), inr (why p.0))
 
-  mode_step : (mode : Mode) (old new : BrokerView X) (token : Option Text) (command : Command) (answer : Answer)
-      → HasCleanDisk (shown new.connection) → IsInMode shown mode old → Applied shown old token command answer new
-      → (next : Mode) × ModeStep mode token command answer next × IsInMode shown next new
-  mode_step (Running s) old new token command answer clean held a = applied s token command answer new (a.stops held.0) (a.applies clean held.0 s held.1)
-  mode_step (IsStopped s of failed) old new token command answer clean held a =
+  mode_step : (first : State) (mode : Mode) (old new : BrokerView X) (token : Option Text) (command : Command) (answer : Answer)
+      → HasCleanDisk (shown new.connection) → IsInMode shown mode old → IsSince first (shown old.connection) → StopsLater Before first (shown old.connection) mode → Applied shown old token command answer new
+      → (next : Mode) × ModeStep mode token command answer next × IsInMode shown next new × StopsLater Before first (shown new.connection) next
+  mode_step first (Running s) old new token command answer clean held since stops a =
+      applied first s token command answer new (a.stops held.0) (a.applies clean held.0 s held.1)
+      (λ store unlimited readable. elim (a.calm clean held.0 store s (record { held = held.1; readable = readable; unlimited = since.limit ∙ unlimited })) [
+        | inl failed ↦ inl (fault_since first (shown old.connection) (shown new.connection) since (still_clean _ _ a.survives.1.clean clean) a.survives.1.counts (disk_at_fault (shown old.connection) (shown new.connection) failed))
+        | inr to_do ↦ inr to_do
+      ])
+  mode_step first (IsStopped s of failed) old new token command answer clean held since stops a =
       let still = a.stopped held.0 in
-      (IsStopped s of failed, (still.0, refl), subst (IsInMode shown (IsStopped s of failed)) (sym still.1) held)
+      let mode = IsStopped s of failed in
+      (mode, (still.0, refl), subst (λ (b : BrokerView X). IsInMode shown mode b) (sym still.1) held, subst (λ (b : BrokerView X). StopsLater Before first (shown b.connection) mode) (sym still.1) stops)
+
+  -- a message that leaves the broker alone
+  left_alone : (first : State) (mode : Mode) (old new : BrokerView X) → new ≡ old → IsInMode shown mode old → StopsLater Before first (shown old.connection) mode
+      → IsInMode shown mode new × StopsLater Before first (shown new.connection) mode
+  left_alone first mode old new same held stops = (subst (IsInMode shown mode) (sym same) held, subst (λ (b : BrokerView X). StopsLater Before first (shown b.connection) mode) (sym same) stops)
 
   -- a message and its response
-  exchanged : (mode : Mode) (old new : BrokerView X) (asked : Request) (response : Response)
-      → HasCleanDisk (shown new.connection) → IsInMode shown mode old → exchange.Responds (Applied shown) old asked response new
-      → (next : Mode) × exchange.Responds ModeStep mode asked response next × IsInMode shown next new
-  exchanged mode old new (Refused refusal is_bodiless) response clean held p = (mode, (p.0, refl), subst (IsInMode shown mode) (sym p.1) held)
-  exchanged mode old new (NoRoute closes) response clean held p = (mode, (p.0, refl), subst (IsInMode shown mode) (sym p.1) held)
-  exchanged mode old new (NoMethod resource closes) response clean held p = (mode, (p.0, refl), subst (IsInMode shown mode) (sym p.1) held)
-  exchanged mode old new (Asks token command closes) response clean held p =
-      let next = mode_step mode old new token command p.0 clean held p.1 in
-      (next.0, (p.0, next.1, p.2), next.2)
+  exchanged : (first : State) (mode : Mode) (old new : BrokerView X) (asked : Request) (response : Response)
+      → HasCleanDisk (shown new.connection) → IsInMode shown mode old → IsSince first (shown old.connection) → StopsLater Before first (shown old.connection) mode → exchange.Responds (Applied shown) old asked response new
+      → (next : Mode) × exchange.Responds ModeStep mode asked response next × IsInMode shown next new × StopsLater Before first (shown new.connection) next
+  exchanged first mode old new (Refused refusal is_bodiless) response clean held since stops p = let still = left_alone first mode old new p.1 held stops in (mode, (p.0, refl), still.0, still.1)
+  exchanged first mode old new (NoRoute closes) response clean held since stops p = let still = left_alone first mode old new p.1 held stops in (mode, (p.0, refl), still.0, still.1)
+  exchanged first mode old new (NoMethod resource closes) response clean held since stops p = let still = left_alone first mode old new p.1 held stops in (mode, (p.0, refl), still.0, still.1)
+  exchanged first mode old new (Asks token command closes) response clean held since stops p =
+      let next = mode_step first mode old new token command p.0 clean held since stops p.1 in
+      (next.0, (p.0, next.1, p.2), next.2, next.3)
 
   -- what the store promises of the connection, over one message
   survives : (old new : BrokerView X) (asked : Request) (response : Response) → exchange.Responds (Applied shown) old asked response new
@@ -107,13 +165,15 @@ module _ {X : Type 0} (shown : Held X → State) where
       → HasCleanDisk (shown new.connection) → HasCleanDisk (shown old.connection)
   all_clean old stream responses new rest p clean = still_clean _ _ (all_survive old stream responses new rest p).1.clean clean
 
-  -- what a broker answers is what the machine answers
-  pub machine : (mode : Mode) (old : BrokerView X) (stream : List ℕ) (responses : List Response) (new : BrokerView X) (rest : List ℕ)
+  -- what a broker answers is what the machine answers, and why it is stopped
+  pub machine : (first : State) (mode : Mode) (old : BrokerView X) (stream : List ℕ) (responses : List Response) (new : BrokerView X) (rest : List ℕ)
       → Responses (exchange.Exchange (Applied shown)) old stream responses new rest
-      → HasCleanDisk (shown new.connection) → IsInMode shown mode old
-      → (last : Mode) × Responses (exchange.Exchange ModeStep) mode stream responses last rest × IsInMode shown last new
-  machine mode old stream [] new rest p clean held = (mode, (refl, p.1), subst (IsInMode shown mode) (sym p.0) held)
-  machine mode old stream (response ∷ responses) new rest p clean held =
-      let here = exchanged mode old p.1 p.4.0 response (all_clean p.1 p.2 responses new rest p.5 clean) held p.4.2 in
-      let later = machine here.0 p.1 p.2 responses new rest p.5 clean here.2 in
-      (later.0, (p.0, here.0, p.2, p.3, (p.4.0, p.4.1, here.1), later.1), later.2)
+      → HasCleanDisk (shown new.connection) → IsInMode shown mode old → IsSince first (shown old.connection) → StopsLater Before first (shown old.connection) mode
+      → (last : Mode) × Responses (exchange.Exchange ModeStep) mode stream responses last rest × IsInMode shown last new × StopsLater Before first (shown new.connection) last
+  machine first mode old stream [] new rest p clean held since stops = let still = left_alone first mode old new p.0 held stops in (mode, (refl, p.1), still.0, still.1)
+  machine first mode old stream (response ∷ responses) new rest p clean held since stops =
+      let mid_clean = all_clean p.1 p.2 responses new rest p.5 clean in
+      let here = exchanged first mode old p.1 p.4.0 response mid_clean held since stops p.4.2 in
+      let once = survives old p.1 p.4.0 response p.4.2 in
+      let later = machine first here.0 p.1 p.2 responses new rest p.5 clean here.2 (since_then first (shown old.connection) (shown p.1.connection) since once.1 mid_clean) here.3 in
+      (later.0, (p.0, here.0, p.2, p.3, (p.4.0, p.4.1, here.1), later.1), later.2, later.3)

@@ -3,6 +3,7 @@ use Rattle.std.specs.Prelude.{◌≤◌, ℕ, Bool, List, length, Contains, Opti
 use Rattle.sqlite.specs.Tree.{Trees}
 use Rattle.sqlite.specs.Held.{Held}
 use Rattle.sqlite.specs.State.{State, HasCleanDisk, Survives}
+use Rattle.broker_core.specs.State.{State as Broker}
 use Rattle.broker_service.specs.BrokerView.{BrokerView}
 use Rattle.broker_service.specs.Calls.{Applied}
 use Rattle.http_messages.specs.Message.{Message}
@@ -11,7 +12,8 @@ use Rattle.http_responses.specs.Responses.{Response, Writes}
 use Rattle.http_responses.specs.declared.writing.WriteFault.{WriteFault}
 use Rattle.broker_http.specs.Exchange.{Exchange, Responds}
 use Rattle.broker_http.specs.Journal.{Journal, JournalStep, IsRunFrom, blank}
-use Rattle.broker_http.specs.Serving.{Mode, IsInMode, ServesStream}
+use Rattle.broker_http.specs.Serving.{Mode, IsInMode, StopsOnlyBy, ServesStream}
+use Rattle.broker_http.specs.Serving.Mode.{Running}
 use Rattle.broker_http.specs.declared.served.ServeFault.{ServeFault}
 use Rattle.broker_http.specs.declared.served.Served.{Served}
 
@@ -47,6 +49,12 @@ module _ {X : Type 0} (shown : Held X → State) (s t : BrokerView X) (before af
     pub machine : HasCleanDisk (shown t.connection) → (mode : Mode) → IsInMode shown mode s
         → (last : Journal) × IsInMode shown last.mode t × IsRunFrom mode last
         × ServesStream ByMachine (blank mode) last before after old new result
+    -- and if one of these answers stopped it, it was to a command that was to be done, or the disk failed, in each state
+    -- that can be read back; so no request that is refused or only reads stops a broker whose disk works
+    pub calm : HasCleanDisk (shown t.connection) → (first : Broker) → IsInMode shown (Running first) s
+        → (last : Journal) × IsInMode shown last.mode t × IsRunFrom (Running first) last
+        × ServesStream ByMachine (blank (Running first)) last before after old new result
+        × StopsOnlyBy (shown s.connection) (shown t.connection) last.mode
     -- what the store promises of the connection: it is shut by a fault of the disk alone, its step limit stays, and
     -- what a crash may leave it could leave before, or it is one of these commits, at most one a message
     pub survives : (commits : List Trees) × Survives (shown s.connection) (shown t.connection) (Contains commits)

@@ -1,8 +1,9 @@
 -- A broker that serves, as the machine or stopped.
-use Rattle.std.specs.Prelude.{◌≡◌, ◌≢◌, ◌⊎◌, ℕ, true, false, List, length, Option, Result, IfOk, IfErr}
+use Rattle.std.specs.Prelude.{◌≡◌, ◌≢◌, ◌⊎◌, ℕ, true, false, List, length, Option, None, Result, IfOk, IfErr}
 use Rattle.std.specs.Io.KnownBytes.{Appends, Consumes, IsAtEnd}
 use Rattle.sqlite.specs.Held.{Held}
-use Rattle.sqlite.specs.State.{State}
+use Rattle.sqlite.specs.State.{State, HasCause}
+use Rattle.sqlite_trees.specs.declared.error.StoreError.TheVariants.{Io, Broken}
 use Rattle.table_access.specs.Durability.{HoldsEither}
 use Rattle.broker_core.specs.Laws.{TeamsDiffer}
 use Rattle.broker_core.specs.Machine.{Step, is_step}
@@ -11,7 +12,9 @@ use Rattle.broker_core.specs.Text.{Text}
 use Rattle.broker_core.specs.declared.answer.Answer.{Answer}
 use Rattle.broker_core.specs.declared.answer.Answer.TheVariants as answers
 use Rattle.broker_core.specs.declared.command.Command.{Command}
+use Rattle.broker_tables.specs.Readable.{IsReadable}
 use Rattle.broker_service.specs.BrokerView.{BrokerView}
+use Rattle.broker_service.specs.Causes.{IsToBeDone}
 use Rattle.broker_service.specs.Ends.{HoldsNext}
 use Rattle.command_facts.specs.Patterns.{AsksPattern}
 use Rattle.command_facts.specs.Primitives.{broker_primitives}
@@ -51,6 +54,17 @@ module _ {X : Type 0} (shown : Held X → State) where
   IsInMode (Running s) b = (b.is_stopped ≡ false) × HoldsState s (shown b.connection)
   IsInMode (IsStopped s token command) b =
       (b.is_stopped ≡ true) × HoldsEither (λ db. Stores db s) (HoldsNext s token command) (shown b.connection)
+
+-- between the two, the disk failed or refused once more; or a fault of it had shut the connection before
+abbrev pub IsDiskAtFault : State → State → Type 0
+IsDiskAtFault old new = HasCause old new ⊥ Io ⊎ HasCause old new ⊥ Broken
+
+-- Why a broker is stopped, over a connection on which no query has a limit of steps: in a state that can be read back,
+-- the disk failed, or the command was to be done.
+abbrev pub StopsOnlyBy : State → State → Mode → Type 0
+StopsOnlyBy old new (Running s) = Unit {0}
+StopsOnlyBy old new (IsStopped s token command) =
+    old.step_limit ≡ None → IsReadable s → IsDiskAtFault old new ⊎ IsToBeDone s token command
 
 module _ {S : Type 0} (Exchange : S → Message → Response → S → Type 0) (s t : S)
     (before after old new : Option (List ℕ)) where

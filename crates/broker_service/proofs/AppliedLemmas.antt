@@ -1,5 +1,5 @@
 -- What the broker's call leaves, put together from what its transaction leaves.
-use Rattle.std.proofs.Common.{◌≡◌, ◌↔◌, inl, inr, Option, Result, Ok, Err, IfOk, IfErr, false, IsTrue, refl, sym, subst, ◌∙◌}
+use Rattle.std.proofs.Common.{◌≡◌, ◌↔◌, inl, inr, Option, Result, Ok, Err, IfOk, false, IsTrue, refl, sym, subst, ◌∙◌}
 use Rattle.std.specs.Prelude.{◌≢◌}
 use Rattle.sqlite.specs.Held.{Held}
 use Rattle.sqlite.specs.State.{State, HasCleanDisk}
@@ -14,7 +14,7 @@ use Rattle.broker_core.specs.declared.answer.Answer.TheVariants as answers
 use Rattle.broker_core.specs.declared.command.Command.{Command}
 use Rattle.broker_service.specs.BrokerView.{BrokerView}
 use Rattle.broker_service.specs.Calls.{Applied}
-use Rattle.broker_service.specs.Causes.{HasReason, Transacted, answer_of}
+use Rattle.broker_service.specs.Causes.{Transacted}
 use Rattle.broker_service.specs.Ends.{Applies, AppliesOrFails, IsAsBefore, IsUnchangedUnless, IsNoFailure}
 use Rattle.broker_service.specs.Stored.{HoldsState}
 use Rattle.broker_service.proofs.EndLemmas.{deployed_exactly, released_exactly}
@@ -47,14 +47,11 @@ runs_told (Ok answer) it is = it.2 is
 runs_told (Err fault.Memory) it is = absurd (cc)
 runs_told (Err fault.Store) it is = absurd (cc)
 
--- a fault is told of a failure alone
-cause_told : (P : StoreFault → Type 0) (r : Result Answer StoreFault) (failure : StoreFault) → IfOk r IsNoFailure → IfErr r P → told r ≡ answer_of failure → P failure
-cause_told P (Ok answer) fault.Memory it cause is = absurd (it.0 is)
-cause_told P (Ok answer) fault.Store it cause is = absurd (it.1 is)
-cause_told P (Err fault.Memory) fault.Memory it cause is = cause
-cause_told P (Err fault.Memory) fault.Store it cause is = absurd (cc)
-cause_told P (Err fault.Store) fault.Memory it cause is = absurd (cc)
-cause_told P (Err fault.Store) fault.Store it cause is = cause
+-- Store is told of a failure alone
+store_told : (r : Result Answer StoreFault) → IfOk r IsNoFailure → told r ≡ answers.Store → r ≡ Err fault.Store
+store_told (Ok answer) it is = absurd (it.1 is)
+store_told (Err fault.Memory) it is = absurd (cc)
+store_told (Err fault.Store) it is = refl
 
 module _ {X : Type 0} (shown : Held X → State) where
   -- what a running broker's transaction leaves
@@ -67,7 +64,7 @@ module _ {X : Type 0} (shown : Held X → State) where
     releases = λ clean _ step s holds. released_exactly s token command _ answer (applies clean s holds) step;
     unchanged = λ clean _ other undone. unchanged_told _ _ r (it.unchanged clean) (subst (λ (a : Answer). a ≢ answers.Store) is other) (subst (λ (a : Answer). ¬ (IsDone a)) is undone);
     fails = λ clean store. fails_told _ _ r (it.unchanged clean) (sym is ∙ store);
-    cause = λ clean _ failure told_as. cause_told (HasReason shown old.connection new.connection) r failure answered (it.cause clean) (sym is ∙ told_as);
+    calm = λ clean _ store s holds. it.calm clean s holds (store_told r answered (sym is ∙ store));
     over = it.over;
     stops = λ _. stops;
     stopped = λ stopped. absurd (cc);
@@ -86,7 +83,7 @@ module _ {X : Type 0} (shown : Held X → State) where
     releases = λ clean running. absurd (cc);
     unchanged = λ clean running. absurd (cc);
     fails = λ clean store. absurd (cc);
-    cause = λ clean running. absurd (cc);
+    calm = λ clean running. absurd (cc);
     over = λ clean was. was;
     stops = λ running. absurd (cc);
     stopped = λ _. (refl, refl);

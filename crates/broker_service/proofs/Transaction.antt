@@ -1,7 +1,7 @@
 -- What a transaction leaves of the connection that it began on.
 use Rattle.std.proofs.Common.{◌≡◌, ◌↔◌, inl, inr, Bool, true, false, refl, IsTrue, IsOkAnd, IfOk, Result, Ok, Err, sym, subst, ◌∙◌, arith}
 use Rattle.sqlite.specs.Effect.{Database, IsDatabase}
-use Rattle.std.specs.Prelude.{⊤, if◌then◌else◌}
+use Rattle.std.specs.Prelude.{⊤, is_ok}
 use Rattle.sqlite.specs.Tree.{Trees}
 use Rattle.sqlite.proofs.StateLemmas.{survives_then}
 use Rattle.sqlite.specs.State.{State, HasCleanDisk, Survives}
@@ -13,7 +13,7 @@ use Rattle.table_access.specs.Durability.{HoldsDurably, HoldsEither}
 use Rattle.table_access.proofs.CallLemmas.{left_commit, statement_err, statement_seq}
 use Rattle.table_access.proofs.EndLemmas.{begins, commits, refused, keeps_unsure}
 use Rattle.broker_service.specs.Ends.{IsAsBefore, IsUnchangedUnless, AddsNoCrashState, CommitsAtMostOnce, LeavesNoTransaction}
-use Rattle.broker_service.specs.Transaction.{Finishes, Concludes, EndsOrFails}
+use Rattle.broker_service.specs.Transaction.{Finishes, Concludes, EndsOrFails, worst, conclusion}
 
 ended_left : (old new : State) → IsLeft old new → old.in_transaction ≡ false → old.now ≡ old.committed → IsTrue new.is_open → (new.in_transaction ≡ false) × (new.now ≡ new.committed)
 ended_left old new (inl same) outside settled now = (same.0.mode ∙ outside, same.0.now_is ∙ settled ∙ sym same.0.committed_is)
@@ -26,10 +26,10 @@ left_over old new it over now =
     ended_left old new it was.0 was.1 now
 
 -- behind its end no transaction is open
-pub finished_over : (done new : State) (keeps did : Bool) → Finishes done new keeps did → HasCleanDisk new → IsOver new
-finished_over done new true true it clean now = let commit = it.committed clean refl refl in (commit.0.mode, commit.0.now_is ∙ sym commit.0.committed_is)
-finished_over done new false did it clean now = (it.over clean (inl refl)).1 now
-finished_over done new true false it clean now = (it.over clean (inr refl)).1 now
+pub finished_over : (done new : State) (keeps : Bool) (ended : Result (Unit {0}) StoreFault) → Finishes done new keeps ended → HasCleanDisk new → IsOver new
+finished_over done new true (Ok u) it clean now = let commit = it.committed clean refl in (commit.0.mode, commit.0.now_is ∙ sym commit.0.committed_is)
+finished_over done new false ended it clean now = (it.over clean (inl refl)).1 now
+finished_over done new true (Err f) it clean now = (it.over clean (inr refl)).1 now
 
 -- the transaction isn't begun
 pub not_begun : (old new : State) → IsLeft old new → Survives old new (λ _. ⊥) → HasCleanDisk new → IsAsBefore old new
@@ -106,14 +106,14 @@ once_at_most a b s = (a.now.trees, outlives_as a b (λ trees never. absurd never
 
 -- ---- a whole transaction: begun, worked in, and committed or rolled back
 
-pub record IsTransaction {A : Type 0} (old mid done new : State) (r : Result A StoreFault) (X Keeps : A → Type 0) (keeps did : Bool) : Type 0 where
+pub record IsTransaction {A : Type 0} (old mid done new : State) (r : Result A StoreFault) (X Keeps : A → Type 0) (keeps : Bool) (ended : Result (Unit {0}) StoreFault) : Type 0 where
   pub begun : HasCleanDisk mid → Begins old mid
   pub begins : Survives old mid (λ _. ⊥)
   pub works : CallsTablesBetween mid done r X
   pub kept : IsTrue keeps ↔ IsOkAnd r Keeps
-  pub ends : Finishes done new keeps did
+  pub ends : Finishes done new keeps ended
 
-module _ {A : Type 0} (old mid done new : State) (r : Result A StoreFault) (X Keeps : A → Type 0) (keeps did : Bool) (t : IsTransaction old mid done new r X Keeps keeps did) where
+module _ {A : Type 0} (old mid done new : State) (r : Result A StoreFault) (X Keeps : A → Type 0) (keeps : Bool) (ended : Result (Unit {0}) StoreFault) (t : IsTransaction old mid done new r X Keeps keeps ended) where
   -- nothing is committed before the end
   within : Survives old done (λ _. ⊥)
   within = survives_then old mid done (λ _. ⊥) _ (λ _. ⊥) (λ _ db never. never) (λ clean db outside.
@@ -151,58 +151,73 @@ module _ {A : Type 0} (old mid done new : State) (r : Result A StoreFault) (X Ke
       rolled_back old mid done r X (begun_on clean) t.begins t.works (done_clean clean) new over.1 over.0 clean (outlives_as done new (λ trees is. absurd (let kept = is.0 in cc)) t.ends.survives)
 
   -- the commit is refused, behind work that went well
-  unsure : HasCleanDisk new → (P Q : Database → Type 0) → HoldsDurably P old → IsTrue keeps → did ≡ false → (HasCleanDisk done → IsTrue mid.in_transaction → GoesOn mid done) → Q done.now → HoldsEither P Q new
+  unsure : HasCleanDisk new → (P Q : Database → Type 0) → HoldsDurably P old → IsTrue keeps → is_ok ended ≡ false → (HasCleanDisk done → IsTrue mid.in_transaction → GoesOn mid done) → Q done.now → HoldsEither P Q new
   unsure clean P Q holds is_kept undone on has =
       let begun = begun_on clean in
       refused P old mid done r X holds begun t.begins t.works (done_clean clean) new Q ((on (done_clean clean) begun.1.mode).1 begun.1.is_open) (t.ends.live is_kept) t.ends.settled (t.ends.over clean (inr undone)).0 clean
       (outlives_as done new (λ trees is. is.1) t.ends.survives) has
 
   -- whatever was refused, the last commit is the old one
-  last_commit : HasCleanDisk new → did ≡ false → KeepsLastCommit old new
+  last_commit : HasCleanDisk new → is_ok ended ≡ false → KeepsLastCommit old new
   last_commit clean undone = commit_left old mid done r X (begun_on clean) t.begins t.works (done_clean clean) new (t.ends.over clean (inr undone)).0
 
 module _ {A : Type 0} (old mid done new : State) (X Keeps : A → Type 0) where
+  -- a commit is refused as Store
+  never_memory : (r : Result A StoreFault) → IsTransaction old mid done new r X Keeps true (Err fault.Memory) → ⊥
+  never_memory r t = let clash = t.ends.unsure refl in cc
+
+  -- where nothing is to be kept, a failure leaves what was there
+  module _ (r : Result A StoreFault) (ended : Result (Unit {0}) StoreFault) (t : IsTransaction old mid done new r X Keeps false ended) (clean : HasCleanDisk new) where
+    undone_ends : (P Q : Database → Type 0) (Answers : A → Type 0) → HoldsDurably P old → (f : StoreFault) → EndsOrFails P Q Answers new (Err f)
+    undone_ends P Q Answers holds fault.Memory = keeps_on P old new (as_before old mid done new r _ _ false ended t clean refl) holds
+    undone_ends P Q Answers holds fault.Store = keeps_unsure P Q new (keeps_on P old new (as_before old mid done new r _ _ false ended t clean refl) holds)
+
+    undone_unchanged : (f : StoreFault) → IsUnchangedUnless Keeps old new (Err f)
+    undone_unchanged fault.Memory = as_before old mid done new r _ _ false ended t clean refl
+    undone_unchanged fault.Store = (as_before old mid done new r _ _ false ended t clean refl).commit
+
   -- what it leaves of a connection that held a database of the kind P, and what it is answered by: from what is done
   -- before a commit, from the commit, and from that nothing has changed
-  ends : (P Q : Database → Type 0) (Answers : A → Type 0) (r : Result A StoreFault) (keeps did : Bool) → IsTransaction old mid done new r X Keeps keeps did → HasCleanDisk new → HoldsDurably P old
+  ends : (P Q : Database → Type 0) (Answers : A → Type 0) (r : Result A StoreFault) (keeps : Bool) (ended : Result (Unit {0}) StoreFault) → IsTransaction old mid done new r X Keeps keeps ended → HasCleanDisk new → HoldsDurably P old
       → ((a : A) → P mid.now → X a → Keeps a → Q done.now)
       → ((a : A) → P mid.now → X a → Keeps a → ((R : Database → Type 0) → R done.now → HoldsDurably R new) → Answers a)
       → ((a : A) → P mid.now → X a → ¬ (Keeps a) → HoldsDurably P new → Answers a)
-      → EndsOrFails P Q Answers new (if did then r else Err fault.Store)
-  ends P Q Answers (Ok a) true true t clean holds next kept undone =
-      kept a (seen old mid done new (Ok a) _ _ true true t clean P holds) (t.works.ok (done_clean old mid done new (Ok a) _ _ true true t clean)) (t.kept.0 refl)
-      (λ R has. commits R done new (t.ends.committed clean refl refl) (t.ends.live refl) t.ends.settled has)
-  ends P Q Answers (Ok a) true false t clean holds next kept undone =
-      unsure old mid done new (Ok a) _ _ true false t clean P Q holds refl refl t.works.goes_on
-      (next a (seen old mid done new (Ok a) _ _ true false t clean P holds) (t.works.ok (done_clean old mid done new (Ok a) _ _ true false t clean)) (t.kept.0 refl))
-  ends P Q Answers (Ok a) false true t clean holds next kept undone =
-      undone a (seen old mid done new (Ok a) _ _ false true t clean P holds) (t.works.ok (done_clean old mid done new (Ok a) _ _ false true t clean)) (λ is. let yes = t.kept.1 is in cc)
-      (keeps_on P old new (as_before old mid done new (Ok a) _ _ false true t clean refl) holds)
-  ends P Q Answers (Err fault.Memory) false true t clean holds next kept undone = keeps_on P old new (as_before old mid done new (Err fault.Memory) _ _ false true t clean refl) holds
-  ends P Q Answers (Err fault.Store) false true t clean holds next kept undone = keeps_unsure P Q new (keeps_on P old new (as_before old mid done new (Err fault.Store) _ _ false true t clean refl) holds)
-  ends P Q Answers (Err f) true did t clean holds next kept undone = absurd (t.kept.0 refl)
-  ends P Q Answers r false false t clean holds next kept undone = keeps_unsure P Q new (keeps_on P old new (as_before old mid done new r _ _ false false t clean refl) holds)
+      → EndsOrFails P Q Answers new (conclusion r ended)
+  ends P Q Answers (Ok a) true (Ok u) t clean holds next kept undone =
+      kept a (seen old mid done new (Ok a) _ _ true (Ok u) t clean P holds) (t.works.ok (done_clean old mid done new (Ok a) _ _ true (Ok u) t clean)) (t.kept.0 refl)
+      (λ R has. commits R done new (t.ends.committed clean refl) (t.ends.live refl) t.ends.settled has)
+  ends P Q Answers (Ok a) true (Err fault.Store) t clean holds next kept undone =
+      unsure old mid done new (Ok a) _ _ true (Err fault.Store) t clean P Q holds refl refl t.works.goes_on
+      (next a (seen old mid done new (Ok a) _ _ true (Err fault.Store) t clean P holds) (t.works.ok (done_clean old mid done new (Ok a) _ _ true (Err fault.Store) t clean)) (t.kept.0 refl))
+  ends P Q Answers (Ok a) true (Err fault.Memory) t clean holds next kept undone = absurd (never_memory (Ok a) t)
+  ends P Q Answers (Ok a) false (Ok u) t clean holds next kept undone =
+      undone a (seen old mid done new (Ok a) _ _ false (Ok u) t clean P holds) (t.works.ok (done_clean old mid done new (Ok a) _ _ false (Ok u) t clean)) (λ is. let yes = t.kept.1 is in cc)
+      (keeps_on P old new (as_before old mid done new (Ok a) _ _ false (Ok u) t clean refl) holds)
+  ends P Q Answers (Err f) false (Ok u) t clean holds next kept undone = undone_ends (Err f) (Ok u) t clean P Q Answers holds f
+  ends P Q Answers (Err f) true ended t clean holds next kept undone = absurd (t.kept.0 refl)
+  ends P Q Answers r false (Err f) t clean holds next kept undone = undone_ends r (Err f) t clean P Q Answers holds (worst r f)
 
-  unchanged : (r : Result A StoreFault) (keeps did : Bool) → IsTransaction old mid done new r X Keeps keeps did → HasCleanDisk new → IsUnchangedUnless Keeps old new (if did then r else Err fault.Store)
-  unchanged (Ok a) true true t clean = λ undone. absurd (undone (t.kept.0 refl))
-  unchanged (Ok a) false true t clean = λ _. as_before old mid done new (Ok a) _ _ false true t clean refl
-  unchanged (Err fault.Memory) false true t clean = as_before old mid done new (Err fault.Memory) _ _ false true t clean refl
-  unchanged (Err fault.Store) false true t clean = (as_before old mid done new (Err fault.Store) _ _ false true t clean refl).commit
-  unchanged (Err f) true true t clean = absurd (t.kept.0 refl)
-  unchanged r keeps false t clean = last_commit old mid done new r _ _ keeps false t clean refl
+  unchanged : (r : Result A StoreFault) (keeps : Bool) (ended : Result (Unit {0}) StoreFault) → IsTransaction old mid done new r X Keeps keeps ended → HasCleanDisk new → IsUnchangedUnless Keeps old new (conclusion r ended)
+  unchanged (Ok a) true (Ok u) t clean = λ undone. absurd (undone (t.kept.0 refl))
+  unchanged (Ok a) true (Err fault.Store) t clean = last_commit old mid done new (Ok a) _ _ true (Err fault.Store) t clean refl
+  unchanged (Ok a) true (Err fault.Memory) t clean = absurd (never_memory (Ok a) t)
+  unchanged (Ok a) false (Ok u) t clean = λ _. as_before old mid done new (Ok a) _ _ false (Ok u) t clean refl
+  unchanged (Err f) false (Ok u) t clean = undone_unchanged (Err f) (Ok u) t clean f
+  unchanged (Err f) true ended t clean = absurd (t.kept.0 refl)
+  unchanged r false (Err f) t clean = undone_unchanged r (Err f) t clean (worst r f)
 
   -- an answer is what the work came to, on what was there before
-  told : (r : Result A StoreFault) (keeps did : Bool) → IsTransaction old mid done new r X Keeps keeps did → HasCleanDisk new → IfOk (if did then r else Err fault.Store) (λ a. IsTrue old.is_open × (mid.now ≡ old.now) × X a)
-  told (Ok a) keeps true t clean = let is = opened old mid done new (Ok a) _ _ keeps true t clean in (is.0, is.1, t.works.ok (done_clean old mid done new (Ok a) _ _ keeps true t clean))
-  told (Err f) keeps true t clean = tt
-  told r keeps false t clean = tt
+  told : (r : Result A StoreFault) (keeps : Bool) (ended : Result (Unit {0}) StoreFault) → IsTransaction old mid done new r X Keeps keeps ended → HasCleanDisk new → IfOk (conclusion r ended) (λ a. IsTrue old.is_open × (mid.now ≡ old.now) × X a)
+  told (Ok a) keeps (Ok u) t clean = let is = opened old mid done new (Ok a) _ _ keeps (Ok u) t clean in (is.0, is.1, t.works.ok (done_clean old mid done new (Ok a) _ _ keeps (Ok u) t clean))
+  told (Err f) keeps (Ok u) t clean = tt
+  told r keeps (Err f) t clean = tt
 
   -- where nothing that the work may come to on what was there is kept, nothing is committed
-  spares : (r : Result A StoreFault) (keeps did : Bool) → IsTransaction old mid done new r X Keeps keeps did → ((a : A) → mid.now ≡ old.now → X a → ¬ (Keeps a)) → HasCleanDisk new → AddsNoCrashState old new
-  spares r false did t never clean = adds_nothing old new (commits_nothing old mid done new r _ _ false did t refl) clean
-  spares (Err f) true did t never clean = absurd (t.kept.0 refl)
-  spares (Ok a) true did t never clean =
-      absurd (never a (opened old mid done new (Ok a) _ _ true did t clean).1 (t.works.ok (done_clean old mid done new (Ok a) _ _ true did t clean)) (t.kept.0 refl))
+  spares : (r : Result A StoreFault) (keeps : Bool) (ended : Result (Unit {0}) StoreFault) → IsTransaction old mid done new r X Keeps keeps ended → ((a : A) → mid.now ≡ old.now → X a → ¬ (Keeps a)) → HasCleanDisk new → AddsNoCrashState old new
+  spares r false ended t never clean = adds_nothing old new (commits_nothing old mid done new r _ _ false ended t refl) clean
+  spares (Err f) true ended t never clean = absurd (t.kept.0 refl)
+  spares (Ok a) true ended t never clean =
+      absurd (never a (opened old mid done new (Ok a) _ _ true ended t clean).1 (t.works.ok (done_clean old mid done new (Ok a) _ _ true ended t clean)) (t.kept.0 refl))
 
 -- one that was begun, worked in and concluded so
 pub record WholeTransaction {A : Type 0} (old mid done new : State) (X Keeps : A → Type 0) (result : Result A StoreFault) : Type 0 where
@@ -215,7 +230,7 @@ pub record WholeTransaction {A : Type 0} (old mid done new : State) (X Keeps : A
   pub concludes : Concludes done new keeps worked result
 
 module _ {A : Type 0} (old mid done new : State) (X Keeps : A → Type 0) (result : Result A StoreFault) (t : WholeTransaction old mid done new X Keeps result) where
-  parts : IsTransaction old mid done new t.worked X Keeps t.keeps t.concludes.did
+  parts : IsTransaction old mid done new t.worked X Keeps t.keeps t.concludes.ended
   parts = record { begun = t.begun; begins = t.begins; works = t.works; kept = t.kept; ends = t.concludes.ends }
 
   pub transaction_ends : (P Q : Database → Type 0) (Answers : A → Type 0) → HasCleanDisk new → HoldsDurably P old
@@ -224,32 +239,32 @@ module _ {A : Type 0} (old mid done new : State) (X Keeps : A → Type 0) (resul
       → ((a : A) → P mid.now → X a → ¬ (Keeps a) → HoldsDurably P new → Answers a)
       → EndsOrFails P Q Answers new result
   transaction_ends P Q Answers clean holds next kept undone =
-      subst (EndsOrFails P Q Answers new) (sym t.concludes.answer) (ends old mid done new X Keeps P Q Answers t.worked t.keeps t.concludes.did parts clean holds next kept undone)
+      subst (EndsOrFails P Q Answers new) (sym t.concludes.answer) (ends old mid done new X Keeps P Q Answers t.worked t.keeps t.concludes.ended parts clean holds next kept undone)
 
   pub transaction_unchanged : HasCleanDisk new → IsUnchangedUnless Keeps old new result
-  transaction_unchanged clean = subst (IsUnchangedUnless Keeps old new) (sym t.concludes.answer) (unchanged old mid done new X Keeps t.worked t.keeps t.concludes.did parts clean)
+  transaction_unchanged clean = subst (IsUnchangedUnless Keeps old new) (sym t.concludes.answer) (unchanged old mid done new X Keeps t.worked t.keeps t.concludes.ended parts clean)
 
   pub transaction_told : HasCleanDisk new → IfOk result (λ a. IsTrue old.is_open × (mid.now ≡ old.now) × X a)
-  transaction_told clean = subst (λ (r : Result A StoreFault). IfOk r (λ a. IsTrue old.is_open × (mid.now ≡ old.now) × X a)) (sym t.concludes.answer) (told old mid done new X Keeps t.worked t.keeps t.concludes.did parts clean)
+  transaction_told clean = subst (λ (r : Result A StoreFault). IfOk r (λ a. IsTrue old.is_open × (mid.now ≡ old.now) × X a)) (sym t.concludes.answer) (told old mid done new X Keeps t.worked t.keeps t.concludes.ended parts clean)
 
   pub transaction_spares : ((a : A) → mid.now ≡ old.now → X a → ¬ (Keeps a)) → HasCleanDisk new → AddsNoCrashState old new
-  transaction_spares = spares old mid done new X Keeps t.worked t.keeps t.concludes.did parts
+  transaction_spares = spares old mid done new X Keeps t.worked t.keeps t.concludes.ended parts
 
   pub transaction_begun : HasCleanDisk new → Begins old mid
-  transaction_begun = begun_on old mid done new t.worked _ _ t.keeps t.concludes.did parts
+  transaction_begun = begun_on old mid done new t.worked _ _ t.keeps t.concludes.ended parts
 
   pub transaction_over : LeavesNoTransaction old new
-  transaction_over clean was = finished_over done new t.keeps t.concludes.did t.concludes.ends clean
+  transaction_over clean was = finished_over done new t.keeps t.concludes.ended t.concludes.ends clean
 
   pub transaction_once : CommitsAtMostOnce old new
-  transaction_once = commits_once old mid done new t.worked _ _ t.keeps t.concludes.did parts
+  transaction_once = commits_once old mid done new t.worked _ _ t.keeps t.concludes.ended parts
 
   -- where nothing is to be kept
   pub transaction_undone : t.keeps ≡ false → Survives old new (λ _. ⊥)
-  transaction_undone = commits_nothing old mid done new t.worked _ _ t.keeps t.concludes.did parts
+  transaction_undone = commits_nothing old mid done new t.worked _ _ t.keeps t.concludes.ended parts
 
   pub transaction_as_before : t.keeps ≡ false → HasCleanDisk new → IsAsBefore old new
-  transaction_as_before unkept clean = as_before old mid done new t.worked _ _ t.keeps t.concludes.did parts clean unkept
+  transaction_as_before unkept clean = as_before old mid done new t.worked _ _ t.keeps t.concludes.ended parts clean unkept
 
 -- ---- one that wasn't begun
 

@@ -1,10 +1,10 @@
 -- what a public call of the broker promises, on any disk and any database: one record a call
-use Rattle.std.specs.Prelude.{◌≡◌, ◌≢◌, ◌↔◌, ℕ, List, false, IsTrue, Option, Some, None, Result, OnOk, IfOk, IfErr, IsErrAnd}
+use Rattle.std.specs.Prelude.{◌≡◌, ◌≢◌, ◌⊎◌, ◌↔◌, ℕ, List, false, IsTrue, Option, Some, None, Result, OnOk, IfOk, IfErr, IsErrAnd}
 use Rattle.sqlite.specs.Held.{Held}
 use Rattle.sqlite.specs.State.{State, HasCleanDisk, Survives}
-use Rattle.table_access.specs.Calls.{KeepsLastCommit}
+use Rattle.table_access.specs.Calls.{KeepsLastCommit, HasFailed}
 use Rattle.table_access.specs.Durability.{HoldsDurably}
-use Rattle.table_access.specs.declared.StoreFault.{StoreFault}
+use Rattle.table_access.specs.declared.StoreFault.TheVariants as faults
 use Rattle.broker_core.specs.Change.{instance_of}
 use Rattle.broker_core.specs.Laws.{IsDone}
 use Rattle.broker_core.specs.Machine.{is_step}
@@ -20,7 +20,7 @@ use Rattle.broker_tables.specs.Holds.{format}
 use Rattle.broker_tables.specs.Making.{IsBlank, IsMarked}
 use Rattle.broker_tables.specs.Schema.{no_schema}
 use Rattle.broker_service.specs.BrokerView.{BrokerView}
-use Rattle.broker_service.specs.Causes.{HasReason, answer_of}
+use Rattle.broker_service.specs.Causes.{HoldsReadable, IsToBeDone}
 use Rattle.broker_service.specs.Ends.{Applies, IsAsBefore, AddsNoCrashState, CommitsAtMostOnce, LeavesNoTransaction}
 use Rattle.broker_service.specs.Handed.{left_by, verdict}
 use Rattle.broker_service.specs.Headline.{RecordsExactly}
@@ -57,10 +57,11 @@ module _ {X : Type 0} (shown : Held X → State) where
     -- Store: the last commit is the old one, while its connection is open
     pub fails : HasCleanDisk (shown new.connection) → answer ≡ answers.Store
         → KeepsLastCommit (shown old.connection) (shown new.connection)
-    -- whatever the database is: Memory and Store are answered only if a transaction was begun, or if BEGIN was refused,
-    -- as what it was refused by
-    pub cause : HasCleanDisk (shown new.connection) → old.is_stopped ≡ false → (failure : StoreFault)
-        → answer ≡ answer_of failure → HasReason shown old.connection new.connection failure
+    -- Store, from a state that can be read back: the store failed, unless the command was to be done; so no refusal, no
+    -- request without a token and none that only reads stops a broker whose disk works
+    pub calm : HasCleanDisk (shown new.connection) → old.is_stopped ≡ false → answer ≡ answers.Store
+        → (s : Broker) → HoldsReadable s (shown old.connection)
+        → HasFailed (shown old.connection) (shown new.connection) faults.Store ⊎ IsToBeDone s token command
     -- whatever the answer is, no transaction is left open
     pub over : LeavesNoTransaction (shown old.connection) (shown new.connection)
     -- Store alone stops the broker

@@ -44,8 +44,8 @@ impl<S: Alter> Broker<S> {
     /// Makes the tables of a new broker, whose office has this token, on a database without tables.
     ///
     /// `NotEmpty`: there is a table, an index or a view; nothing is read or changed. `Memory`: the database is as it
-    /// was. `Store`: the database refused a call, the commit or a rollback; the last commit is the old one, and after a
-    /// refused commit a crash may leave the new broker's tables.
+    /// was. `Store`: the database refused the commit, or another call for another cause than memory; the last commit is
+    /// the old one, and after a refused commit a crash may leave the new broker's tables.
     pub fn create(
         alloc: Global,
         conn: Connection<S>,
@@ -109,10 +109,11 @@ impl<S: Alter> Broker<S> {
     /// contract with the partners that are there has a successful latest verification, no required provider is absent,
     /// and the caller's team is granted; otherwise the answer names every pair at fault, or what else refuses, and
     /// nothing changes. `Pattern`: replies were to be compared with a stored pact whose pattern was refused; nothing
-    /// has changed. `Memory`: an allocation failed, or the database has no memory; nothing has changed. `Store`: the
-    /// database refused the commit or a rollback, or another call for another cause than memory, or a row broke the
-    /// rules of the tables. From then on each answer is `Stopped`, and nothing changes. After a refused commit a crash
-    /// may leave the next state.
+    /// has changed. `Memory`: an allocation failed, or the database has no memory, be it for a rollback; nothing has
+    /// changed. `Store`: the database refused the commit, or another call for another cause than memory, or a row broke
+    /// the rules of the tables: from a state that can be read back, and on a disk that works, this comes only of a
+    /// command that is to change something. From then on each answer is `Stopped`, and nothing changes. After a refused
+    /// commit a crash may leave the next state.
     pub fn apply(&mut self, alloc: Global, token: Option<&str>, command: &Command) -> Answer
         ensures { Applied (state S.Store) self.old (token_of token.entry) command.now result self.new }
     {

@@ -1,21 +1,39 @@
 //! The end of a transaction.
+ghost use Rattle.std.specs.Prelude.{◌≡◌};
 ghost use Rattle.sqlite.specs.Held.{state};
+ghost use Rattle.broker_service.specs.Transaction as spec;
 ghost use Rattle.broker_service.specs.Transaction.{Concludes, Finishes};
 
 use sqlite::{Alter, Connection};
 use table_access::{StoreFault, commit, rollback};
 
-/// Ends the transaction: commits it if something is to be kept, and else rolls it back. The answer is whether the
-/// database did so. If it refused, nothing is committed, and after a refused commit a crash may leave what was to be
-/// kept.
-fn finish<S: Alter>(conn: &mut Connection<S>, keeps: bool) -> bool
+/// Ends the transaction: commits it if something is to be kept, and else rolls it back. If the database refused that,
+/// nothing is committed. A refused commit is `Store`, and a crash may leave what was to be kept. A refused rollback is
+/// what it was refused by, and leaves what a done one leaves.
+fn finish<S: Alter>(conn: &mut Connection<S>, keeps: bool) -> Result<(), StoreFault>
     ensures { Finishes (state S.Store conn.old) (state S.Store conn.new) keeps result }
 {
-    if keeps { commit(conn) } else { rollback(conn) }
+    if !keeps {
+        return rollback(conn);
+    }
+    if !commit(conn) {
+        return Err(StoreFault::Store);
+    }
+    Ok(())
+}
+
+/// The fault of a transaction whose end was refused by this one: it, or `Store`, if the work had failed by that.
+fn worst<A>(worked: &Result<A, StoreFault>, refusal: StoreFault) -> StoreFault
+    ensures { result ≡ spec.worst worked.now refusal }
+{
+    match worked {
+        Err(StoreFault::Store) => StoreFault::Store,
+        _ => refusal,
+    }
 }
 
 /// Ends the transaction of a work that came to this: commits it if something is to be kept, and else rolls it back. The
-/// answer is what the work came to, or `Store`, if the database refused that end.
+/// answer is what the work came to, or the fault of a refused end.
 pub(crate) fn conclude<S: Alter, A: Drop>(
     conn: &mut Connection<S>,
     worked: Result<A, StoreFault>,
@@ -23,9 +41,8 @@ pub(crate) fn conclude<S: Alter, A: Drop>(
 ) -> Result<A, StoreFault>
     ensures { Concludes (state S.Store conn.old) (state S.Store conn.new) keeps worked result }
 {
-    if finish(conn, keeps) {
-        worked
-    } else {
-        Err(StoreFault::Store)
+    match finish(conn, keeps) {
+        Ok(()) => worked,
+        Err(refusal) => Err(worst(&worked, refusal)),
     }
 }

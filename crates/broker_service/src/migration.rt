@@ -75,9 +75,9 @@ fn run<S: Alter>(conn: &mut Connection<S>) -> Result<Option<u32>, StoreFault>
 /// `NotABroker`: there is no table `meta` with its columns, its key and exactly one row; or its format is 1, and a
 /// table of that format isn't there, or has other columns or other keys. `Format`: the format in that row is this other
 /// one; today's is refused too. After both, and after `Memory`, the database is as it was.
-/// `Store`: the database refused a call, the commit or a rollback, or the format isn't a number from 0 to 2^32 - 1; the
-/// last commit is the old one, and after a refused commit a crash may leave today's database, whole. On a database that
-/// isn't of format 1 nothing is committed, whatever fails.
+/// `Store`: the database refused the commit, or another call for another cause than memory, or the format isn't a number
+/// from 0 to 2^32 - 1; the last commit is the old one, and after a refused commit a crash may leave today's database,
+/// whole. On a database that isn't of format 1 nothing is committed, whatever fails.
 pub fn migrate<S: Alter>(conn: &mut Connection<S>) -> Result<(), OpenFault>
     ensures { Migrated (state S.Store conn.old) (state S.Store conn.new) result }
 {

@@ -41,7 +41,7 @@ pub enum OpenFault {
     /// An allocation failed, or the database has no memory.
     #[error("out of memory")]
     Memory,
-    /// The database refused a call, a commit or a rollback for another cause.
+    /// The database refused a commit, or another call for another cause.
     #[error("the database failed")]
     Store,
 }

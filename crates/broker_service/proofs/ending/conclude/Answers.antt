@@ -1,8 +1,8 @@
-use Rattle.std.proofs.Common.{true, false, refl}
+use Rattle.std.proofs.Common.{Ok, Err, ap, refl}
 use Rattle.broker_service.proofs.ending.conclude.Goals as goal
 
-pub returns-then-finish : goal.returns-then-finish
-returns-then-finish g c = record { did = true; ends = c.if-finish.ensures; answer = refl }
+pub returns-in-Ok : goal.returns-in-Ok
+returns-in-Ok g c = record { ended = Ok tt; ends = c.in-Ok.ensures; answer = refl }
 
-pub returns-else-finish : goal.returns-else-finish
-returns-else-finish g c = record { did = false; ends = c.if-finish.ensures; answer = refl }
+pub returns-in-Err : goal.returns-in-Err
+returns-in-Err g c = record { ended = Err c.in-Err.refusal; ends = c.in-Err.ensures; answer = ap Err c.worst.ensures }

@@ -1,30 +1,47 @@
-use Rattle.std.proofs.Common.{inl, inr}
+use Rattle.std.proofs.Common.{inl, inr, refl}
 use Rattle.sqlite.specs.Held.{state}
 use Rattle.broker_service.proofs.Transaction.{outlives_as}
 use Rattle.broker_service.proofs.ending.finish.Goals as goal
 
-pub returns-then-keeps : goal.returns-then-keeps
-returns-then-keeps g c =
-    let old = state g.S.Store c.args.conn.now in
-    let new = state g.S.Store c.commit.new.conn in
-    record {
-      committed = λ clean _ did. c.commit.ensures.done clean did;
-      over = λ clean undone. elim undone [ inl never ↦ absurd (cc) | inr refused ↦ (let it = c.commit.ensures.refused clean refused in (it.0, it.1)) ];
-      refused = λ _ unkept _. absurd (cc);
-      live = λ _. c.commit.ensures.live;
-      settled = λ trees now may. g.met.S.Store.settled _ trees now may;
-      survives = outlives_as old new (λ trees is. (c.if-keeps.true, is)) c.commit.ensures.survives;
-    }
-
-pub returns-else-keeps : goal.returns-else-keeps
-returns-else-keeps g c =
+-- what is to be kept isn't, since the commit was refused
+pub returns-then-not-keeps : goal.returns-then-not-keeps
+returns-then-not-keeps g c =
     let old = state g.S.Store c.args.conn.now in
     let new = state g.S.Store c.rollback.new.conn in
     record {
-      committed = λ _ kept _. absurd (cc);
+      committed = λ _ kept. absurd (cc);
       over = λ clean _. (c.rollback.ensures.commit clean, c.rollback.ensures.over clean);
-      refused = λ clean _ undone. (c.rollback.ensures.tells clean).1 undone;
+      told = λ clean _. c.rollback.ensures.tells clean;
+      unsure = λ kept. absurd (cc);
       live = λ kept. absurd (cc);
       settled = λ trees now may. g.met.S.Store.settled _ trees now may;
       survives = outlives_as old new (λ trees never. absurd never) c.rollback.ensures.survives;
+    }
+
+pub returns : goal.returns
+returns g c =
+    let old = state g.S.Store c.args.conn.now in
+    let new = state g.S.Store c.commit.new.conn in
+    record {
+      committed = λ clean _. c.commit.ensures.done clean c.if-not-commit.false;
+      over = λ clean undone. elim undone [ inl never ↦ absurd (cc) | inr refused ↦ absurd (cc) ];
+      told = λ _ unkept. absurd (cc);
+      unsure = λ _. tt;
+      live = λ _. c.commit.ensures.live;
+      settled = λ trees now may. g.met.S.Store.settled _ trees now may;
+      survives = outlives_as old new (λ trees is. (c.if-not-keeps.false, is)) c.commit.ensures.survives;
+    }
+
+pub returns-then-not-commit : goal.returns-then-not-commit
+returns-then-not-commit g c =
+    let old = state g.S.Store c.args.conn.now in
+    let new = state g.S.Store c.commit.new.conn in
+    record {
+      committed = λ _ _. tt;
+      over = λ clean undone. let it = c.commit.ensures.refused clean c.if-not-commit.true in (it.0, it.1);
+      told = λ _ unkept. absurd (cc);
+      unsure = λ _. refl;
+      live = λ _. c.commit.ensures.live;
+      settled = λ trees now may. g.met.S.Store.settled _ trees now may;
+      survives = outlives_as old new (λ trees is. (c.if-not-keeps.false, is)) c.commit.ensures.survives;
     }

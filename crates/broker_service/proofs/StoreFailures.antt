@@ -1,0 +1,74 @@
+-- Why a transaction is answered Store: the store failed, or what the work fails by besides.
+use Rattle.std.proofs.Common.{◌≡◌, ◌⊎◌, inl, inr, ◌≤◌, Bool, true, false, Result, Ok, Err, IfErr, refl, sym, subst, ◌∙◌, arith}
+use Rattle.sqlite.specs.State.{State, HasCleanDisk, HasCause}
+use Rattle.sqlite_trees.specs.declared.error.StoreError.{StoreError}
+use Rattle.sqlite_trees.specs.declared.error.StoreError.TheVariants.{OutOfMemory, Io, Corrupt, Full, Broken, Unstorable}
+use Rattle.sqlite_trees.specs.View.{Tells}
+use Rattle.table_access.specs.Calls.{HasFailed, GoesOn, FailsAs}
+use Rattle.table_access.specs.Unit.{Begins, IsIdle, TellsRollback}
+use Rattle.table_access.specs.declared.StoreFault.{StoreFault}
+use Rattle.table_access.specs.declared.StoreFault.TheVariants.{Memory, Store}
+use Rattle.table_access.proofs.CallLemmas.{ended_since}
+use Rattle.broker_service.specs.Transaction.{conclusion}
+use Rattle.broker_service.proofs.Transaction.{IsTransaction, WholeTransaction, transaction_begun}
+
+-- a cause of an earlier call is one of both
+has_before : (a b c : State) (cause : StoreError) → b.faults ≤ c.faults → HasCause a b ⊥ cause → HasCause a c ⊥ cause
+has_before a b c OutOfMemory up h = tt
+has_before a b c Io up h = omega (arith, up, h)
+has_before a b c Corrupt up h = omega (arith, up, h)
+has_before a b c Full up h = omega (arith, up, h)
+has_before a b c Broken up h = h
+has_before a b c Unstorable up h = h
+
+-- a failure that ended the transaction is still one where nothing was left to end
+pub failed_idle : (a b c : State) (f : StoreFault) → HasFailed a b f → b.faults ≤ c.faults → IsIdle b c → HasFailed a c f
+failed_idle a b c f failed up idle = record {
+  cause = failed.cause;
+  fault_is = failed.fault_is;
+  has = has_before a b c failed.cause up failed.has;
+  over = idle.mode;
+  blamed = subst (λ b. Tells b failed.cause) (sym idle.blamed_is) failed.blamed;
+}
+
+module _ {A : Type 0} (old mid done new : State) (X Keeps : A → Type 0) (Why : Type 0) (clean : HasCleanDisk new) where
+  -- the failure of the work is that of the transaction
+  failed_work : (r : Result A StoreFault) (ended : Result (Unit {0}) StoreFault) → Begins old mid → IsTransaction old mid done new r X Keeps false ended → TellsRollback done new ended → (f : StoreFault) → HasFailed mid done f → HasFailed old new f
+  failed_work r (Ok u) begun t (inl idle) f failed =
+      failed_idle old done new f (ended_since old mid done f (begun.1.mode, λ _. begun.1.is_open) t.begins.counts failed) t.ends.survives.counts idle
+  failed_work r (Ok u) begun t (inr back) f failed = absurd (let clash = failed.over in let inside = back.0 in cc)
+  failed_work r (Err e) begun t refused f failed = absurd (let clash = failed.over in let inside = refused.1.0 in cc)
+
+  -- so is that of its end
+  failed_end : (r : Result A StoreFault) (e : StoreFault) → Begins old mid → IsTransaction old mid done new r X Keeps false (Err e) → GoesOn mid done → TellsRollback done new (Err e) → HasFailed old new e
+  failed_end r e begun t on refused =
+      let up : old.faults ≤ done.faults = omega (arith, t.begins.counts, t.works.survives.counts) in
+      ended_since old done new e (refused.1.0, λ _. on.1 begun.1.is_open) up refused.2
+
+  -- a transaction that goes on to a refused end
+  still_open : (e : StoreFault) → TellsRollback done new (Err e) → (f : StoreFault) → FailsAs mid done f → GoesOn mid done
+  still_open e refused f (inl on) = on
+  still_open e refused f (inr ended) = absurd (let clash = ended.over in let inside = refused.1.0 in cc)
+
+  fails : (r : Result A StoreFault) (keeps : Bool) (ended : Result (Unit {0}) StoreFault) → IsTransaction old mid done new r X Keeps keeps ended → Begins old mid → HasCleanDisk done → IfErr r (λ f. f ≡ Store → HasFailed mid done f ⊎ Why) → ((a : A) → X a → Keeps a → Why)
+      → conclusion r ended ≡ Err Store → HasFailed old new Store ⊎ Why
+  fails (Ok a) keeps (Ok u) t begun worked why kept is = absurd (cc)
+  fails (Ok a) true (Err e) t begun worked why kept is = inr (kept a (t.works.ok worked) (t.kept.0 refl))
+  fails (Ok a) false (Err Memory) t begun worked why kept is = absurd (cc)
+  fails (Ok a) false (Err Store) t begun worked why kept is = inl (failed_end (Ok a) Store begun t (t.works.goes_on worked begun.1.mode) (t.ends.told clean refl))
+  fails (Err f) true ended t begun worked why kept is = absurd (t.kept.0 refl)
+  fails (Err Memory) false (Ok u) t begun worked why kept is = absurd (cc)
+  fails (Err Memory) false (Err Memory) t begun worked why kept is = absurd (cc)
+  fails (Err Memory) false (Err Store) t begun worked why kept is =
+      let refused = t.ends.told clean refl in
+      inl (failed_end (Err Memory) Store begun t (still_open Store refused Memory (t.works.fails worked begun.1.mode)) refused)
+  fails (Err Store) false ended t begun worked why kept is = elim (why refl) [
+    | inl failed ↦ inl (failed_work (Err Store) ended begun t (t.ends.told clean refl) Store failed)
+    | inr may ↦ inr may
+  ]
+
+  -- a transaction is answered Store as its work, its begin or its end is, or since what is to be kept isn't
+  pub transaction_fails : (result : Result A StoreFault) (t : WholeTransaction old mid done new X Keeps result) → IfErr t.worked (λ f. f ≡ Store → HasFailed mid done f ⊎ Why) → ((a : A) → X a → Keeps a → Why) → result ≡ Err Store → HasFailed old new Store ⊎ Why
+  transaction_fails result t why kept is =
+      let worked : HasCleanDisk done = omega (arith, t.concludes.ends.survives.clean, clean) in
+      fails t.worked t.keeps t.concludes.ended (record { begun = t.begun; begins = t.begins; works = t.works; kept = t.kept; ends = t.concludes.ends }) (transaction_begun old mid done new X Keeps result t clean) worked why kept (sym t.concludes.answer ∙ is)

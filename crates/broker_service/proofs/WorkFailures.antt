@@ -1,0 +1,80 @@
+-- Why the work of a command fails: the store failed, a growth was refused, or its change was.
+use Rattle.std.proofs.Common.{◌≡◌, inl, inr, arith, true, false, Ok, Some, Option, Result, sym, ap, subst, ◌∙◌}
+use Rattle.std.proofs.lemmas.Result.{IfErr-weaker}
+use Rattle.sqlite.specs.State.{State, HasCleanDisk}
+use Rattle.table_access.specs.Calls.{CallsTablesBetween}
+use Rattle.table_access.specs.declared.StoreFault.{StoreFault}
+use Rattle.table_access.proofs.CallLemmas.{ended_since}
+use Rattle.broker_core.specs.Contents.{HasSoundContents}
+use Rattle.broker_core.specs.Change.{Transition}
+use Rattle.broker_core.specs.Machine.{IsCallerOfToken, is_step}
+use Rattle.broker_core.specs.State.{State as Broker}
+use Rattle.broker_core.specs.Text.{Text}
+use Rattle.broker_core.specs.declared.answer.Answer.{Answer}
+use Rattle.broker_core.specs.declared.answer.Answer.TheVariants as answers
+use Rattle.broker_core.specs.declared.command.Command.{Command}
+use Rattle.broker_core.specs.declared.policy.Caller.{Caller}
+use Rattle.broker_core.proofs.StepLemmas.{step_answers}
+use Rattle.broker_tables.specs.Calm.{Serves, FailsOnlyBy, HasFailedOrMemory, CalmQueriesBetween}
+use Rattle.broker_tables.proofs.QueryLemmas.{serves_on}
+use Rattle.command_facts.specs.Performs.{PerformsBetween, FailsToChangeBetween, IsStepOf, CallersStep, TokensStep, IsToChange}
+use Rattle.command_facts.specs.Primitives.{broker_primitives}
+use Rattle.broker_tables.specs.Calm.{FailsFromBetween}
+use Rattle.broker_service.specs.Ends.{IsNoFailure}
+
+module _ (old new : State) (r : Result Answer StoreFault) (caller : Caller) (given command : Command) (same : given ≡ command) where
+  -- a step of the command is what its caller does by it
+  changes : (s : Broker) → IsToChange (IsStepOf caller command) s → IsToChange (CallersStep caller given) s
+  changes s it =
+      let out : Transition = record { answer = answers.Done it.0; state = it.1 } in
+      (it.0, it.1, λ sound. inl (subst (λ (c : Command). IsStepOf caller c s out) (sym same) it.2))
+
+  -- a command that may change something
+  pub change_may_fail : FailsToChangeBetween old new (IsStepOf caller command) r → FailsFromBetween old new r (HasSoundContents broker_primitives) (IsToChange (CallersStep caller given))
+  change_may_fail why clean s here sound = IfErr-weaker r _ _ (λ fault it. elim it [ inl calm ↦ inl calm | inr change ↦ inr (changes s change) ]) (why clean s here)
+
+  -- one that does so only where each stored pact can be read again
+  pub sound_may_fail : FailsFromBetween old new r (HasSoundContents broker_primitives) (IsToChange (IsStepOf caller command)) → FailsFromBetween old new r (HasSoundContents broker_primitives) (IsToChange (CallersStep caller given))
+  sound_may_fail why clean s here sound = IfErr-weaker r _ _ (λ fault it. elim it [ inl calm ↦ inl calm | inr change ↦ inr (changes s change) ]) (why clean s here sound)
+
+-- a command that no change of it is refused of
+pub never_by_change : (old new : State) (r : Result Answer StoreFault) (Allows Changes : Broker → Type 0) → FailsOnlyBy old new r (HasFailedOrMemory old new) → FailsFromBetween old new r Allows Changes
+never_by_change old new r Allows Changes why clean s here allowed = IfErr-weaker r _ _ (λ fault it. inl it) (why clean s here)
+
+-- what a known caller's command does, the token's does
+pub tokens_step : (s : Broker) (token : Option Text) (command : Command) (caller : Caller) → IsCallerOfToken broker_primitives s token (Some caller) → (out : Transition) → CallersStep caller command s out → TokensStep token command s out
+tokens_step s token command caller who out it sound = elim (it sound) [ inl step ↦ inl (Some caller, who, step) | inr pattern ↦ inr (pattern.0, (caller, who, pattern.1)) ]
+
+-- a query, and then a command
+pub fails_then : {A : Type 0} (old mid new : State) (a : A) (r : Result Answer StoreFault) (P : A → Broker → Type 0) (Q : Answer → Type 0) (Allows Made Changes : Broker → Type 0) → ((s : Broker) → P a s → Made s → Changes s)
+    → CalmQueriesBetween old mid (Ok a) P → CallsTablesBetween mid new r Q → FailsFromBetween mid new r Allows Made → FailsFromBetween old new r Allows Changes
+fails_then old mid new a r P Q Allows Made Changes more one two why clean s here allowed =
+    let mid_clean : HasCleanDisk mid = omega (arith, two.survives.clean, clean) in
+    IfErr-weaker r _ _ (λ fault it. elim it [
+      | inl calm ↦ inl (elim calm [ inl failed ↦ inl (ended_since old mid new fault (one.call.goes_on mid_clean here.inside) one.call.survives.counts failed) | inr memory ↦ inr memory ])
+      | inr made ↦ inr (more s (one.call.ok mid_clean s here.held).0 made)
+    ]) (why clean s (serves_on old mid a P mid_clean one.call s here) allowed)
+
+-- ---- what a command came to is no failure
+
+step_is_none : (answer : Answer) → is_step answer ≡ true → IsNoFailure answer
+step_is_none answer step = (
+  λ is. let clash : true ≡ false = sym step ∙ ap is_step is in cc,
+  λ is. let clash : true ≡ false = sym step ∙ ap is_step is in cc,
+  λ is. let clash : true ≡ false = sym step ∙ ap is_step is in cc,
+)
+
+pattern_is_none : (answer : Answer) → answer ≡ answers.Pattern → IsNoFailure answer
+pattern_is_none answer pattern = (
+  λ is. let clash : answers.Pattern ≡ answers.Memory = sym pattern ∙ is in cc,
+  λ is. let clash : answers.Pattern ≡ answers.Store = sym pattern ∙ is in cc,
+  λ is. let clash : answers.Pattern ≡ answers.Stopped = sym pattern ∙ is in cc,
+)
+
+pub is_no_failure : (old new : State) (answer : Answer) (token : Option Text) (command : Command) → PerformsBetween old new (TokensStep token command) (Ok answer) → HasCleanDisk new → (s : Broker) → Serves old s → HasSoundContents broker_primitives s → IsNoFailure answer
+is_no_failure old new answer token command it clean s here sound =
+    let next = it.ok clean s here.held in
+    elim (next.1 sound) [
+      | inl step ↦ step_is_none answer (step_answers broker_primitives s token command _ step)
+      | inr pattern ↦ pattern_is_none answer (ap (λ out. out.answer) pattern.0)
+    ]
