@@ -3,3 +3,4 @@ pub mod ResultLemmas
 pub mod UnchangedLemmas
 pub mod RefusalLemmas
 pub mod ServingLemmas
+mod CallLemmas

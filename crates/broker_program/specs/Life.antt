@@ -1,19 +1,23 @@
 -- what a file keeps once a command over it has ended, in the words of the life of a broker's files (this project's own)
-use Rattle.std.specs.Prelude.{[], ◌∷◌, Some}
+use Rattle.std.specs.Prelude.{ℕ, List, [], ◌∷◌, Some}
 use Rattle.sqlite_disk.specs.declared.Disk.{Ghosts}
 use Rattle.sqlite_disk.specs.declared.Files.{Files}
 use Rattle.sqlite.specs.FileStore.{state as store_state}
+use Rattle.sqlite.specs.Files.{file_state}
 use Rattle.sqlite.specs.Recovery.{Image}
 use Rattle.sqlite.specs.WalFiles.{outcomes}
 use Rattle.sqlite.specs.declared.FileStore.{FileStore}
+use Rattle.broker_core.specs.Laws.{Exit}
+use Rattle.broker_core.specs.Machine.{Request}
 use Rattle.broker_core.specs.Text.{Text}
 use Rattle.broker_core.specs.declared.answer.Answer.{Answer}
 use Rattle.broker_core.specs.declared.command.Command.{Command}
 use Rattle.command_facts.specs.Primitives.{broker_primitives}
 use Rattle.broker_service.specs.Life.{Kept, Period, PeriodLeads, AreFilesOf}
 use Rattle.broker_service.specs.Life.Period.{Making, Migrating, Serving}
-use Rattle.broker_service.specs.Sessions.{exit_of}
+use Rattle.broker_service.specs.Sessions.{RunsCalls, exit_of}
 use Rattle.broker_program.specs.Making.{MakesBroker, MigratesFile}
+use Rattle.broker_program.specs.Serving.{ServesOver}
 use Rattle.broker_program.specs.Told.{BrokerAnswers}
 
 module _ {D : Type 0} (g : Ghosts D) where
@@ -42,3 +46,11 @@ module _ {D : Type 0} (g : Ghosts D) where
       → BrokerAnswers held token command answer store
       → KeepsAfter held (Serving ((record { token = Some token; command = command }, exit_of answer) ∷ []))
       (store_state store).may_leave
+
+  -- Of those that `serve` closed, over one opening: commands that its peers asked for, as its broker ran them one after
+  -- another from the first to the last.
+  abbrev pub ServingLeads : Type 0
+  ServingLeads =
+      (held : Image) (count : ℕ) (files : Files D) (it : ServesOver g held count files)
+      → (calls : List (Request × Exit)) × RunsCalls file_state it.broker calls it.end
+      × KeepsAfter held (Serving calls) (outcomes g files.log files.db)

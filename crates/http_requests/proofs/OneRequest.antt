@@ -27,7 +27,7 @@ use Rattle.http_requests.specs.Names.{IsNamed, IsPathName, name_or}
 use Rattle.http_requests.specs.Queries.{IsOnce, IsQueryName, values_at}
 use Rattle.http_requests.specs.Bodies.{IsData, only_object, or_empty, non_null, IsTextNamed, IsNameField, IsGivenName, IsOptionalName, some_or, IsTokenText, IsTokenField}
 use Rattle.http_requests.specs.Tokens.{IsTokenOf}
-use Rattle.http_requests.specs.Commands.{Continues, AndThen, WithFields, IsMade, IsTruthField, IsOptionalTruth, IsPactPath, IsVersionFields, IsVersionQuery, IsMove, IsSupport, IsGrant, IsParsed, IsCommand, or_malformed, pact_path, marks, report}
+use Rattle.http_requests.specs.Commands.{Continues, AndThen, WithFields, IsMade, IsTruthField, IsOptionalTruth, IsPactPath, IsVersionFields, IsVersionQuery, IsMove, IsSupport, IsGrant, IsParsed, IsCommand, or_malformed, pact_path, marks, report_on}
 use Rattle.http_requests.specs.Requests.{IsRequest, ByHead, ByResource, ByAsked, ByOperation, path_of, query_of, operation_asked}
 use Rattle.http_requests.specs.declared.requests.Request.{Request}
 use Rattle.http_requests.specs.declared.requests.Request.TheVariants as request
@@ -201,13 +201,13 @@ parsed_one operation.PostResult path query body =
     then_one _ _ (name_field_one (codes "providerApplicationVersion") fields) (λ v.
     then_one _ _ (truth_one (codes "success") fields) (λ success.
     then_one _ _ (optional_name_one (codes "run") fields) (λ run.
-    made_one (command.PostResult of (report v run) success))))))
+    made_one (command.PostResult of (report_on v run) success))))))
 parsed_one operation.PostReplies path query body =
     then_one _ _ (pact_path_one path) (λ of.
     fields_one body _ (λ fields.
     then_one _ _ (name_field_one (codes "providerApplicationVersion") fields) (λ v.
     then_one _ _ (optional_name_one (codes "run") fields) (λ run.
-    made_one (command.PostReplies of (report v run) body)))))
+    made_one (command.PostReplies of (report_on v run) body)))))
 parsed_one operation.Deploy path query body = move_one command.Deploy path body
 parsed_one operation.Undeploy path query body = move_one command.Undeploy path body
 parsed_one operation.Release path query body = support_one command.Release path body

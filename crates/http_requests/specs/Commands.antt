@@ -50,8 +50,8 @@ pact_path provider consumer version = record { provider = provider; consumer = c
 abbrev pub marks : Bool → Bool → Marks
 marks gated strict = record { gated = gated; strict = strict }
 
-abbrev pub report : Text → Option Text → Report
-report version run = record { provider_version = version; run = run }
+abbrev pub report_on : Text → Option Text → Report
+report_on version run = record { provider_version = version; run = run }
 
 -- the contract that the path names: provider, consumer, version
 abbrev pub IsPactPath : Text → Result PactPath FormFault → Type 0
@@ -132,7 +132,7 @@ IsPostResult path body =
     AndThen (IsNameField (codes "providerApplicationVersion") fields) (λ v.
     AndThen (IsTruthField (codes "success") fields) (λ success.
     AndThen (IsOptionalName (codes "run") fields) (λ run.
-    IsMade (command.PostResult of (report v run) success))))))
+    IsMade (command.PostResult of (report_on v run) success))))))
 
 abbrev pub IsPostReplies : Text → Text → Result Command FormFault → Type 0
 IsPostReplies path body =
@@ -140,7 +140,7 @@ IsPostReplies path body =
     WithFields body (λ fields.
     AndThen (IsNameField (codes "providerApplicationVersion") fields) (λ v.
     AndThen (IsOptionalName (codes "run") fields) (λ run.
-    IsMade (command.PostReplies of (report v run) body)))))
+    IsMade (command.PostReplies of (report_on v run) body)))))
 
 -- what a version does in an environment's instance
 abbrev pub IsMove : (Text → Version → Option Text → Command) → Text → Text → Result Command FormFault → Type 0
