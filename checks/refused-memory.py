@@ -114,6 +114,8 @@ STORE = answer(500, '{"answer":"store"}')
 STOPPED = answer(503, '{"answer":"stopped"}')
 OPEN_5 = b"open 5\n"
 STORE_FAILED = "the store failed, and the broker is stopped"
+MAKING_FAILED = "ended before the first answer, with open 5"
+NOTHING_CHANGED = "answered 503 at a command that changes nothing"
 
 
 def answers_of(out):
@@ -183,7 +185,9 @@ class Stream:
             if self.is_begun(answers[:failed]) and behind == [STOPPED] * len(behind):
                 return STORE_FAILED, failed
         elif self.is_begun(answers):
-            return "answered 503" if MEMORY in answers else "answered as without the refusal", None
+            if MEMORY not in answers:
+                return "answered as without the refusal", None
+            return NOTHING_CHANGED if self.is_rolled_back(answers.index(MEMORY)) else "answered 503", None
         raise ValueError(f"answered otherwise: {answers}")
 
     def is_begun(self, answers):
@@ -207,8 +211,8 @@ class Stream:
         return "the making" if place == "making" else f"{self.rows[place][1]} (request {place + 1})"
 
 
-ENDINGS = ["ended before the first answer, with memory", "ended before the first answer, with open 4",
-           "ended after whole answers, with serve 3", STORE_FAILED]
+ENDINGS = ["ended before the first answer, with memory", "ended before the first answer, with open 4", MAKING_FAILED,
+           "ended after whole answers, with serve 3", NOTHING_CHANGED]
 
 
 def coarse_to_fine(count):
@@ -256,7 +260,7 @@ def refuse_each(program, folder, step):
             print(f"  {times}: {outcome}")
         failures = collections.Counter(place for _, place in found if place is not None)
         stream.try_failures(failures)
-        if step == 1 and not any(place != "making" for place in failures):
+        if step == 1 and MAKING_FAILED not in found:
             raise ValueError("no refused COMMIT is reported")
 
 

@@ -6,8 +6,9 @@
 # and never at one that changes nothing. Ends with 0 if all is so.
 # Usage: checks/refused-memory.sh PATH_OF_THE_PROGRAM [STEP]     with a STEP only each STEPth of them is refused
 #        checks/refused-memory.sh PATH_OF_THE_PROGRAM once       only until the program has ended with `memory`, with
-#                                                                `open 4` and with `serve 3`, and has reported a refused
-#                                                                COMMIT, each once: seconds
+#                                                                `open 4`, with `serve 3` and, as the COMMIT of the making
+#                                                                is refused, with `open 5`, and has answered 503 to a
+#                                                                command that changes nothing, each once: seconds
 # Takes minutes: one run of the program for each time that it asks for memory, on each processor. `.ci/program` runs it
 # with `once`; the whole is run by hand.
 # Needs a C compiler (cc), the GNU C library, and python3. Ends with 77 if cc or python3 isn't there.
