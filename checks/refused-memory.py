@@ -216,9 +216,10 @@ ENDINGS = ["ended before the first answer, with memory", "ended before the first
 
 
 def coarse_to_fine(count):
-    """The numbers from 1 to count: the first ones, the last ones, then those that are far apart, and so on."""
+    """The numbers from 1 to count: the first ones, the last ones, those of the last command's ROLLBACK among them, then
+    those that are far apart, and so on."""
     yield from range(1, min(count, 16) + 1)
-    yield from range(count, max(count - 16, 0), -1)
+    yield from range(count, max(count - 512, 0), -1)
     steps = [4096, 512, 64, 8, 1]
     for step, above in zip(steps, [0, *steps]):
         yield from (number for number in range(step, count + 1, step) if not above or number % above)
