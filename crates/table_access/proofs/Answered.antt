@@ -24,7 +24,6 @@ use Rattle.sqlite.specs.Listing.{understood, IsSourceOf}
 use Rattle.sqlite.specs.State.{State, Shown, FailsToQuery, IsNotRun, IsNoStatement, Fails}
 use Rattle.sqlite.proofs.Callers.{IsPlain, command_of}
 use Rattle.sqlite_rules.specs.Lists.{Has}
-use Rattle.std.specs.Prelude.{⊤}
 use Rattle.table_access.specs.declared.StoreFault.{StoreFault}
 use Rattle.table_access.specs.declared.StoreFault.TheVariants.{Memory}
 use Rattle.table_access.specs.Calls.{HasFailed, fault_of}
@@ -86,10 +85,10 @@ is_statement sql params old plain is_it e (inr (c, is, why)) =
     ]
 
 -- a query that can be run, with no limit of steps, is refused by nothing
-pub never_refused : (sql : List ℕ) (params : Row) (db : Database) (q : Query) → Runs db.schema sql params q → (limit : Option ℕ) → limit ≡ None → (e : Error) → ¬ RefusesQuery limit db (record { lets = []; body = q }) params e
-never_refused sql params db q runs limit unlimited e (inl kind) = let clash : true ≡ false = sym runs.typed ∙ kind.1 in cc
-never_refused sql params db q runs limit unlimited e (inr (inl sum)) = no_sum _ params q runs.sumless sum.1
-never_refused sql params db q runs limit unlimited e (inr (inr stopped)) = let some = rw unlimited at stopped.1 in cc
+pub never_refused : (params : Row) (db : Database) (q : Query) → accepts_program db.schema [] q params ≡ true → sums_nothing q ≡ true → (limit : Option ℕ) → limit ≡ None → (e : Error) → ¬ RefusesQuery limit db (record { lets = []; body = q }) params e
+never_refused params db q typed sumless limit unlimited e (inl kind) = let clash : true ≡ false = sym typed ∙ kind.1 in cc
+never_refused params db q typed sumless limit unlimited e (inr (inl sum)) = no_sum _ params q sumless sum.1
+never_refused params db q typed sumless limit unlimited e (inr (inr stopped)) = let some = rw unlimited at stopped.1 in cc
 
 module _ (sql : List ℕ) (params : Row) (old new : State) (q : Query) (names : List (List ℕ)) (means : Means old.now.schema sql (Select (record { lets = []; body = q }) names)) (runs : Runs old.now.schema sql params q)
     (unlimited : old.step_limit ≡ None) where
@@ -102,7 +101,7 @@ module _ (sql : List ℕ) (params : Row) (old new : State) (q : Query) (names : 
       let bare = subst IsPlain h.1.is means.plain in
       let it = rw (bare.0, bare.1, append-nil params) at h.2 in
       let db : it.0 ≡ old.now = subst (λ b. IsSourceOf b old.now it.0) means.unlisted it.1 in
-      absurd (never_refused sql params old.now q runs old.step_limit unlimited e (subst₂ (λ k d. RefusesToRead old.step_limit k d params e) (ap command_of (sym h.1.is) ∙ means.is) db it.2))
+      absurd (never_refused params old.now q runs.typed runs.sumless old.step_limit unlimited e (subst₂ (λ k d. RefusesToRead old.step_limit k d params e) (ap command_of (sym h.1.is) ∙ means.is) db it.2))
 
   -- the transaction is over
   pub refusal_ends : (fault : StoreFault) → IsRefusedAs sql params old new fault → HasFailed old new fault

@@ -1,6 +1,5 @@
 -- One call on the tables, and one after another.
 use Rattle.std.proofs.Common.{inl, inr, ◌≡◌, ◌∙◌, true, false, IsTrue, refl, sym, ap, arith, Ok, Err, Result, IfOk, IfErr, OnOk, ℕ, List, Option, Some, None, ◌≤◌}
-use Rattle.std.specs.Prelude.{⊤}
 use Rattle.std.proofs.lemmas.Bool.{cases_Bool}
 use Rattle.sqlite.specs.Order.{Row}
 use Rattle.sqlite.specs.Tree.{Trees}

@@ -8,6 +8,7 @@ pub mod Maps
 pub mod Keys
 pub mod Steps
 pub mod Answered
+pub mod Edits
 pub mod Refused
 pub mod RefusedEnds
 pub mod Deleted
@@ -16,6 +17,7 @@ pub mod CallLemmas
 pub mod EndLemmas
 pub mod Creation
 pub mod Upsert
+pub mod UpsertRefused
 pub mod Joins
 pub mod ReadLemmas
 pub mod Parts

@@ -8,7 +8,7 @@ use Rattle.sqlite.specs.Tree.{Trees}
 use Rattle.sqlite.specs.Schema.{Schema}
 use Rattle.sqlite.specs.Table.{Table}
 use Rattle.sqlite.specs.Command.{Command}
-use Rattle.sqlite.specs.Command.TheVariants.{Insert}
+use Rattle.sqlite.specs.Command.TheVariants.{Insert, InsertOr, Delete}
 use Rattle.sqlite.specs.Source.TheVariants.{Values}
 use Rattle.sqlite.specs.Term.{Term}
 use Rattle.sqlite.specs.Rowids.TheVariants.{Chosen}
@@ -56,6 +56,21 @@ caused_by {A} {B} old new e more fails = (fails.0, fails.1, go fails.0 fails.2, 
 -- it shows no rows
 none_shown : (a b : Bool) → a ≡ false → b ≡ false → (a || (not false && (b || false))) ≡ true → ⊥
 none_shown a b quiet plain h = let e : false ≡ true = subst₂ (λ x y. (x || (not false && (y || false))) ≡ true) quiet plain h in cc
+
+-- a command on the rows of a table
+abbrev is_on_rows : Command → Bool
+is_on_rows (Insert at from) = true
+is_on_rows (InsertOr at way from clauses) = true
+is_on_rows (Delete at q) = true
+is_on_rows _ = false
+
+-- such a one is never out of place
+pub in_place : (old : State) (command : Command) → is_on_rows command ≡ true → (e : Error) → ¬ IsMisplaced old command e
+in_place old command rows e (inl (is, inl begins)) = let clash = sym rows ∙ ap is_on_rows begins.0 in cc
+in_place old command rows e (inl (is, inr (inl commits, outside))) = let clash = sym rows ∙ ap is_on_rows commits in cc
+in_place old command rows e (inl (is, inr (inr rolls, outside))) = let clash = sym rows ∙ ap is_on_rows rolls in cc
+in_place old command rows e (inr (is, name, inl releases, none)) = let clash = sym rows ∙ ap is_on_rows releases in cc
+in_place old command rows e (inr (is, name, inr back, none)) = let clash = sym rows ∙ ap is_on_rows back in cc
 
 module _ (sql : List ℕ) (params : Row) (old new : State) (command : Command) (Unfit : Error → Type 0) where
   -- what it does with these parameters, whatever its text
@@ -156,14 +171,7 @@ module _ (name : List ℕ) (tree : ℕ) (columns : List Column) (key : Option �
 
     -- an INSERT of one row fails as the store fails, or since the row is unfit
     pub insert_fails : (e : Error) → Executes sql params old new (Err e) → Fails old new ⊤ e ⊎ IsUnfit e
-    insert_fails e h = elim (change_fails sql params old new (Insert at (Values terms width)) IsUnfit means whole refl refl (λ e is same. absurd (placed e is)) (λ text e writes. unfit text e) e h) [ inl fails ↦ inl (caused_by old new e (λ big. tt) fails) | inr is ↦ inr is ]
+    insert_fails e h = elim (change_fails sql params old new (Insert at (Values terms width)) IsUnfit means whole refl refl (λ e is same. absurd (in_place old (Insert at (Values terms width)) refl e is)) (λ text e writes. unfit text e) e h) [ inl fails ↦ inl (caused_by old new e (λ big. tt) fails) | inr is ↦ inr is ]
       where
-        placed : (e : Error) → IsMisplaced old (Insert at (Values terms width)) e → ⊥
-        placed e (inl (is, inl begins)) = let k = begins.0 in cc
-        placed e (inl (is, inr (inl commits, outside))) = let k = commits in cc
-        placed e (inl (is, inr (inr rolls, outside))) = let k = rolls in cc
-        placed e (inr (is, name, inl releases, none)) = let k = releases in cc
-        placed e (inr (is, name, inr back, none)) = let k = back in cc
-
         unfit : (text : List ℕ) (e : Error) → Does old.step_limit (mode_of old) params old.now text None (Insert at (Values terms width)) (Err (Some e)) → IsUnfit e
         unfit text e h = row_refused e (subst (λ o. AtPlace (λ table. OnRows (record task { table = table }) (mode_of old) None (Insert at (Values terms width)) old.now.trees) o (Err (Some e))) found h)

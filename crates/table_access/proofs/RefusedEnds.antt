@@ -1,13 +1,17 @@
--- Why BEGIN and ROLLBACK are refused: the store failed, or they are out of place.
-use Rattle.std.proofs.Common.{◌≡◌, inl, inr, [], codes, true, false, IsTrue, Err, refl, ap}
+-- Why BEGIN, COMMIT and ROLLBACK are refused: the store failed, or they are out of place.
+use Rattle.std.proofs.Common.{◌≡◌, ◌≤◌, inl, inr, [], codes, true, false, IsTrue, Err, refl, ap, sym, subst, arith}
 use Rattle.sqlite.specs.Schema.{Schema}
-use Rattle.sqlite.specs.Command.TheVariants.{Begin, Rollback}
+use Rattle.sqlite.specs.Command.TheVariants.{Begin, Commit, Rollback}
 use Rattle.sqlite_tied.specs.Compute.{everything}
 use Rattle.sqlite.specs.declared.error.Error.{Error}
 use Rattle.sqlite.specs.Listing.{understood}
-use Rattle.sqlite.specs.State.{State, Executes, IsMisplaced, IsUnchanged, Fails}
+use Rattle.sqlite.specs.State.{State, Executes, HasCause, IsMisplaced, IsUnchanged, Fails}
+use Rattle.sqlite_trees.specs.declared.error.StoreError.{StoreError}
+use Rattle.sqlite_trees.specs.declared.error.StoreError.TheVariants.{OutOfMemory, Io, Corrupt, Full, Broken, Unstorable}
+use Rattle.sqlite_trees.specs.View.{Tells}
 use Rattle.table_access.specs.Calls.{HasFailed, fault_of}
-use Rattle.table_access.specs.Unit.{FailsToBegin, FailsToRollBack}
+use Rattle.table_access.specs.Unit.{FailsToBegin, FailsToCommit, FailsToRollBack, IsIdle}
+use Rattle.table_access.specs.declared.StoreFault.{StoreFault}
 use Rattle.table_access.specs.declared.StoreFault.TheVariants.{Store}
 use Rattle.table_access.proofs.Answered.{is_whole}
 use Rattle.table_access.proofs.Refused.{change_fails, caused_by}
@@ -20,6 +24,14 @@ begin_means schema = record { is = refl; plain = (refl, refl); unlisted = refl }
 begin_whole : (schema : Schema) → is_whole (codes "BEGIN") 0 (understood schema (codes "BEGIN")) ≡ true
 unfolding understood everything
 begin_whole schema = refl
+
+commit_means : (schema : Schema) → Means schema (codes "COMMIT") Commit
+unfolding understood everything
+commit_means schema = record { is = refl; plain = (refl, refl); unlisted = refl }
+
+commit_whole : (schema : Schema) → is_whole (codes "COMMIT") 0 (understood schema (codes "COMMIT")) ≡ true
+unfolding understood everything
+commit_whole schema = refl
 
 rollback_means : (schema : Schema) → Means schema (codes "ROLLBACK") Rollback
 unfolding understood everything
@@ -54,6 +66,21 @@ module _ (old new : State) where
     ],
   )
 
+  commit_placed : (e : Error) → IsMisplaced old Commit e → old.in_transaction ≡ false
+  commit_placed e (inl (is, inl begins)) = absurd (let k = begins.0 in cc)
+  commit_placed e (inl (is, inr ends)) = ends.1
+  commit_placed e (inr (is, name, inl releases, none)) = absurd (let k = releases in cc)
+  commit_placed e (inr (is, name, inr back, none)) = absurd (let k = back in cc)
+
+  pub commit_refused : (e : Error) → Executes (codes "COMMIT") [] old new (Err e) → FailsToCommit old new (fault_of e)
+  commit_refused e h = (
+    (e, refl, h),
+    elim (change_fails (codes "COMMIT") [] old new Commit (λ e. old.in_transaction ≡ false) (commit_means old.now.schema) (commit_whole old.now.schema) refl refl (λ e is same. commit_placed e is) (λ text e writes does. absurd writes) e h) [
+      | inl fails ↦ inl (has_failed e (caused_by old new e (λ big. let never = big.1 in cc) fails))
+      | inr outside ↦ inr outside
+    ],
+  )
+
   rollback_placed : (e : Error) → IsMisplaced old Rollback e → old.in_transaction ≡ false
   rollback_placed e (inl (is, inl begins)) = absurd (let k = begins.0 in cc)
   rollback_placed e (inl (is, inr ends)) = ends.1
@@ -66,3 +93,24 @@ module _ (old new : State) where
         | inl fails ↦ ((e, refl, h), (inside, fails.3), has_failed e (caused_by old new e (λ big. let never = big.1 in cc) fails))
         | inr outside ↦ absurd (let clash = outside in cc)
       ]
+
+-- ---- after a failure
+
+-- a cause of an earlier call is one of both
+has_before : (a b c : State) (cause : StoreError) → b.faults ≤ c.faults → HasCause a b ⊥ cause → HasCause a c ⊥ cause
+has_before a b c OutOfMemory up h = tt
+has_before a b c Io up h = omega (arith, up, h)
+has_before a b c Corrupt up h = omega (arith, up, h)
+has_before a b c Full up h = omega (arith, up, h)
+has_before a b c Broken up h = h
+has_before a b c Unstorable up h = h
+
+-- a failure that ended the transaction is still one where nothing was left to end
+pub failed_idle : (a b c : State) (f : StoreFault) → HasFailed a b f → b.faults ≤ c.faults → IsIdle b c → HasFailed a c f
+failed_idle a b c f failed up idle = record {
+  cause = failed.cause;
+  fault_is = failed.fault_is;
+  has = has_before a b c failed.cause up failed.has;
+  over = idle.mode;
+  blamed = subst (λ b. Tells b failed.cause) (sym idle.blamed_is) failed.blamed;
+}

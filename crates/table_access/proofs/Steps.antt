@@ -103,6 +103,10 @@ module _ (db : Database) (params : Row) (t : ℕ) (terms project : List Term) (o
       let kept = ap (map (λ (o : Output). o.1)) outputs ∙ map-map _ _ _ in
       subst₂ IsPermutation kept (sym answer.shown) (IsPermutation-map (λ (o : Output). o.1) answer.kept answer.ordered answer.same)
 
+  -- where it keeps one, that is shown alone
+  pub shown_one : (r : Row) → filter (keeps terms params) (db.trees t) ≡ r ∷ [] → rows ≡ shows project params r ∷ []
+  shown_one r found = one_permutation _ rows (subst (λ xs. IsPermutation xs rows) (ap (map (shows project params)) found) answered)
+
 module _ (sql : List ℕ) (params : Row) (old new : State) (t : ℕ) (terms project : List Term) (order : List (Term × Key)) (names : List (List ℕ))
     (means : Means old.now.schema sql (Select (record { lets = []; body = from_table t terms project order }) names)) (rows : List Row) (h : Shown sql params old new rows) where
   -- SELECT project FROM a table WHERE terms shows the rows that WHERE keeps, in some order
@@ -293,8 +297,7 @@ module _ (name : List ℕ) (tree : ℕ) (columns : List Column) (key : Option �
         let done = concludes task (mode_of old) command old.now.trees w.tally new.now (on_table command w.tally w.changed) in
         let shown = went done.1 in
         let put = went shown.2 in
-        let one : shown.0 ≡ shows (col 1 0 ∷ project) params r ∷ [] =
-        one_permutation _ shown.0 (subst (λ xs. IsPermutation xs shown.0) (ap (map (shows (col 1 0 ∷ project) params)) found) (answered old.now params tree terms (col 1 0 ∷ project) [] shown.0 shown.1)) in
+        let one = shown_one old.now params tree terms (col 1 0 ∷ project) [] shown.0 shown.1 r found in
         let edit = edit_of old.now.trees here (ids_of (shows (col 1 0 ∷ project) params r ∷ [])) Given 1 (shows (col 1 0 ∷ project) params r ∷ []) in
         let edited : Edited old.now.schema (mode_of old).keys old.now.trees edit (Ok put.0) = subst (λ xs. Edited old.now.schema (mode_of old).keys old.now.trees (edit_of old.now.trees here (ids_of xs) Given 1 xs) (Ok put.0)) one put.1 in
         let step = one_step old.now.schema (mode_of old).keys old.now.trees put.0 edit (calm_works old.now.schema (mode_of old).keys 0 tree (taken_by old.now.trees edit) edit.news calm) edited in

@@ -1,5 +1,5 @@
 -- What the three texts mean, under any schema.
-use Rattle.std.proofs.Common.{◌≡◌, ◌⊎◌, inl, inr, List, [], ℕ, codes, false, None, Some, Result, Ok, Err, IfErr, refl, sym, ap, subst, ◌∙◌}
+use Rattle.std.proofs.Common.{◌≡◌, ◌⊎◌, inl, inr, List, [], ℕ, codes, false, None, Some, Err, refl, sym, ap, subst, ◌∙◌}
 use Rattle.std.specs.Prelude.{⊤}
 use Rattle.std.proofs.lemmas.Bool.{cases_Bool}
 use Rattle.sqlite.specs.Order.{Row}
@@ -101,8 +101,3 @@ commit_commits old db h = elim (commits_as (codes "COMMIT") old Commit (commit_i
   | inl a ↦ a.1
   | inr b ↦ elim b [ inl c ↦ absurd (let e = c.1 in cc) | inr w ↦ absurd (let e = w.2.3 in cc) ]
 ]
-
--- the error of a text that was refused
-pub on_error : (sql : List ℕ) (old new : State) (r : Result ℕ Error) → Executes sql [] old new r → IfErr r (λ e. Executes sql [] old new (Err e))
-on_error sql old new (Ok count) h = tt
-on_error sql old new (Err e) h = h

@@ -18,10 +18,9 @@ use Rattle.sqlite.specs.Edit.{with_rowid, edit_of, without_all, id_in}
 use Rattle.sqlite.specs.View.{is_int}
 use Rattle.sqlite_rules.specs.Edit.{taken_by}
 use Rattle.sqlite_rules.specs.Calls.{ids_of}
-use Rattle.std.specs.List.Sorted.{IsPermutation}
 use Rattle.sqlite_keyed.proofs.ListLemmas.{IsPermutation-same}
 use Rattle.sqlite_keyed.proofs.RuleLemmas.{first_of_both}
-use Rattle.sqlite.proofs.Callers.{one_step, one_permutation}
+use Rattle.sqlite.proofs.Callers.{one_step}
 use Rattle.table_access.specs.Sound.{IsNumbered}
 use Rattle.table_access.proofs.Removal.{calm_works, left, numbered_filter, same_filter}
 use Rattle.std.proofs.Common.{Ordering, Less, slice_get, ◌&&◌}
@@ -54,7 +53,16 @@ use Rattle.sqlite.specs.Effect.{value_rows}
 use Rattle.sqlite.specs.Rows.{Written, Task, InsertsOr, Tries, TriesEach, Upserts, Puts, Updates, Edited, shown, nothing, count_of}
 use Rattle.sqlite.specs.Table.{Table}
 use Rattle.table_access.specs.Statements.{plain_table, from_table, keeps, shows, IsCalm, IsAdded, ChangesOnly}
-use Rattle.table_access.proofs.Steps.{went, same_value, put_one, put_splits, put_numbered, not_taken, answered}
+use Rattle.table_access.proofs.Steps.{went, same_value, put_one, put_splits, put_numbered, not_taken, shown_one}
+use Rattle.sqlite.specs.Query.{Query}
+
+-- WHERE the rowid is this parameter
+abbrev pub by_rowid : ℕ → List Term
+by_rowid n = op2 (Compare Eq Binary) (col 1 0) (col 0 n) ∷ []
+
+-- the columns that SET gives the row of that number
+abbrev pub setting : ℕ → ℕ → List Term → Query
+setting tree n project = from_table tree (by_rowid n) (col 1 0 ∷ project) []
 
 module _ (name : List ℕ) (tree : ℕ) (columns : List Column) (key : Option ℕ) (primary : List ℕ) (uniques : List (List ℕ)) (orders : List Order) (checks : List Term) (references : List Reference) where
   abbrev here : Table
@@ -68,7 +76,7 @@ module _ (name : List ℕ) (tree : ℕ) (columns : List Column) (key : Option �
     clause = record { target = Some target; update = Some q }
 
     -- no row has the key, and the row is put in; or one has it, and is updated
-    abbrev Either : Row → Trees → Written → Type 0
+    abbrev pub Either : Row → Trees → Written → Type 0
     Either new db w =
         (AreConflicts (Some target) schema.indexes here (db tree) new [] × Puts task new db (Ok w))
         ⊎ ((there : Row) × (more : List Row) × AreConflicts (Some target) schema.indexes here (db tree) new (there ∷ more) × Updates task q (params ++ rowid there ∷ shown here new) db (Ok w))
@@ -106,8 +114,7 @@ module _ (name : List ℕ) (tree : ℕ) (columns : List Column) (key : Option �
         let keep = keeps terms with in
         let seen = went h in
         let put = went seen.2 in
-        let one : seen.0 ≡ shows (col 1 0 ∷ project) with r ∷ [] =
-        one_permutation _ seen.0 (subst (λ xs. IsPermutation xs seen.0) (ap (map (shows (col 1 0 ∷ project) with)) found) (answered (record { schema = schema; trees = db }) with tree terms (col 1 0 ∷ project) [] seen.0 seen.1)) in
+        let one = shown_one (record { schema = schema; trees = db }) with tree terms (col 1 0 ∷ project) [] seen.0 seen.1 r found in
         let edit = edit_of db here (ids_of (shows (col 1 0 ∷ project) with r ∷ [])) Given 1 (shows (col 1 0 ∷ project) with r ∷ []) in
         let edited : Edited schema keys db edit (Ok put.0) = subst (λ xs. Edited schema keys db (edit_of db here (ids_of xs) Given 1 xs) (Ok put.0)) one put.1 in
         let step = one_step schema keys db put.0 edit (calm_works schema keys 0 tree (taken_by db edit) edit.news calm) edited in
@@ -163,11 +170,8 @@ module _ (name : List ℕ) (tree : ℕ) (columns : List Column) (key : Option �
   abbrev row_table : Table
   row_table = plain_table name tree columns key primary uniques orders checks references
 
-  abbrev by_rowid : List Term
-  by_rowid = op2 (Compare Eq Binary) (col 1 0) (col 0 n) ∷ []
-
   abbrev update : Program
-  update = record { lets = []; body = from_table tree by_rowid (col 1 0 ∷ project) [] }
+  update = record { lets = []; body = setting tree n project }
 
   -- the row is put in where no row has its key, and else the row that has it is taken out, and what SET makes of it put in
   abbrev pub Upserted : Row → Type 0
@@ -175,6 +179,21 @@ module _ (name : List ℕ) (tree : ℕ) (columns : List Column) (key : Option �
       (AreConflicts (Some target) old.now.schema.indexes row_table (old.now.trees tree) it [] × IsAdded (old.now.trees tree) (new.now.trees tree) (cast_row row_table it))
       ⊎ ((r : Row) × Has (old.now.trees tree) r × (conflicts (Some target) old.now.schema.indexes row_table it r ≡ true)
       × IsAdded (filter (λ x. not (is_eq (value_cmp (rowid x) (rowid r)))) (old.now.trees tree)) (new.now.trees tree) (cast_row row_table (shows project (params ++ rowid r ∷ shown row_table it) r)))
+
+  -- the row that is met is the one that WHERE keeps
+  pub meets : ((v : Value) (more : Row) → column (params ++ v ∷ more) n ≡ v) → IsNumbered (old.now.trees tree) → (there : Row) (more : List Row) (it : Row) → AreConflicts (Some target) old.now.schema.indexes row_table (old.now.trees tree) it (there ∷ more)
+      → (r : Row) × Has (old.now.trees tree) r × (conflicts (Some target) old.now.schema.indexes row_table it r ≡ true) × (rowid there ≡ rowid r)
+      × (filter (keeps (by_rowid n) (params ++ rowid there ∷ shown row_table it)) (old.now.trees tree) ≡ r ∷ [])
+      × ((x : Row) → Has (old.now.trees tree) x → keeps (by_rowid n) (params ++ rowid there ∷ shown row_table it) x ≡ is_eq (value_cmp (rowid x) (rowid r)))
+  meets placed numbered there more it found =
+      let rows = old.now.trees tree in
+      let hit = found.sound there (inl refl) in
+      let same : rowid there ≡ rowid hit.0 = ap rowid hit.3 in
+      let with = params ++ rowid there ∷ shown row_table it in
+      let where_row : (x : Row) → Has rows x → keeps (by_rowid n) with x ≡ is_eq (value_cmp (rowid x) (rowid hit.0)) =
+      λ x has. and_true (is_true (binary (Compare Eq Binary) (rowid x) (column with n))) ∙ ap (λ v. is_true (binary (Compare Eq Binary) (rowid x) v)) (placed (rowid there) (shown row_table it) ∙ same)
+      ∙ same_rowids x hit.0 (at_has _ rows x numbered.1 has) (at_has _ rows hit.0 numbered.1 hit.1) in
+      (hit.0, hit.1, hit.2, same, same_filter _ _ rows where_row ∙ filter_one rows numbered.0 hit.0 hit.1, where_row)
 
   -- where no foreign key acts, INSERT .. ON CONFLICT DO UPDATE puts one row in or updates the one in its way
   pub upsert_leaves : (terms : List Term) (width : ℕ) (row : Row) → slice_get old.now.schema.tables at ≡ Some row_table → value_rows params width (length terms / width) terms ≡ row ∷ []
@@ -198,16 +217,12 @@ module _ (name : List ℕ) (tree : ℕ) (columns : List Column) (key : Option �
               subst (λ (t : Trees). AllByRecursion (λ x. x.tree ≢ tree → t x.tree ≡ old.now.trees x.tree) old.now.schema.tables) trees into.2,
             )
         | inr some ↦
-            let hit = some.2.sound some.0 (inl refl) in
-            let there_is : rowid some.0 ≡ rowid hit.0 = ap rowid hit.3 in
+            let hit = meets placed numbered some.0 some.1 made some.2 in
+            let there_is : rowid some.0 ≡ rowid hit.0 = hit.3 in
             let with = params ++ rowid some.0 ∷ shown row_table made in
-            let where_row : (x : Row) → Has (old.now.trees tree) x → keeps by_rowid with x ≡ is_eq (value_cmp (rowid x) (rowid hit.0)) =
-            λ x has. and_true (is_true (binary (Compare Eq Binary) (rowid x) (column with n))) ∙ ap (λ v. is_true (binary (Compare Eq Binary) (rowid x) v)) (placed (rowid some.0) (shown row_table made) ∙ there_is)
-            ∙ same_rowids x hit.0 (at_has _ (old.now.trees tree) x numbered.1 has) (at_has _ (old.now.trees tree) hit.0 numbered.1 hit.1) in
-            let kept : filter (keeps by_rowid with) (old.now.trees tree) ≡ hit.0 ∷ [] = same_filter _ _ (old.now.trees tree) where_row ∙ filter_one (old.now.trees tree) numbered.0 hit.0 hit.1 in
-            let changed = updated name tree columns key primary uniques orders checks references old.step_limit (mode_of old).keys old.now.schema params target update by_rowid project with old.now.trees it.0 some.3 calm numbered hit.0
-            (cast_row row_table (shows project with hit.0)) kept refl in
-            let others = same_filter (λ x. not (keeps by_rowid with x)) (λ x. not (is_eq (value_cmp (rowid x) (rowid hit.0)))) (old.now.trees tree) (λ x has. ap not (where_row x has)) in
+            let changed = updated name tree columns key primary uniques orders checks references old.step_limit (mode_of old).keys old.now.schema params target update (by_rowid n) project with old.now.trees it.0 some.3 calm numbered hit.0
+            (cast_row row_table (shows project with hit.0)) hit.4 refl in
+            let others = same_filter (λ x. not (keeps (by_rowid n) with x)) (λ x. not (is_eq (value_cmp (rowid x) (rowid hit.0)))) (old.now.trees tree) (λ x has. ap not (hit.5 x has)) in
             let stated = subst₂ (λ rest v. IsAdded rest (it.0.trees tree) (cast_row row_table (shows project (params ++ v ∷ shown row_table made) hit.0))) others there_is changed.0 in (
               inr (hit.0, hit.1, hit.2, subst (λ (t : Trees). IsAdded (filter (λ x. not (is_eq (value_cmp (rowid x) (rowid hit.0)))) (old.now.trees tree)) (t tree) (cast_row row_table (shows project (params ++ rowid hit.0 ∷ shown row_table made) hit.0))) trees stated),
               subst (λ (t : Trees). IsNumbered (t tree)) trees changed.1,

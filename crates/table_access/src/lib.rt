@@ -11,7 +11,7 @@ ghost use Rattle.sqlite.specs.State.{HasCleanDisk, Commits, IsUnchanged, IsRolle
 ghost use Rattle.sqlite.specs.Held.{state};
 ghost use Rattle.sqlite.specs.Values.{bound};
 ghost use Rattle.sqlite_resolve.specs.Compile.{first};
-ghost use Rattle.table_access.specs.Unit.{Begins, IsLeft, IsOver, FailsToBegin, RollsBack, FailsToRollBack, TellsRollback, RefusesCommit};
+ghost use Rattle.table_access.specs.Unit.{Begins, IsLeft, IsOver, FailsToBegin, RollsBack, FailsToRollBack, FailsToCommit, TellsRollback, CommitIsRefused};
 ghost use Rattle.table_access.specs.Calls.{KeepsLastCommit, CallsStore, FailsToRun};
 ghost use Rattle.table_access.specs.Calls as spec;
 ghost use Rattle.table_access.specs.Reading.{IsRefusedAs};
@@ -85,7 +85,7 @@ fn run_commit<S: Alter>(conn: &mut Connection<S>) -> Result<usize, Error>
     ensures refused { HasCleanDisk (state S.Store conn.new) →
         OnErr result (IsLeft (state S.Store conn.old) (state S.Store conn.new)) }
     ensures cause { HasCleanDisk (state S.Store conn.new) →
-        IfErr result (λ e. Executes (codes "COMMIT") [] (state S.Store conn.old) (state S.Store conn.new) (Err e)) }
+        IfErr result (λ e. FailsToCommit (state S.Store conn.old) (state S.Store conn.new) (spec.fault_of e)) }
     ensures survives { Survives (state S.Store conn.old) (state S.Store conn.new)
         (λ db. db ≡ (state S.Store conn.old).now.trees) }
 {
@@ -149,7 +149,7 @@ pub fn commit<S: Alter>(conn: &mut Connection<S>) -> bool
         Commits (state S.Store conn.old) (state S.Store conn.new) }
     ensures refused { HasCleanDisk (state S.Store conn.new) → result ≡ false →
         KeepsLastCommit (state S.Store conn.old) (state S.Store conn.new) × IsOver (state S.Store conn.new)
-        × RefusesCommit S.Store conn.old }
+        × CommitIsRefused (state S.Store) conn.old conn.new }
     ensures survives { Survives (state S.Store conn.old) (state S.Store conn.new)
         (λ db. db ≡ (state S.Store conn.old).now.trees) }
 {
