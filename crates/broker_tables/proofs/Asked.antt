@@ -1,5 +1,5 @@
 -- A query as a value: what a text asks of the broker's tables, and what a call that asks it answers, and why it fails.
-use Rattle.std.proofs.Common.{◌≡◌, ◌∙◌, inl, inr, ℕ, zero, suc, take, List, [], ◌∷◌, Option, Some, None, Result, IfErr, Bool, true, false, sym, ap, subst, pos, slice_get, map, filter, arith}
+use Rattle.std.proofs.Common.{◌≡◌, ◌∙◌, inl, inr, ℕ, List, [], ◌∷◌, Option, Some, None, Result, IfErr, Bool, true, false, sym, ap, subst, pos, slice_get, map, filter, arith}
 use Rattle.std.specs.Prelude.{option_map, is_some, IsUtf8}
 use Rattle.std.specs.List.Sorted.{IsPermutation}
 use Rattle.std.proofs.lemmas.Result.{IfOk-weaker}
@@ -130,7 +130,7 @@ module _ {sql : List ℕ} {params : Row} {query : Query} (asked : Asked sql para
   Tells {A} Read P = (s : Broker) → Holds old.now s → (rows : List Row) → IsShown asked old.now rows → (a : A) → Read a rows → P a s
 
   told : {A : Type 0} (Read : A → List Row → Type 0) (P : A → Broker → Type 0) → Tells Read P → (a : A) → Was Read a → IsRead old new P a
-  told Read P tells a h s held = let it = reads s held h.0 h.1 in (tells s held h.0 it.0 a h.2, it.1)
+  told Read P tells a h s held = (tells s held h.0 (is_answer held.broker h.0 h.1) a h.2, still held.broker h.0 h.1)
 
   -- the call fails for this cause
   abbrev FailsFor : {A : Type 0} → Result A StoreFault → (StoreFault → Type 0) → Type 0

@@ -1,10 +1,10 @@
 -- Why an INSERT of one row into a table of the broker fails: if the row suits its table, only as the store fails.
-use Rattle.std.proofs.Common.{◌≡◌, inl, inr, ℕ, ℤ, ◌≢◌, List, [], ◌∷◌, map, filter, length, slice_get, Bool, true, false, not, ◌&&◌, ◌||◌, cond, nat_lt, refl, sym, ap, subst, ◌∙◌, ◌==◌, ◌<◌, ◌/◌, arith, Some, None, Option, Ok, Err, append-nil, ◌+◌, pos, IsTrue, Ordering, codes}
+use Rattle.std.proofs.Common.{◌≡◌, inl, inr, ℕ, ℤ, List, [], ◌∷◌, map, filter, length, slice_get, Bool, true, false, not, ◌&&◌, nat_lt, refl, sym, ap, subst, ◌∙◌, ◌<◌, ◌/◌, arith, Some, None, Option, Ok, Err, append-nil, ◌+◌, pos, IsTrue, Ordering, codes}
 use Rattle.std.specs.Prelude.{⊤, is_some}
-use Rattle.std.specs.List.{AllByRecursion, list_all, list_any}
-use Rattle.std.specs.Ordering.{is_ne, int_cmp, eq_by_cmp, is_eq}
-use Rattle.std.specs.Cmp.{Equal-is, eq_by_cmp_equiv, int_cmp_total, nat_eq_equiv, IsTotalOrder}
-use Rattle.std.proofs.lemmas.Bool.{both_ways, false_from_ne_true, and_parts, or_cases, or_left, or_right, cases_eq, eqb-true, ltb-true, and_from}
+use Rattle.std.specs.List.{AllByRecursion, list_all}
+use Rattle.std.specs.Ordering.{int_cmp, eq_by_cmp, is_eq}
+use Rattle.std.specs.Cmp.{Equal-is, eq_by_cmp_equiv, int_cmp_total, IsTotalOrder}
+use Rattle.std.proofs.lemmas.Bool.{false_from_ne_true, and_parts, or_right, ltb-true, and_from}
 use Rattle.sqlite.specs.declared.types.Value.TheVariants.{Int, Text}
 use Rattle.sqlite.specs.declared.error.Error.{Error}
 use Rattle.sqlite.specs.Cast.{cast_row}
@@ -13,33 +13,26 @@ use Rattle.sqlite.specs.Command.TheVariants.{Insert}
 use Rattle.sqlite.specs.Source.TheVariants.{Values}
 use Rattle.sqlite.specs.Listing.{understood}
 use Rattle.sqlite.specs.Order.{Row, column, value_cmp}
-use Rattle.sqlite.specs.Tree.{Trees, rowid, IsAscending, put_row, with_tree}
+use Rattle.sqlite.specs.Tree.{rowid, IsAscending}
 use Rattle.sqlite.specs.Schema.{Schema}
 use Rattle.sqlite.specs.Table.{Table}
 use Rattle.sqlite.specs.Effect.{Database, value_rows}
 use Rattle.sqlite.specs.Rows.{Written, Inserts, Edited}
 use Rattle.sqlite.specs.State.{State, Executes, Fails, mode_of}
-use Rattle.sqlite.proofs.Callers.{one_step}
 use Rattle.sqlite_value.specs.Keys.{plain, first_key}
 use Rattle.sqlite_value.specs.declared.keys.Order.{Order}
-use Rattle.sqlite_sql.specs.Ops.{fits_i64, binary, is_true, from_truth}
+use Rattle.sqlite_sql.specs.Ops.{fits_i64, binary}
 use Rattle.sqlite_schema.specs.declared.schema.Keys.{Keys}
 use Rattle.sqlite_schema.specs.declared.schema.Keys.TheVariants.{Enforced, Deferred, Off}
 use Rattle.sqlite_schema.specs.declared.schema.Index.{Index}
-use Rattle.sqlite_schema.specs.declared.schema.Constraint.TheVariants.{Datatype, NotNull, Check, PrimaryKey, Unique, ForeignKey}
-use Rattle.sqlite_schema.specs.declared.schema.Reference.{Reference}
 use Rattle.sqlite_schema.specs.declared.schema.Among.TheVariants.{All}
-use Rattle.sqlite_schema.specs.Rules.{ParentKey, agree, differ, clashes, guards, Keeps, Refers, has_parent, has_null, is_held, parent_key, is_key_of, equal}
+use Rattle.sqlite_schema.specs.Rules.{agree, guards, Refers, has_parent, is_held, parent_key, is_key_of, equal}
 use Rattle.sqlite_rules.specs.Lists.{Has}
 use Rattle.sqlite_rules.specs.Steps.{PassAlone}
-use Rattle.sqlite_rules.specs.Edit.{Edit, IsRefused, id_in, is_taken, are_fresh, is_referred, edit_of, with_rowid}
-use Rattle.sqlite_rules.specs.declared.error.Refusal.{Refusal}
-use Rattle.sqlite_rules.specs.declared.error.Refusal.TheVariants.{Violates, Mismatch, NoRowid, BadReference, TooDeep}
+use Rattle.sqlite_rules.specs.Edit.{Edit, IsRefused, id_in, is_taken, is_referred, edit_of, with_rowid}
 use Rattle.sqlite_rules.specs.declared.error.Rowids.TheVariants.{Chosen}
-use Rattle.sqlite_rules.proofs.ListLemmas.{some_has, some_from, test_has, test_from, has_kept}
-use Rattle.sqlite_rules.proofs.RuleLemmas.{Turns, unique_kept, parent_is_table, keeps_at, refers_from, origin}
-use Rattle.sqlite_rules.proofs.EditLemmas.{turns}
-use Rattle.sqlite_rules.proofs.TableLemmas.{put_has, int_is}
+use Rattle.sqlite_rules.proofs.ListLemmas.{some_has, some_from, test_has, has_kept}
+use Rattle.sqlite_rules.proofs.TableLemmas.{int_is}
 use Rattle.sqlite.specs.View.{is_int}
 use Rattle.sqlite_value.proofs.OrderLemmas.{value_cmp-Int}
 use Rattle.sqlite_typing.specs.Types.{accepts_terms}
@@ -48,13 +41,16 @@ use Rattle.table_access.specs.declared.StoreFault.{StoreFault}
 use Rattle.table_access.specs.Calls.{IsEnded, FailsToRun, fault_of}
 use Rattle.table_access.specs.Statements.{plain_table, ChangesOnly, IsAdded}
 use Rattle.table_access.proofs.Answered.{is_whole}
+use Rattle.table_access.proofs.Edits.{Suits as EditSuits, no_rule, refers, one_unique}
+use Rattle.table_access.proofs.UpsertRefused.{key_of}
 use Rattle.table_access.proofs.Members.{has_map, map_has}
 use Rattle.table_access.proofs.Refused.{insert_fails}
 use Rattle.table_access.proofs.SoundLemmas.{has_place, at_has, all_of, text_at}
-use Rattle.table_access.proofs.Steps.{Means, inserts, no_works, went, same_value}
+use Rattle.table_access.proofs.Steps.{Means, inserts, went, same_value}
 use Rattle.broker_tables.specs.Schema.{broker_schema, to}
 use Rattle.broker_tables.specs.Holds.{IsBroker, Holds, marks_in}
 use Rattle.broker_tables.proofs.Frames.{meant}
+use Rattle.broker_tables.proofs.Placed.{calm}
 use Rattle.std.specs.Cmp.Lexicographic.{nat_list_cmp_total}
 use Rattle.sqlite.specs.declared.types.Value.{Value}
 use Rattle.sqlite.specs.Edit.{next_rowid, with_rowid}
@@ -136,104 +132,41 @@ pub record Suits (db : Database) (t : Table) (made : Row) : Type 0 where
   pub free : AllByRecursion (IsFree (db.trees t.tree) made) t.uniques
   pub parents : AllByRecursion (λ ref. has_parent broker_schema.tables db.trees made ref ≡ true) t.references
 
-differs_not : (n : ℤ) → differ (Int n) (Int n) ≡ false
-unfolding binary
-differs_not n = ap (λ o. is_true (from_truth (Some (is_ne o)))) (value_cmp-Int n n ∙ (Equal-is (int_cmp n n)).0 ((eq_by_cmp_equiv int_cmp_total).refl n))
-
 module _ (db : Database) (broker : IsBroker db) (t : Table) (listed : Has db.schema.tables t) (made : Row) (suits : Suits db t made) where
   abbrev putting : Edit
   putting = record { table = t; gone = []; news = made ∷ [] }
 
-  fresh : are_fresh (db.trees t.tree) (made ∷ []) ≡ true
-  fresh = ap (λ b. not b && true) suits.fresh
-
-  turned : (next : Trees) → next t.tree ≡ put_row made (db.trees t.tree) → AllByRecursion (λ u. u.tree ≢ t.tree → next u.tree ≡ db.trees u.tree) db.schema.tables → Turns db.schema db.trees next t (db.trees t.tree) [] (made ∷ [])
-  turned next here others =
-      turns db.schema db.trees next putting (subst (λ (s : Schema). IsAscending (λ a b. a.tree ≡ b.tree → ⊥) s.tables) (sym broker.schema) apart) listed (at_has _ db.schema.tables t broker.kept.numbered listed).0 fresh here others
-
-  -- ---- no rule refuses it
-
-  no_clash : (i : Index) → Has db.schema.indexes i → guards i t ≡ true → clashes i.order i.columns (put_row made (db.trees t.tree)) made ≡ false
-  no_clash i known guard = false_from_ne_true _ (λ clash. against (some_has _ _ clash))
+  free : (i : Index) → Has db.schema.indexes i → guards i t ≡ true → (r : Row) → Has (db.trees t.tree) r → agree i.order i.columns r i.columns made ≡ false
+  free i known guard r has = ap (λ (k : Order × List ℕ). agree k.0 k.1 r k.1 made) places.2 ∙ at_has _ t.uniques places.0 suits.free places.1 r has
     where
-      key : Index → Order × List ℕ
-      key i = (i.order, i.columns)
-
-      places : (ps : List ℕ) × Has t.uniques ps × (key i ≡ (plain, ps))
-      places = map_has (λ ps. (plain, ps)) t.uniques (key i) (subst (λ keys. Has keys (key i)) (ap (λ (x : Need). x.1) (ready_at db broker t listed)) (has_map key _ i (has_kept (λ i. guards i t) db.schema.indexes i known guard)))
-
-      other : (r : Row) → Has (db.trees t.tree) r → agree i.order i.columns r i.columns made ≡ false
-      other r has = ap (λ (k : Order × List ℕ). agree k.0 k.1 r k.1 made) places.2 ∙ at_has _ t.uniques places.0 suits.free places.1 r has
-
-      against : (r : Row) × Has (put_row made (db.trees t.tree)) r × ((agree i.order i.columns r i.columns made && differ (rowid r) (rowid made)) ≡ true) → ⊥
-      against (r, there, hit) =
-          let both = and_parts _ _ hit in
-          elim (put_has made (db.trees t.tree) r there) [
-            | inl same ↦ both_ways _ (ap (λ x. differ (rowid x) (rowid made)) same ∙ ap (λ v. differ v v) (int_is (rowid made) suits.keyed) ∙ differs_not _) both.1
-            | inr was ↦ both_ways _ (other r was) both.0
-          ]
-
-  abbrev put : Trees
-  put = with_tree db.trees t.tree (put_row made (db.trees t.tree))
-
-  unique : Keeps Unique db.schema put
-  unique =
-      let here : put t.tree ≡ put_row made (db.trees t.tree) = ap (λ b. cond b (put_row made (db.trees t.tree)) (db.trees t.tree)) (nat_eq_equiv.refl t.tree) in
-      let turn = turned put here (all_of _ db.schema.tables (λ u known other. ap (λ b. cond b (put_row made (db.trees t.tree)) (db.trees u.tree)) (false_from_ne_true (u.tree == t.tree) (λ same. other (eqb-true u.tree t.tree same))))) in
-      unique_kept db.schema db.trees put t _ _ (made ∷ []) turn (test_from _ db.schema.indexes (λ i known. one i known (guards i t) refl here)) (broker.kept.sound.obeys.rules Unique)
-    where
-      one : (i : Index) → Has db.schema.indexes i → (b : Bool) → guards i t ≡ b → put t.tree ≡ put_row made (db.trees t.tree) → not (b && list_any (clashes i.order i.columns (put t.tree)) (made ∷ [])) ≡ true
-      one i known true guard here = ap (λ rows. not (clashes i.order i.columns rows made || false)) here ∙ ap (λ b. not (b || false)) (no_clash i known guard)
-      one i known false guard here = refl
+      places : (ps : List ℕ) × Has t.uniques ps × (key_of i ≡ (plain, ps))
+      places = map_has (λ ps. (plain, ps)) t.uniques (key_of i) (subst (λ keys. Has keys (key_of i)) (ap (λ (x : Need). x.1) (ready_at db broker t listed)) (has_map key_of _ i (has_kept (λ i. guards i t) db.schema.indexes i known guard)))
 
   referred : (keys : Keys) → is_referred db.schema keys putting ≡ true
   referred Enforced = ap (λ (x : Need). x.2 && true) (ready_at db broker t listed)
   referred Deferred = ap (λ (x : Need). x.2 && true) (ready_at db broker t listed)
   referred Off = refl
 
-  no_rule : (keys : Keys) (why : Refusal) → IsRefused db.schema keys db.trees putting why → ⊥
-  no_rule keys (Violates Datatype) h = let clash : true ≡ false = sym suits.pass.typed ∙ h in cc
-  no_rule keys (Violates NotNull) h = let clash : true ≡ false = sym suits.pass.present ∙ h in cc
-  no_rule keys (Violates Check) h = let clash : true ≡ false = sym suits.pass.checked ∙ h in cc
-  no_rule keys (Violates PrimaryKey) h = let clash : true ≡ false = sym fresh ∙ h in cc
-  no_rule keys (Violates Unique) h = h unique
-  no_rule keys (Violates ForeignKey) h = h
-  no_rule keys Mismatch h = let clash : true ≡ false = sym (ap (λ b. b && true) suits.keyed) ∙ h in cc
-  no_rule keys NoRowid h = let clash : true ≡ false = sym (ap (λ b. b && true) suits.fits) ∙ h in cc
-  no_rule keys BadReference h = let clash : true ≡ false = sym (referred keys) ∙ h in cc
-  no_rule keys TooDeep h = h
-
-  -- ---- what it refers to is there, also after it was put in
-
-  module _ (next : Trees) (here : next t.tree ≡ put_row made (db.trees t.tree)) (others : AllByRecursion (λ u. u.tree ≢ t.tree → next u.tree ≡ db.trees u.tree) db.schema.tables) where
-    turn : Turns db.schema db.trees next t (db.trees t.tree) [] (made ∷ [])
-    turn = turned next here others
-
-    grows : (u : Table) → Has db.schema.tables u → (r : Row) → Has (db.trees u.tree) r → Has (next u.tree) r
-    grows u known r has = elim (cases_eq u.tree t.tree) [
-      | inl same ↦ subst (λ k. Has (next k) r) (sym same) (turn.stays r (subst (λ k. Has (db.trees k) r) same has))
-      | inr other ↦ subst (λ rows. Has rows r) (sym (turn.others u known other)) has
-    ]
-
-    still_held : (ref : Reference) (row : Row) (o : Option ParentKey) → parent_key db.schema.tables ref ≡ o → is_held db.trees ref.columns row o ≡ true → is_held next ref.columns row o ≡ true
-    still_held ref row None is h = absurd cc
-    still_held ref row (Some key) is h =
-        let u = parent_is_table db.schema.tables ref key is in
-        let found = some_has (λ parent. agree key.2 key.1 parent ref.columns row) (db.trees key.0) h in
-        some_from (λ parent. agree key.2 key.1 parent ref.columns row) (next key.0) found.0 (subst (λ k. Has (next k) found.0) u.2 (grows u.0 u.1 found.0 (subst (λ k. Has (db.trees k) found.0) (sym u.2) found.1))) found.2
-
-    still_parent : (ref : Reference) (row : Row) → has_parent db.schema.tables db.trees row ref ≡ true → has_parent db.schema.tables next row ref ≡ true
-    still_parent ref row h = elim (or_cases (has_null ref.columns row) _ h) [ inl null ↦ or_left _ _ null | inr held ↦ or_right _ _ (still_held ref row (parent_key db.schema.tables ref) refl held) ]
-
-    new_parent : (ref : Reference) → Has t.references ref → has_parent db.schema.tables db.trees made ref ≡ true
-    new_parent ref known = ap (λ (s : Schema). has_parent s.tables db.trees made ref) broker.schema ∙ at_has _ t.references ref suits.parents known
-
-    refers : Refers All db.schema next
-    refers = refers_from All db.schema next (λ u ref row known named is there. elim (origin db.schema db.trees next t _ _ (made ∷ []) turn u row known there) [
-      | inl (same, inl new) ↦ subst (λ r. has_parent db.schema.tables next r ref ≡ true) (sym new) (still_parent ref made (new_parent ref (subst (λ (x : Table). Has x.references ref) same named)))
-      | inl (same, inr none) ↦ absurd none
-      | inr was ↦ still_parent ref row (test_has (has_parent db.schema.tables db.trees row) u.references ref (keeps_at ForeignKey db.schema db.trees u row (broker.kept.sound.obeys.rules ForeignKey) known was) named)
-    ])
+  -- so the edit that puts it in suits the table
+  edit_suits : (keys : Keys) → EditSuits db.schema keys db.trees putting
+  edit_suits keys = record {
+    apart = subst (λ (s : Schema). IsAscending (λ a b. a.tree ≡ b.tree → ⊥) s.tables) (sym broker.schema) apart;
+    calm = calm db broker;
+    listed = listed;
+    ordered = (at_has _ db.schema.tables t broker.kept.numbered listed).0;
+    rules = broker.kept.sound.obeys.rules;
+    pass = suits.pass;
+    keyed = ap (λ b. b && true) suits.keyed;
+    fits = ap (λ b. b && true) suits.fits;
+    fresh = ap (λ b. not b && true) suits.fresh;
+    unique = one_unique db.schema db.trees t (db.trees t.tree) made suits.keyed free;
+    referred = referred keys;
+    parents = λ row new ref named. elim new [
+      | inl same ↦ subst (λ r. has_parent db.schema.tables db.trees r ref ≡ true) (sym same) (ap (λ (s : Schema). has_parent s.tables db.trees made ref) broker.schema ∙ at_has _ t.references ref suits.parents named)
+      | inr none ↦ absurd none
+    ];
+    alone = inl refl;
+  }
 
 -- ---- the statement
 
@@ -276,15 +209,15 @@ module _ (sql : List ℕ) (params : Row) (old new : State) (broker : IsBroker ol
         let counted = went written.2 in
         let one = subst (λ (e : Edit). Edited old.now.schema (mode_of old).keys old.now.trees e (Ok written.0))
         (edit_is _ (given.1.1 ∙ ap (λ ps. value_rows ps puts.width (length puts.terms / puts.width) puts.terms) (append-nil params) ∙ puts.one)) written.1 in
-        let step = one_step old.now.schema (mode_of old).keys old.now.trees written.0 (putting old.now broker t listed made suits) (no_works old.now.schema (mode_of old).keys 0 t.tree (made ∷ [])) one in
-        subst (λ trees. Refers All old.now.schema trees) (sym (ap (λ (it : Written). it.trees) (same_value counted.2) ∙ same_value counted.1)) (refers old.now broker t listed made suits written.0 step.rows step.tables)
+        subst (λ trees. Refers All old.now.schema trees) (sym (ap (λ (it : Written). it.trees) (same_value counted.2) ∙ same_value counted.1))
+        (refers old.now.schema (mode_of old).keys old.now.trees (putting old.now broker t listed made suits) (edit_suits old.now broker t listed made suits (mode_of old).keys) written.0 one)
 
     fails : old.step_limit ≡ None → (error : Error) → Executes sql params old new (Err error) → Fails old new ⊤ error
     fails unlimited error h =
         elim (insert_fails t.name t.tree t.columns t.key t.primary t.uniques t.orders t.checks t.references sql params old new at (there ∙ ap Some (sym same)) puts.terms puts.width (meant old.now broker sql puts.means)
         (subst (λ (s : Schema). is_whole sql (length params) (understood s sql) ≡ true) (sym broker.schema) puts.whole) puts.kinds unlimited error h) [
           | inl store ↦ store
-          | inr (inl (why, refused, is)) ↦ absurd (no_rule old.now broker t listed made suits (mode_of old).keys why (subst (λ (e : Edit). IsRefused old.now.schema (mode_of old).keys old.now.trees e why) (edit_is _ puts.one) refused))
+          | inr (inl (why, refused, is)) ↦ absurd (no_rule old.now.schema (mode_of old).keys old.now.trees (putting old.now broker t listed made suits) (edit_suits old.now broker t listed made suits (mode_of old).keys) why (subst (λ (e : Edit). IsRefused old.now.schema (mode_of old).keys old.now.trees e why) (edit_is _ puts.one) refused))
           | inr (inr (w, writes, stray)) ↦ absurd (stray (left w writes))
         ]
 

@@ -1,7 +1,6 @@
 pub mod Definitions
 pub mod Frames
 pub mod QueryLemmas
-pub mod FailLemmas
 pub mod Asked
 pub mod TruthLemmas
 pub mod ReadableRows
@@ -22,4 +21,7 @@ pub mod VersionRows
 pub mod NoVersion
 pub mod ByNumber
 pub mod Former
+pub mod RoomLemmas
+pub mod FailLemmas
 pub mod Inserted
+pub mod Upserted

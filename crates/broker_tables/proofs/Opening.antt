@@ -4,6 +4,7 @@ use Rattle.std.specs.List.{AllByRecursion}
 use Rattle.std.proofs.lemmas.List.Sums.{fold-append}
 use Rattle.sqlite.specs.Table.{Table}
 use Rattle.sqlite.specs.Schema.{Schema}
+use Rattle.sqlite.specs.Order.{Row}
 use Rattle.sqlite.specs.Tree.{Trees}
 use Rattle.sqlite.specs.Change.{created, next_tree, KeepsRows}
 use Rattle.sqlite.specs.Effect.{Database}
@@ -17,6 +18,7 @@ use Rattle.broker_core.specs.Text.{Text, same_text}
 use Rattle.broker_core.specs.State.{opening}
 use Rattle.broker_tables.specs.Schema as schema
 use Rattle.broker_tables.specs.Schema.{schema_of, all_tables, all_indexes}
+use Rattle.broker_tables.specs.Room.{LeaveNumbers, HasAllNumbers}
 use Rattle.broker_tables.specs.Making.{IsBlank, HasTables, HasAll}
 use Rattle.broker_tables.specs.Holds.{Holds, IsMeta, format, AreTeams, ArePacticipants, AreVersions, AreBranches, AreEnvironments, AreGrants, AreContents, AreContracts, AreResults, AreLatest, AreDeployed, AreReleased}
 use Rattle.broker_tables.proofs.Placed.{meta}
@@ -83,3 +85,12 @@ opens office db has = let e = has.empty in record {
   deployed = subst (AreDeployed [] (opening office).deployed) (sym (e.1.1.1.1.1.1.1.1.1.1.1.0 refl)) (λ q p i. refl);
   released = subst (AreReleased [] (opening office).released) (sym (e.1.1.1.1.1.1.1.1.1.1.1.1.0 refl)) (λ q v. refl);
 }
+
+-- and each table has room for as many rows as SQLite has numbers
+pub opens_with_room : (n : ℕ) (office : Text) (db : Database) → HasAll n office db → HasAllNumbers db
+opens_with_room n office db has more few =
+    let e = has.empty in
+    (none (e.1.0 refl), (none (e.1.1.0 refl), (none (e.1.1.1.1.0 refl), (none (e.1.1.1.1.1.0 refl), (none (e.1.1.1.1.1.1.1.1.1.1.1.1.1.1.0 refl), (none (e.1.1.1.1.1.1.0 refl), (none (e.1.1.1.1.1.1.1.1.0 refl), (none (e.1.1.1.1.1.1.1.1.1.1.0 refl), (none (e.1.1.1.1.1.1.1.1.1.1.1.0 refl), (none (e.1.1.1.1.1.1.1.1.1.1.1.1.0 refl), tt))))))))))
+  where
+    none : {rows : List Row} → rows ≡ [] → LeaveNumbers more rows
+    none is = subst (LeaveNumbers more) (sym is) (few, tt)

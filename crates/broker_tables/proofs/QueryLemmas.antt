@@ -1,27 +1,35 @@
 -- Queries that fail only as the store fails, one and one after another. Each lemma has the form of its namesake in
 -- `CallLemmas`; why a query fails goes along, and asks nothing of the caller.
-use Rattle.std.proofs.Common.{refl, inl, inr, ◌≡◌, ◌∙◌, arith, Ok, Err, Result, IfOk, IfErr, ◌≤◌}
+use Rattle.std.proofs.Common.{refl, sym, subst, inl, inr, ◌⊎◌, ◌≡◌, ◌∙◌, arith, Ok, Err, Result, IfOk, IfErr, ◌≤◌}
 use Rattle.std.proofs.lemmas.Result.{IfErr-weaker}
 use Rattle.sqlite.specs.State.{State, HasCleanDisk}
 use Rattle.table_access.specs.declared.StoreFault.{StoreFault}
 use Rattle.table_access.specs.declared.StoreFault.TheVariants.{Memory, Store}
-use Rattle.table_access.specs.Calls.{CallsTablesBetween, CallsStoreBetween, GoesOn, HasFailed}
+use Rattle.table_access.specs.Calls.{CallsTablesBetween, CallsStoreBetween, GoesOn, EndsBy, HasFailed}
 use Rattle.table_access.proofs.CallLemmas.{call_with, then_ok, then_err, then_stop, seq, ended_since, memory_ok, statement_with, statement_ok, statement_err, statement_result, statement_seq}
 use Rattle.broker_core.specs.State.{State as Broker}
-use Rattle.broker_tables.specs.Holds.{IsRead, QueriesBetween}
+use Rattle.broker_tables.specs.Holds.{Holds, IsRead, QueriesBetween}
 use Rattle.broker_tables.specs.Calm.{Serves, FailsOnlyBy, HasFailedOrMemory, CalmQueriesBetween, CalmQueriesInPlaceBetween}
+
+-- where the database is as it was, it holds the same state
+pub stays_held : (old new : State) (s : Broker) → new.now ≡ old.now → Holds old.now s → Holds new.now s
+stays_held old new s same held = subst (λ d. Holds d s) (sym same) held
+
+-- one query after another
+pub both_read : {A B C : Type 0} (old mid new : State) (a : A) (b : B) (c : C) (P : A → Broker → Type 0) (Q : B → Broker → Type 0) (R : C → Broker → Type 0) → ((s : Broker) → P a s → Q b s → R c s) → IsRead old mid P a → IsRead mid new Q b → IsRead old new R c
+both_read old mid new a b c P Q R f p q s held = let one = p s held in let two = q s (stays_held old mid s one.1 held) in (f s one.0 two.0, two.1 ∙ one.1)
 
 -- what served a query serves the next one
 pub serves_on : {A : Type 0} (old mid : State) (a : A) (P : A → Broker → Type 0) → HasCleanDisk mid → CallsTablesBetween old mid (Ok a) (IsRead old mid P) → (s : Broker) → Serves old s → Serves mid s
 serves_on old mid a P clean one s it = record {
   inside = (one.goes_on clean it.inside).0;
   unlimited = one.survives.limit ∙ it.unlimited;
-  held = (one.ok clean s it.held).1;
+  held = stays_held old mid s (one.ok clean s it.held).1 it.held;
   readable = it.readable;
 }
 
 -- a later failure of the store is one of both
-pub ended_or_memory : (old mid new : State) (e : StoreFault) → GoesOn old mid → old.faults ≤ mid.faults → HasFailedOrMemory mid new e → HasFailedOrMemory old new e
+pub ended_or_memory : {TooBig : Type 0} (old mid new : State) (e : StoreFault) → GoesOn old mid → old.faults ≤ mid.faults → EndsBy TooBig mid new e ⊎ (e ≡ Memory) → EndsBy TooBig old new e ⊎ (e ≡ Memory)
 ended_or_memory old mid new e on up (inl ended) = inl (ended_since old mid new e on up ended)
 ended_or_memory old mid new e on up (inr room) = inr room
 
@@ -129,4 +137,4 @@ query_seq old mid new a r P Q R more one two = record {
 -- the failure of a query after another
 pub query_failed : {A B C : Type 0} (old mid new : State) (a : A) (e : StoreFault) (P : A → Broker → Type 0) (Q : B → Broker → Type 0) (R : C → Broker → Type 0) → CalmQueriesBetween old mid (Ok a) P → CalmQueriesBetween mid new (Err e) Q → CalmQueriesBetween old new (Err e) R
 query_failed {A} {B} {C} old mid new a e P Q R one two =
-    query_err old new e (λ (b : B) (s : Broker). Q b s) R (query_seq old mid new a (Err e) P Q Q (λ p b q s held. let first = p s held in (q s first.1)) one two)
+    query_err old new e (λ (b : B) (s : Broker). Q b s) R (query_seq old mid new a (Err e) P Q Q (λ p b. both_read old mid new a b b P Q Q (λ s one two. two) p) one two)

@@ -5,12 +5,13 @@ use Rattle.sqlite.specs.State.{State, HasCleanDisk}
 use Rattle.sqlite_trees.specs.declared.store.Store.{Ghosts}
 use Rattle.table_access.specs.declared.StoreFault.{StoreFault}
 use Rattle.table_access.specs.declared.StoreFault.TheVariants.{Memory}
-use Rattle.table_access.specs.Calls.{HasFailed, TellsMemory}
+use Rattle.table_access.specs.Calls.{HasFailed, IsEnded, TellsMemory}
 use Rattle.broker_core.specs.declared.command.Version.{Version}
 use Rattle.broker_core.specs.State.{State as Broker}
 use Rattle.broker_tables.specs.Numbers.{number_of}
 use Rattle.broker_tables.specs.Holds.{Holds, QueriesBetween}
 use Rattle.broker_tables.specs.Readable.{IsReadable}
+use Rattle.broker_tables.specs.Room.{HasRoomFor, enough}
 
 -- the transaction is open and shows this state, which can be read back, and no query has a limit of steps
 pub record Serves (c : State) (s : Broker) : Type 0 where
@@ -32,11 +33,13 @@ abbrev pub IsCalmFromBetween : {A : Type 0} → State → State → Result A Sto
 IsCalmFromBetween old new r Allows =
     HasCleanDisk new → (s : Broker) → Serves old s → Allows s → IfErr r (HasFailedOrMemory old new)
 
--- or since a change of its own was refused, which it makes from these states alone
+-- Or since a change of its own was refused, which it makes from these states alone: the store failed, or a row was too
+-- big for it, if the tables have numbers for its rows.
 abbrev pub FailsFromBetween : {A : Type 0} → State → State → Result A StoreFault → (Broker → Type 0)
     → (Broker → Type 0) → Type 0
 FailsFromBetween old new r Allows Changes = HasCleanDisk new → (s : Broker) → Serves old s → Allows s
-    → IfErr r (λ fault. HasFailedOrMemory old new fault ⊎ Changes s)
+    → IfErr r (λ fault. HasFailedOrMemory old new fault
+    ⊎ (Changes s × (HasRoomFor enough old.now → IsEnded old new fault)))
 
 -- a query, where there may be no room for its answer
 pub record CalmQueriesBetween {A : Type 0} (old new : State) (r : Result A StoreFault) (P : A → Broker → Type 0)

@@ -19,6 +19,7 @@ use Rattle.broker_core.specs.Text.{Text, version}
 use Rattle.broker_core.specs.State.{State as Broker, Verification, latest_result}
 use Rattle.broker_tables.specs.Schema.{broker_schema}
 use Rattle.broker_tables.specs.Rows.{rows_of, truth, maybe_text, value_at, stands_at}
+use Rattle.broker_tables.specs.Room.{TakesRoom}
 use Rattle.broker_tables.specs.Numbers.{numbered, number_of}
 
 -- The tables are the broker's and each obeys its columns, keys, checks and references, and its rows are in the
@@ -179,9 +180,9 @@ pub record Holds (db : Database) (s : Broker) : Type 0 where
 
 -- ---- how a call is stated
 
--- an answer about the state that the database holds, which it holds still
+-- an answer about the state that the database holds, which is as it was
 abbrev pub IsRead : {A : Type 0} → State → State → (A → Broker → Type 0) → A → Type 0
-IsRead old new P a = (s : Broker) → Holds old.now s → P a s × Holds new.now s
+IsRead old new P a = (s : Broker) → Holds old.now s → P a s × (new.now ≡ old.now)
 
 -- a query, where there may be no room for its answer
 abbrev pub QueriesBetween : {A : Type 0} → State → State → Result A StoreFault → (A → Broker → Type 0) → Type 0
@@ -191,17 +192,30 @@ QueriesBetween old new r P = CallsTablesBetween old new r (IsRead old new P)
 abbrev pub QueriesInPlaceBetween : {A : Type 0} → State → State → Result A StoreFault → (A → Broker → Type 0) → Type 0
 QueriesInPlaceBetween old new r P = CallsStoreBetween old new r (IsRead old new P)
 
+-- the database holds this state now, and at most so many numbers of a table were taken
+abbrev pub HoldsAfter : ℕ → State → State → Broker → Type 0
+HoldsAfter taken old new t = Holds new.now t × TakesRoom taken old.now new.now
+
 -- the state that the database holds leads to another, which it holds now
-abbrev pub ChangesBetween : State → State → Result (Unit {0}) StoreFault → (Broker → Broker → Type 0) → Type 0
-ChangesBetween old new r Next =
-    CallsStoreBetween old new r (λ _. (s : Broker) → Holds old.now s → (t : Broker) → Next s t → Holds new.now t)
+abbrev pub ChangesTakingBetween : ℕ → State → State → Result (Unit {0}) StoreFault → (Broker → Broker → Type 0) → Type 0
+ChangesTakingBetween taken old new r Next =
+    CallsStoreBetween old new r
+    (λ _. (s : Broker) → Holds old.now s → (t : Broker) → Next s t → HoldsAfter taken old new t)
 
 -- where the state that the database holds allows it, an answer, and another state that the database holds now
+abbrev pub AnswersTakingBetween : {A : Type 0} → ℕ → State → State → Result A StoreFault → (Broker → Type 0)
+    → (A → Broker → Broker → Type 0) → Type 0
+AnswersTakingBetween taken old new r Allows Next =
+    CallsStoreBetween old new r
+    (λ a. (s : Broker) → Holds old.now s → Allows s → (t : Broker) × Next a s t × HoldsAfter taken old new t)
+
+-- so does a call on the tables, which takes two numbers of a table at most
+abbrev pub ChangesBetween : State → State → Result (Unit {0}) StoreFault → (Broker → Broker → Type 0) → Type 0
+ChangesBetween = ChangesTakingBetween 2
+
 abbrev pub ChangesAndAnswersBetween : {A : Type 0} → State → State → Result A StoreFault → (Broker → Type 0)
     → (A → Broker → Broker → Type 0) → Type 0
-ChangesAndAnswersBetween old new r Allows Next =
-    CallsStoreBetween old new r
-    (λ a. (s : Broker) → Holds old.now s → Allows s → (t : Broker) × Next a s t × Holds new.now t)
+ChangesAndAnswersBetween = AnswersTakingBetween 2
 
 -- ---- the same of a connection over this store
 
@@ -212,8 +226,15 @@ module _ {X : Type 0} (store : Ghosts X) (old new : Held X) where
   abbrev pub QueriesInPlace : {A : Type 0} → Result A StoreFault → (A → Broker → Type 0) → Type 0
   QueriesInPlace r P = QueriesInPlaceBetween (state store old) (state store new) r P
 
+  abbrev pub ChangesTaking : ℕ → Result (Unit {0}) StoreFault → (Broker → Broker → Type 0) → Type 0
+  ChangesTaking taken r Next = ChangesTakingBetween taken (state store old) (state store new) r Next
+
   abbrev pub Changes : Result (Unit {0}) StoreFault → (Broker → Broker → Type 0) → Type 0
   Changes r Next = ChangesBetween (state store old) (state store new) r Next
+
+  abbrev pub AnswersTaking : {A : Type 0} → ℕ → Result A StoreFault → (Broker → Type 0)
+      → (A → Broker → Broker → Type 0) → Type 0
+  AnswersTaking taken r Allows Next = AnswersTakingBetween taken (state store old) (state store new) r Allows Next
 
   abbrev pub ChangesAndAnswers : {A : Type 0} → Result A StoreFault → (Broker → Type 0)
       → (A → Broker → Broker → Type 0) → Type 0

@@ -1,5 +1,6 @@
 pub mod Schema
 pub mod Rows
+pub mod Room
 pub mod Names
 pub mod Numbers
 pub mod Readable

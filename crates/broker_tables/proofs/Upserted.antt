@@ -1,0 +1,140 @@
+-- INSERT .. ON CONFLICT DO UPDATE of one row into a table of the broker to which no other refers: what it leaves, and why
+-- it fails. If the row suits its table, only as the store fails.
+use Rattle.std.proofs.Common.{◌≡◌, ◌⊎◌, inl, inr, ℕ, ℤ, ◌<◌, ◌^◌, List, [], ◌∷◌, ◌++◌, map, filter, length, slice_get, true, false, not, refl, sym, ap, subst, ◌∙◌, ◌/◌, arith, bytes_eq, Some, Ok}
+use Rattle.std.specs.List.{AllByRecursion}
+use Rattle.std.specs.Ordering.{is_eq}
+use Rattle.std.proofs.lemmas.Bool.{lt-ltb}
+use Rattle.sqlite.specs.declared.types.Value.{Value}
+use Rattle.sqlite.specs.declared.types.Value.TheVariants.{Null, Int}
+use Rattle.sqlite.specs.Cast.{cast_row, cast_all}
+use Rattle.sqlite.specs.Command.TheVariants.{InsertOr}
+use Rattle.sqlite.specs.Source.TheVariants.{Values}
+use Rattle.sqlite.specs.Rowids.TheVariants.{Chosen}
+use Rattle.sqlite.specs.Edit.{next_rowid, with_rowid, id_in}
+use Rattle.sqlite.specs.Effect.{value_rows}
+use Rattle.sqlite.specs.Listing.{understood}
+use Rattle.sqlite.specs.Order.{Row, column, value_cmp}
+use Rattle.sqlite.specs.Rows.{shown}
+use Rattle.sqlite.specs.Schema.{Schema}
+use Rattle.sqlite.specs.State.{State, Executes}
+use Rattle.sqlite.specs.Table.{Table}
+use Rattle.sqlite.specs.Term.{Term}
+use Rattle.sqlite.specs.Tree.{IsAscending, rowid}
+use Rattle.sqlite_sql.specs.Ops.{fits_i64}
+use Rattle.sqlite_typing.specs.Types.{accepts_terms, accepts_program}
+use Rattle.sqlite_value.specs.Keys.{plain}
+use Rattle.sqlite_schema.specs.declared.command.Conflict.TheVariants.{Abort}
+use Rattle.sqlite_schema.specs.Rules.{agree, guards, has_parent, references_fit}
+use Rattle.sqlite_rules.specs.Keys.{AreConflicts, conflicts}
+use Rattle.sqlite_rules.specs.Lists.{Has}
+use Rattle.sqlite_rules.specs.Steps.{PassAlone}
+use Rattle.table_access.specs.Calls.{fault_of}
+use Rattle.table_access.specs.Sound.{IsNumbered}
+use Rattle.table_access.specs.Statements.{ChangesOnly, IsAdded, shows}
+use Rattle.table_access.proofs.Answered.{is_whole}
+use Rattle.table_access.proofs.Edits.{IsAlone}
+use Rattle.table_access.proofs.SoundLemmas.{has_place, at_has}
+use Rattle.table_access.proofs.Steps.{Means}
+use Rattle.table_access.proofs.Upsert.{setting, Upserted, upsert_leaves}
+use Rattle.table_access.proofs.UpsertRefused.{Takes, key_of, upsert_fails}
+use Rattle.table_access.proofs.Values.{cast_null, cast_kept}
+use Rattle.broker_tables.specs.Schema.{broker_schema}
+use Rattle.broker_tables.specs.Holds.{IsBroker}
+use Rattle.broker_tables.specs.Room.{LeavesAbove, LeaveNumbers}
+use Rattle.broker_tables.proofs.Frames.{meant}
+use Rattle.broker_tables.proofs.Inserted.{plainly, apart, EndsOnly}
+use Rattle.broker_tables.proofs.Placed.{calm}
+use Rattle.broker_tables.proofs.RoomLemmas.{Grows, grows_added, grows_changed, number_for}
+
+-- The text, with these parameters, puts one row into the table at this place, or sets columns of the one that has its key.
+-- The row has these columns beside its number, and its key is the one of the table. `refl` finds each field, under
+-- `unfolding understood everything`.
+pub record PutsOver (at : ℕ) (t : Table) (sql : List ℕ) (params : Row) (target : List ℕ) (n : ℕ) (project : List Term) (rest : Row) : Type 0 where
+  pub terms : List Term
+  pub width : ℕ
+  pub means : Means broker_schema sql (InsertOr at Abort (Values terms width) (record { target = Some target; update = Some (record { lets = []; body = setting t.tree n project }) } ∷ []))
+  pub whole : is_whole sql (length params) (understood broker_schema sql) ≡ true
+  pub kinds : accepts_terms terms params ≡ true
+  pub one : value_rows params width (length terms / width) terms ≡ (Null ∷ rest) ∷ []
+  pub placed : (v : Value) (more : Row) → column (params ++ v ∷ more) n ≡ v
+  pub typed : (z next : ℤ) → accepts_program broker_schema [] (setting t.tree n project) (params ++ Int z ∷ shown (plainly t) (Int next ∷ rest)) ≡ true
+  pub keys : map key_of (filter (λ i. guards i (plainly t)) broker_schema.indexes) ≡ (plain, target) ∷ []
+  pub no_rowid : bytes_eq target (0 ∷ []) ≡ false
+  pub no_first : (v w : Value) (r : Row) → agree plain target r target (v ∷ rest) ≡ agree plain target r target (w ∷ rest)
+  pub alone : IsAlone broker_schema t.tree
+  pub fits : references_fit broker_schema (plainly t) true true ≡ true
+
+module _ {at : ℕ} {t : Table} {sql : List ℕ} {params : Row} {target : List ℕ} {n : ℕ} {project : List Term} {rest : Row} (puts : PutsOver at t sql params target n project rest) (stored : cast_all t.columns rest ≡ rest)
+    (old new : State) (broker : IsBroker old.now) (there : slice_get old.now.schema.tables at ≡ Some (plainly t)) where
+  abbrev rows : List Row
+  rows = old.now.trees t.tree
+
+  -- the row as it is put in
+  abbrev it : Row
+  it = Int (next_rowid rows) ∷ rest
+
+  -- the row has the key of it
+  abbrev IsMet : Row → Type 0
+  IsMet r = conflicts (Some target) old.now.schema.indexes (plainly t) it r ≡ true
+
+  numbered : IsNumbered rows
+  numbered = at_has _ old.now.schema.tables (plainly t) broker.kept.numbered (has_place _ at (plainly t) there)
+
+  -- SET makes it the same row, under its own number
+  module _ (changed : (r : Row) → Has rows r → IsMet r → shows project (params ++ rowid r ∷ shown (plainly t) it) r ≡ rowid r ∷ rest) where
+    -- it was put in, or in the place of the row with its key
+    abbrev pub IsPutOver : Type 0
+    IsPutOver =
+        (AreConflicts (Some target) old.now.schema.indexes (plainly t) rows it [] × IsAdded rows (new.now.trees t.tree) it)
+        ⊎ ((r : Row) × Has rows r × IsMet r × IsAdded (filter (λ x. not (is_eq (value_cmp (rowid x) (rowid r)))) rows) (new.now.trees t.tree) (rowid r ∷ rest))
+
+    -- where it is done, the row is there, and no other table changes
+    pub upserted : (count : ℕ) → Executes sql params old new (Ok count) → ChangesOnly t.tree old new × IsPutOver
+    upserted count h =
+        let done = upsert_leaves t.name t.tree t.columns t.key t.primary t.uniques t.orders t.checks t.references sql params old new at target n project puts.terms puts.width (Null ∷ rest) there puts.one puts.placed
+        (meant old.now broker sql puts.means) (calm old.now broker) numbered count h in
+        let made : with_rowid Chosen rows (cast_row (plainly t) (Null ∷ rest)) ≡ it = λ i. with_rowid Chosen rows (cast_null i ∷ stored i) in (
+          done.0,
+          elim (subst (Upserted t.name t.tree t.columns t.key t.primary t.uniques t.orders t.checks t.references sql params old new at target n project) made done.1) [
+            | inl none ↦ inl (none.0, subst (IsAdded rows (new.now.trees t.tree)) (cast_kept (plainly t) it refl stored) none.1)
+            | inr some ↦ inr (some.0, some.1, some.2, subst (IsAdded _ (new.now.trees t.tree)) (ap (cast_row (plainly t)) (changed some.0 some.1 some.2) ∙ cast_kept (plainly t) (rowid some.0 ∷ rest) (at_has _ rows some.0 numbered.1 some.1) stored) some.3)
+          ],
+        )
+
+    -- and takes a number at most
+    pub upsert_grows : IsPutOver → Grows rows (new.now.trees t.tree)
+    upsert_grows (inl none) = grows_added rows (new.now.trees t.tree) it none.1 refl
+    upsert_grows (inr some) = grows_changed rows (new.now.trees t.tree) some.0 (rowid some.0 ∷ rest) _ some.1 refl some.3
+
+    -- If the table has a number for the row, its columns are as they have to be, and what it refers to is there, it fails
+    -- only as the store fails.
+    pub upsert_ends : LeaveNumbers 1 rows → ((v : Value) → PassAlone (plainly t) ((v ∷ rest) ∷ [])) → ((v : Value) → AllByRecursion (λ ref. has_parent broker_schema.tables old.now.trees (v ∷ rest) ref ≡ true) t.references) → EndsOnly sql params old new
+    upsert_ends room pass parents unlimited fault (error, is, h) =
+        let here : (P : Schema → Type 0) → P broker_schema → P old.now.schema = λ P. subst P (sym broker.schema) in
+        let takes : Takes t.name t.tree t.columns t.key t.primary t.uniques t.orders t.checks t.references sql params old new at target n project puts.terms puts.width rest = record {
+          found = there;
+          listed = has_place _ at (plainly t) there;
+          apart = here (λ s. IsAscending (λ a b. a.tree ≡ b.tree → ⊥) s.tables) apart;
+          calm = calm old.now broker;
+          rules = broker.kept.sound.obeys.rules;
+          numbered = numbered;
+          alone = here (λ s. IsAlone s t.tree) puts.alone;
+          fits = here (λ s. references_fit s (plainly t) true true ≡ true) puts.fits;
+          keys = here (λ s. map key_of (filter (λ i. guards i (plainly t)) s.indexes) ≡ (plain, target) ∷ []) puts.keys;
+          no_rowid = puts.no_rowid;
+          no_first = puts.no_first;
+          means = meant old.now broker sql puts.means;
+          whole = here (λ s. is_whole sql (length params) (understood s sql) ≡ true) puts.whole;
+          kinds = puts.kinds;
+          one = puts.one;
+          placed = puts.placed;
+          typed = here (λ s. (z : ℤ) → accepts_program s [] (setting t.tree n project) (params ++ Int z ∷ shown (plainly t) it) ≡ true) (λ z. puts.typed z (next_rowid rows));
+          cast = stored;
+          changed = changed;
+          room = number_for rows room;
+          numbers = λ r has. let above = at_has (LeavesAbove 1) rows r room.1 has in ap (λ v. fits_i64 (id_in v)) above.1 ∙ lt-ltb above.0 (2 ^ 63) (let low : above.0 < 2 ^ 63 = omega (arith, above.2) in low);
+          pass = pass;
+          parents = λ v ref named. here (λ s. has_parent s.tables old.now.trees (v ∷ rest) ref ≡ true) (at_has _ t.references ref (parents v) named);
+        } in
+        let it = upsert_fails t.name t.tree t.columns t.key t.primary t.uniques t.orders t.checks t.references sql params old new at target n project puts.terms puts.width rest takes unlimited error h in
+        record { cause = it.0; fault_is = is ∙ ap fault_of it.1; has = it.2; over = it.3.autocommit; blamed = it.4 }
