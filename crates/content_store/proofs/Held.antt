@@ -1,5 +1,5 @@
 -- The calls on contents, where all were stored by SHA-256 and the database holds a state of the broker.
-use Rattle.std.proofs.Common.{◌≡◌, ℕ, Option, Some, None, List, [], ◌∷◌, ◌++◌, map, Bool, true, false, not, ◌||◌, cond, codes, refl, sym, subst, ◌∙◌, Result}
+use Rattle.std.proofs.Common.{◌≡◌, ℕ, Option, Some, None, List, [], ◌∷◌, ◌++◌, map, Bool, true, false, not, ◌||◌, cond, codes, refl, sym, ◌∙◌, Result, arith}
 use Rattle.std.specs.Prelude.{⊤}
 use Rattle.std.specs.List.{AllByRecursion}
 use Rattle.sqlite.specs.Table.{Table}
@@ -14,8 +14,10 @@ use Rattle.broker_core.specs.State.{State as Broker}
 use Rattle.broker_core.specs.Change.{is_stored, content_number, stored}
 use Rattle.broker_tables.specs.Schema.{broker_schema}
 use Rattle.broker_tables.specs.Rows.{rows_of}
-use Rattle.broker_tables.specs.Holds.{Holds, IsRead, QueriesBetween, ChangesAndAnswersBetween}
+use Rattle.broker_tables.specs.Holds.{Holds, HoldsAfter, IsRead, QueriesBetween, ChangesAndAnswersBetween}
 use Rattle.broker_tables.proofs.Frames.{Frame, is_other, contents_change}
+use Rattle.broker_tables.proofs.QueryLemmas.{stays_held}
+use Rattle.broker_tables.proofs.RoomLemmas.{takes_none, after_one}
 use Rattle.content_store.specs.Contents.{hex_of, ContentsBy, IsReadBy, IsReadByAny, IsPut, IsPutIfRoom, StoresIfRoom}
 
 -- what a state says of contents is that they are stored by SHA-256
@@ -25,7 +27,7 @@ contents_held db s held = record { broker = held.broker; are = held.contents }
 -- ---- a read
 
 pub read_held : {A : Type 0} (old new : State) (P : A → List Text → Type 0) (a : A) → IsReadBy (hex_of sha256) old new P a → IsRead old new (λ x s. P x s.contents) a
-read_held old new P a read s held = let it = read s.contents (contents_held old.now s held) in (it.0, subst (λ d. Holds d s) (sym it.1) held)
+read_held old new P a read s held = read s.contents (contents_held old.now s held)
 
 -- a query about the contents, by whatever digest, answers of those of the state that the database holds
 pub reads_held : {A : Type 0} (old new : State) (r : Result A StoreFault) (P : A → List Text → Type 0) → CallsTablesBetween old new r (IsReadByAny old new P) → QueriesBetween old new r (λ a s. P a s.contents)
@@ -51,23 +53,26 @@ put_frame digest body texts number old new held put = record {
   others = named (codes "contents") broker_schema.tables old new put.others;
 }
 
--- what is held afterwards, by the machine's own words
-pub put_held : (old new : Database) (s : Broker) (body : Text) (number : ℕ) → Holds old s → IsPut (hex_of sha256) body s.contents number old new → (number ≡ content_number s body) × Holds new (stored s body)
-put_held old new s body number held put = (put.number_is, go (is_stored s body) refl put.contents)
+-- what is held afterwards, by the machine's own words; the text's row brings its number
+pub put_held : (old new : State) (s : Broker) (body : Text) (number : ℕ) → Holds old.now s → IsPut (hex_of sha256) body s.contents number old.now new.now → (number ≡ content_number s body) × HoldsAfter 2 old new (stored s body)
+put_held old new s body number held put = (put.number_is, after_one 2 (omega arith) (codes "contents") old new _ frame (λ no. absurd cc) (go (is_stored s body) refl put.contents))
   where
-    go : (b : Bool) → is_stored s body ≡ b → ContentsBy (hex_of sha256) new (cond b s.contents (s.contents ++ body ∷ [])) → Holds new (cond b s (record s { contents = s.contents ++ body ∷ [] }))
-    go true e are = subst (λ d. Holds d s) (sym (put.same e)) held
-    go false e are = contents_change old new s (s.contents ++ body ∷ []) held (put_frame (hex_of sha256) body s.contents number old new (contents_held old s held) put) are.are
+    frame : Frame (codes "contents" ∷ []) old.now new.now
+    frame = put_frame (hex_of sha256) body s.contents number old.now new.now (contents_held old.now s held) put
+
+    go : (b : Bool) → is_stored s body ≡ b → ContentsBy (hex_of sha256) new.now (cond b s.contents (s.contents ++ body ∷ [])) → Holds new.now (cond b s (record s { contents = s.contents ++ body ∷ [] }))
+    go true e are = stays_held old new s (put.same e) held
+    go false e are = contents_change old.now new.now s (s.contents ++ body ∷ []) held frame are.are
 
 -- a text that is put, if there is room for it, gets its number in the state, and the state with it stored is held afterwards
 pub puts_if_room_held : (old new : State) (r : Result (Option ℕ) StoreFault) (body : Text) → CallsStoreBetween old new r (IsPutIfRoom (hex_of sha256) body old new) → ChangesAndAnswersBetween old new r (λ s. ⊤) (StoresIfRoom body)
 puts_if_room_held old new r body = statement_with old new r _ _ by_found
   where
-    by_found : (found : Option ℕ) → IsPutIfRoom (hex_of sha256) body old new found → (s : Broker) → Holds old.now s → ⊤ → (t : Broker) × StoresIfRoom body found s t × Holds new.now t
+    by_found : (found : Option ℕ) → IsPutIfRoom (hex_of sha256) body old new found → (s : Broker) → Holds old.now s → ⊤ → (t : Broker) × StoresIfRoom body found s t × HoldsAfter 2 old new t
     by_found (Some number) puts s held free =
         let it = puts s.contents (contents_held old.now s held) in
-        let made = put_held old.now new.now s body number held it.1 in
+        let made = put_held old new s body number held it.1 in
         (stored s body, (made.0, refl, it.0), made.1)
     by_found None puts s held free =
         let it = puts s.contents (contents_held old.now s held) in
-        (s, (refl, it.0), subst (λ d. Holds d s) (sym it.1) held)
+        (s, (refl, it.0), (stays_held old new s it.1 held, takes_none 2 old.now new.now it.1))

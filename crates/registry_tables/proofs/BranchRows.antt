@@ -1,5 +1,5 @@
 -- The statements on branches.
-use Rattle.std.proofs.Common.{◌≡◌, inl, ℕ, ℤ, pos, codes, List, [], ◌∷◌, Bool, true, false, cond, ◌&&◌, ◌||◌, refl, sym, ap, ◌∙◌, slice_get, Some, None, Option, Ok}
+use Rattle.std.proofs.Common.{◌≡◌, inl, ℕ, ℤ, pos, codes, List, [], ◌∷◌, Bool, true, false, cond, ◌&&◌, ◌||◌, refl, sym, ap, ◌∙◌, slice_get, Some, None, Option, Ok, arith}
 use Rattle.std.specs.Prelude.{option_map, is_some}
 use Rattle.std.specs.Option.{option_map_or}
 use Rattle.std.specs.Ordering.{eq_by_cmp, int_cmp}
@@ -33,7 +33,7 @@ use Rattle.broker_core.specs.Text.{put_at, same_text, same_version, same_pair}
 use Rattle.broker_core.specs.State.{State as Broker}
 use Rattle.broker_tables.specs.Rows.{stands_at}
 use Rattle.broker_tables.specs.Numbers.{number_of}
-use Rattle.broker_tables.specs.Holds.{Holds, IsBroker}
+use Rattle.broker_tables.specs.Holds.{Holds, HoldsAfter, IsBroker}
 use Rattle.broker_tables.proofs.Asked.{Asked, IsShown, NoneFor, of_table}
 use Rattle.broker_tables.proofs.Frames.{frame_of, branches_change}
 use Rattle.broker_tables.proofs.Orders.{marked_total, exact_marked}
@@ -44,6 +44,7 @@ use Rattle.broker_tables.proofs.NoVersion.{no_row}
 use Rattle.broker_tables.proofs.Standing.{stands_found, stands_put}
 use Rattle.broker_tables.proofs.Placed.{branches, branches_there}
 use Rattle.broker_tables.specs.Refusals.{HaveNumbers}
+use Rattle.broker_tables.proofs.RoomLemmas.{after_one, grows_added, number_for}
 use Rattle.broker_tables.proofs.Inserted.{EndsOnly, Puts, inserted, next_ends, new_text, new_whole, free_two, version_there}
 
 abbrev pub key : Row → ℤ × List ℕ
@@ -108,11 +109,13 @@ module _ (n : ℕ) (b : List ℕ) (old new : State) (s : Broker) (v : Version) (
   stored : with_rowid Chosen (old.now.trees 8) (cast_row branches (Null ∷ Int (pos n) ∷ Text b ∷ [])) ≡ made
   stored = ap (λ u. with_rowid Chosen (old.now.trees 8) (cast Integer Null ∷ u ∷ Text b ∷ [])) (cast_int (pos n)) ∙ ap (λ u. with_rowid Chosen (old.now.trees 8) (u ∷ Int (pos n) ∷ Text b ∷ [])) cast_null
 
-  pub branch_added : (count : ℕ) → Executes add_sql (Int (pos n) ∷ Text b ∷ []) old new (Ok count) → Holds new.now (record s { branches = put_at (same_pair same_version same_text) s.branches (v, b) true })
+  pub branch_added : (count : ℕ) → Executes add_sql (Int (pos n) ∷ Text b ∷ []) old new (Ok count) → HoldsAfter 2 old new (record s { branches = put_at (same_pair same_version same_text) s.branches (v, b) true })
   branch_added count h =
       let it = inserted add_sql (Int (pos n) ∷ Text b ∷ []) old new held.broker branches 4 (branches_there old.now held.broker) _ made (add_puts n b) stored count h in
-      branches_change old.now new.now s _ held (frame_of (codes "branches" ∷ []) 8 refl old new held.broker it.0) (λ w c. each w c (number_of s.versions w) refl
-      (λ k. stands_put (by_both int_cmp text_cmp) key (old.now.trees 8) (new.now.trees 8) made it.1 (pos k, c)))
+      let frame = frame_of (codes "branches" ∷ []) 8 refl old new held.broker it.0 in
+      after_one 2 (omega arith) (codes "branches") old new _ frame (λ counted. grows_added _ _ made it.1 refl)
+      (branches_change old.now new.now s _ held frame (λ w c. each w c (number_of s.versions w) refl
+      (λ k. stands_put (by_both int_cmp text_cmp) key (old.now.trees 8) (new.now.trees 8) made it.1 (pos k, c))))
     where
       each : (w : Version) (c : List ℕ) (o : Option ℕ) → number_of s.versions w ≡ o
           → ((k : ℕ) → stands_at (by_both int_cmp text_cmp) key (new.now.trees 8) (pos k, c) ≡ (eq_by_cmp (by_both int_cmp text_cmp) (pos k, c) (pos n, b) || stands_at (by_both int_cmp text_cmp) key (old.now.trees 8) (pos k, c)))
@@ -132,6 +135,6 @@ module _ (n : ℕ) (b : List ℕ) (old new : State) (s : Broker) (v : Version) (
   pub branch_ends : HaveNumbers (codes "branches" ∷ []) old.now → s.branches (v, b) ≡ false → EndsOnly add_sql (Int (pos n) ∷ Text b ∷ []) old new
   branch_ends room off =
       let free : stands_at (by_both int_cmp text_cmp) key (old.now.trees 8) (pos n, b) ≡ false = sym (ap (λ o. option_map_or (λ k. stands_at (by_both int_cmp text_cmp) key (old.now.trees 8) (pos k, b)) o false) is) ∙ held.branches v b ∙ off in
-      next_ends add_sql (Int (pos n) ∷ Text b ∷ []) old new held.broker branches 4 (branches_there old.now held.broker) _ _ (add_puts n b) stored room.0 (record { typed = refl; present = refl; checked = refl })
+      next_ends add_sql (Int (pos n) ∷ Text b ∷ []) old new held.broker branches 4 (branches_there old.now held.broker) _ _ (add_puts n b) stored (number_for _ room.0) (record { typed = refl; present = refl; checked = refl })
       (free_two (old.now.trees 8) made int_cmp_total 1 (whole_at 1) (new_whole (old.now.trees 8) made 1 (numbers old.now held.broker).typed refl) marked_total nat_list_cmp_total 2 (text 2) (new_text (old.now.trees 8) made 2 (names old.now held.broker).typed refl) free, tt)
       (version_there old.now s held made 1 v n is refl, tt)

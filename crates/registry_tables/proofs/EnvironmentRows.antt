@@ -43,7 +43,7 @@ use Rattle.broker_core.specs.Text.{put_at, same_text}
 use Rattle.broker_core.specs.State.{State as Broker}
 use Rattle.broker_tables.specs.Schema.{broker_schema}
 use Rattle.broker_tables.specs.Rows.{truth, truth_in, mark_of, value_at, stands_at, IsTruthAt}
-use Rattle.broker_tables.specs.Holds.{Holds, IsBroker, marks_in}
+use Rattle.broker_tables.specs.Holds.{Holds, HoldsAfter, IsBroker, marks_in}
 use Rattle.broker_tables.proofs.Frames.{runs_here, meant, frame_of, Frame, environments_change}
 use Rattle.broker_tables.proofs.Orders.{exact_texts}
 use Rattle.broker_tables.proofs.TruthLemmas.{is_low}
@@ -54,6 +54,7 @@ use Rattle.broker_tables.proofs.Placed.{environments, environments_there, strict
 use Rattle.registry_tables.specs.Marks.{HasBrokerTables}
 use Rattle.registry_tables.specs.Registry.{marks}
 use Rattle.broker_tables.specs.Refusals.{HaveNumbers}
+use Rattle.broker_tables.proofs.RoomLemmas.{after_one, grows_added, number_for}
 use Rattle.broker_tables.proofs.Inserted.{EndsOnly, Puts, inserted, next_ends, new_text, free_one, environment_there}
 use Rattle.sqlite_rules.specs.Steps.{PassAlone}
 use Rattle.registry_tables.proofs.MarkText.{gated_sql, gated_query, gated_command, mark_means, mark_runs, tables_like}
@@ -222,22 +223,26 @@ module _ (e : List ℕ) (gated : Bool) (old new : State) (s : Broker) (held : Ho
     abbrev it : ChangesOnly 10 old new × IsAdded rows (new.now.trees 10) made
     it = inserted put_sql (Text e ∷ Int (pos (mark_of gated)) ∷ []) old new held.broker environments 5 (environments_there old.now held.broker) _ made (put_puts e (mark_of gated)) stored count h
 
+    frame : Frame (codes "environments" ∷ []) old.now new.now
+    frame = frame_of (codes "environments" ∷ []) 10 refl old new held.broker it.0
+
     -- the strict environments are the same
     pub strict_stays : new.now.trees 26 ≡ old.now.trees 26
-    strict_stays = (frame_of (codes "environments" ∷ []) 10 refl old new held.broker it.0).others.1.1.1.1.1.1.1.1.1.1.1.1.1.1.0 refl
+    strict_stays = frame.others.1.1.1.1.1.1.1.1.1.1.1.1.1.1.0 refl
 
-    pub environment_put : Holds new.now (record s { environments = put_at same_text s.environments e (Some (marks gated false)) })
+    pub environment_put : HoldsAfter 1 old new (record s { environments = put_at same_text s.environments e (Some (marks gated false)) })
     environment_put =
         let row : marks_in (old.now.trees 26) made ≡ marks gated false = (λ i. marks (mark_is gated i) (not_strict old.now s e held free i)) in
-        environments_change old.now new.now s _ held (frame_of (codes "environments" ∷ codes "strict_environments" ∷ []) 10 refl old new held.broker it.0) (λ q.
+        after_one 1 (omega arith) (codes "environments") old new _ frame (λ counted. grows_added _ _ made it.1 refl)
+        (environments_change old.now new.now s _ held (frame_of (codes "environments" ∷ codes "strict_environments" ∷ []) 10 refl old new held.broker it.0) (λ q.
         ap (λ rows. value_at text_cmp (text 1) (marks_in rows) (new.now.trees 10) q) strict_stays
         ∙ puts_at nat_list_cmp_total exact_texts (text 1) (marks_in (old.now.trees 26)) rows (new.now.trees 10) made it.1 (held.environments e ∙ free) q
-        ∙ (λ i. cond (sym (texts_ties q e) i) (Some (row i)) (held.environments q i)))
+        ∙ (λ i. cond (sym (texts_ties q e) i) (Some (row i)) (held.environments q i))))
 
   -- it fails only as the store fails
   pub environment_ends : HaveNumbers (codes "environments" ∷ []) old.now → EndsOnly put_sql (Text e ∷ Int (pos (mark_of gated)) ∷ []) old new
   environment_ends numbers =
-      next_ends put_sql (Text e ∷ Int (pos (mark_of gated)) ∷ []) old new held.broker environments 5 (environments_there old.now held.broker) _ _ (put_puts e (mark_of gated)) stored numbers.0 (mark_passes _ e gated) (
+      next_ends put_sql (Text e ∷ Int (pos (mark_of gated)) ∷ []) old new held.broker environments 5 (environments_there old.now held.broker) _ _ (put_puts e (mark_of gated)) stored (number_for _ numbers.0) (mark_passes _ e gated) (
         free_one rows made nat_list_cmp_total 1 (text 1) (new_text rows made 1 (names old.now held.broker) refl)
             (sym (stands_found text_cmp (text 1) (marks_in (old.now.trees 26)) rows e) ∙ ap is_some (held.environments e ∙ free)),
         tt,
@@ -294,22 +299,23 @@ module _ (e : List ℕ) (old new : State) (s : Broker) (m : Marks) (held : Holds
   strict_stored : with_rowid Chosen strict_rows (cast_row strict_environments (Null ∷ Text e ∷ [])) ≡ strict_made
   strict_stored = ap (λ v. with_rowid Chosen strict_rows (v ∷ Text e ∷ [])) cast_null
 
-  pub strict_put : (count : ℕ) → Executes make_sql (Text e ∷ []) old new (Ok count) → Holds new.now (record s { environments = put_at same_text s.environments e (Some (marks m.gated true)) })
+  pub strict_put : (count : ℕ) → Executes make_sql (Text e ∷ []) old new (Ok count) → HoldsAfter 1 old new (record s { environments = put_at same_text s.environments e (Some (marks m.gated true)) })
   strict_put count h =
       let it = inserted make_sql (Text e ∷ []) old new held.broker strict_environments 14 (strict_environments_there old.now held.broker) _ strict_made (make_puts e) strict_stored count h in
       let one : Frame (codes "strict_environments" ∷ []) old.now new.now = frame_of (codes "strict_environments" ∷ []) 26 refl old new held.broker it.0 in
       let same : new.now.trees 10 ≡ old.now.trees 10 = one.others.1.1.1.1.1.0 refl in
-      environments_change old.now new.now s _ held (frame_of (codes "environments" ∷ codes "strict_environments" ∷ []) 26 refl old new held.broker it.0) (λ q.
+      after_one 1 (omega arith) (codes "strict_environments") old new _ one (λ counted. grows_added _ _ strict_made it.1 refl)
+      (environments_change old.now new.now s _ held (frame_of (codes "environments" ∷ codes "strict_environments" ∷ []) 26 refl old new held.broker it.0) (λ q.
       ap (λ rows. value_at text_cmp (text 1) (marks_in (new.now.trees 26)) rows q) same
       ∙ all_marks strict_rows (new.now.trees 26) e m (λ k. stands_put text_cmp (text 1) strict_rows (new.now.trees 26) strict_made it.1 k) q (old.now.trees 10)
       (λ t. held.environments q ∙ ap s.environments (exact_texts q e ((Equal-is (text_cmp q e)).0 t)) ∙ is)
-      ∙ (λ i. cond (sym (texts_ties q e) i) (Some (marks m.gated true)) (held.environments q i)))
+      ∙ (λ i. cond (sym (texts_ties q e) i) (Some (marks m.gated true)) (held.environments q i))))
 
   -- of one that isn't strict it fails only as the store fails
   pub strict_ends : HaveNumbers (codes "strict_environments" ∷ []) old.now → m.strict ≡ false → EndsOnly make_sql (Text e ∷ []) old new
   strict_ends numbers off =
       let row = find_has nat_list_cmp_total exact_texts (text 1) (marks_in strict_rows) e m (old.now.trees 10) (held.environments e ∙ is) in
-      next_ends make_sql (Text e ∷ []) old new held.broker strict_environments 14 (strict_environments_there old.now held.broker) _ _ (make_puts e) strict_stored numbers.0 (record { typed = refl; present = refl; checked = refl }) (
+      next_ends make_sql (Text e ∷ []) old new held.broker strict_environments 14 (strict_environments_there old.now held.broker) _ _ (make_puts e) strict_stored (number_for _ numbers.0) (record { typed = refl; present = refl; checked = refl }) (
         free_one strict_rows strict_made nat_list_cmp_total 1 (text 1) (new_text strict_rows strict_made 1 (strict_names old.now held.broker) refl)
             (ap (stands_at text_cmp (text 1) strict_rows) row.2 ∙ ap (λ (x : Marks). x.strict) row.3 ∙ off),
         tt,

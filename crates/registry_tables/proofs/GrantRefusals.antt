@@ -26,6 +26,7 @@ use Rattle.broker_tables.proofs.Orders.{pairs_total}
 use Rattle.broker_tables.proofs.Placed.{grants, grants_there, calm}
 use Rattle.registry_tables.specs.Registry.{AddsGrant}
 use Rattle.broker_tables.specs.Refusals.{HaveNumbers}
+use Rattle.broker_tables.proofs.RoomLemmas.{number_for}
 use Rattle.broker_tables.proofs.Inserted.{EndsOnly, apart, next_ends, new_text, free_two, team_there, environment_there}
 use Rattle.registry_tables.proofs.GrantRows.{names, places, add_sql, add_puts, add_stored, remove_sql, remove_text}
 
@@ -34,7 +35,7 @@ pub grant_ends : (team e : List ℕ) (old new : State) (s t : Broker) → Holds 
 grant_ends team e old new s t held numbers next =
     let rows = old.now.trees 12 in
     let made = Int (next_rowid rows) ∷ Text team ∷ Text e ∷ [] in
-    next_ends add_sql (Text team ∷ Text e ∷ []) old new held.broker grants 6 (grants_there old.now held.broker) _ _ (add_puts team e) (add_stored rows team e) numbers.0 (record { typed = refl; present = refl; checked = refl })
+    next_ends add_sql (Text team ∷ Text e ∷ []) old new held.broker grants 6 (grants_there old.now held.broker) _ _ (add_puts team e) (add_stored rows team e) (number_for _ numbers.0) (record { typed = refl; present = refl; checked = refl })
     (free_two rows made nat_list_cmp_total 1 (text 1) (new_text rows made 1 (names old.now held.broker) refl) pairs_total nat_list_cmp_total 2 (text 2) (new_text rows made 2 (places old.now held.broker) refl) (held.grants team e ∙ next.2), tt)
     (team_there old.now s held made 1 team next.0 refl, (environment_there old.now s held made 2 e next.1 refl, tt))
 

@@ -1,5 +1,5 @@
 -- The statements on grants.
-use Rattle.std.proofs.Common.{◌≡◌, ℕ, codes, List, [], ◌∷◌, true, false, Bool, refl, sym, ap, ◌∙◌, cond, ◌||◌, slice_get, None, Ok}
+use Rattle.std.proofs.Common.{◌≡◌, ℕ, codes, List, [], ◌∷◌, true, false, Bool, refl, sym, ap, ◌∙◌, cond, ◌||◌, slice_get, None, Ok, arith}
 use Rattle.std.specs.Prelude.{option_map, is_some}
 use Rattle.std.specs.Ordering.{eq_by_cmp}
 use Rattle.sqlite.specs.Tree.{IsAscending}
@@ -27,7 +27,7 @@ use Rattle.table_access.proofs.SoundLemmas.{text_at, has_place, at_has}
 use Rattle.broker_core.specs.Text.{put_at, same_text, same_pair}
 use Rattle.broker_core.specs.State.{State as Broker}
 use Rattle.broker_tables.specs.Schema.{broker_schema}
-use Rattle.broker_tables.specs.Holds.{Holds, IsBroker}
+use Rattle.broker_tables.specs.Holds.{Holds, HoldsAfter, IsBroker}
 use Rattle.broker_tables.proofs.Asked.{Asked, IsShown}
 use Rattle.broker_tables.proofs.Frames.{meant, frame_of, grants_change}
 use Rattle.broker_tables.proofs.Orders.{pairs_total, exact_pair}
@@ -35,6 +35,7 @@ use Rattle.broker_tables.proofs.Ties.{grant_ties}
 use Rattle.broker_tables.proofs.Standing.{stands_found, stands_put, stands_out}
 use Rattle.broker_tables.proofs.Placed.{grants, grants_there, calm}
 use Rattle.broker_tables.proofs.Inserted.{Puts, inserted}
+use Rattle.broker_tables.proofs.RoomLemmas.{after_one, grows_added, grows_kept}
 
 module _ (db : Database) (broker : IsBroker db) where
   pub names : (r : Row) → Has (db.trees 12) r → column r 1 ≡ Text (text 1 r)
@@ -79,13 +80,15 @@ either true old = refl
 either false old = refl
 
 pub grant_added : (team e : List ℕ) (old new : State) (count : ℕ) (s : Broker) → Holds old.now s → Executes add_sql (Text team ∷ Text e ∷ []) old new (Ok count)
-    → Holds new.now (record s { grants = put_at (same_pair same_text same_text) s.grants (team, e) true })
+    → HoldsAfter 2 old new (record s { grants = put_at (same_pair same_text same_text) s.grants (team, e) true })
 grant_added team e old new count s held h =
     let made = Int (next_rowid (old.now.trees 12)) ∷ Text team ∷ Text e ∷ [] in
     let it = inserted add_sql (Text team ∷ Text e ∷ []) old new held.broker grants 6 (grants_there old.now held.broker) _ made (add_puts team e) (add_stored (old.now.trees 12) team e) count h in
-    grants_change old.now new.now s _ held (frame_of (codes "grants" ∷ []) 12 refl old new held.broker it.0) (λ t f.
+    let frame = frame_of (codes "grants" ∷ []) 12 refl old new held.broker it.0 in
+    after_one 2 (omega arith) (codes "grants") old new _ frame (λ counted. grows_added _ _ made it.1 refl)
+    (grants_change old.now new.now s _ held frame (λ t f.
     stands_put pair_cmp (λ r. (text 1 r, text 2 r)) (old.now.trees 12) (new.now.trees 12) made it.1 (t, f) ∙ either (eq_by_cmp pair_cmp (t, f) (team, e)) _
-    ∙ (λ i. cond (sym (grant_ties (t, f) (team, e)) i) true (held.grants t f i)))
+    ∙ (λ i. cond (sym (grant_ties (t, f) (team, e)) i) true (held.grants t f i))))
 
 -- ---- a grant is taken back
 
@@ -100,12 +103,14 @@ unfolding understood everything
 remove_text = record { is = refl; plain = (refl, refl); unlisted = refl }
 
 pub grant_removed : (team e : List ℕ) (old new : State) (count : ℕ) (s : Broker) → Holds old.now s → Executes remove_sql (Text team ∷ Text e ∷ []) old new (Ok count)
-    → Holds new.now (record s { grants = put_at (same_pair same_text same_text) s.grants (team, e) false })
+    → HoldsAfter 2 old new (record s { grants = put_at (same_pair same_text same_text) s.grants (team, e) false })
 grant_removed team e old new count s held h =
     let numbered = at_has _ old.now.schema.tables grants held.broker.kept.numbered (has_place _ 6 grants (grants_there old.now held.broker)) in
     let it = deletes (codes "grants") 12 grants.columns None (1 ∷ 2 ∷ []) grants.uniques grants.orders [] grants.references remove_sql (Text team ∷ Text e ∷ []) old new 6 (grants_there old.now held.broker)
     (by_two 1 2) (meant old.now held.broker remove_sql remove_text) (calm old.now held.broker) numbered count h in
-    grants_change old.now new.now s _ held (frame_of (codes "grants" ∷ []) 12 refl old new held.broker it.0) (λ t f.
+    let frame = frame_of (codes "grants" ∷ []) 12 refl old new held.broker it.0 in
+    after_one 2 (omega arith) (codes "grants") old new _ frame (λ counted. grows_kept _ _ _ it.1)
+    (grants_change old.now new.now s _ held frame (λ t f.
     stands_out pairs_total exact_pair (λ r. (text 1 r, text 2 r)) (team, e) (keeps (by_two 1 2) (Text team ∷ Text e ∷ [])) (old.now.trees 12) (new.now.trees 12)
     (by_pair (old.now.trees 12) 1 2 team e (names old.now held.broker) (places old.now held.broker)) it.1 (t, f)
-    ∙ (λ i. cond (sym (grant_ties (t, f) (team, e)) i) false (held.grants t f i)))
+    ∙ (λ i. cond (sym (grant_ties (t, f) (team, e)) i) false (held.grants t f i))))

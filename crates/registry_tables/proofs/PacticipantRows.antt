@@ -1,5 +1,5 @@
 -- The statements on pacticipants.
-use Rattle.std.proofs.Common.{◌≡◌, ℕ, codes, List, [], ◌∷◌, false, refl, sym, ap, ◌∙◌, cond, slice_get, Some, None, Ok}
+use Rattle.std.proofs.Common.{◌≡◌, ℕ, codes, List, [], ◌∷◌, false, refl, sym, ap, ◌∙◌, cond, slice_get, Some, None, Ok, arith}
 use Rattle.std.specs.Prelude.{option_map, is_some}
 use Rattle.std.specs.Cmp.Lexicographic.{nat_list_cmp_total, texts_ties}
 use Rattle.std.specs.Ordering.{eq_by_cmp}
@@ -29,7 +29,7 @@ use Rattle.table_access.proofs.SoundLemmas.{text_at, has_place}
 use Rattle.broker_core.specs.Text.{put_at, same_text}
 use Rattle.broker_core.specs.State.{State as Broker}
 use Rattle.table_access.specs.Reading.{IsTextAt}
-use Rattle.broker_tables.specs.Holds.{Holds, IsBroker}
+use Rattle.broker_tables.specs.Holds.{Holds, HoldsAfter, IsBroker}
 use Rattle.broker_tables.proofs.Asked.{Asked, IsShown, FirstShown, FirstReads, text_reads}
 use Rattle.broker_tables.proofs.Frames.{frame_of, pacticipants_change}
 use Rattle.broker_tables.proofs.Orders.{exact_texts}
@@ -37,6 +37,7 @@ use Rattle.broker_tables.proofs.Placed.{pacticipants, pacticipants_there}
 use Rattle.broker_tables.proofs.Standing.{stands_found}
 use Rattle.registry_tables.specs.Registry.{AddsPacticipant}
 use Rattle.broker_tables.specs.Refusals.{HaveNumbers}
+use Rattle.broker_tables.proofs.RoomLemmas.{after_one, grows_added, number_for}
 use Rattle.broker_tables.proofs.Inserted.{EndsOnly, Puts, inserted, next_ends, new_text, free_one, team_there}
 
 module _ (db : Database) (broker : IsBroker db) where
@@ -83,15 +84,17 @@ module _ (p team : List ℕ) (old new : State) (s : Broker) (held : Holds old.no
   stored : with_rowid Chosen (old.now.trees 4) (cast_row pacticipants (Null ∷ Text p ∷ Text team ∷ [])) ≡ made
   stored = ap (λ v. with_rowid Chosen (old.now.trees 4) (v ∷ Text p ∷ Text team ∷ [])) cast_null
 
-  pub pacticipant_added : (count : ℕ) → s.pacticipants p ≡ None → Executes add_sql (Text p ∷ Text team ∷ []) old new (Ok count) → Holds new.now (record s { pacticipants = put_at same_text s.pacticipants p (Some team) })
+  pub pacticipant_added : (count : ℕ) → s.pacticipants p ≡ None → Executes add_sql (Text p ∷ Text team ∷ []) old new (Ok count) → HoldsAfter 2 old new (record s { pacticipants = put_at same_text s.pacticipants p (Some team) })
   pacticipant_added count free h =
       let it = inserted add_sql (Text p ∷ Text team ∷ []) old new held.broker pacticipants 2 (pacticipants_there old.now held.broker) _ made (add_puts p team) stored count h in
-      pacticipants_change old.now new.now s _ held (frame_of (codes "pacticipants" ∷ []) 4 refl old new held.broker it.0) (λ q.
-      puts_at nat_list_cmp_total exact_texts (text 1) (text 2) (old.now.trees 4) (new.now.trees 4) made it.1 (held.pacticipants p ∙ free) q ∙ (λ i. cond (sym (texts_ties q p) i) (Some team) (held.pacticipants q i)))
+      let frame = frame_of (codes "pacticipants" ∷ []) 4 refl old new held.broker it.0 in
+      after_one 2 (omega arith) (codes "pacticipants") old new _ frame (λ counted. grows_added _ _ made it.1 refl)
+      (pacticipants_change old.now new.now s _ held frame (λ q.
+      puts_at nat_list_cmp_total exact_texts (text 1) (text 2) (old.now.trees 4) (new.now.trees 4) made it.1 (held.pacticipants p ∙ free) q ∙ (λ i. cond (sym (texts_ties q p) i) (Some team) (held.pacticipants q i))))
 
   -- it fails only as the store fails
   pub pacticipant_ends : HaveNumbers (codes "pacticipants" ∷ []) old.now → (t : Broker) → AddsPacticipant p team s t → EndsOnly add_sql (Text p ∷ Text team ∷ []) old new
   pacticipant_ends numbers t next =
-      next_ends add_sql (Text p ∷ Text team ∷ []) old new held.broker pacticipants 2 (pacticipants_there old.now held.broker) _ _ (add_puts p team) stored numbers.0 (record { typed = refl; present = refl; checked = refl })
+      next_ends add_sql (Text p ∷ Text team ∷ []) old new held.broker pacticipants 2 (pacticipants_there old.now held.broker) _ _ (add_puts p team) stored (number_for _ numbers.0) (record { typed = refl; present = refl; checked = refl })
       (free_one (old.now.trees 4) made nat_list_cmp_total 1 (text 1) (new_text (old.now.trees 4) made 1 (names old.now held.broker) refl) (sym (stands_found text_cmp (text 1) (text 2) (old.now.trees 4) p) ∙ ap is_some (held.pacticipants p ∙ next.0)), tt)
       (team_there old.now s held made 2 team next.1 refl, tt)

@@ -1,5 +1,5 @@
 -- The statements on teams.
-use Rattle.std.proofs.Common.{◌≡◌, ℕ, codes, List, [], ◌∷◌, false, refl, sym, subst, ap, ◌∙◌, cond, slice_get, Some, None, Ok, MatchOption, Option}
+use Rattle.std.proofs.Common.{◌≡◌, ℕ, codes, List, [], ◌∷◌, false, refl, sym, subst, ap, ◌∙◌, cond, slice_get, Some, None, Ok, MatchOption, Option, arith}
 use Rattle.std.specs.Prelude.{option_map, is_some}
 use Rattle.std.specs.Cmp.Lexicographic.{nat_list_cmp_total, texts_ties}
 use Rattle.std.specs.Ordering.{eq_by_cmp}
@@ -31,7 +31,7 @@ use Rattle.broker_core.specs.State.{State as Broker}
 use Rattle.broker_core.specs.Laws.{TeamsDiffer}
 use Rattle.table_access.specs.Reading.{IsTextAt}
 use Rattle.broker_tables.specs.Rows.{value_at}
-use Rattle.broker_tables.specs.Holds.{Holds, IsBroker}
+use Rattle.broker_tables.specs.Holds.{Holds, HoldsAfter, IsBroker}
 use Rattle.broker_tables.proofs.Asked.{Asked, IsShown, FirstShown, FirstReads, text_reads}
 use Rattle.broker_tables.proofs.Frames.{frame_of, teams_change}
 use Rattle.broker_tables.proofs.Orders.{exact_texts}
@@ -39,6 +39,7 @@ use Rattle.broker_tables.proofs.Placed.{teams, teams_there}
 use Rattle.broker_tables.proofs.Standing.{stands_found}
 use Rattle.registry_tables.specs.Registry.{AddsTeam}
 use Rattle.broker_tables.specs.Refusals.{HaveNumbers}
+use Rattle.broker_tables.proofs.RoomLemmas.{after_one, grows_added, number_for}
 use Rattle.broker_tables.proofs.Inserted.{EndsOnly, Puts, inserted, next_ends, new_text, free_one}
 
 module _ (db : Database) (broker : IsBroker db) where
@@ -136,11 +137,13 @@ module _ (team digest : List ℕ) (old new : State) (s : Broker) (held : Holds o
   stored : with_rowid Chosen (old.now.trees 1) (cast_row teams (Null ∷ Text team ∷ Text digest ∷ [])) ≡ made
   stored = ap (λ v. with_rowid Chosen (old.now.trees 1) (v ∷ Text team ∷ Text digest ∷ [])) cast_null
 
-  pub team_added : (count : ℕ) → s.teams team ≡ None → Executes add_sql (Text team ∷ Text digest ∷ []) old new (Ok count) → Holds new.now (record s { teams = put_at same_text s.teams team (Some digest) })
+  pub team_added : (count : ℕ) → s.teams team ≡ None → Executes add_sql (Text team ∷ Text digest ∷ []) old new (Ok count) → HoldsAfter 2 old new (record s { teams = put_at same_text s.teams team (Some digest) })
   team_added count free h =
       let it = inserted add_sql (Text team ∷ Text digest ∷ []) old new held.broker teams 1 (teams_there old.now held.broker) _ made (add_puts team digest) stored count h in
-      teams_change old.now new.now s _ held (frame_of (codes "teams" ∷ []) 1 refl old new held.broker it.0) (λ t.
-      puts_at nat_list_cmp_total exact_texts (text 1) (text 2) (old.now.trees 1) (new.now.trees 1) made it.1 (held.teams team ∙ free) t ∙ (λ i. cond (sym (texts_ties t team) i) (Some digest) (held.teams t i)))
+      let frame = frame_of (codes "teams" ∷ []) 1 refl old new held.broker it.0 in
+      after_one 2 (omega arith) (codes "teams") old new _ frame (λ counted. grows_added _ _ made it.1 refl)
+      (teams_change old.now new.now s _ held frame (λ t.
+      puts_at nat_list_cmp_total exact_texts (text 1) (text 2) (old.now.trees 1) (new.now.trees 1) made it.1 (held.teams team ∙ free) t ∙ (λ i. cond (sym (texts_ties t team) i) (Some digest) (held.teams t i))))
 
   unknown : ((other : List ℕ) → ¬ (s.teams other ≡ Some digest)) → (found : Option (List ℕ)) → value_at text_cmp (text 2) (text 1) (old.now.trees 1) digest ≡ found → is_some found ≡ false
   unknown none None is = refl
@@ -151,5 +154,5 @@ module _ (team digest : List ℕ) (old new : State) (s : Broker) (held : Holds o
   team_ends numbers t next =
       let free_name = sym (stands_found text_cmp (text 1) (text 2) (old.now.trees 1) team) ∙ ap is_some (held.teams team ∙ next.0) in
       let free_digest = sym (stands_found text_cmp (text 2) (text 1) (old.now.trees 1) digest) ∙ unknown next.1 _ refl in
-      next_ends add_sql (Text team ∷ Text digest ∷ []) old new held.broker teams 1 (teams_there old.now held.broker) _ _ (add_puts team digest) stored numbers.0 (record { typed = refl; present = refl; checked = refl })
+      next_ends add_sql (Text team ∷ Text digest ∷ []) old new held.broker teams 1 (teams_there old.now held.broker) _ _ (add_puts team digest) stored (number_for _ numbers.0) (record { typed = refl; present = refl; checked = refl })
       (free_one (old.now.trees 1) made nat_list_cmp_total 1 (text 1) (new_text (old.now.trees 1) made 1 (names old.now held.broker) refl) free_name, (free_one (old.now.trees 1) made nat_list_cmp_total 2 (text 2) (new_text (old.now.trees 1) made 2 (digests old.now held.broker) refl) free_digest, tt)) tt

@@ -33,13 +33,14 @@ use Rattle.std.specs.Option.{option_map_or}
 use Rattle.registry_tables.specs.Registry.{AddsVersion}
 use Rattle.broker_tables.specs.Rows.{stands_at}
 use Rattle.broker_tables.specs.Numbers.{number_of}
-use Rattle.broker_tables.specs.Holds.{Holds, IsBroker}
+use Rattle.broker_tables.specs.Holds.{Holds, HoldsAfter, IsBroker}
 use Rattle.broker_tables.proofs.Asked.{Asked, IsShown, EachReads, of_first, number_reads}
 use Rattle.broker_tables.proofs.ReadableRows.{number_cell}
 use Rattle.broker_tables.proofs.Frames.{meant, frame_of, Frame}
 use Rattle.broker_tables.proofs.Growth.{versions_grow}
 use Rattle.broker_tables.proofs.Newest.{newest as newest_count}
 use Rattle.broker_tables.proofs.NextRow.{next_row}
+use Rattle.broker_tables.proofs.RoomLemmas.{after_one}
 use Rattle.sqlite_rules.proofs.TableLemmas.{int_is}
 use Rattle.table_access.specs.Reading.{IsNumberRow}
 use Rattle.broker_tables.specs.Readable.{IsReadable}
@@ -152,13 +153,14 @@ module _ (number : ℕ) (p name : List ℕ) (old new : State) (s : Broker) (held
   stored : with_rowid Chosen (old.now.trees 6) (cast_row versions made) ≡ made
   stored = ap (λ v. with_rowid Chosen (old.now.trees 6) (v ∷ cast_all versions.columns (Null ∷ Text p ∷ Text name ∷ []))) (cast_int (pos number)) ∙ ap (λ v. Int (pos number) ∷ v ∷ Text p ∷ Text name ∷ []) cast_null
 
-  pub version_put : (count : ℕ) → Executes put_sql (Int (pos number) ∷ Text p ∷ Text name ∷ []) old new (Ok count) → Holds new.now (record s { versions = s.versions ++ version p name ∷ [] })
+  pub version_put : (count : ℕ) → Executes put_sql (Int (pos number) ∷ Text p ∷ Text name ∷ []) old new (Ok count) → HoldsAfter 2 old new (record s { versions = s.versions ++ version p name ∷ [] })
   version_put count h =
       let it = inserted put_sql (Int (pos number) ∷ Text p ∷ Text name ∷ []) old new held.broker versions 3 (versions_there old.now held.broker) _ made (put_puts number p name) stored count h in
       let frame : Frame (codes "versions" ∷ []) old.now new.now = frame_of (codes "versions" ∷ []) 6 refl old new held.broker it.0 in
       let now_broker : IsBroker new.now = record { schema = frame.schema ∙ held.broker.schema; kept = frame.kept held.broker.kept } in
-      versions_grow old.now new.now s (version p name) held unknown frame
-      (next_row (λ r. version (text 2 r) (text 3 r)) s.versions (old.now.trees 6) (new.now.trees 6) made held.versions (numbered_rows new.now now_broker) (ap pos is) it.1)
+      after_one 2 (omega arith) (codes "versions") old new _ frame (λ no. absurd cc)
+      (versions_grow old.now new.now s (version p name) held unknown frame
+      (next_row (λ r. version (text 2 r) (text 3 r)) s.versions (old.now.trees 6) (new.now.trees 6) made held.versions (numbered_rows new.now now_broker) (ap pos is) it.1))
 
   -- it fails only as the store fails
   pub version_ends : IsTrue (is_some (s.pacticipants p)) → has_room s.versions ≡ true → EndsOnly put_sql (Int (pos number) ∷ Text p ∷ Text name ∷ []) old new
@@ -180,8 +182,8 @@ no_branch db s v held free branch =
     sym (held.branches v branch) ∙ ap (λ o. option_map_or (λ n. stands_at (by_both int_cmp text_cmp) (λ r. (whole_at 1 r, text 2 r)) (db.trees 8) (pos n, branch)) o false) (none_numbered s.versions v free)
 
 -- what add_version promises, of the state after it
-pub version_added : (s : Broker) (v : Version) (number : ℕ) (new : Database) → is_known s v ≡ false → ((branch : List ℕ) → s.branches (v, branch) ≡ false) → number ≡ length s.versions + 1 → Holds new (record s { versions = s.versions ++ v ∷ [] })
-    → (t : Broker) × AddsVersion v number s t × Holds new t
-version_added s v number new free off is held =
+pub version_added : (s : Broker) (v : Version) (number : ℕ) (old new : State) → is_known s v ≡ false → ((branch : List ℕ) → s.branches (v, branch) ≡ false) → number ≡ length s.versions + 1 → HoldsAfter 2 old new (record s { versions = s.versions ++ v ∷ [] })
+    → (t : Broker) × AddsVersion v number s t × HoldsAfter 2 old new t
+version_added s v number old new free off is held =
     let t = record s { versions = s.versions ++ v ∷ [] } in
     (t, (refl, is, newly_numbered s.versions v free ∙ ap Some (sym is), off), held)

@@ -3,7 +3,7 @@ ghost use Rattle.std.specs.Prelude.{◌≡◌, ◌==◌, [], ◌∷◌, codes, f
 ghost use Rattle.sqlite.specs.Held.{state};
 ghost use Rattle.sqlite.specs.State.{HasCleanDisk};
 ghost use Rattle.broker_core.specs.declared.command.Marks.{Marks as MarksModel};
-ghost use Rattle.broker_tables.specs.Holds.{Changes};
+ghost use Rattle.broker_tables.specs.Holds.{Changes, ChangesTaking};
 ghost use Rattle.broker_tables.specs.Rows.{mark_of};
 ghost use Rattle.broker_tables.specs.Calm.{CalmQueriesInPlace};
 ghost use Rattle.registry_tables.specs.Marks.{TellsMark, FitsMark};
@@ -107,7 +107,8 @@ fn put_environment<S: Alter>(
     environment: &str,
     gated: bool,
 ) -> Result<(), StoreFault>
-    ensures changes { Changes S.Store conn.old conn.new result (AddsEnvironment environment.now (marks gated false)) }
+    ensures changes { ChangesTaking S.Store conn.old conn.new 1 result
+        (AddsEnvironment environment.now (marks gated false)) }
     ensures strict { HasCleanDisk (state S.Store conn.new) → IfOk result
         (λ _. KeepsStrict environment.now (state S.Store conn.old).now (state S.Store conn.new).now) }
     ensures calm { IsCalmChange S.Store conn.old conn.new result (codes "environments" ∷ [])
@@ -123,7 +124,7 @@ fn put_environment<S: Alter>(
 
 /// Makes an environment strict.
 fn put_strict<S: Alter>(conn: &mut Connection<S>, environment: &str) -> Result<(), StoreFault>
-    ensures changes { Changes S.Store conn.old conn.new result (MakesStrict environment.now) }
+    ensures changes { ChangesTaking S.Store conn.old conn.new 1 result (MakesStrict environment.now) }
     ensures calm { IsCalmIf S.Store conn.old conn.new result (codes "strict_environments" ∷ [])
         (λ s. (m : MarksModel) × (s.environments environment.now ≡ Some m) × (m.strict ≡ false)) }
 {

@@ -1,14 +1,14 @@
 use Rattle.std.proofs.Common.{◌≡◌, refl, sym, ap, subst, ◌∙◌, Some, true, false, Ok, arith}
 use Rattle.std.proofs.lemmas.Result.{IfErr-weaker}
-use Rattle.sqlite.specs.Edit.{next_rowid}
 use Rattle.sqlite.specs.State.{HasCleanDisk}
-use Rattle.sqlite_sql.specs.Ops.{fits_i64}
 use Rattle.sqlite.specs.Held.{state}
 use Rattle.broker_core.specs.declared.command.Marks.{Marks}
 use Rattle.broker_core.specs.Text.{put_at, same_text}
 use Rattle.broker_core.specs.State.{State}
 use Rattle.table_access.proofs.CallLemmas.{statement_with, statement_seq, ended_since}
-use Rattle.broker_tables.specs.Holds.{Holds}
+use Rattle.broker_tables.specs.Holds.{HoldsAfter}
+use Rattle.broker_tables.specs.Room.{LeaveNumbers}
+use Rattle.broker_tables.proofs.RoomLemmas.{takes_more, takes_then}
 use Rattle.registry_tables.specs.Registry.{marks}
 use Rattle.broker_tables.specs.Refusals.{HoldsOpen}
 use Rattle.registry_tables.proofs.EnvironmentRows.{put_both, there_now}
@@ -25,8 +25,10 @@ returns-then-strict-clause-changes g c =
     statement_seq old mid new c.in-Ok.value c.put_strict.result _ _ _ (λ one _ two s held t next.
     let between : State = record s { environments = put_at same_text s.environments e (Some first) } in
     let same : last ≡ marks c.args.gated c.args.strict = ap (marks c.args.gated) (sym c.if-strict.true) in
-    subst (Holds new.now) (put_both s e first last ∙ ap (λ (m : Marks). record s { environments = put_at same_text s.environments e (Some m) }) same ∙ sym next.1)
-    (two between (one s held between (next.0, refl)) _ (first, there_now s.environments e first, refl)))
+    let before = one s held between (next.0, refl) in
+    let after = two between before.0 _ (first, there_now s.environments e first, refl) in
+    subst (HoldsAfter 2 old new) (put_both s e first last ∙ ap (λ (m : Marks). record s { environments = put_at same_text s.environments e (Some m) }) same ∙ sym next.1)
+    (after.0, takes_then 1 1 old.now mid.now new.now before.1 after.1))
     c.in-Ok.ensures.changes c.put_strict.ensures.changes
 
 pub returns-then-strict-clause-calm : goal.returns-then-strict-clause-calm
@@ -43,9 +45,9 @@ returns-then-strict-clause-calm g c =
     let now : HoldsOpen mid between = record {
       inside = (call.goes_on mid_clean here.inside).0;
       unlimited = call.survives.limit ∙ here.unlimited;
-      held = call.ok mid_clean s here.held between (next.1.0, refl);
+      held = (call.ok mid_clean s here.held between (next.1.0, refl)).0;
     } in
-    let room = ap (λ rows. fits_i64 (next_rowid rows)) (c.in-Ok.ensures.strict mid_clean s here.held next.1.0) ∙ numbers.1.0 in
+    let room = subst (LeaveNumbers 1) (sym (c.in-Ok.ensures.strict mid_clean s here.held next.1.0)) numbers.1.0 in
     IfErr-weaker c.put_strict.result _ _ (λ e why. ended_since old mid new e (call.goes_on mid_clean here.inside) call.survives.counts why)
     (c.put_strict.ensures.calm clean between now (first, there_now s.environments e first, refl) (room, tt))
 
@@ -57,5 +59,7 @@ returns-else-strict-clause-changes g c =
     let first = marks c.args.gated false in
     statement_with old new (Ok c.in-Ok.value) _ _ (λ _ one s held t next.
     let same : first ≡ marks c.args.gated c.args.strict = ap (marks c.args.gated) (sym c.if-strict.false) in
-    subst (Holds new.now) (ap (λ (m : Marks). record s { environments = put_at same_text s.environments e (Some m) }) same ∙ sym next.1) (one s held _ (next.0, refl)))
+    let after = one s held _ (next.0, refl) in
+    subst (HoldsAfter 2 old new) (ap (λ (m : Marks). record s { environments = put_at same_text s.environments e (Some m) }) same ∙ sym next.1)
+    (after.0, takes_more 1 2 (omega arith) old.now new.now after.1))
     c.in-Ok.ensures.changes

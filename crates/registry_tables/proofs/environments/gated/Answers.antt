@@ -5,7 +5,7 @@ use Rattle.sqlite.specs.Held.{state}
 use Rattle.sqlite.specs.declared.types.Value.TheVariants.{Int}
 use Rattle.table_access.proofs.Answered.{number_ends, refusal_ends}
 use Rattle.broker_tables.proofs.QueryLemmas.{looked_result, looked_err}
-use Rattle.broker_tables.proofs.Frames.{held_still}
+use Rattle.table_access.proofs.Steps.{shown_unchanged}
 use Rattle.broker_tables.proofs.TruthLemmas.{mark_in_column}
 use Rattle.registry_tables.proofs.EnvironmentRows.{gated_means, gated_runs, gated_found, gated_stands, gated_true, no_mark, mark_is_number}
 use Rattle.registry_tables.proofs.MarkText.{either_result, mark_means, mark_runs, mark_found, mark_lost}
@@ -16,7 +16,7 @@ returns-clause-answers g c =
     let old = state g.S.Store c.args.conn.now in
     let new = state g.S.Store c.number_of.new.conn in
     looked_result old new c.in-Ok.value c.truth_of.result _ _
-    (IfOk-weaker c.truth_of.result _ _ (λ truth is h s held. (is ∙ gated_found c.args.environment.now old new h.0 s c.in-Ok.value held h.1 h.2, held_still _ _ old new h.0 s (gated_means old.now held.broker) h.1 held)) c.truth_of.ensures.ok)
+    (IfOk-weaker c.truth_of.result _ _ (λ truth is h s held. (is ∙ gated_found c.args.environment.now old new h.0 s c.in-Ok.value held h.1 h.2, (shown_unchanged _ _ old new h.0 (gated_means old.now held.broker).plain h.1).0.now_is)) c.truth_of.ensures.ok)
     (IfErr-weaker c.truth_of.result _ _ (λ fault why. why.0) c.truth_of.ensures.cause)
     (λ s here h. IfErr-weaker c.truth_of.result _ _ (λ fault why. gated_true c.args.environment.now old new h.0 s c.in-Ok.value here.held h.1 h.2 why.1) c.truth_of.ensures.cause)
     (rw c.params-to_sql.ensures at c.in-Ok.ensures.leaves)

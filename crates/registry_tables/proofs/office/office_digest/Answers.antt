@@ -2,7 +2,7 @@ use Rattle.std.proofs.Common.{◌≡◌, Some, None, ◌∙◌, refl, string_byt
 use Rattle.sqlite.specs.Held.{state}
 use Rattle.table_access.proofs.CallLemmas.{memory_ok, memory_store}
 use Rattle.broker_tables.proofs.QueryLemmas.{read_ok, read_err, read_never}
-use Rattle.broker_tables.proofs.Asked.{is_answer, reads, why_text}
+use Rattle.broker_tables.proofs.Asked.{is_answer, still, why_text}
 use Rattle.registry_tables.proofs.OfficeRows.{office, office_found, office_reads, no_office}
 use Rattle.registry_tables.proofs.office.office_digest.Goals as goal
 
@@ -11,9 +11,8 @@ returns-in-Some-clause-reads g c =
     let old = state g.S.Store c.args.conn.now in
     let new = state g.S.Store c.text_of.new.conn in
     read_ok old new (Some c.in-Some.digest) c.in-Some.digest _ _ (λ h s held.
-    let it = reads office old new s held h.0 h.1 in
-    let is : Some (string_bytes c.in-Some.digest) ≡ Some s.office = h.2 ∙ office_found old.now h.0 s held it.0 in
-    (cc, it.1)) (rw c.in-Some.is at c.in-Ok.ensures.leaves)
+    let is : Some (string_bytes c.in-Some.digest) ≡ Some s.office = h.2 ∙ office_found old.now h.0 s held (is_answer office old new held.broker h.0 h.1) in
+    (cc, still office old new held.broker h.0 h.1)) (rw c.in-Some.is at c.in-Ok.ensures.leaves)
 
 -- a state that is held has the row
 pub returns-in-None-clause-reads : goal.returns-in-None-clause-reads

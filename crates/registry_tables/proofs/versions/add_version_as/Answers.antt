@@ -11,5 +11,5 @@ returns-clause-changes g c =
     let new = state g.S.Store c.put_version.new.conn in
     let v = version_named c.args.pacticipant.now c.args.version.now in
     statement_with old new c.put_version.result _ _ (λ _ puts s held allowed.
-    version_added s v c.args.number new.now allowed.0.0 (no_branch old.now s v held allowed.0.0) allowed.1 (puts s held _ (allowed.0.0, allowed.1, refl)))
+    version_added s v c.args.number old new allowed.0.0 (no_branch old.now s v held allowed.0.0) allowed.1 (puts s held _ (allowed.0.0, allowed.1, refl)))
     c.put_version.ensures.changes
