@@ -1,18 +1,16 @@
 -- The statements on contracts.
-use Rattle.std.proofs.Common.{◌≡◌, ℕ, ℤ, pos, codes, List, [], ◌∷◌, Bool, true, false, cond, ◌&&◌, refl, sym, ap, ◌∙◌, slice_get, Some, None, Option, Ok}
-use Rattle.std.specs.Prelude.{option_map, option_and_then}
+use Rattle.std.proofs.Common.{◌≡◌, arith, ◌≤◌, length, IsTrue, ℕ, ℤ, pos, codes, List, [], ◌∷◌, Bool, true, false, cond, ◌&&◌, refl, sym, ap, ◌∙◌, slice_get, Some, None, Option, Ok}
+use Rattle.std.specs.Prelude.{option_map, option_and_then, is_some}
 use Rattle.std.specs.Ordering.{eq_by_cmp, int_cmp}
 use Rattle.std.specs.Cmp.{int_cmp_total}
 use Rattle.std.specs.Cmp.Lexicographic.{nat_list_cmp_total, texts_ties}
 use Rattle.sqlite.specs.Tree.{IsAscending}
 use Rattle.sqlite.specs.Edit.{next_rowid, with_rowid}
 use Rattle.sqlite.specs.Rowids.TheVariants.{Chosen}
+use Rattle.sqlite.specs.Cast.{cast_row}
 use Rattle.sqlite.specs.declared.types.Value.TheVariants.{Null, Int, Text}
 use Rattle.sqlite.specs.Order.{Row, column}
 use Rattle.sqlite.specs.Term.{col, lit}
-use Rattle.sqlite.specs.Source.TheVariants.{Values}
-use Rattle.sqlite.specs.Command.{Command}
-use Rattle.sqlite.specs.Command.TheVariants.{Insert}
 use Rattle.sqlite.specs.Schema.{Schema}
 use Rattle.sqlite.specs.Effect.{Database}
 use Rattle.sqlite.specs.State.{State, Executes}
@@ -22,7 +20,7 @@ use Rattle.sqlite_tied.specs.Compute.{everything}
 use Rattle.table_access.specs.Columns.{text, text_cmp, whole_at, by_both}
 use Rattle.table_access.specs.Statements.{from_table, by_two, keeps}
 use Rattle.table_access.proofs.Values.{cast_null, cast_int}
-use Rattle.table_access.proofs.Steps.{Means, answered, inserts}
+use Rattle.table_access.proofs.Steps.{answered}
 use Rattle.table_access.proofs.Maps.{looks_up_at, puts_at}
 use Rattle.table_access.proofs.Keys.{apart_by}
 use Rattle.table_access.proofs.Parts.{Part, text_part, whole_part, is_param, where_last, where_and, all_where, agree_last, agree_and, once}
@@ -31,16 +29,20 @@ use Rattle.table_access.proofs.ReadLemmas.{number_found}
 use Rattle.broker_core.specs.declared.command.Version.{Version}
 use Rattle.broker_core.specs.Text.{put_at, same_text, same_version, same_pair}
 use Rattle.broker_core.specs.State.{State as Broker}
-use Rattle.broker_tables.specs.Schema.{broker_schema}
 use Rattle.broker_tables.specs.Rows.{value_at}
 use Rattle.broker_tables.specs.Numbers.{number_of}
-use Rattle.broker_tables.specs.Holds.{Holds, IsBroker}
-use Rattle.broker_tables.proofs.Frames.{meant, frame_of, contracts_change}
+use Rattle.broker_tables.specs.Holds.{Holds, HoldsAfter, IsBroker}
+use Rattle.broker_tables.proofs.Frames.{frame_of, contracts_change}
 use Rattle.broker_tables.proofs.Orders.{marked_total, exact_marked}
 use Rattle.broker_tables.proofs.Ties.{both_eq, two_tests}
 use Rattle.broker_tables.proofs.NumberLemmas.{number_ties, version_unknown}
 use Rattle.broker_tables.proofs.Placed.{contracts, contracts_there}
+use Rattle.broker_tables.specs.Refusals.{HaveNumbers}
 use Rattle.broker_tables.proofs.Asked.{Asked, IsShown}
+use Rattle.broker_tables.proofs.Standing.{stands_found}
+use Rattle.broker_tables.proofs.RoomLemmas.{after_one, grows_added, number_for}
+use Rattle.broker_tables.proofs.Inserted.{EndsOnly, Puts, inserted, next_ends, new_text, new_whole, free_two, version_there, pacticipant_there}
+use Rattle.contract_tables.proofs.ReferredRows.{leads, number_there, has_content}
 
 abbrev pub key : Row → ℤ × List ℕ
 key r = (whole_at 1 r, text 2 r)
@@ -103,35 +105,57 @@ content_found n p db s v held is rows h found read = named found (s.contracts (v
 abbrev pub add_sql : List ℕ
 add_sql = codes "INSERT INTO contracts (version_number, provider, content) VALUES (?1, ?2, ?3)"
 
-abbrev add_command : Command
-add_command = Insert 8 (Values (lit Null ∷ col 0 0 ∷ col 0 1 ∷ col 0 2 ∷ []) 4)
-
-add_text : Means broker_schema add_sql add_command
+add_puts : (n : ℕ) (p : List ℕ) (content : ℕ) → Puts 8 add_sql (Int (pos n) ∷ Text p ∷ Int (pos content) ∷ []) (Null ∷ Int (pos n) ∷ Text p ∷ Int (pos content) ∷ [])
 unfolding understood everything
-add_text = record { is = refl; plain = (refl, refl); unlisted = refl }
+add_puts n p content = record { terms = lit Null ∷ col 0 0 ∷ col 0 1 ∷ col 0 2 ∷ []; width = 4; means = record { is = refl; plain = (refl, refl); unlisted = refl }; whole = refl; kinds = refl; one = refl }
 
-pub contract_added : (n : ℕ) (p : List ℕ) (content : ℕ) (old new : State) (count : ℕ) (s : Broker) (v : Version) → Holds old.now s → number_of s.versions v ≡ Some n → s.contracts (v, p) ≡ None
-    → Executes add_sql (Int (pos n) ∷ Text p ∷ Int (pos content) ∷ []) old new (Ok count) → Holds new.now (record s { contracts = put_at (same_pair same_version same_text) s.contracts (v, p) (Some content) })
-contract_added n p content old new count s v held is free h =
-    let params = Int (pos n) ∷ Text p ∷ Int (pos content) ∷ [] in
-    let made = Int (next_rowid (old.now.trees 15)) ∷ Int (pos n) ∷ Text p ∷ Int (pos content) ∷ [] in
-    let it = inserts (codes "contracts") 15 contracts.columns None (1 ∷ 2 ∷ []) contracts.uniques contracts.orders [] contracts.references add_sql params old new 8 (contracts_there old.now held.broker)
-    _ _ (Null ∷ params) made refl (λ i. with_rowid Chosen (old.now.trees 15) (cast_null i ∷ cast_int (pos n) i ∷ Text p ∷ cast_int (pos content) i ∷ [])) (meant old.now held.broker add_sql add_text) count h in
-    let put = puts_at marked_total exact_marked key (whole_at 3) (old.now.trees 15) (new.now.trees 15) made it.1 (held_content old.now s v n p held is ∙ ap (option_map pos) free) in
-    contracts_change old.now new.now s _ held (frame_of (codes "contracts" ∷ []) 15 refl old new held.broker it.0) (λ w q. each w q (number_of s.versions w) refl (λ k. put (pos k, q)))
-  where
-    each : (w : Version) (q : List ℕ) (o : Option ℕ) → number_of s.versions w ≡ o
-        → ((k : ℕ) → content_at (new.now.trees 15) k q ≡ cond (eq_by_cmp (by_both int_cmp text_cmp) (pos k, q) (pos n, p)) (Some (pos content)) (content_at (old.now.trees 15) k q))
-        → option_and_then (λ k. content_at (new.now.trees 15) k q) (number_of s.versions w) ≡ option_map pos (put_at (same_pair same_version same_text) s.contracts (v, p) (Some content) (w, q))
-    each w q None e put =
-        ap (option_and_then (λ k. content_at (new.now.trees 15) k q)) e ∙ sym (ap (option_and_then (λ k. content_at (old.now.trees 15) k q)) e) ∙ held.contracts w q
-        ∙ sym (ap (λ t. option_map pos (cond (t && same_text q p) (Some content) (s.contracts (w, q)))) (version_unknown s.versions w v n e is))
-    each w q (Some k) e put =
-        let same : (same_version w v && same_text q p) ≡ eq_by_cmp (by_both int_cmp text_cmp) (pos k, q) (pos n, p) =
-        two_tests (same_version w v) (same_text q p) (eq_by_cmp int_cmp (pos k) (pos n)) (eq_by_cmp text_cmp q p) (number_ties s.versions w v k n e is) (texts_ties q p) ∙ both_eq (int_cmp (pos k) (pos n)) (text_cmp q p) in
-        ap (option_and_then (λ m. content_at (new.now.trees 15) m q)) e ∙ put k ∙ go (eq_by_cmp (by_both int_cmp text_cmp) (pos k, q) (pos n, p)) (held_content old.now s w k q held e)
-        ∙ sym (ap (λ b. option_map pos (cond b (Some content) (s.contracts (w, q)))) same)
-      where
-        go : (b : Bool) → content_at (old.now.trees 15) k q ≡ option_map pos (s.contracts (w, q)) → cond b (Some (pos content)) (content_at (old.now.trees 15) k q) ≡ option_map pos (cond b (Some content) (s.contracts (w, q)))
-        go true was = refl
-        go false was = was
+module _ (n : ℕ) (p : List ℕ) (content : ℕ) (old new : State) (s : Broker) (v : Version) (held : Holds old.now s) (is : number_of s.versions v ≡ Some n) (free : s.contracts (v, p) ≡ None) where
+  abbrev params : Row
+  params = Int (pos n) ∷ Text p ∷ Int (pos content) ∷ []
+
+  abbrev rows : List Row
+  rows = old.now.trees 15
+
+  abbrev made : Row
+  made = Int (next_rowid rows) ∷ params
+
+  stored : with_rowid Chosen rows (cast_row contracts (Null ∷ params)) ≡ made
+  stored = λ i. with_rowid Chosen rows (cast_null i ∷ cast_int (pos n) i ∷ Text p ∷ cast_int (pos content) i ∷ [])
+
+  -- none has its key
+  none : content_at rows n p ≡ None
+  none = held_content old.now s v n p held is ∙ ap (option_map pos) free
+
+  pub contract_added : (count : ℕ) → Executes add_sql params old new (Ok count) → HoldsAfter 2 old new (record s { contracts = put_at (same_pair same_version same_text) s.contracts (v, p) (Some content) })
+  contract_added count h =
+      let it = inserted add_sql params old new held.broker contracts 8 (contracts_there old.now held.broker) _ made (add_puts n p content) stored count h in
+      let put = puts_at marked_total exact_marked key (whole_at 3) rows (new.now.trees 15) made it.1 none in
+      let frame = frame_of (codes "contracts" ∷ []) 15 refl old new held.broker it.0 in
+      after_one 2 (omega arith) (codes "contracts") old new _ frame (λ counted. grows_added rows (new.now.trees 15) made it.1 refl)
+      (contracts_change old.now new.now s _ held frame (λ w q. each w q (number_of s.versions w) refl (λ k. put (pos k, q))))
+    where
+      each : (w : Version) (q : List ℕ) (o : Option ℕ) → number_of s.versions w ≡ o
+          → ((k : ℕ) → content_at (new.now.trees 15) k q ≡ cond (eq_by_cmp (by_both int_cmp text_cmp) (pos k, q) (pos n, p)) (Some (pos content)) (content_at (old.now.trees 15) k q))
+          → option_and_then (λ k. content_at (new.now.trees 15) k q) (number_of s.versions w) ≡ option_map pos (put_at (same_pair same_version same_text) s.contracts (v, p) (Some content) (w, q))
+      each w q None e put =
+          ap (option_and_then (λ k. content_at (new.now.trees 15) k q)) e ∙ sym (ap (option_and_then (λ k. content_at (old.now.trees 15) k q)) e) ∙ held.contracts w q
+          ∙ sym (ap (λ t. option_map pos (cond (t && same_text q p) (Some content) (s.contracts (w, q)))) (version_unknown s.versions w v n e is))
+      each w q (Some k) e put =
+          let same : (same_version w v && same_text q p) ≡ eq_by_cmp (by_both int_cmp text_cmp) (pos k, q) (pos n, p) =
+          two_tests (same_version w v) (same_text q p) (eq_by_cmp int_cmp (pos k) (pos n)) (eq_by_cmp text_cmp q p) (number_ties s.versions w v k n e is) (texts_ties q p) ∙ both_eq (int_cmp (pos k) (pos n)) (text_cmp q p) in
+          ap (option_and_then (λ m. content_at (new.now.trees 15) m q)) e ∙ put k ∙ go (eq_by_cmp (by_both int_cmp text_cmp) (pos k, q) (pos n, p)) (held_content old.now s w k q held e)
+          ∙ sym (ap (λ b. option_map pos (cond b (Some content) (s.contracts (w, q)))) same)
+        where
+          go : (b : Bool) → content_at (old.now.trees 15) k q ≡ option_map pos (s.contracts (w, q)) → cond b (Some (pos content)) (content_at (old.now.trees 15) k q) ≡ option_map pos (cond b (Some content) (s.contracts (w, q)))
+          go true was = refl
+          go false was = was
+
+  -- it fails only as the store fails
+  pub contract_ends : HaveNumbers (codes "contracts" ∷ []) old.now → IsTrue (is_some (s.pacticipants p)) → 1 ≤ content → content ≤ length s.contents → EndsOnly add_sql params old new
+  contract_ends room known low high =
+      next_ends add_sql params old new held.broker contracts 8 (contracts_there old.now held.broker) _ _ (add_puts n p content) stored (number_for rows room.0) (record { typed = refl; present = refl; checked = refl }) (
+        free_two rows made int_cmp_total 1 (whole_at 1) (new_whole rows made 1 (numbers old.now held.broker).typed refl) marked_total nat_list_cmp_total 2 (text 2) (new_text rows made 2 (providers old.now held.broker).typed refl)
+            (sym (stands_found (by_both int_cmp text_cmp) key (whole_at 3) rows (pos n, p)) ∙ ap is_some none),
+        tt,
+      )
+      (version_there old.now s held made 1 v n is refl, (pacticipant_there old.now s held made 2 p known refl, (number_there _ old.now made 3 content refl (leads 3).0 (has_content old.now s held content low high), tt)))

@@ -1,4 +1,5 @@
 pub mod Newest
+pub mod ReferredRows
 pub mod ContractRows
 pub mod ResultRows
 pub mod ResultState

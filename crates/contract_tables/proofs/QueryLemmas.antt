@@ -1,6 +1,6 @@
 -- One query after another, a computation after a query, and an answer without one, over the state that the database
 -- holds.
-use Rattle.std.proofs.Common.{◌≡◌, Ok, Err, Result, IfOk, IfErr}
+use Rattle.std.proofs.Common.{◌≡◌, refl, Ok, Err, Result, IfOk, IfErr}
 use Rattle.sqlite.specs.State.{State}
 use Rattle.table_access.specs.declared.StoreFault.{StoreFault}
 use Rattle.table_access.specs.declared.StoreFault.TheVariants.{Memory}
@@ -9,14 +9,14 @@ use Rattle.table_access.proofs.CallLemmas.{seq, then_ok, then_stop, idle, memory
 use Rattle.broker_core.specs.State.{State as Broker}
 use Rattle.broker_tables.specs.Holds.{IsRead}
 use Rattle.broker_tables.specs.Calm.{CalmQueriesBetween, CalmQueriesInPlaceBetween}
-use Rattle.broker_tables.proofs.QueryLemmas.{in_calm, query_seq, query_ok, query_stop}
+use Rattle.broker_tables.proofs.QueryLemmas.{both_read, in_calm, query_seq, query_ok, query_stop}
 
 -- a query after another, about the same state
 pub query_then : {A B : Type 0} (old mid new : State) (a : A) (r : Result B StoreFault) (P : A → Broker → Type 0) (Q R : B → Broker → Type 0) → ((s : Broker) → P a s → (b : B) → Q b s → R b s)
     → CallsTablesBetween old mid (Ok a) (IsRead old mid P) → CallsTablesBetween mid new r (IsRead mid new Q) → CallsTablesBetween old new r (IsRead old new R)
 query_then old mid new a r P Q R more one two =
     seq old mid new a r (IsRead old mid P) (IsRead mid new Q) (IsRead old new R)
-    (λ first b second s held. let f = first s held in let g = second s f.1 in (more s f.0 b g.0, g.1)) one two
+    (λ first b second. both_read old mid new a b b P Q R (λ s f g. more s f b g) first second) one two
 
 -- an answer that is computed after a query, or no room for it
 pub computed : {A B : Type 0} (old new : State) (a : A) (r : Result B StoreFault) (P : A → Broker → Type 0) (L : B → Type 0) (R : B → Broker → Type 0) → ((s : Broker) → P a s → (b : B) → L b → R b s)
@@ -26,13 +26,13 @@ computed old new a (Err e) P L R more is one = then_stop old new a e (IsRead old
 
 -- an answer that needs no statement
 pub known : {A : Type 0} (now : State) (a : A) (P : A → Broker → Type 0) → ((s : Broker) → P a s) → CallsStoreBetween now now (Ok a) (IsRead now now P)
-known now a P told = record { call = idle now (Ok a) (IsRead now now P) (λ s held. (told s, held)); memory = memory_ok now now a }
+known now a P told = record { call = idle now (Ok a) (IsRead now now P) (λ s held. (told s, refl)); memory = memory_ok now now a }
 
 -- ---- the same of queries that fail only as the store fails
 
 pub calm_then : {A B : Type 0} (old mid new : State) (a : A) (r : Result B StoreFault) (P : A → Broker → Type 0) (Q R : B → Broker → Type 0) → ((s : Broker) → P a s → (b : B) → Q b s → R b s)
     → CalmQueriesBetween old mid (Ok a) P → CalmQueriesBetween mid new r Q → CalmQueriesBetween old new r R
-calm_then old mid new a r P Q R more one two = query_seq old mid new a r P Q R (λ first b second s held. let f = first s held in let g = second s f.1 in (more s f.0 b g.0, g.1)) one two
+calm_then old mid new a r P Q R more one two = query_seq old mid new a r P Q R (λ first b second. both_read old mid new a b b P Q R (λ s f g. more s f b g) first second) one two
 
 pub calm_computed : {A B : Type 0} (old new : State) (a : A) (r : Result B StoreFault) (P : A → Broker → Type 0) (L : B → Type 0) (R : B → Broker → Type 0) → ((s : Broker) → P a s → (b : B) → L b → R b s)
     → IfOk r L → IfErr r (λ e. e ≡ Memory) → CalmQueriesBetween old new (Ok a) P → CalmQueriesBetween old new r R

@@ -1,115 +1,165 @@
 -- The statements on results, on those that the broker checked, and on the latest ones.
-use Rattle.std.proofs.Common.{◌≡◌, inl, inr, ℕ, ℤ, pos, codes, List, [], ◌∷◌, ◌++◌, Bool, true, false, ◌||◌, refl, sym, ap, subst, ◌∙◌, slice_get, Some, None, Option, Ok}
-use Rattle.std.specs.Prelude.{if◌then◌else◌}
-use Rattle.std.specs.Ordering.{eq_by_cmp, int_cmp}
+use Rattle.std.proofs.Common.{◌≡◌, ◌+◌, ◌<◌, ◌^◌, arith, IsTrue, map, inl, inr, ℕ, ℤ, pos, codes, List, [], ◌∷◌, Bool, true, false, ◌||◌, refl, sym, ap, subst, ◌∙◌, slice_get, Some, None, Option, Ok}
+use Rattle.std.specs.Prelude.{if◌then◌else◌, is_some}
+use Rattle.std.specs.Ordering.{eq_by_cmp, is_eq, int_cmp}
+use Rattle.std.proofs.lemmas.Bool.{false_from_ne_true, lt-ltb}
+use Rattle.std.proofs.lemmas.List.{length-map}
 use Rattle.std.specs.Cmp.{eq_by_cmp_equiv, Equal-is, int_cmp_total}
 use Rattle.sqlite.specs.Tree.{IsAscending, rowid}
-use Rattle.sqlite.specs.Edit.{next_rowid, with_rowid, id_in}
+use Rattle.sqlite.specs.Edit.{next_rowid, with_rowid}
 use Rattle.sqlite.specs.Rowids.TheVariants.{Chosen}
 use Rattle.sqlite.specs.declared.types.Value.TheVariants.{Null, Int, Text}
-use Rattle.sqlite.specs.Order.{Row, column}
-use Rattle.sqlite.specs.Cast.{cast, cast_row}
-use Rattle.sqlite.specs.Rows.{shown}
+use Rattle.sqlite.specs.Order.{Row, column, value_cmp}
+use Rattle.sqlite.specs.Cast.{cast, cast_all, cast_row}
 use Rattle.sqlite.specs.Kind.TheVariants as kind
-use Rattle.sqlite.specs.Collation.TheVariants.{Binary}
-use Rattle.sqlite_sql.specs.declared.ops.BinaryOp.TheVariants.{Compare}
-use Rattle.sqlite_sql.specs.declared.ops.CompareOp.TheVariants.{Eq}
-use Rattle.sqlite.specs.Term.{Term, col, lit, op2}
-use Rattle.sqlite.specs.Source.TheVariants.{Values}
-use Rattle.sqlite.specs.Command.{Command}
-use Rattle.sqlite.specs.Command.TheVariants.{Insert, InsertOr}
-use Rattle.sqlite_schema.specs.declared.command.Conflict.TheVariants.{Abort}
+use Rattle.sqlite_sql.specs.Ops.{binary}
+use Rattle.sqlite.specs.Term.{col, lit}
 use Rattle.sqlite.specs.Schema.{Schema}
 use Rattle.sqlite.specs.Effect.{Database}
 use Rattle.sqlite.specs.State.{State, Executes}
 use Rattle.sqlite.specs.Listing.{understood}
 use Rattle.sqlite_rules.specs.Lists.{Has}
+use Rattle.sqlite_rules.specs.Steps.{PassAlone}
+use Rattle.sqlite_rules.specs.Edit.{is_taken}
+use Rattle.sqlite_rules.proofs.ListLemmas.{some_has, some_from}
+use Rattle.sqlite_rules.proofs.TableLemmas.{int_is}
+use Rattle.sqlite_value.proofs.OrderLemmas.{value_cmp-Int}
 use Rattle.sqlite_rules.specs.Keys.{conflicts}
 use Rattle.sqlite_schema.specs.Rules.{agree}
 use Rattle.sqlite_value.specs.Keys.{plain}
 use Rattle.sqlite_tied.specs.Compute.{everything}
 use Rattle.table_access.specs.Columns.{whole_at, by_both}
-use Rattle.table_access.specs.Statements.{from_table, shows}
+use Rattle.table_access.specs.Sound.{IsNumbered}
 use Rattle.table_access.proofs.Values.{cast_null, cast_int}
-use Rattle.table_access.proofs.Steps.{Means, inserts}
-use Rattle.table_access.proofs.Upsert.{upsert_leaves, Upserted}
 use Rattle.table_access.proofs.Changes.{upserts_at}
 use Rattle.table_access.proofs.Keys.{apart_by}
 use Rattle.table_access.proofs.Parts.{Part, whole_part, agree_last, agree_and, once}
 use Rattle.table_access.proofs.SoundLemmas.{whole_in, has_place, at_has}
-use Rattle.broker_tables.specs.Schema.{broker_schema}
-use Rattle.broker_tables.specs.Holds.{IsBroker}
-use Rattle.broker_tables.proofs.Frames.{meant}
+use Rattle.broker_tables.specs.Rows.{stands_at}
+use Rattle.broker_tables.specs.Holds.{IsBroker, Holds, result_in, result_of}
+use Rattle.broker_core.specs.State.{State as Broker}
 use Rattle.broker_tables.proofs.Orders.{numbers_total, exact_numbers}
-use Rattle.broker_tables.proofs.Placed.{results, results_there, checked_results, checked_results_there, latest, latest_there, calm}
-use Rattle.contract_tables.specs.Verified.{run_value, result_row, PutsRow, Points}
+use Rattle.broker_tables.proofs.Placed.{results, results_there, checked_results, checked_results_there, latest, latest_there}
+use Rattle.broker_tables.proofs.Inserted.{EndsOnly, Puts, inserted, insert_ends, next_counted, new_whole, pacticipant_there, version_there}
+use Rattle.broker_tables.proofs.Upserted.{PutsOver, upserted, upsert_grows, upsert_ends}
+use Rattle.contract_tables.specs.Verified.{run_value, result_row, AllowsResult, AllowsMark, AllowsPoint, PutsRow, Points}
+use Rattle.contract_tables.proofs.ReferredRows.{leads, number_there, has_content, has_owner}
+use Rattle.contract_tables.proofs.ResultLookups.{numbered_rows, marked_rows}
+use Rattle.contract_tables.proofs.RunLookup.{run_free}
 
 -- ---- a result
 
 abbrev pub put_sql : List ℕ
 put_sql = codes "INSERT INTO results (number, content, provider, provider_version, pass, run) VALUES (?1, ?2, ?3, ?4, ?5, ?6)"
 
-abbrev put_command : Command
-put_command = Insert 9 (Values (col 0 0 ∷ lit Null ∷ col 0 1 ∷ col 0 2 ∷ col 0 3 ∷ col 0 4 ∷ col 0 5 ∷ []) 7)
-
-put_text : Means broker_schema put_sql put_command
+pub put_puts : (number content : ℕ) (provider : List ℕ) (version : ℕ) (pass : ℤ) (run : List ℕ)
+    → Puts 9 put_sql (Int (pos number) ∷ Int (pos content) ∷ Text provider ∷ Int (pos version) ∷ Int pass ∷ Text run ∷ []) (Int (pos number) ∷ Null ∷ Int (pos content) ∷ Text provider ∷ Int (pos version) ∷ Int pass ∷ Text run ∷ [])
 unfolding understood everything
-put_text = record { is = refl; plain = (refl, refl); unlisted = refl }
+put_puts number content provider version pass run = record {
+  terms = col 0 0 ∷ lit Null ∷ col 0 1 ∷ col 0 2 ∷ col 0 3 ∷ col 0 4 ∷ col 0 5 ∷ [];
+  width = 7;
+  means = record { is = refl; plain = (refl, refl); unlisted = refl };
+  whole = refl;
+  kinds = refl;
+  one = refl;
+}
+
+abbrev pub plain_sql : List ℕ
+plain_sql = codes "INSERT INTO results (number, content, provider, provider_version, pass, run) VALUES (?1, ?2, ?3, ?4, ?5, NULL)"
+
+pub plain_puts : (number content : ℕ) (provider : List ℕ) (version : ℕ) (pass : ℤ)
+    → Puts 9 plain_sql (Int (pos number) ∷ Int (pos content) ∷ Text provider ∷ Int (pos version) ∷ Int pass ∷ []) (Int (pos number) ∷ Null ∷ Int (pos content) ∷ Text provider ∷ Int (pos version) ∷ Int pass ∷ Null ∷ [])
+unfolding understood everything
+plain_puts number content provider version pass = record {
+  terms = col 0 0 ∷ lit Null ∷ col 0 1 ∷ col 0 2 ∷ col 0 3 ∷ col 0 4 ∷ lit Null ∷ [];
+  width = 7;
+  means = record { is = refl; plain = (refl, refl); unlisted = refl };
+  whole = refl;
+  kinds = refl;
+  one = refl;
+}
 
 cast_run : (run : Option (List ℕ)) → cast kind.Text (run_value run) ≡ run_value run
 cast_run (Some run) = refl
 cast_run None = refl
 
-pub result_put : (number content : ℕ) (provider : List ℕ) (version : ℕ) (pass : Bool) (run : Option (List ℕ)) (old new : State) (count : ℕ) → IsBroker old.now
-    → Executes put_sql (Int (pos number) ∷ Int (pos content) ∷ Text provider ∷ Int (pos version) ∷ Int (if pass then pos 1 else pos 0) ∷ run_value run ∷ []) old new (Ok count)
-    → PutsRow 17 (result_row number content provider version pass run) old new
-result_put number content provider version pass run old new count broker h =
-    let p = if pass then pos 1 else pos 0 in
-    let made = result_row number content provider version pass run in
-    inserts (codes "results") 17 results.columns (Some 0) (0 ∷ []) results.uniques results.orders results.checks results.references put_sql
-    (Int (pos number) ∷ Int (pos content) ∷ Text provider ∷ Int (pos version) ∷ Int p ∷ run_value run ∷ []) old new 9 (results_there old.now broker)
-    _ _ made made refl (λ i. with_rowid Chosen (old.now.trees 17) (cast_int (pos number) i ∷ cast_null i ∷ cast_int (pos content) i ∷ Text provider ∷ cast_int (pos version) i ∷ cast_int p i ∷ cast_run run i ∷ []))
-    (meant old.now broker put_sql put_text) count h
+-- the row passes the CHECK of its mark
+passes : (number content : ℕ) (provider : List ℕ) (version : ℕ) (pass : Bool) (run : Option (List ℕ)) → PassAlone results (result_row number content provider version pass run ∷ [])
+unfolding binary value_cmp lib.Ieee.is_nan lib.Ieee.lt
+passes number content provider version true (Some run) = record { typed = refl; present = refl; checked = refl }
+passes number content provider version true None = record { typed = refl; present = refl; checked = refl }
+passes number content provider version false (Some run) = record { typed = refl; present = refl; checked = refl }
+passes number content provider version false None = record { typed = refl; present = refl; checked = refl }
 
-abbrev pub plain_sql : List ℕ
-plain_sql = codes "INSERT INTO results (number, content, provider, provider_version, pass, run) VALUES (?1, ?2, ?3, ?4, ?5, NULL)"
+module _ (number content : ℕ) (provider : List ℕ) (version : ℕ) (pass : Bool) (run : Option (List ℕ)) (old new : State) where
+  abbrev made : Row
+  made = result_row number content provider version pass run
 
-abbrev plain_command : Command
-plain_command = Insert 9 (Values (col 0 0 ∷ lit Null ∷ col 0 1 ∷ col 0 2 ∷ col 0 3 ∷ col 0 4 ∷ lit Null ∷ []) 7)
+  stored : with_rowid Chosen (old.now.trees 17) (cast_row results made) ≡ made
+  stored =
+      let mark = if pass then pos 1 else pos 0 in
+      λ i. with_rowid Chosen (old.now.trees 17) (cast_int (pos number) i ∷ cast_null i ∷ cast_int (pos content) i ∷ Text provider ∷ cast_int (pos version) i ∷ cast_int mark i ∷ cast_run run i ∷ [])
 
-plain_text : Means broker_schema plain_sql plain_command
-unfolding understood everything
-plain_text = record { is = refl; plain = (refl, refl); unlisted = refl }
+  module _ (sql : List ℕ) (params : Row) (puts : Puts 9 sql params made) where
+    pub result_put : IsBroker old.now → (count : ℕ) → Executes sql params old new (Ok count) → PutsRow 17 made old new
+    result_put broker count h = inserted sql params old new broker results 9 (results_there old.now broker) made made puts stored count h
 
--- a result of no run
-pub plain_put : (number content : ℕ) (provider : List ℕ) (version : ℕ) (pass : Bool) (old new : State) (count : ℕ) → IsBroker old.now
-    → Executes plain_sql (Int (pos number) ∷ Int (pos content) ∷ Text provider ∷ Int (pos version) ∷ Int (if pass then pos 1 else pos 0) ∷ []) old new (Ok count)
-    → PutsRow 17 (result_row number content provider version pass None) old new
-plain_put number content provider version pass old new count broker h =
-    let p = if pass then pos 1 else pos 0 in
-    let made = result_row number content provider version pass None in
-    inserts (codes "results") 17 results.columns (Some 0) (0 ∷ []) results.uniques results.orders results.checks results.references plain_sql
-    (Int (pos number) ∷ Int (pos content) ∷ Text provider ∷ Int (pos version) ∷ Int p ∷ []) old new 9 (results_there old.now broker)
-    _ _ made made refl (λ i. with_rowid Chosen (old.now.trees 17) (cast_int (pos number) i ∷ cast_null i ∷ cast_int (pos content) i ∷ Text provider ∷ cast_int (pos version) i ∷ cast_int p i ∷ Null ∷ []))
-    (meant old.now broker plain_sql plain_text) count h
+    -- where it may be recorded, it fails only as the store fails
+    pub result_ends : number < 2 ^ 32 → (s : Broker) → Holds old.now s → AllowsResult number content provider version run s → EndsOnly sql params old new
+    result_ends few s held (v, numbered, owner, is, low, high, unused) =
+        insert_ends sql params old new held.broker results 9 (results_there old.now held.broker) made made puts stored (record {
+          pass = passes number content provider version pass run;
+          fits = lt-ltb number (2 ^ 63) (omega (arith, few));
+          keyed = refl;
+          fresh = subst (λ n. is_taken (old.now.trees 17) (result_row n content provider version pass run) ≡ false) (sym is)
+              (subst (λ n. is_taken (old.now.trees 17) (result_row (n + 1) content provider version pass run) ≡ false) (length-map s.results (result_of s.versions))
+              (next_counted (result_in (old.now.trees 25)) (old.now.trees 17) (map (result_of s.versions) s.results) [] held.results (numbered_rows old.now held.broker)));
+          free = (run_free old.now s held provider run unused made refl refl, tt);
+          parents = (
+            number_there _ old.now made 2 content refl (leads 2).0 (has_content old.now s held content low high),
+            (pacticipant_there old.now s held made 3 provider (subst (λ p. IsTrue (is_some (s.pacticipants p))) owner (has_owner old.now s held v version numbered)) refl, (version_there old.now s held made 4 v version numbered refl, tt)),
+          );
+        })
 
 -- ---- the mark that the broker checked it
 
 abbrev pub mark_sql : List ℕ
 mark_sql = codes "INSERT INTO checked_results (result) VALUES (?1)"
 
-abbrev mark_command : Command
-mark_command = Insert 13 (Values (col 0 0 ∷ lit Null ∷ []) 2)
+-- no row has the number that none stands by
+not_taken : (rows : List Row) → IsNumbered rows → (n : ℕ) → stands_at int_cmp (whole_at 0) rows (pos n) ≡ false → is_taken rows (Int (pos n) ∷ []) ≡ false
+not_taken rows rising n off = false_from_ne_true _ (λ taken.
+    let hit = some_has (λ r. is_eq (value_cmp (rowid r) (Int (pos n)))) rows taken in
+    let ties : eq_by_cmp int_cmp (pos n) (whole_at 0 hit.0) ≡ true =
+    (eq_by_cmp_equiv int_cmp_total).symm (pos n) (whole_at 0 hit.0) ∙ sym (ap is_eq (value_cmp-Int (whole_at 0 hit.0) (pos n))) ∙ ap (λ v. is_eq (value_cmp v (Int (pos n)))) (sym (int_is (rowid hit.0) (at_has _ rows hit.0 rising.1 hit.1))) ∙ hit.2 in
+    let stands : stands_at int_cmp (whole_at 0) rows (pos n) ≡ true = some_from (λ r. eq_by_cmp int_cmp (pos n) (whole_at 0 r)) rows hit.0 hit.1 ties in
+    cc)
 
-mark_text : Means broker_schema mark_sql mark_command
+mark_puts : (number : ℕ) → Puts 13 mark_sql (Int (pos number) ∷ []) (Int (pos number) ∷ Null ∷ [])
 unfolding understood everything
-mark_text = record { is = refl; plain = (refl, refl); unlisted = refl }
+mark_puts number = record { terms = col 0 0 ∷ lit Null ∷ []; width = 2; means = record { is = refl; plain = (refl, refl); unlisted = refl }; whole = refl; kinds = refl; one = refl }
 
-pub marked : (number : ℕ) (old new : State) (count : ℕ) → IsBroker old.now → Executes mark_sql (Int (pos number) ∷ []) old new (Ok count) → PutsRow 25 (Int (pos number) ∷ Null ∷ []) old new
-marked number old new count broker h =
-    let made = Int (pos number) ∷ Null ∷ [] in
-    inserts (codes "checked_results") 25 checked_results.columns (Some 0) (0 ∷ []) checked_results.uniques checked_results.orders [] checked_results.references mark_sql (Int (pos number) ∷ []) old new 13 (checked_results_there old.now broker)
-    _ _ made made refl (λ i. with_rowid Chosen (old.now.trees 25) (cast_int (pos number) i ∷ cast_null i ∷ [])) (meant old.now broker mark_sql mark_text) count h
+module _ (number : ℕ) (old new : State) (broker : IsBroker old.now) where
+  abbrev mark_made : Row
+  mark_made = Int (pos number) ∷ Null ∷ []
+
+  mark_stored : with_rowid Chosen (old.now.trees 25) (cast_row checked_results mark_made) ≡ mark_made
+  mark_stored = λ i. with_rowid Chosen (old.now.trees 25) (cast_int (pos number) i ∷ cast_null i ∷ [])
+
+  pub marked : (count : ℕ) → Executes mark_sql (Int (pos number) ∷ []) old new (Ok count) → PutsRow 25 mark_made old new
+  marked count h = inserted mark_sql (Int (pos number) ∷ []) old new broker checked_results 13 (checked_results_there old.now broker) mark_made mark_made (mark_puts number) mark_stored count h
+
+  -- of a result that is there and isn't marked it fails only as the store fails
+  pub mark_ends : number < 2 ^ 32 → AllowsMark number old.now → EndsOnly mark_sql (Int (pos number) ∷ []) old new
+  mark_ends few (there, off) =
+      insert_ends mark_sql (Int (pos number) ∷ []) old new broker checked_results 13 (checked_results_there old.now broker) mark_made mark_made (mark_puts number) mark_stored (record {
+        pass = record { typed = refl; present = refl; checked = refl };
+        fits = lt-ltb number (2 ^ 63) (omega (arith, few));
+        keyed = refl;
+        fresh = not_taken (old.now.trees 25) (marked_rows old.now broker) number off;
+        free = tt;
+        parents = (number_there _ old.now mark_made 0 number refl (leads 0).2 there, tt);
+      })
 
 -- ---- the latest one for its content and its version
 
@@ -136,65 +186,64 @@ module _ (db : Database) (broker : IsBroker db) where
 abbrev pub point_sql : List ℕ
 point_sql = codes "INSERT INTO latest (content, provider_version, result) VALUES (?1, ?2, ?3) ON CONFLICT (content, provider_version) DO UPDATE SET result = excluded.result"
 
-abbrev point_command : Command
-point_command = InsertOr 10 Abort (Values (lit Null ∷ col 0 0 ∷ col 0 1 ∷ col 0 2 ∷ []) 4)
-    (record { target = Some (1 ∷ 2 ∷ []); update = Some (record { lets = []; body = from_table 19 (op2 (Compare Eq Binary) (col 1 0) (col 0 3) ∷ []) (col 1 0 ∷ col 1 0 ∷ col 1 1 ∷ col 1 2 ∷ col 0 7 ∷ []) [] }) } ∷ [])
-
-point_text : Means broker_schema point_sql point_command
+point_puts : (c v n : ℕ) → PutsOver 10 latest point_sql (Int (pos c) ∷ Int (pos v) ∷ Int (pos n) ∷ []) (1 ∷ 2 ∷ []) 3 (col 1 0 ∷ col 1 1 ∷ col 1 2 ∷ col 0 7 ∷ []) (Int (pos c) ∷ Int (pos v) ∷ Int (pos n) ∷ [])
 unfolding understood everything
-point_text = record { is = refl; plain = (refl, refl); unlisted = refl }
-
-abbrev update_project : List Term
-update_project = col 1 0 ∷ col 1 1 ∷ col 1 2 ∷ col 0 7 ∷ []
-
--- the row as it would be stored
-abbrev row_for : List Row → ℕ → ℕ → ℕ → Row
-row_for rows c v n = Int (next_rowid rows) ∷ Int (pos c) ∷ Int (pos v) ∷ Int (pos n) ∷ []
-
--- what the row of a key becomes
-abbrev changed_row : List Row → ℕ → ℕ → ℕ → Row → Row
-changed_row rows c v n r = cast_row latest (shows update_project ((Int (pos c) ∷ Int (pos v) ∷ Int (pos n) ∷ []) ++ rowid r ∷ shown latest (row_for rows c v n)) r)
+point_puts c v n = record {
+  terms = lit Null ∷ col 0 0 ∷ col 0 1 ∷ col 0 2 ∷ [];
+  width = 4;
+  means = record { is = refl; plain = (refl, refl); unlisted = refl };
+  whole = refl;
+  kinds = refl;
+  one = refl;
+  placed = λ v more. refl;
+  typed = λ z next. refl;
+  keys = refl;
+  no_rowid = refl;
+  no_first = λ v w r. refl;
+  alone = refl;
+  fits = refl;
+}
 
 or_false : (b : Bool) → (b || false) ≡ b
 or_false true = refl
 or_false false = refl
 
-module _ (db : Database) (broker : IsBroker db) (c v n : ℕ) where
+module _ (c v n : ℕ) (old new : State) (broker : IsBroker old.now) where
+  abbrev params : Row
+  params = Int (pos c) ∷ Int (pos v) ∷ Int (pos n) ∷ []
+
+  abbrev rows : List Row
+  rows = old.now.trees 19
+
   abbrev it : Row
-  it = row_for (db.trees 19) c v n
+  it = Int (next_rowid rows) ∷ params
 
-  abbrev more : List Row
-  more = it ∷ db.trees 19
+  point_stored : cast_all latest.columns params ≡ params
+  point_stored = λ i. cast_int (pos c) i ∷ cast_int (pos v) i ∷ cast_int (pos n) i ∷ []
 
-  with_it : (P : Row → Type 0) → P it → ((r : Row) → Has (db.trees 19) r → P r) → (r : Row) → Has more r → P r
-  with_it P here there r (inl same) = subst P (sym same) here
-  with_it P here there r (inr later) = there r later
-
-  conflicts_at : (r : Row) → Has (db.trees 19) r → conflicts (Some (1 ∷ 2 ∷ [])) db.schema.indexes latest it r ≡ eq_by_cmp (by_both int_cmp int_cmp) (pos c, pos v) (key r)
-  conflicts_at r has =
-      ap (λ (s : Schema). conflicts (Some (1 ∷ 2 ∷ [])) s.indexes latest it r) broker.schema
-      ∙ or_false (agree plain (1 ∷ 2 ∷ []) r (1 ∷ 2 ∷ []) it)
-      ∙ agree_keys more (whole_part more 1 (with_it _ refl (contents db broker))) (whole_part more 2 (with_it _ refl (versions db broker))) r it (inr has) (inl refl)
+  meets : (r : Row) → Has rows r → conflicts (Some (1 ∷ 2 ∷ [])) old.now.schema.indexes latest it r ≡ eq_by_cmp (by_both int_cmp int_cmp) (pos c, pos v) (key r)
+  meets r has =
+      ap (λ (s : Schema). conflicts (Some (1 ∷ 2 ∷ [])) s.indexes latest it r) broker.schema ∙ or_false (agree plain (1 ∷ 2 ∷ []) r (1 ∷ 2 ∷ []) it)
+      ∙ agree_keys (it ∷ rows) (new_whole rows it 1 (contents old.now broker) refl) (new_whole rows it 2 (versions old.now broker) refl) r it (inr has) (inl refl)
       ∙ (eq_by_cmp_equiv numbers_total).symm (key r) (pos c, pos v)
 
-  key_is : (r : Row) → Has (db.trees 19) r → eq_by_cmp (by_both int_cmp int_cmp) (pos c, pos v) (key r) ≡ true → key (changed_row (db.trees 19) c v n r) ≡ (pos c, pos v)
-  key_is r has hit =
-      (λ j. (id_in (cast kind.Integer (contents db broker r has j)), id_in (cast kind.Integer (versions db broker r has j))))
-      ∙ (λ j. (id_in (cast_int (whole_at 1 r) j), id_in (cast_int (whole_at 2 r) j)))
-      ∙ sym (exact_numbers (pos c, pos v) (key r) ((Equal-is (by_both int_cmp int_cmp (pos c, pos v) (key r))).0 hit))
+  point_set : (r : Row) → Has rows r → conflicts (Some (1 ∷ 2 ∷ [])) old.now.schema.indexes latest it r ≡ true → column r 0 ∷ column r 1 ∷ column r 2 ∷ Int (pos n) ∷ [] ≡ rowid r ∷ params
+  point_set r has met =
+      let same = exact_numbers (pos c, pos v) (key r) ((Equal-is (by_both int_cmp int_cmp (pos c, pos v) (key r))).0 (sym (meets r has) ∙ met)) in
+      λ i. rowid r ∷ (contents old.now broker r has ∙ ap (λ k. Int k.0) (sym same)) i ∷ (versions old.now broker r has ∙ ap (λ k. Int k.1) (sym same)) i ∷ Int (pos n) ∷ []
 
-pub pointed : (c v n : ℕ) (old new : State) (count : ℕ) → IsBroker old.now → Executes point_sql (Int (pos c) ∷ Int (pos v) ∷ Int (pos n) ∷ []) old new (Ok count) → Points c v n old new
-pointed c v n old new count broker h =
-    let db = old.now in
-    let rows = db.trees 19 in
-    let params = Int (pos c) ∷ Int (pos v) ∷ Int (pos n) ∷ [] in
-    let made = row_for rows c v n in
-    let numbered = at_has _ db.schema.tables latest broker.kept.numbered (has_place _ 10 latest (latest_there db broker)) in
-    let done = upsert_leaves (codes "latest") 19 latest.columns None (1 ∷ 2 ∷ []) latest.uniques latest.orders [] latest.references point_sql params old new 10 (1 ∷ 2 ∷ []) 3 update_project
-    (lit Null ∷ col 0 0 ∷ col 0 1 ∷ col 0 2 ∷ []) 4 (Null ∷ params) (latest_there db broker) refl (λ x later. refl) (meant db broker point_sql point_text) (calm db broker) numbered count h in
-    let stored : with_rowid Chosen rows (cast_row latest (Null ∷ params)) ≡ made = λ j. with_rowid Chosen rows (cast_null j ∷ cast_int (pos c) j ∷ cast_int (pos v) j ∷ cast_int (pos n) j ∷ []) in
-    let leaves = subst (Upserted (codes "latest") 19 latest.columns None (1 ∷ 2 ∷ []) latest.uniques latest.orders [] latest.references point_sql params old new 10 (1 ∷ 2 ∷ []) 3 update_project) stored done.1 in (
-      done.0,
-      λ d w. upserts_at numbers_total exact_numbers key (whole_at 3) (Some (1 ∷ 2 ∷ [])) db.schema.indexes latest rows (new.now.trees 19) made (cast_row latest made) (changed_row rows c v n) (pos c, pos v) (pos n) (keys db broker) numbered.0
-          (conflicts_at db broker c v n) (λ j. (id_in (cast_int (pos c) j), id_in (cast_int (pos v) j)), ap id_in (cast_int (pos n))) (λ r has hit. (key_is db broker c v n r has hit, ap id_in (cast_int (pos n)))) leaves (pos d, pos w),
-    )
+  pub pointed : (count : ℕ) → Executes point_sql params old new (Ok count) → Points c v n old new
+  pointed count h =
+      let done = upserted (point_puts c v n) point_stored old new broker (latest_there old.now broker) point_set count h in
+      let numbered = at_has _ old.now.schema.tables latest broker.kept.numbered (has_place _ 10 latest (latest_there old.now broker)) in (
+        done.0,
+        λ d w. upserts_at numbers_total exact_numbers key (whole_at 3) (Some (1 ∷ 2 ∷ [])) old.now.schema.indexes latest rows (new.now.trees 19) it it (λ r. rowid r ∷ params) (pos c, pos v) (pos n) (keys old.now broker) numbered.0
+            meets (refl, refl) (λ r has hit. (refl, refl)) done.1 (pos d, pos w),
+        upsert_grows (point_puts c v n) point_stored old new broker (latest_there old.now broker) point_set done.1,
+      )
+
+  -- of what is there it fails only as the store fails
+  pub point_ends : AllowsPoint c v n old.now → EndsOnly point_sql params old new
+  point_ends (content, version, result, room) =
+      upsert_ends (point_puts c v n) point_stored old new broker (latest_there old.now broker) point_set room.0 (λ id. record { typed = refl; present = refl; checked = refl }) (λ id.
+      (number_there _ old.now (id ∷ params) 1 c refl (leads 1).0 content, (number_there _ old.now (id ∷ params) 2 v refl (leads 2).1 version, (number_there _ old.now (id ∷ params) 3 n refl (leads 3).2 result, tt))))

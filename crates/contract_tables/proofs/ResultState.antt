@@ -30,18 +30,23 @@ use Rattle.table_access.specs.Sound.{IsNumbered}
 use Rattle.table_access.specs.Statements.{IsAdded}
 use Rattle.table_access.proofs.Values.{same_ints}
 use Rattle.table_access.proofs.SoundLemmas.{at_has, all_of, has_place}
+use Rattle.table_access.proofs.Members.{has_right}
 use Rattle.broker_core.specs.State.{State as Broker, Verification}
 use Rattle.broker_core.specs.declared.command.Version.{Version}
 use Rattle.broker_tables.specs.Schema.{broker_schema, to}
 use Rattle.broker_tables.specs.Rows.{stands_at, truth_in, text_or_null}
 use Rattle.broker_tables.specs.Numbers.{numbered, number_of}
-use Rattle.broker_tables.specs.Holds.{Holds, IsBroker, AreResults, ResultRow, result_in, result_of}
+use Rattle.broker_tables.specs.Holds.{Holds, HoldsAfter, IsBroker, AreResults, ResultRow, result_in, result_of}
 use Rattle.broker_tables.proofs.Frames.{Frame, frame_of, frame_then, still_broker, results_change}
 use Rattle.broker_tables.proofs.Standing.{stands_put}
 use Rattle.broker_tables.proofs.Growth.{none_stands}
 use Rattle.broker_tables.proofs.References.{any_has, row_number}
 use Rattle.broker_tables.proofs.Placed.{results, results_there, checked_results, checked_results_there}
-use Rattle.contract_tables.specs.Verified.{latest_at, result_row, result_for, run_value, PutsRow, Marks, Points}
+use Rattle.broker_tables.specs.Refusals.{HaveNumbers}
+use Rattle.broker_tables.specs.Room.{TakesRoom}
+use Rattle.broker_tables.proofs.RoomLemmas.{Grows, takes_more, takes_rows}
+use Rattle.contract_tables.specs.Verified.{latest_at, result_row, result_for, run_value, PutsRow, Marks, Points, HasRowWith, AllowsResult, AllowsMark, AllowsPoint}
+use Rattle.contract_tables.proofs.ReferredRows.{has_content, has_version}
 use Rattle.contract_tables.proofs.Newest.{latest_grows}
 use Rattle.broker_tables.proofs.NextRow.{next_row}
 
@@ -161,8 +166,8 @@ module _ (s : Broker) (r : Verification) (n : ℕ) (is : number_of s.versions r.
   pub recorded : (old one two new : Database) → Holds old s → Frame (codes "results" ∷ []) old one → IsAdded (old.trees 17) (one.trees 17) made
       → Frame (codes "checked_results" ∷ []) one two → MarksGrow r.checked (next s) (one.trees 25) (two.trees 25) → Frame (codes "latest" ∷ []) two new
       → ((c k : ℕ) → latest_at (new.trees 19) c k ≡ cond (eq_by_cmp (by_both int_cmp int_cmp) (pos c, pos k) (pos r.content, pos n)) (Some (pos (next s))) (latest_at (two.trees 19) c k))
-      → Holds new (record s { results = s.results ++ r ∷ [] })
-  recorded old one two new held first added second grow third point =
+      → Grows (two.trees 19) (new.trees 19) → Holds new (record s { results = s.results ++ r ∷ [] }) × TakesRoom 2 old new
+  recorded old one two new held first added second grow third point grows =
       let results_one : new.trees 17 ≡ one.trees 17 = third.others.1.1.1.1.1.1.1.1.1.0 refl ∙ second.others.1.1.1.1.1.1.1.1.1.0 refl in
       let marks_two : new.trees 25 ≡ two.trees 25 = third.others.1.1.1.1.1.1.1.1.1.1.1.1.1.0 refl in
       let marks_one : one.trees 25 ≡ old.trees 25 = first.others.1.1.1.1.1.1.1.1.1.1.1.1.1.0 refl in
@@ -170,10 +175,12 @@ module _ (s : Broker) (r : Verification) (n : ℕ) (is : number_of s.versions r.
       let broker = still_broker (codes "results" ∷ []) old one first held.broker in
       let rising = rows_numbered one broker results (has_place _ 9 results (results_there one broker)) in
       let all = frame_then (codes "results" ∷ []) (codes "checked_results" ∷ codes "latest" ∷ []) old one new first (frame_then (codes "checked_results" ∷ []) (codes "latest" ∷ []) one two new second third) in
-      let are : AreResults s.versions (s.results ++ r ∷ []) (one.trees 17) (two.trees 25) = results_grow old held (one.trees 17) (two.trees 25) rising added (subst (λ rows. MarksGrow r.checked (next s) rows (two.trees 25)) marks_one grow) in
-      results_change old new s (s.results ++ r ∷ []) held all
-      (subst (λ rows. AreResults s.versions (s.results ++ r ∷ []) rows (new.trees 25)) (sym results_one) (subst (λ rows. AreResults s.versions (s.results ++ r ∷ []) (one.trees 17) rows) (sym marks_two) are))
-      (latest_grows s r n (old.trees 19) (new.trees 19) held.latest is (λ c k. point c k ∙ ap (λ rows. cond (eq_by_cmp (by_both int_cmp int_cmp) (pos c, pos k) (pos r.content, pos n)) (Some (pos (next s))) (latest_at rows c k)) latest_two))
+      let are : AreResults s.versions (s.results ++ r ∷ []) (one.trees 17) (two.trees 25) = results_grow old held (one.trees 17) (two.trees 25) rising added (subst (λ rows. MarksGrow r.checked (next s) rows (two.trees 25)) marks_one grow) in (
+        results_change old new s (s.results ++ r ∷ []) held all
+            (subst (λ rows. AreResults s.versions (s.results ++ r ∷ []) rows (new.trees 25)) (sym results_one) (subst (λ rows. AreResults s.versions (s.results ++ r ∷ []) (one.trees 17) rows) (sym marks_two) are))
+            (latest_grows s r n (old.trees 19) (new.trees 19) held.latest is (λ c k. point c k ∙ ap (λ rows. cond (eq_by_cmp (by_both int_cmp int_cmp) (pos c, pos k) (pos r.content, pos n)) (Some (pos (next s))) (latest_at rows c k)) latest_two)),
+        takes_more 1 2 (omega arith) old new (takes_rows _ old new all ((λ no. absurd cc), ((λ no. absurd cc), ((λ counted. subst (λ rows. Grows rows (new.trees 19)) latest_two grows), tt)))),
+      )
 
 -- ---- as the calls tell it
 
@@ -200,7 +207,7 @@ pub put_broker : (row : Row) (old new : State) → IsBroker old.now → PutsRow 
 put_broker row old new broker put = still_broker (codes "results" ∷ []) old.now new.now (frame_of (codes "results" ∷ []) 17 refl old new broker put.0) broker
 
 pub now_recorded : (number content : ℕ) (provider : List ℕ) (version : ℕ) (pass checked : Bool) (run : Option (List ℕ)) (old one two new : State) (s : Broker) (v : Version) → Holds old.now s → number_of s.versions v ≡ Some version → v.pacticipant ≡ provider → number ≡ length s.results + 1
-    → PutsRow 17 (result_row number content provider version pass run) old one → (IsBroker one.now → Marks checked number one two) → (IsBroker two.now → Points content version number two new) → Holds new.now (record s { results = s.results ++ result_for content v pass checked run ∷ [] })
+    → PutsRow 17 (result_row number content provider version pass run) old one → (IsBroker one.now → Marks checked number one two) → (IsBroker two.now → Points content version number two new) → HoldsAfter 2 old new (record s { results = s.results ++ result_for content v pass checked run ∷ [] })
 now_recorded number content provider version pass checked run old one two new s v held numbered owner is put mark point =
     let first = subst₂ (λ k p. PutsRow 17 (result_row k content p version pass run) old one) is (sym owner) put in
     let broker_one = put_broker _ old one held.broker first in
@@ -209,4 +216,30 @@ now_recorded number content provider version pass checked run old one two new s 
     let third = subst (λ k. Points content version k two new) is (point broker_two) in
     recorded s (result_for content v pass checked run) version numbered old.now one.now two.now new.now held
     (frame_of (codes "results" ∷ []) 17 refl old one held.broker first.0) first.1 (frame_of (codes "checked_results" ∷ []) 25 refl one two broker_one second.0) second.1
-    (frame_of (codes "latest" ∷ []) 19 refl two new broker_two third.0) third.1
+    (frame_of (codes "latest" ∷ []) 19 refl two new broker_two third.0) third.1 third.2
+
+-- ---- that the second and the third may be asked for
+
+still_there : {tree n : ℕ} (old new : Database) → new.trees tree ≡ old.trees tree → HasRowWith tree n old → HasRowWith tree n new
+still_there old new same (r, has, id) = (r, subst (λ rows. Has rows r) (sym same) has, id)
+
+module _ (number content : ℕ) (provider : List ℕ) (version : ℕ) (pass : Bool) (run : Option (List ℕ)) (old one : State) (s : Broker) (held : Holds old.now s) (allowed : AllowsResult number content provider version run s)
+    (put : PutsRow 17 (result_row number content provider version pass run) old one) where
+  first : Frame (codes "results" ∷ []) old.now one.now
+  first = frame_of (codes "results" ∷ []) 17 refl old one held.broker put.0
+
+  has_result : HasRowWith 17 number one.now
+  has_result = (result_row number content provider version pass run, subst (λ rows. Has rows (result_row number content provider version pass run)) (sym put.1.is) (has_right put.1.front _ _ (inl refl)), refl)
+
+  pub may_mark : AllowsMark number one.now
+  may_mark = (has_result, (λ i. stands_at int_cmp (whole_at 0) (first.others.1.1.1.1.1.1.1.1.1.1.1.1.1.0 refl i) (pos (allowed.3 i))) ∙ unmarked s old.now held)
+
+  pub may_point : (checked : Bool) (two : State) → HaveNumbers (codes "latest" ∷ []) old.now → Marks checked number one two → AllowsPoint content version number two.now
+  may_point checked two room marks =
+      let second : Frame (codes "checked_results" ∷ []) one.now two.now = frame_of (codes "checked_results" ∷ []) 25 refl one two (put_broker _ old one held.broker put) marks.0 in
+      let both = frame_then (codes "results" ∷ []) (codes "checked_results" ∷ []) old.now one.now two.now first second in (
+        still_there old.now two.now (both.others.1.1.1.1.1.1.1.0 refl) (has_content old.now s held content allowed.4 allowed.5),
+        still_there old.now two.now (both.others.1.1.1.0 refl) (has_version old.now s held allowed.0 version allowed.1),
+        still_there one.now two.now (second.others.1.1.1.1.1.1.1.1.1.0 refl) has_result,
+        subst (λ rows. HaveNumbers (codes "latest" ∷ []) (record old.now { trees = λ tree. rows })) (sym (both.others.1.1.1.1.1.1.1.1.1.1.0 refl)) room,
+      )

@@ -4,6 +4,7 @@ use Rattle.std.specs.Prelude.{option_map}
 use Rattle.std.specs.List.{AllByRecursion, last_or, enumerate_from}
 use Rattle.std.specs.Cmp.{eq_by_cmp_equiv, Equal-is}
 use Rattle.std.specs.Cmp.Lexicographic.{nat_list_cmp_total, texts_ties}
+use Rattle.std.proofs.lemmas.Bool.{false_from_ne_true}
 use Rattle.std.proofs.lemmas.List.{length-map}
 use Rattle.sqlite.specs.Tree.{IsAscending}
 use Rattle.sqlite.specs.Edit.{id_in}
@@ -21,6 +22,7 @@ use Rattle.sqlite.specs.Schema.{Schema}
 use Rattle.sqlite.specs.Effect.{Database}
 use Rattle.sqlite.specs.Listing.{understood}
 use Rattle.sqlite_rules.specs.Lists.{Has}
+use Rattle.sqlite_rules.proofs.ListLemmas.{has_kept}
 use Rattle.sqlite_keyed.proofs.ListLemmas.{filter-map, ascending-filter}
 use Rattle.sqlite_keyed.proofs.RuleLemmas.{first_of_both, second_of_both}
 use Rattle.sqlite_tied.specs.Compute.{everything}
@@ -38,10 +40,11 @@ use Rattle.broker_tables.specs.Rows.{text_or_null}
 use Rattle.broker_tables.specs.Numbers.{number_of}
 use Rattle.broker_tables.specs.Holds.{Holds, IsBroker, ResultRow, result_in, result_of}
 use Rattle.broker_tables.proofs.Asked.{Asked, IsShown}
+use Rattle.broker_tables.proofs.Inserted.{IsFree}
 use Rattle.broker_tables.proofs.Orders.{exact_texts}
 use Rattle.broker_tables.proofs.Ties.{two_tests}
 use Rattle.broker_tables.proofs.Placed.{results, results_there}
-use Rattle.contract_tables.specs.Verified.{Cells, cells, cells_of, ByNumbers, by_numbers, numbers_are, told_of, told, result_with}
+use Rattle.contract_tables.specs.Verified.{Cells, cells, cells_of, ByNumbers, by_numbers, numbers_are, told_of, told, result_with, run_value}
 use Rattle.contract_tables.proofs.ContractRows.{named}
 use Rattle.contract_tables.proofs.LastRow.{last_stands}
 
@@ -177,6 +180,32 @@ module _ (db : Database) (broker : IsBroker db) (p u : List ℕ) where
         ap (map entry) (filter_alike (keeps (by_two 3 6) params) (λ r. passes (entry r)) (db.trees 17) row_test) ∙ sym (filter-map passes entry (db.trees 17))
         ∙ ap (filter passes) (held.results ∙ numbered_map (result_of s.versions) 1 s.results) ∙ filter-map passes as_row (enumerate_from 1 s.results) in
         one_of entry as_row kept _ few listed
+
+    -- no row is kept where no result has the run
+    none_kept : result_of_run s p (Some u) ≡ None → (r : Row) → Has (db.trees 17) r → keeps (by_two 3 6) params r ≡ false
+    none_kept none r has = false_from_ne_true _ (λ hit. gone kept (kept_is ∙ ap (option_map as_row) none) (has_kept (keeps (by_two 3 6) params) (db.trees 17) r has hit))
+      where
+        gone : (rs : List Row) → option_map entry (slice_get rs 0) ≡ None → Has rs r → ⊥
+        gone [] e h = h
+        gone (x ∷ rs) e h = cc
+
+null_apart : (v : Value) → equal Binary v Null ≡ false
+unfolding binary value_cmp
+null_apart Null = refl
+null_apart (Int n) = refl
+null_apart (Real x) = refl
+null_apart (Text t) = refl
+null_apart (Blob b) = refl
+
+both_false : (a b : Bool) → b ≡ false → (a && (b && true)) ≡ false
+both_false true b e = ap (λ c. c && true) e
+both_false false b e = refl
+
+-- so no row has the key of a result of this run
+pub run_free : (db : Database) (s : Broker) → Holds db s → (p : List ℕ) (run : Option (List ℕ)) → result_of_run s p run ≡ None → (made : Row) → column made 3 ≡ Text p → column made 6 ≡ run_value run → IsFree (db.trees 17) made (3 ∷ 6 ∷ [])
+unfolding first_key
+run_free db s held p None none made owner is r has = both_false (equal Binary (column r 3) (column made 3)) (equal Binary (column r 6) (column made 6)) (ap (equal Binary (column r 6)) is ∙ null_apart (column r 6))
+run_free db s held p (Some u) none made owner is r has = (λ i. equal Binary (column r 3) (owner i) && (equal Binary (column r 6) (is i) && true)) ∙ none_kept db held.broker p u s held none r has
 
 -- ---- the answer
 

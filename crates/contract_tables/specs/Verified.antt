@@ -1,19 +1,27 @@
 -- What a contract and a result change of the state, and what is told of a result; and, for private clauses, what the
 -- columns of a row tell of one, and what the three statements that record a result make of the rows.
-use Rattle.std.specs.Prelude.{◌≡◌, ◌==◌, ◌+◌, ◌-◌, ◌≤◌, ℕ, ℤ, pos, Bool, ◌&&◌, ◌||◌, IsTrue, List, [], ◌∷◌, ◌++◌, length, Option, Some, None, is_some, cond, if◌then◌else◌, slice_get, codes, option_map}
+use Rattle.std.specs.Prelude.{◌≡◌, ◌==◌, ◌+◌, ◌-◌, ◌≤◌, ℕ, ℤ, pos, Bool, ◌&&◌, ◌||◌, IsTrue, List, [], ◌∷◌, ◌++◌, length, Option, Some, None, is_some, cond, if◌then◌else◌, slice_get, codes, option_map, false, Result, IfErr}
 use Rattle.std.specs.Ordering.{eq_by_cmp, int_cmp}
 use Rattle.sqlite.specs.declared.types.Value.{Value}
 use Rattle.sqlite.specs.declared.types.Value.TheVariants as value
 use Rattle.sqlite.specs.Order.{Row, column}
-use Rattle.sqlite.specs.State.{State, Shown}
+use Rattle.sqlite.specs.Effect.{Database}
+use Rattle.sqlite.specs.State.{State, Shown, HasCleanDisk}
+use Rattle.sqlite_rules.specs.Lists.{Has}
+use Rattle.table_access.specs.declared.StoreFault.{StoreFault}
+use Rattle.table_access.specs.Calls.{IsEnded}
 use Rattle.table_access.specs.Columns.{whole_at, by_both}
 use Rattle.table_access.specs.Statements.{ChangesOnly, IsAdded}
 use Rattle.broker_core.specs.declared.command.Version.{Version}
 use Rattle.broker_core.specs.Text.{Text, put_at, same_pair, same_text, same_version}
 use Rattle.broker_core.specs.State.{State as Broker, Verification}
+use Rattle.broker_core.specs.Change.{result_of_run}
 use Rattle.table_access.specs.Reading.{IsNumberAt}
 use Rattle.broker_tables.specs.Rows.{value_at, stands_at, truth, IsTruthAt, mark_of}
 use Rattle.broker_tables.specs.Numbers.{number_of}
+use Rattle.broker_tables.specs.Holds.{IsBroker}
+use Rattle.broker_tables.specs.Room.{LeaveNumbers}
+use Rattle.broker_tables.specs.Refusals.{HaveNumbers}
 
 -- the version of this number has no contract with the provider, which is there, as the content is; now the
 -- content is its contract
@@ -34,6 +42,14 @@ RecordsResult number content provider version_number pass checked run s t =
     (v : Version) × (number_of s.versions v ≡ Some version_number) × (v.pacticipant ≡ provider)
     × (number ≡ length s.results + 1)
     × (t ≡ record s { results = s.results ++ result_for content v pass checked run ∷ [] })
+
+-- the number is the next, the version of that number is one of the provider, the content is there, and no result of
+-- the provider has this run
+abbrev pub AllowsResult : ℕ → ℕ → Text → ℕ → Option Text → Broker → Type 0
+AllowsResult number content provider version_number run s =
+    (v : Version) × (number_of s.versions v ≡ Some version_number) × (v.pacticipant ≡ provider)
+    × (number ≡ length s.results + 1) × (1 ≤ content) × (content ≤ length s.contents)
+    × (result_of_run s provider run ≡ None)
 
 -- the result with this number: they are numbered from 1
 abbrev pub result_with : Broker → ℕ → Option Verification
@@ -130,14 +146,15 @@ latest_at rows content version =
     value_at (by_both int_cmp int_cmp) (λ r. (whole_at 1 r, whole_at 2 r))
     (whole_at 3) rows (pos content, pos version)
 
--- the result is now the one for this content and the number of this version, all others keep theirs, and no
--- other table changes
+-- the result is now the one for this content and the number of this version, all others keep theirs, at most one number
+-- of the table was taken, and no other table changes
 abbrev pub Points : ℕ → ℕ → ℕ → State → State → Type 0
 Points content version result old new =
     ChangesOnly 19 old new
     × ((c v : ℕ) → latest_at (new.now.trees 19) c v
     ≡ cond (eq_by_cmp (by_both int_cmp int_cmp) (pos c, pos v) (pos content, pos version))
     (Some (pos result)) (latest_at (old.now.trees 19) c v))
+    × ((n : ℕ) → LeaveNumbers (n + 1) (old.now.trees 19) → LeaveNumbers n (new.now.trees 19))
 
 -- where the result was checked, its number is among those of checked results; all others stand as they did, and
 -- no other table changes
@@ -146,3 +163,22 @@ Marks checked number old new =
     ChangesOnly 25 old new
     × ((k : ℤ) → stands_at int_cmp (whole_at 0) (new.now.trees 25) k
     ≡ ((checked && eq_by_cmp int_cmp k (pos number)) || stands_at int_cmp (whole_at 0) (old.now.trees 25) k))
+
+-- such a statement fails in a database of the broker that allows it only as the store fails, or since its row is too big
+abbrev pub IsCalmOn : {A : Type 0} → State → State → Result A StoreFault → (Database → Type 0) → Type 0
+IsCalmOn old new r Allows =
+    HasCleanDisk new → old.step_limit ≡ None → IsBroker old.now → Allows old.now → IfErr r (IsEnded old new)
+
+-- a row of the table at this tree has this number
+abbrev pub HasRowWith : ℕ → ℕ → Database → Type 0
+HasRowWith tree number db = (row : Row) × Has (db.trees tree) row × (column row 0 ≡ value.Int (pos number))
+
+-- the result is there, and its number isn't among those of checked results
+abbrev pub AllowsMark : ℕ → Database → Type 0
+AllowsMark number db =
+    HasRowWith 17 number db × (stands_at int_cmp (whole_at 0) (db.trees 25) (pos number) ≡ false)
+
+-- the content, the version and the result are there, and there is a number for the row
+abbrev pub AllowsPoint : ℕ → ℕ → ℕ → Database → Type 0
+AllowsPoint content version result db = HasRowWith 14 content db × HasRowWith 6 version db × HasRowWith 17 result db
+    × HaveNumbers (codes "latest" ∷ []) db

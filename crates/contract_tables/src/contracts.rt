@@ -1,9 +1,10 @@
 //! The contracts of consumers' versions with providers.
-ghost use Rattle.std.specs.Prelude.{◌≡◌, Some, None};
+ghost use Rattle.std.specs.Prelude.{◌≡◌, Some, None, codes, [], ◌∷◌};
 ghost use Rattle.broker_core.specs.declared.command.Version.{Version as VersionModel};
 ghost use Rattle.broker_tables.specs.Numbers.{number_of as number_in};
 ghost use Rattle.broker_tables.specs.Holds.{Changes};
 ghost use Rattle.broker_tables.specs.Calm.{CalmQueriesInPlace, IfNoVersion};
+ghost use Rattle.broker_tables.specs.Refusals.{IsCalmChange};
 ghost use Rattle.contract_tables.specs.Verified.{AddsContract};
 
 use sqlite::{Alter, Connection, params};
@@ -42,7 +43,9 @@ pub fn add_contract<S: Alter>(
     provider: &str,
     content: u32,
 ) -> Result<(), StoreFault>
-    ensures { Changes S.Store conn.old conn.new result (AddsContract version_number provider.now content) }
+    ensures changes { Changes S.Store conn.old conn.new result (AddsContract version_number provider.now content) }
+    ensures calm { IsCalmChange S.Store conn.old conn.new result (codes "contracts" ∷ [])
+        (AddsContract version_number provider.now content) }
 {
     change(
         conn,

@@ -1,10 +1,12 @@
 //! A result comes in: its row, the mark that the broker checked it, and that it is the latest one for its content and
 //! its version.
 ghost use Rattle.std.specs.Prelude.{option_map, Some, None};
+ghost use Rattle.sqlite.specs.Held.{state};
 ghost use Rattle.table_access.specs.Calls.{CallsStore};
 ghost use Rattle.broker_tables.specs.Holds.{IsBroker, Changes};
-ghost use Rattle.contract_tables.specs.Verified.{RecordsResult, PutsRow, result_row, Marks, Points};
-ghost use Rattle.std.specs.Prelude.{pos, ◌∷◌, []};
+ghost use Rattle.broker_tables.specs.Refusals.{IsCalmIf};
+ghost use Rattle.contract_tables.specs.Verified.{RecordsResult, AllowsResult, PutsRow, result_row, Marks, Points, IsCalmOn, AllowsMark, AllowsPoint};
+ghost use Rattle.std.specs.Prelude.{pos, ◌∷◌, [], codes};
 ghost use Rattle.sqlite.specs.declared.types.Value.TheVariants.{Int, Null};
 
 use sqlite::{Alter, Connection, params};
@@ -20,10 +22,12 @@ fn put_run<S: Alter>(
     pass: bool,
     run: &str,
 ) -> Result<(), StoreFault>
-    ensures { CallsStore S.Store conn.old conn.new result
+    ensures puts { CallsStore S.Store conn.old conn.new result
         (λ _ old new. IsBroker old.now →
         PutsRow 17 (result_row number content provider.now version_number pass (Some run.now))
         old new) }
+    ensures calm { IsCalmIf S.Store conn.old conn.new result []
+        (AllowsResult number content provider.now version_number (Some run.now)) }
 {
     change(
         conn,
@@ -41,10 +45,12 @@ fn put_plain<S: Alter>(
     version_number: u32,
     pass: bool,
 ) -> Result<(), StoreFault>
-    ensures { CallsStore S.Store conn.old conn.new result
+    ensures puts { CallsStore S.Store conn.old conn.new result
         (λ _ old new. IsBroker old.now →
         PutsRow 17 (result_row number content provider.now version_number pass None)
         old new) }
+    ensures calm { IsCalmIf S.Store conn.old conn.new result []
+        (AllowsResult number content provider.now version_number None) }
 {
     change(
         conn,
@@ -63,11 +69,13 @@ fn put_result<S: Alter>(
     pass: bool,
     run: Option<&str>,
 ) -> Result<(), StoreFault>
-    ensures { CallsStore S.Store conn.old conn.new result
+    ensures puts { CallsStore S.Store conn.old conn.new result
         (λ _ old new. IsBroker old.now →
         PutsRow 17
         (result_row number content provider.now version_number pass (option_map (λ text. text.now) run.entry))
         old new) }
+    ensures calm { IsCalmIf S.Store conn.old conn.new result []
+        (AllowsResult number content provider.now version_number (option_map (λ text. text.now) run.entry)) }
 {
     match run {
         Some(run) => put_run(conn, number, content, provider, version_number, pass, run),
@@ -77,9 +85,10 @@ fn put_result<S: Alter>(
 
 /// Marks a result as checked.
 fn mark_checked<S: Alter>(conn: &mut Connection<S>, number: u32) -> Result<(), StoreFault>
-    ensures { CallsStore S.Store conn.old conn.new result
+    ensures puts { CallsStore S.Store conn.old conn.new result
         (λ _ old new. IsBroker old.now →
         PutsRow 25 (Int (pos number) ∷ Null ∷ []) old new) }
+    ensures calm { IsCalmOn (state S.Store conn.old) (state S.Store conn.new) result (AllowsMark number) }
 {
     change(
         conn,
@@ -90,9 +99,10 @@ fn mark_checked<S: Alter>(conn: &mut Connection<S>, number: u32) -> Result<(), S
 
 /// Marks a result as checked if it was.
 fn mark<S: Alter>(conn: &mut Connection<S>, number: u32, checked: bool) -> Result<(), StoreFault>
-    ensures { CallsStore S.Store conn.old conn.new result
+    ensures marks { CallsStore S.Store conn.old conn.new result
         (λ _ old new. IsBroker old.now →
         Marks checked number old new) }
+    ensures calm { IsCalmOn (state S.Store conn.old) (state S.Store conn.new) result (AllowsMark number) }
 {
     if checked {
         mark_checked(conn, number)
@@ -108,9 +118,11 @@ fn point_latest<S: Alter>(
     version_number: u32,
     number: u32,
 ) -> Result<(), StoreFault>
-    ensures { CallsStore S.Store conn.old conn.new result
+    ensures points { CallsStore S.Store conn.old conn.new result
         (λ _ old new. IsBroker old.now →
         Points content version_number number old new) }
+    ensures calm { IsCalmOn (state S.Store conn.old) (state S.Store conn.new) result
+        (AllowsPoint content version_number number) }
 {
     change(
         conn,
@@ -134,9 +146,11 @@ pub fn record_result<S: Alter>(
     checked: bool,
     run: Option<&str>,
 ) -> Result<(), StoreFault>
-    ensures { Changes S.Store conn.old conn.new result
+    ensures changes { Changes S.Store conn.old conn.new result
         (RecordsResult number content provider.now version_number pass checked
         (option_map (λ text. text.now) run.entry)) }
+    ensures calm { IsCalmIf S.Store conn.old conn.new result (codes "latest" ∷ [])
+        (AllowsResult number content provider.now version_number (option_map (λ text. text.now) run.entry)) }
 {
     done!(put_result(conn, number, content, provider, version_number, pass, run));
     done!(mark(conn, number, checked));

@@ -1,5 +1,5 @@
 -- The statements on what is deployed.
-use Rattle.std.proofs.Common.{◌≡◌, inl, inr, ℕ, ℤ, pos, codes, List, [], ◌∷◌, ◌++◌, true, false, Bool, ◌||◌, ◌&&◌, not, filter, nat_lt, Ordering, Less, Equal, Greater, Option, refl, sym, ap, subst, ◌∙◌, cond, slice_get, Some, None, Ok}
+use Rattle.std.proofs.Common.{◌≡◌, inl, inr, ℕ, ℤ, pos, codes, List, [], ◌∷◌, true, false, Bool, ◌||◌, ◌&&◌, not, filter, nat_lt, Ordering, Less, Equal, Greater, Option, refl, sym, ap, ◌∙◌, cond, slice_get, Some, None, Ok}
 use Rattle.std.specs.Prelude.{option_map, is_some}
 use Rattle.std.specs.List.{list_any}
 use Rattle.std.specs.Option.{option_map_or}
@@ -8,18 +8,12 @@ use Rattle.std.specs.Cmp.{eq_by_cmp_equiv, Equal-is}
 use Rattle.std.specs.Cmp.Lexicographic.{nat_list_cmp_total}
 use Rattle.std.proofs.lemmas.Cmp.{int_cmp_total}
 use Rattle.sqlite.specs.Tree.{IsAscending, rowid}
-use Rattle.sqlite.specs.Edit.{next_rowid, with_rowid, id_in}
-use Rattle.sqlite.specs.Rowids.TheVariants.{Chosen}
+use Rattle.sqlite.specs.Edit.{next_rowid}
 use Rattle.sqlite.specs.declared.types.Value.TheVariants.{Null, Int, Text}
 use Rattle.sqlite.specs.Order.{Row, column}
-use Rattle.sqlite.specs.Term.{Term, col, lit, op2}
-use Rattle.sqlite.specs.Collation.TheVariants.{Binary}
-use Rattle.sqlite_sql.specs.declared.ops.BinaryOp.TheVariants.{Compare}
-use Rattle.sqlite_sql.specs.declared.ops.CompareOp.TheVariants.{Eq}
-use Rattle.sqlite.specs.Source.TheVariants.{Values}
+use Rattle.sqlite.specs.Term.{Term, col, lit}
 use Rattle.sqlite.specs.Command.{Command}
-use Rattle.sqlite.specs.Command.TheVariants.{InsertOr, Delete}
-use Rattle.sqlite_schema.specs.declared.command.Conflict.TheVariants.{Abort}
+use Rattle.sqlite.specs.Command.TheVariants.{Delete}
 use Rattle.sqlite.specs.Schema.{Schema}
 use Rattle.sqlite.specs.Effect.{Database}
 use Rattle.sqlite.specs.State.{State, Executes}
@@ -40,19 +34,18 @@ use Rattle.broker_tables.specs.Schema.{broker_schema}
 use Rattle.broker_tables.specs.Rows.{value_at}
 use Rattle.broker_tables.specs.Holds.{IsBroker}
 use Rattle.broker_tables.proofs.Frames.{meant}
+use Rattle.broker_tables.proofs.Inserted.{new_text}
 use Rattle.broker_tables.proofs.Asked.{Asked, IsShown}
-use Rattle.table_access.specs.Sound.{text_in}
-use Rattle.table_access.proofs.Upsert.{upsert_leaves, Upserted}
 use Rattle.table_access.proofs.Changes.{upserts_at}
-use Rattle.table_access.proofs.Values.{cast_null, cast_int}
-use Rattle.sqlite.specs.Cast.{cast, cast_row}
-use Rattle.sqlite.specs.Rows.{shown}
-use Rattle.sqlite.specs.Kind.TheVariants as column_kind
+use Rattle.table_access.proofs.Values.{cast_int}
+use Rattle.sqlite.specs.Cast.{cast_all}
 use Rattle.sqlite_rules.specs.Keys.{conflicts}
 use Rattle.broker_tables.proofs.Orders.{triples_total, exact_triple}
 use Rattle.broker_tables.proofs.Standing.{stands_found, takes_at}
 use Rattle.broker_tables.proofs.Ties.{both_eq}
 use Rattle.broker_tables.proofs.Placed.{deployed, deployed_there, calm}
+use Rattle.broker_tables.proofs.RoomLemmas.{Grows, grows_kept}
+use Rattle.broker_tables.proofs.Upserted.{PutsOver, upserted, upsert_grows}
 
 -- an environment, a pacticipant and an instance
 abbrev pub Place : Type 0
@@ -60,6 +53,9 @@ Place = List ℕ × (List ℕ × List ℕ)
 
 abbrev pub place_of : Row → Place
 place_of r = (text 1 r, (text 2 r, text 3 r))
+
+abbrev pub place_cmp : Place → Place → Ordering
+place_cmp = by_both text_cmp (by_both text_cmp text_cmp)
 
 module _ (db : Database) (broker : IsBroker db) where
   pub environments : (r : Row) → Has (db.trees 21) r → column r 1 ≡ Text (text 1 r)
@@ -76,12 +72,12 @@ module _ (db : Database) (broker : IsBroker db) where
 
 -- rows whose key is three texts
 module _ (rows : List Row) (one : Part text_cmp Text rows 1 (text 1)) (two : Part text_cmp Text rows 2 (text 2)) (three : Part text_cmp Text rows 3 (text 3)) where
-  pub agree_places : (a b : Row) → Has rows a → Has rows b → agree plain (1 ∷ 2 ∷ 3 ∷ []) a (1 ∷ 2 ∷ 3 ∷ []) b ≡ eq_by_cmp (by_both text_cmp (by_both text_cmp text_cmp)) (place_of a) (place_of b)
+  pub agree_places : (a b : Row) → Has rows a → Has rows b → agree plain (1 ∷ 2 ∷ 3 ∷ []) a (1 ∷ 2 ∷ 3 ∷ []) b ≡ eq_by_cmp place_cmp (place_of a) (place_of b)
   agree_places a b ha hb =
       agree_and nat_list_cmp_total rows 1 (text 1) one (by_both text_cmp text_cmp) (λ r. (text 2 r, text 3 r)) (2 ∷ 3 ∷ []) a b ha hb
       (agree_and nat_list_cmp_total rows 2 (text 2) two text_cmp (text 3) (3 ∷ []) a b ha hb (agree_last nat_list_cmp_total rows 3 (text 3) three a b ha hb))
 
-  pub where_place : (e p i : List ℕ) (r : Row) → Has rows r → keeps (is_param 1 0 ∷ is_param 2 1 ∷ is_param 3 2 ∷ []) (Text e ∷ Text p ∷ Text i ∷ []) r ≡ eq_by_cmp (by_both text_cmp (by_both text_cmp text_cmp)) (e, (p, i)) (place_of r)
+  pub where_place : (e p i : List ℕ) (r : Row) → Has rows r → keeps (is_param 1 0 ∷ is_param 2 1 ∷ is_param 3 2 ∷ []) (Text e ∷ Text p ∷ Text i ∷ []) r ≡ eq_by_cmp place_cmp (e, (p, i)) (place_of r)
   where_place e p i r has =
       let params = Text e ∷ Text p ∷ Text i ∷ [] in
       where_and nat_list_cmp_total rows 1 (text 1) one (by_both text_cmp text_cmp) (λ r. (text 2 r, text 3 r)) (p, i) (is_param 2 1 ∷ is_param 3 2 ∷ []) params 0 e refl r has
@@ -98,8 +94,8 @@ module _ (db : Database) (broker : IsBroker db) where
   three = text_part (db.trees 21) 3 (instances db broker)
 
   -- a place stands once
-  pub keys : IsAscending (λ a b. eq_by_cmp (by_both text_cmp (by_both text_cmp text_cmp)) (place_of a) (place_of b) ≡ false) (db.trees 21)
-  keys = once (by_both text_cmp (by_both text_cmp text_cmp)) (db.trees 21) (1 ∷ 2 ∷ 3 ∷ []) place_of (agree_places (db.trees 21) one two three)
+  pub keys : IsAscending (λ a b. eq_by_cmp place_cmp (place_of a) (place_of b) ≡ false) (db.trees 21)
+  keys = once place_cmp (db.trees 21) (1 ∷ 2 ∷ 3 ∷ []) place_of (agree_places (db.trees 21) one two three)
       (apart_by db broker.kept deployed 11 (deployed_there db broker) _ 10 (ap (λ (s : Schema). slice_get s.indexes 10) broker.schema) refl)
 
 -- ---- the version at a place
@@ -114,11 +110,11 @@ unfolding understood everything
 number_at e p i = record { names = _; means = record { is = refl; plain = (refl, refl); unlisted = refl }; runs = record { whole = refl; typed = refl; sumless = refl } }
 
 pub number_found : (e p i : List ℕ) (db : Database) (rows : List Row) → IsBroker db → IsShown (number_at e p i) db rows
-    → option_map (whole_at 0) (slice_get rows 0) ≡ value_at (by_both text_cmp (by_both text_cmp text_cmp)) place_of (whole_at 4) (db.trees 21) (e, (p, i))
+    → option_map (whole_at 0) (slice_get rows 0) ≡ value_at place_cmp place_of (whole_at 4) (db.trees 21) (e, (p, i))
 number_found e p i db rows broker h =
     let params = Text e ∷ Text p ∷ Text i ∷ [] in
     looks_up_at triples_total exact_triple place_of (whole_at 4) (shows (col 1 4 ∷ []) params) (whole_at 0) (λ r. refl) (e, (p, i)) (keeps by_place params) (db.trees 21) rows
-    (all_where (by_both text_cmp (by_both text_cmp text_cmp)) (db.trees 21) place_of (e, (p, i)) by_place params (where_place (db.trees 21) (one db broker) (two db broker) (three db broker) e p i))
+    (all_where place_cmp (db.trees 21) place_of (e, (p, i)) by_place params (where_place (db.trees 21) (one db broker) (two db broker) (three db broker) e p i))
     (keys db broker) (answered db params 21 by_place (col 1 4 ∷ []) [] rows h)
 
 -- ---- a deployment
@@ -126,74 +122,73 @@ number_found e p i db rows broker h =
 abbrev pub record_sql : List ℕ
 record_sql = codes "INSERT INTO deployed (environment, pacticipant, instance, version_number) VALUES (?1, ?2, ?3, ?4) ON CONFLICT (environment, pacticipant, instance) DO UPDATE SET version_number = excluded.version_number"
 
-abbrev record_command : Command
-record_command = InsertOr 11 Abort (Values (lit Null ∷ col 0 0 ∷ col 0 1 ∷ col 0 2 ∷ col 0 3 ∷ []) 5)
-    (record { target = Some (1 ∷ 2 ∷ 3 ∷ []); update = Some (record { lets = []; body = from_table 21 (op2 (Compare Eq Binary) (col 1 0) (col 0 4) ∷ []) (col 1 0 ∷ col 1 0 ∷ col 1 1 ∷ col 1 2 ∷ col 1 3 ∷ col 0 9 ∷ []) [] }) } ∷ [])
-
-record_text : Means broker_schema record_sql record_command
-unfolding understood everything
-record_text = record { is = refl; plain = (refl, refl); unlisted = refl }
-
 abbrev update_project : List Term
 update_project = col 1 0 ∷ col 1 1 ∷ col 1 2 ∷ col 1 3 ∷ col 0 9 ∷ []
 
--- the row as it would be stored
-abbrev row_for : List Row → List ℕ → List ℕ → List ℕ → ℕ → Row
-row_for rows e p i n = Int (next_rowid rows) ∷ Text e ∷ Text p ∷ Text i ∷ Int (pos n) ∷ []
+-- the columns of its row
+abbrev pub row_for : List ℕ → List ℕ → List ℕ → ℕ → Row
+row_for e p i n = Text e ∷ Text p ∷ Text i ∷ Int (pos n) ∷ []
 
--- what the row of a place becomes
-abbrev changed_row : List Row → List ℕ → List ℕ → List ℕ → ℕ → Row → Row
-changed_row rows e p i n r = cast_row deployed (shows update_project ((Text e ∷ Text p ∷ Text i ∷ Int (pos n) ∷ []) ++ rowid r ∷ shown deployed (row_for rows e p i n)) r)
+pub recording : (e p i : List ℕ) (n : ℕ) → PutsOver 11 deployed record_sql (row_for e p i n) (1 ∷ 2 ∷ 3 ∷ []) 4 update_project (row_for e p i n)
+unfolding understood everything
+recording e p i n = record {
+  terms = lit Null ∷ col 0 0 ∷ col 0 1 ∷ col 0 2 ∷ col 0 3 ∷ [];
+  width = 5;
+  means = record { is = refl; plain = (refl, refl); unlisted = refl };
+  whole = refl;
+  kinds = refl;
+  one = refl;
+  placed = λ v more. refl;
+  typed = λ z next. refl;
+  keys = refl;
+  no_rowid = refl;
+  no_first = λ v w r. refl;
+  alone = refl;
+  fits = refl;
+}
+
+-- as it is stored
+pub stored : (e p i : List ℕ) (n : ℕ) → cast_all deployed.columns (row_for e p i n) ≡ row_for e p i n
+stored e p i n = ap (λ v. Text e ∷ Text p ∷ Text i ∷ v ∷ []) (cast_int (pos n))
 
 or_false : (b : Bool) → (b || false) ≡ b
 or_false true = refl
 or_false false = refl
 
 module _ (db : Database) (broker : IsBroker db) (e p i : List ℕ) (n : ℕ) where
+  abbrev there : List Row
+  there = db.trees 21
+
   abbrev it : Row
-  it = row_for (db.trees 21) e p i n
-
-  abbrev more : List Row
-  more = it ∷ db.trees 21
-
-  with_it : (P : Row → Type 0) → P it → ((r : Row) → Has (db.trees 21) r → P r) → (r : Row) → Has more r → P r
-  with_it P here there r (inl same) = subst P (sym same) here
-  with_it P here there r (inr later) = there r later
+  it = Int (next_rowid there) ∷ row_for e p i n
 
   -- a row of the table has the key of the new row just where it has its place
-  pub conflicts_at : (r : Row) → Has (db.trees 21) r → conflicts (Some (1 ∷ 2 ∷ 3 ∷ [])) db.schema.indexes deployed it r ≡ eq_by_cmp (by_both text_cmp (by_both text_cmp text_cmp)) (e, (p, i)) (place_of r)
-  conflicts_at r has =
-      ap (λ (s : Schema). conflicts (Some (1 ∷ 2 ∷ 3 ∷ [])) s.indexes deployed it r) broker.schema
-      ∙ or_false (agree plain (1 ∷ 2 ∷ 3 ∷ []) r (1 ∷ 2 ∷ 3 ∷ []) it)
-      ∙ agree_places more (text_part more 1 (with_it _ refl (environments db broker))) (text_part more 2 (with_it _ refl (pacticipants db broker))) (text_part more 3 (with_it _ refl (instances db broker))) r it (inr has) (inl refl)
+  meets : (r : Row) → Has there r → conflicts (Some (1 ∷ 2 ∷ 3 ∷ [])) db.schema.indexes deployed it r ≡ eq_by_cmp place_cmp (e, (p, i)) (place_of r)
+  meets r has =
+      ap (λ (s : Schema). conflicts (Some (1 ∷ 2 ∷ 3 ∷ [])) s.indexes deployed it r) broker.schema ∙ or_false (agree plain (1 ∷ 2 ∷ 3 ∷ []) r (1 ∷ 2 ∷ 3 ∷ []) it)
+      ∙ agree_places (it ∷ there) (new_text there it 1 (environments db broker) refl) (new_text there it 2 (pacticipants db broker) refl) (new_text there it 3 (instances db broker) refl) r it (inr has) (inl refl)
       ∙ (eq_by_cmp_equiv triples_total).symm (place_of r) (e, (p, i))
 
-  place_is : (r : Row) → Has (db.trees 21) r → eq_by_cmp (by_both text_cmp (by_both text_cmp text_cmp)) (e, (p, i)) (place_of r) ≡ true → place_of (changed_row (db.trees 21) e p i n r) ≡ (e, (p, i))
-  place_is r has hit =
-      (λ j. (text_in (cast column_kind.Text (environments db broker r has j)), (text_in (cast column_kind.Text (pacticipants db broker r has j)), text_in (cast column_kind.Text (instances db broker r has j)))))
-      ∙ sym (exact_triple (e, (p, i)) (place_of r) ((Equal-is (by_both text_cmp (by_both text_cmp text_cmp) (e, (p, i)) (place_of r))).0 hit))
+  -- the row of its place gets the number, and keeps its own
+  pub set : (r : Row) → Has there r → conflicts (Some (1 ∷ 2 ∷ 3 ∷ [])) db.schema.indexes deployed it r ≡ true → column r 0 ∷ column r 1 ∷ column r 2 ∷ column r 3 ∷ Int (pos n) ∷ [] ≡ rowid r ∷ row_for e p i n
+  set r has met =
+      let same = exact_triple (e, (p, i)) (place_of r) ((Equal-is (place_cmp (e, (p, i)) (place_of r))).0 (sym (meets r has) ∙ met)) in
+      λ j. rowid r ∷ (environments db broker r has ∙ ap (λ k. Text k.0) (sym same)) j ∷ (pacticipants db broker r has ∙ ap (λ k. Text k.1.0) (sym same)) j ∷ (instances db broker r has ∙ ap (λ k. Text k.1.1) (sym same)) j ∷ Int (pos n) ∷ []
 
-pub recorded : (e p i : List ℕ) (n : ℕ) (old new : State) (count : ℕ) → IsBroker old.now → Executes record_sql (Text e ∷ Text p ∷ Text i ∷ Int (pos n) ∷ []) old new (Ok count)
-    → ChangesOnly 21 old new × ((q : Place) → value_at (by_both text_cmp (by_both text_cmp text_cmp)) place_of (whole_at 4) (new.now.trees 21) q ≡ cond (eq_by_cmp (by_both text_cmp (by_both text_cmp text_cmp)) q (e, (p, i))) (Some (pos n)) (value_at (by_both text_cmp (by_both text_cmp text_cmp)) place_of (whole_at 4) (old.now.trees 21) q))
+pub recorded : (e p i : List ℕ) (n : ℕ) (old new : State) (count : ℕ) → IsBroker old.now → Executes record_sql (row_for e p i n) old new (Ok count)
+    → ChangesOnly 21 old new × Grows (old.now.trees 21) (new.now.trees 21) × ((q : Place) → value_at place_cmp place_of (whole_at 4) (new.now.trees 21) q ≡ cond (eq_by_cmp place_cmp q (e, (p, i))) (Some (pos n)) (value_at place_cmp place_of (whole_at 4) (old.now.trees 21) q))
 recorded e p i n old new count broker h =
-    let db = old.now in
-    let rows = db.trees 21 in
-    let params = Text e ∷ Text p ∷ Text i ∷ Int (pos n) ∷ [] in
-    let made = row_for rows e p i n in
-    let numbered = at_has _ db.schema.tables deployed broker.kept.numbered (has_place _ 11 deployed (deployed_there db broker)) in
-    let done = upsert_leaves (codes "deployed") 21 deployed.columns None (1 ∷ 2 ∷ 3 ∷ []) deployed.uniques deployed.orders [] deployed.references record_sql params old new 11 (1 ∷ 2 ∷ 3 ∷ []) 4 update_project
-    (lit Null ∷ col 0 0 ∷ col 0 1 ∷ col 0 2 ∷ col 0 3 ∷ []) 5 (Null ∷ Text e ∷ Text p ∷ Text i ∷ Int (pos n) ∷ []) (deployed_there db broker) refl (λ v later. refl) (meant db broker record_sql record_text) (calm db broker) numbered count h in
-    let stored : with_rowid Chosen rows (cast_row deployed (Null ∷ Text e ∷ Text p ∷ Text i ∷ Int (pos n) ∷ [])) ≡ made = λ j. with_rowid Chosen rows (cast_null j ∷ Text e ∷ Text p ∷ Text i ∷ cast_int (pos n) j ∷ []) in
-    let leaves = subst (Upserted (codes "deployed") 21 deployed.columns None (1 ∷ 2 ∷ 3 ∷ []) deployed.uniques deployed.orders [] deployed.references record_sql params old new 11 (1 ∷ 2 ∷ 3 ∷ []) 4 update_project) stored done.1 in (
+    let there = deployed_there old.now broker in
+    let numbered = at_has _ old.now.schema.tables deployed broker.kept.numbered (has_place _ 11 deployed there) in
+    let done = upserted (recording e p i n) (stored e p i n) old new broker there (set old.now broker e p i n) count h in
+    let made = it old.now broker e p i n in (
       done.0,
-      upserts_at triples_total exact_triple place_of (whole_at 4) (Some (1 ∷ 2 ∷ 3 ∷ [])) db.schema.indexes deployed rows (new.now.trees 21) made (cast_row deployed made) (changed_row rows e p i n) (e, (p, i)) (pos n) (keys db broker) numbered.0
-          (conflicts_at db broker e p i n) (refl, ap id_in (cast_int (pos n))) (λ r has hit. (place_is db broker e p i n r has hit, ap id_in (cast_int (pos n)))) leaves,
+      upsert_grows (recording e p i n) (stored e p i n) old new broker there (set old.now broker e p i n) done.1,
+      upserts_at triples_total exact_triple place_of (whole_at 4) (Some (1 ∷ 2 ∷ 3 ∷ [])) old.now.schema.indexes deployed (old.now.trees 21) (new.now.trees 21) made made (λ r. rowid r ∷ row_for e p i n) (e, (p, i)) (pos n) (keys old.now broker) numbered.0
+          (meets old.now broker e p i n) (refl, refl) (λ r has hit. (refl, refl)) done.1,
     )
 
 -- ---- the end of a deployment
-
-abbrev pub place_cmp : Place → Place → Ordering
-place_cmp = by_both text_cmp (by_both text_cmp text_cmp)
 
 -- whether it is this number
 abbrev pub is_number : ℕ → Option ℤ → Bool
@@ -287,7 +282,7 @@ module _ (db : Database) (broker : IsBroker db) (e p i : List ℕ) (n : ℕ) whe
 
 -- the row of the place goes if it has the number, and the count says whether it did
 pub ended : (e p i : List ℕ) (n : ℕ) (old new : State) (count : ℕ) → (broker : IsBroker old.now) → Executes end_sql (Text e ∷ Text p ∷ Text i ∷ Int (pos n) ∷ []) old new (Ok count)
-    → ChangesOnly 21 old new × ((b : Bool) → is_number n (at_place old.now broker e p i n) ≡ b → (q : Place) → value_at place_cmp place_of (whole_at 4) (new.now.trees 21) q ≡ cond (b && eq_by_cmp place_cmp q (e, (p, i))) None (value_at place_cmp place_of (whole_at 4) (old.now.trees 21) q))
+    → ChangesOnly 21 old new × Grows (old.now.trees 21) (new.now.trees 21) × ((b : Bool) → is_number n (at_place old.now broker e p i n) ≡ b → (q : Place) → value_at place_cmp place_of (whole_at 4) (new.now.trees 21) q ≡ cond (b && eq_by_cmp place_cmp q (e, (p, i))) None (value_at place_cmp place_of (whole_at 4) (old.now.trees 21) q))
     × (nat_lt 0 count ≡ is_number n (at_place old.now broker e p i n))
 ended e p i n old new count broker h =
     let db = old.now in
@@ -297,6 +292,7 @@ ended e p i n old new count broker h =
     let it = deletes (codes "deployed") 21 deployed.columns None (1 ∷ 2 ∷ 3 ∷ []) deployed.uniques deployed.orders [] deployed.references end_sql params old new 11 (deployed_there db broker) by_version means (calm db broker) numbered count h in
     let counted = deletes_counted (codes "deployed") 21 deployed.columns None (1 ∷ 2 ∷ 3 ∷ []) deployed.uniques deployed.orders [] deployed.references end_sql params old new 11 (deployed_there db broker) by_version means count h in (
       it.0,
+      grows_kept (db.trees 21) (new.now.trees 21) _ it.1,
       λ b is q. left_at db broker e p i n b is (new.now.trees 21) it.1 q,
       ap (nat_lt 0) counted ∙ some_counted (keeps by_version params) (db.trees 21) ∙ any_kept db broker e p i n (is_number n (at_place db broker e p i n)) refl,
     )

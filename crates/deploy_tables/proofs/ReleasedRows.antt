@@ -1,5 +1,5 @@
 -- The statements on what is released.
-use Rattle.std.proofs.Common.{◌≡◌, inl, inr, ℕ, ℤ, pos, codes, List, [], ◌∷◌, true, false, Bool, ◌&&◌, ◌||◌, refl, sym, ap, ◌∙◌, cond, nat_lt, slice_get, Some, None, Option, Ok}
+use Rattle.std.proofs.Common.{◌≡◌, inl, inr, ℕ, ℤ, pos, codes, List, [], ◌∷◌, true, false, Bool, ◌&&◌, ◌||◌, refl, sym, ap, ◌∙◌, cond, nat_lt, slice_get, Some, None, Option, Ok, arith}
 use Rattle.std.specs.Prelude.{option_map, is_some}
 use Rattle.std.specs.Option.{option_map_or}
 use Rattle.std.specs.Ordering.{eq_by_cmp, int_cmp}
@@ -12,9 +12,9 @@ use Rattle.sqlite.specs.Rowids.TheVariants.{Chosen}
 use Rattle.sqlite.specs.declared.types.Value.TheVariants.{Null, Int, Text}
 use Rattle.sqlite.specs.Order.{Row}
 use Rattle.sqlite.specs.Term.{Term, col, lit}
-use Rattle.sqlite.specs.Source.TheVariants.{Values}
+use Rattle.sqlite.specs.Cast.{cast_row}
 use Rattle.sqlite.specs.Command.{Command}
-use Rattle.sqlite.specs.Command.TheVariants.{Insert, Delete}
+use Rattle.sqlite.specs.Command.TheVariants.{Delete}
 use Rattle.sqlite.specs.Effect.{Database}
 use Rattle.sqlite.specs.State.{State, Executes}
 use Rattle.sqlite.specs.Listing.{understood}
@@ -23,7 +23,7 @@ use Rattle.sqlite_tied.specs.Compute.{everything}
 use Rattle.table_access.specs.Columns.{text, text_cmp, whole_at}
 use Rattle.table_access.specs.Statements.{from_table, keeps, shows}
 use Rattle.table_access.proofs.Values.{cast_null, cast_int}
-use Rattle.table_access.proofs.Steps.{Means, answered, inserts, deletes, deletes_counted}
+use Rattle.table_access.proofs.Steps.{Means, answered, deletes, deletes_counted}
 use Rattle.table_access.proofs.CountLemmas.{some_counted, same_any}
 use Rattle.table_access.proofs.Maps.{looks_up_at}
 use Rattle.table_access.proofs.SoundLemmas.{has_place, at_has}
@@ -35,16 +35,19 @@ use Rattle.broker_core.specs.State.{State as Broker}
 use Rattle.broker_tables.specs.Schema.{broker_schema}
 use Rattle.broker_tables.specs.Rows.{stands_at}
 use Rattle.broker_tables.specs.Numbers.{number_of}
-use Rattle.broker_tables.specs.Holds.{Holds, IsBroker}
+use Rattle.broker_tables.specs.Holds.{Holds, HoldsAfter, IsBroker}
+use Rattle.broker_tables.specs.Refusals.{HaveNumbers}
 use Rattle.broker_tables.proofs.Asked.{Asked, IsShown}
 use Rattle.broker_tables.proofs.Frames.{meant, frame_of, released_change}
+use Rattle.broker_tables.proofs.Inserted.{EndsOnly, Puts, inserted, next_ends, new_text, new_whole, free_two, environment_there, version_there}
 use Rattle.broker_tables.proofs.NumberLemmas.{number_ties, version_unknown}
 use Rattle.broker_tables.proofs.Orders.{placed_total, exact_placed}
 use Rattle.broker_tables.proofs.References.{refers_version}
+use Rattle.broker_tables.proofs.RoomLemmas.{after_one, grows_added, grows_kept, number_for}
 use Rattle.broker_tables.proofs.Standing.{stands_found, stands_put, stands_out}
 use Rattle.broker_tables.proofs.Ties.{two_tests, both_eq}
 use Rattle.broker_tables.proofs.Placed.{released, released_there, calm}
-use Rattle.deploy_tables.specs.Releases.{IsVersion}
+use Rattle.deploy_tables.specs.Releases.{IsVersion, MayBeReleased}
 use Rattle.deploy_tables.proofs.VersionRows.{same_pos}
 use Rattle.deploy_tables.proofs.ReleasedList.{placed, place_of, environments, numbers, keys}
 use Rattle.broker_tables.proofs.VersionRows.{row_number}
@@ -125,26 +128,39 @@ module _ (old new : Database) (s : Broker) (held : Holds old s) (e : Words) (n :
 abbrev pub record_sql : List ℕ
 record_sql = codes "INSERT INTO released (environment, version_number) VALUES (?1, ?2)"
 
-abbrev record_command : Command
-record_command = Insert 12 (Values (lit Null ∷ col 0 0 ∷ col 0 1 ∷ []) 3)
-
-record_text : Means broker_schema record_sql record_command
+record_puts : (e : Words) (n : ℕ) → Puts 12 record_sql (Text e ∷ Int (pos n) ∷ []) (Null ∷ Text e ∷ Int (pos n) ∷ [])
 unfolding understood everything
-record_text = record { is = refl; plain = (refl, refl); unlisted = refl }
+record_puts e n = record { terms = lit Null ∷ col 0 0 ∷ col 0 1 ∷ []; width = 3; means = record { is = refl; plain = (refl, refl); unlisted = refl }; whole = refl; kinds = refl; one = refl }
+
+-- as it is stored
+record_stored : (rows : List Row) (e : Words) (n : ℕ) → with_rowid Chosen rows (cast_row released (Null ∷ Text e ∷ Int (pos n) ∷ [])) ≡ Int (next_rowid rows) ∷ Text e ∷ Int (pos n) ∷ []
+record_stored rows e n = λ i. with_rowid Chosen rows (cast_null i ∷ Text e ∷ cast_int (pos n) i ∷ [])
 
 either : (b old : Bool) → (b || old) ≡ cond b true old
 either true old = refl
 either false old = refl
 
 pub now_released : (e : Words) (n : ℕ) (old new : State) (count : ℕ) (s : Broker) (v : Version) → Holds old.now s → number_of s.versions v ≡ Some n → Executes record_sql (Text e ∷ Int (pos n) ∷ []) old new (Ok count)
-    → Holds new.now (record s { released = put_at (same_pair same_text same_version) s.released (e, v) true })
+    → HoldsAfter 2 old new (record s { released = put_at (same_pair same_text same_version) s.released (e, v) true })
 now_released e n old new count s v held is h =
     let rows = old.now.trees 23 in
     let made = Int (next_rowid rows) ∷ Text e ∷ Int (pos n) ∷ [] in
-    let it = inserts (codes "released") 23 released.columns None (1 ∷ 2 ∷ []) released.uniques released.orders [] released.references record_sql (Text e ∷ Int (pos n) ∷ []) old new 12 (released_there old.now held.broker)
-    _ _ (Null ∷ Text e ∷ Int (pos n) ∷ []) made refl (λ i. with_rowid Chosen rows (cast_null i ∷ Text e ∷ cast_int (pos n) i ∷ [])) (meant old.now held.broker record_sql record_text) count h in
-    released_change old.now new.now s _ held (frame_of (codes "released" ∷ []) 23 refl old new held.broker it.0) (λ f w. each old.now new.now s held e n v is true
-    (λ q. stands_put placed place_of rows (new.now.trees 23) made it.1 q ∙ either (eq_by_cmp placed q (e, pos n)) (stands_at placed place_of rows q)) f w (number_of s.versions w) refl)
+    let it = inserted record_sql (Text e ∷ Int (pos n) ∷ []) old new held.broker released 12 (released_there old.now held.broker) _ made (record_puts e n) (record_stored rows e n) count h in
+    let frame = frame_of (codes "released" ∷ []) 23 refl old new held.broker it.0 in
+    after_one 2 (omega arith) (codes "released") old new _ frame (λ counted. grows_added _ _ made it.1 refl) (released_change old.now new.now s _ held frame (λ f w. each old.now new.now s held e n v is true
+    (λ q. stands_put placed place_of rows (new.now.trees 23) made it.1 q ∙ either (eq_by_cmp placed q (e, pos n)) (stands_at placed place_of rows q)) f w (number_of s.versions w) refl))
+
+-- that a version is released fails only as the store fails
+pub release_ends : (e : Words) (n : ℕ) (old new : State) (s : Broker) → Holds old.now s → HaveNumbers (codes "released" ∷ []) old.now → MayBeReleased e n s → EndsOnly record_sql (Text e ∷ Int (pos n) ∷ []) old new
+release_ends e n old new s held numbers_left (there, (v, is, free)) =
+    let rows = old.now.trees 23 in
+    let made = Int (next_rowid rows) ∷ Text e ∷ Int (pos n) ∷ [] in
+    next_ends record_sql (Text e ∷ Int (pos n) ∷ []) old new held.broker released 12 (released_there old.now held.broker) _ _ (record_puts e n) (record_stored rows e n) (number_for _ numbers_left.0) (record { typed = refl; present = refl; checked = refl }) (
+      free_two rows made nat_list_cmp_total 1 (text 1) (new_text rows made 1 (environments old.now held.broker) refl) placed_total int_cmp_total 2 (whole_at 2) (new_whole rows made 2 (numbers old.now held.broker) refl)
+          (sym (ap (λ o. option_map_or (λ k. stands_at placed place_of rows (e, pos k)) o false) is) ∙ held.released e v ∙ free),
+      tt,
+    )
+    (environment_there old.now s held made 1 e there refl, (version_there old.now s held made 2 v n is refl, tt))
 
 -- ---- the end of support
 
@@ -159,15 +175,16 @@ unfolding understood everything
 end_text = record { is = refl; plain = (refl, refl); unlisted = refl }
 
 pub now_ended : (e : Words) (n : ℕ) (old new : State) (count : ℕ) (s : Broker) (v : Version) → Holds old.now s → number_of s.versions v ≡ Some n → Executes end_sql (Text e ∷ Int (pos n) ∷ []) old new (Ok count)
-    → Holds new.now (record s { released = put_at (same_pair same_text same_version) s.released (e, v) false })
+    → HoldsAfter 2 old new (record s { released = put_at (same_pair same_text same_version) s.released (e, v) false })
 now_ended e n old new count s v held is h =
     let rows = old.now.trees 23 in
     let params = Text e ∷ Int (pos n) ∷ [] in
     let numbered = at_has _ old.now.schema.tables released held.broker.kept.numbered (has_place _ 12 released (released_there old.now held.broker)) in
     let it = deletes (codes "released") 23 released.columns None (1 ∷ 2 ∷ []) released.uniques released.orders [] released.references end_sql params old new 12 (released_there old.now held.broker)
     by_place (meant old.now held.broker end_sql end_text) (calm old.now held.broker) numbered count h in
-    released_change old.now new.now s _ held (frame_of (codes "released" ∷ []) 23 refl old new held.broker it.0) (λ f w. each old.now new.now s held e n v is false
-    (stands_out placed_total exact_placed place_of (e, pos n) (keeps by_place params) rows (new.now.trees 23) (all_where placed rows place_of (e, pos n) by_place params (where_place old.now held.broker e n)) it.1) f w (number_of s.versions w) refl)
+    let frame = frame_of (codes "released" ∷ []) 23 refl old new held.broker it.0 in
+    after_one 2 (omega arith) (codes "released") old new _ frame (λ counted. grows_kept _ _ _ it.1) (released_change old.now new.now s _ held frame (λ f w. each old.now new.now s held e n v is false
+    (stands_out placed_total exact_placed place_of (e, pos n) (keeps by_place params) rows (new.now.trees 23) (all_where placed rows place_of (e, pos n) by_place params (where_place old.now held.broker e n)) it.1) f w (number_of s.versions w) refl))
 
 -- and the count says whether it was released
 pub ended_count : (e : Words) (n : ℕ) (old new : State) (count : ℕ) (s : Broker) (v : Version) → Holds old.now s → number_of s.versions v ≡ Some n → Executes end_sql (Text e ∷ Int (pos n) ∷ []) old new (Ok count)

@@ -1,5 +1,5 @@
 -- What a deployment and its end change of the state.
-use Rattle.std.specs.Prelude.{◌≡◌, ℕ, Bool, false, Some, None, if◌then◌else◌}
+use Rattle.std.specs.Prelude.{◌≡◌, ℕ, Bool, IsTrue, false, Some, None, is_some, if◌then◌else◌}
 use Rattle.broker_core.specs.declared.command.Version.{Version}
 use Rattle.broker_core.specs.Text.{Text, put_at, same_place}
 use Rattle.broker_core.specs.State.{State}
@@ -15,6 +15,14 @@ RecordsDeployed e p instance number s t =
 -- there is a version of this number, one of the pacticipant
 abbrev pub IsVersionOf : Text → ℕ → State → Type 0
 IsVersionOf p number s = (v : Version) × (number_of s.versions v ≡ Some number) × (v.pacticipant ≡ p)
+
+-- the environment is there
+abbrev pub IsEnvironment : Text → State → Type 0
+IsEnvironment e s = IsTrue (is_some (s.environments e))
+
+-- and the pacticipant has a version of this number: it may be deployed there
+abbrev pub MayBeDeployed : Text → Text → ℕ → State → Type 0
+MayBeDeployed e p number s = IsEnvironment e s × IsVersionOf p number s
 
 -- the state where nothing is deployed in that instance, and all else is as it was
 abbrev pub without_instance : State → Text → Text → Text → State

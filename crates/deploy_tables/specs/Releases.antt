@@ -4,6 +4,7 @@ use Rattle.broker_core.specs.declared.command.Version.{Version}
 use Rattle.broker_core.specs.Text.{Text, put_at, same_pair, same_text, same_version}
 use Rattle.broker_core.specs.State.{State}
 use Rattle.broker_tables.specs.Numbers.{number_of}
+use Rattle.deploy_tables.specs.Deployments.{IsEnvironment}
 
 -- there is a version of this number
 abbrev pub IsVersion : ℕ → State → Type 0
@@ -19,6 +20,11 @@ abbrev pub RecordsReleased : Text → ℕ → State → State → Type 0
 RecordsReleased e number s t = (v : Version) × (number_of s.versions v ≡ Some number)
     × (s.released (e, v) ≡ false)
     × (t ≡ record s { released = put_at (same_pair same_text same_version) s.released (e, v) true })
+
+-- the environment is there, and the version of this number isn't released there: it may be
+abbrev pub MayBeReleased : Text → ℕ → State → Type 0
+MayBeReleased e number s =
+    IsEnvironment e s × ((v : Version) × (number_of s.versions v ≡ Some number) × (s.released (e, v) ≡ false))
 
 -- the version of this number isn't released there any more, and all else is as it was
 abbrev pub EndsSupport : Text → ℕ → State → State → Type 0

@@ -1,9 +1,10 @@
 //! The versions that are deployed: one of a pacticipant in an environment, as an instance.
-ghost use Rattle.std.specs.Prelude.{◌≡◌, ◌==◌, false};
+ghost use Rattle.std.specs.Prelude.{◌≡◌, ◌==◌, false, codes, [], ◌∷◌};
 ghost use Rattle.std.specs.Option.{option_map_or};
 ghost use Rattle.broker_tables.specs.Holds.{Changes, ChangesAndAnswers};
 ghost use Rattle.broker_tables.specs.Calm.{CalmQueriesInPlace, IsCalmInPlace};
-ghost use Rattle.deploy_tables.specs.Deployments.{RecordsDeployed, IsVersionOf, FindsDeployed, TakesOutAndTells, FindsNothing};
+ghost use Rattle.broker_tables.specs.Refusals.{IsCalmIf};
+ghost use Rattle.deploy_tables.specs.Deployments.{RecordsDeployed, MayBeDeployed, IsVersionOf, FindsDeployed, TakesOutAndTells, FindsNothing};
 
 use sqlite::{Alter, Connection, params};
 use table_access::{StoreFault, change, change_counted, number_of};
@@ -54,8 +55,10 @@ pub fn record_deployed<S: Alter>(
     instance: &str,
     number: u32,
 ) -> Result<(), StoreFault>
-    ensures { Changes S.Store conn.old conn.new result
+    ensures changes { Changes S.Store conn.old conn.new result
         (RecordsDeployed environment.now pacticipant.now instance.now number) }
+    ensures calm { IsCalmIf S.Store conn.old conn.new result (codes "deployed" ∷ [])
+        (MayBeDeployed environment.now pacticipant.now number) }
 {
     change(
         conn,

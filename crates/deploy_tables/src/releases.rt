@@ -1,10 +1,11 @@
 //! The versions that are released and supported in an environment.
-ghost use Rattle.std.specs.Prelude.{◌≡◌, Some};
+ghost use Rattle.std.specs.Prelude.{◌≡◌, Some, codes, [], ◌∷◌};
 ghost use Rattle.broker_core.specs.declared.command.Version.{Version as VersionModel};
 ghost use Rattle.broker_tables.specs.Holds.{Changes, ChangesAndAnswers};
 ghost use Rattle.broker_tables.specs.Calm.{CalmQueriesInPlace, IsCalmInPlace};
+ghost use Rattle.broker_tables.specs.Refusals.{IsCalmIf};
 ghost use Rattle.broker_tables.specs.Numbers.{number_of as number_in};
-ghost use Rattle.deploy_tables.specs.Releases.{IsVersion, FindsReleased, RecordsReleased, EndsSupport};
+ghost use Rattle.deploy_tables.specs.Releases.{IsVersion, FindsReleased, RecordsReleased, MayBeReleased, EndsSupport};
 
 use sqlite::{Alter, Connection, params};
 use table_access::{StoreFault, change, change_counted, has_row};
@@ -36,7 +37,9 @@ pub fn record_released<S: Alter>(
     environment: &str,
     number: u32,
 ) -> Result<(), StoreFault>
-    ensures { Changes S.Store conn.old conn.new result (RecordsReleased environment.now number) }
+    ensures changes { Changes S.Store conn.old conn.new result (RecordsReleased environment.now number) }
+    ensures calm { IsCalmIf S.Store conn.old conn.new result (codes "released" ∷ [])
+        (MayBeReleased environment.now number) }
 {
     change(
         conn,

@@ -1,7 +1,7 @@
-use Rattle.std.proofs.Common.{◌≡◌, Ok, Some, arith}
+use Rattle.std.proofs.Common.{◌≡◌, ◌∙◌, Ok, Some, arith}
 use Rattle.sqlite.specs.Held.{state}
 use Rattle.sqlite.specs.State.{HasCleanDisk}
-use Rattle.broker_tables.proofs.QueryLemmas.{place_seq, place_ok}
+use Rattle.broker_tables.proofs.QueryLemmas.{stays_held, place_seq, place_ok}
 use Rattle.broker_core.specs.State.{latest}
 use Rattle.broker_core.specs.declared.command.Version.{Version}
 use Rattle.broker_tables.specs.Numbers.{number_of}
@@ -19,8 +19,8 @@ returns-in-Ok-is_checked-clause-answers g c =
     _ (λ both. both)
     (place_seq old mid new (Some found) (Ok c.in-Ok-is_checked.value) _ _ _ (λ one checked two s held.
     let first = one s held in
-    let second = two s first.1 in
-    (λ v is. marked_latest s c.args.content v found.number found.pass checked (first.0 v is) second.0, second.1))
+    let second = two s (stays_held old mid s first.1 held) in
+    (λ v is. marked_latest s c.args.content v found.number found.pass checked (first.0 v is) second.0, second.1 ∙ first.1))
     (rw c.in-Some.is at c.in-Ok.ensures.answers) c.in-Ok-is_checked.ensures)
 
 pub returns-in-Ok-is_checked-clause-unknown : goal.returns-in-Ok-is_checked-clause-unknown

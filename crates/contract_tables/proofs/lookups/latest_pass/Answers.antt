@@ -2,7 +2,7 @@ use Rattle.table_access.proofs.Answered.{first_has}
 use Rattle.std.proofs.lemmas.Result.{IfOk-weaker, IfErr-weaker}
 use Rattle.sqlite.specs.Held.{state}
 use Rattle.broker_tables.proofs.QueryLemmas.{looked_result, looked_err}
-use Rattle.broker_tables.proofs.Asked.{reads, why_refused}
+use Rattle.broker_tables.proofs.Asked.{reads, still, why_refused}
 use Rattle.contract_tables.proofs.LatestPass.{join, join_found}
 use Rattle.contract_tables.proofs.ReadableRows.{join_reads}
 use Rattle.broker_tables.proofs.NoVersion.{no_answer}
@@ -16,8 +16,8 @@ returns-clause-answers g c =
     let new = state g.S.Store c.select.new.conn in
     let it = reads (join c.args.content c.args.provider_version) old new in
     looked_result old new c.in-Ok.value c.first_pass.result _ _
-    (IfOk-weaker c.first_pass.result _ _ (λ found read shown s held. let was = it s held _ shown in
-    (λ v is. join_found (λ r. r.number) (λ r. r.pass) c.args.content c.args.provider_version _ c.in-Ok.value.items found s v held is was.0 read, was.1)) (rw c.deref.ensures.value at c.first_pass.ensures.ok))
+    (IfOk-weaker c.first_pass.result _ _ (λ found read shown s held.
+    (λ v is. join_found (λ r. r.number) (λ r. r.pass) c.args.content c.args.provider_version _ c.in-Ok.value.items found s v held is (it s held _ shown).0 read, still (join c.args.content c.args.provider_version) old new held.broker _ shown)) (rw c.deref.ensures.value at c.first_pass.ensures.ok))
     (IfErr-weaker c.first_pass.result _ _ (λ fault why. why.0) c.first_pass.ensures.cause)
     (λ s here shown. IfErr-weaker c.first_pass.result _ _ (λ fault why. why.3 (join_reads c.args.content c.args.provider_version _ s here.held here.readable _ (it s here.held _ shown).0 why.1 (first_has _ why.1 why.2))) (rw c.deref.ensures.value at c.first_pass.ensures.cause))
     (rw (c.params-to_sql.ensures, c.params-to_sql-2.ensures) at c.in-Ok.ensures.leaves)

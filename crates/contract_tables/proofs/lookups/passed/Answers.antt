@@ -3,7 +3,7 @@ use Rattle.std.specs.Prelude.{option_map}
 use Rattle.std.proofs.lemmas.Result.{IfOk-weaker, IfErr-weaker}
 use Rattle.sqlite.specs.Held.{state}
 use Rattle.sqlite.specs.declared.types.Value.TheVariants.{Int}
-use Rattle.broker_tables.proofs.Asked.{reads, why_number}
+use Rattle.broker_tables.proofs.Asked.{reads, still, why_number}
 use Rattle.broker_tables.proofs.QueryLemmas.{looked_result, looked_err}
 use Rattle.broker_tables.proofs.TruthLemmas.{mark_in_column}
 use Rattle.contract_tables.proofs.ResultLookups.{pass, pass_found}
@@ -16,7 +16,7 @@ returns-clause-answers g c =
     let new = state g.S.Store c.number_of.new.conn in
     let it = reads (pass c.args.number) old new in
     looked_result old new c.in-Ok.value c.truth_of.result _ _
-    (IfOk-weaker c.truth_of.result _ _ (λ truth is h s held. let was = it s held h.0 h.1 in (is ∙ pass_found c.args.number _ h.0 s c.in-Ok.value held was.0 h.2, was.1)) c.truth_of.ensures.ok)
+    (IfOk-weaker c.truth_of.result _ _ (λ truth is h s held. (is ∙ pass_found c.args.number _ h.0 s c.in-Ok.value held (it s held h.0 h.1).0 h.2, still (pass c.args.number) old new held.broker h.0 h.1)) c.truth_of.ensures.ok)
     (IfErr-weaker c.truth_of.result _ _ (λ fault why. why.0) c.truth_of.ensures.cause)
     (λ s here h. IfErr-weaker c.truth_of.result _ _ (λ fault why. pass_true c.args.number _ h.0 s c.in-Ok.value here.held here.readable (it s here.held h.0 h.1).0 h.2 why.1) c.truth_of.ensures.cause)
     (rw c.params-to_sql.ensures at c.in-Ok.ensures.leaves)

@@ -1,7 +1,7 @@
-use Rattle.std.proofs.Common.{◌≡◌, Ok, Some}
+use Rattle.std.proofs.Common.{◌≡◌, ◌∙◌, Ok, Some}
 use Rattle.std.specs.Prelude.{option_map}
 use Rattle.sqlite.specs.Held.{state}
-use Rattle.broker_tables.proofs.QueryLemmas.{place_seq, place_ok}
+use Rattle.broker_tables.proofs.QueryLemmas.{stays_held, place_seq, place_ok}
 use Rattle.broker_core.specs.Change.{result_of_run}
 use Rattle.contract_tables.specs.Verified.{told, told_of}
 use Rattle.contract_tables.proofs.RunLookup.{run_checked}
@@ -18,6 +18,6 @@ returns-in-Ok-is_checked g c =
     _ (λ both. both)
     (place_seq old mid new (Some stored) (Ok c.in-Ok-is_checked.value) _ _ _ (λ one checked two s held.
     let first = one s held in
-    let second = two s first.1 in
-    (run_checked s c.args.provider.now c.args.run.now stored.number stored.content stored.provider_version stored.pass checked first.0 second.0, second.1))
+    let second = two s (stays_held old mid s first.1 held) in
+    (run_checked s c.args.provider.now c.args.run.now stored.number stored.content stored.provider_version stored.pass checked first.0 second.0, second.1 ∙ first.1))
     (rw c.in-Some.is at c.in-Ok.ensures) c.in-Ok-is_checked.ensures)

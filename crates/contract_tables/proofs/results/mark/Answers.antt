@@ -4,13 +4,13 @@ use Rattle.table_access.proofs.CallLemmas.{statement_with, idle, memory_ok}
 use Rattle.contract_tables.proofs.ResultState.{is_marked, not_marked}
 use Rattle.contract_tables.proofs.results.mark.Goals as goal
 
-pub returns-then-checked : goal.returns-then-checked
-returns-then-checked g c =
+pub returns-then-checked-clause-marks : goal.returns-then-checked-clause-marks
+returns-then-checked-clause-marks g c =
     let old = state g.S.Store c.args.conn.now in
     let new = state g.S.Store c.mark_checked.new.conn in
-    statement_with old new c.mark_checked.result _ _ (λ _ put broker. is_marked c.args.checked c.args.number old new c.if-checked.true (put broker)) c.mark_checked.ensures
+    statement_with old new c.mark_checked.result _ _ (λ _ put broker. is_marked c.args.checked c.args.number old new c.if-checked.true (put broker)) c.mark_checked.ensures.puts
 
-pub returns-else-checked : goal.returns-else-checked
-returns-else-checked g c =
+pub returns-else-checked-clause-marks : goal.returns-else-checked-clause-marks
+returns-else-checked-clause-marks g c =
     let conn = state g.S.Store c.args.conn.now in
     record { call = idle conn (Ok _) _ (λ broker. not_marked c.args.checked c.args.number conn c.if-checked.false); memory = memory_ok conn conn _ }

@@ -9,7 +9,7 @@ use Rattle.broker_core.specs.Listing.{Lists}
 use Rattle.broker_core.specs.State.{latest_result}
 use Rattle.broker_tables.specs.Numbers.{number_of}
 use Rattle.contract_tables.specs.VersionResults.{pass_cmp, marked}
-use Rattle.broker_tables.proofs.QueryLemmas.{query_stop, query_failed}
+use Rattle.broker_tables.proofs.QueryLemmas.{stays_held, query_stop, query_failed}
 use Rattle.contract_tables.proofs.QueryLemmas.{calm_then, calm_computed}
 use Rattle.contract_tables.proofs.VersionResults.{latest_listed}
 use Rattle.contract_tables.proofs.version_results.latest_results.Goals as goal
@@ -42,7 +42,7 @@ unfolding IsStrictlySortedBy
 returns-in-Ok-with_marks-clause-unknown g c clean s held none =
     let mid_clean : HasCleanDisk (state g.S.Store c.passes_of.new.conn) = omega (arith, c.in-Ok-checked_of.ensures.answers.call.survives.clean, clean) in
     let passes : c.in-Ok.value.items ≡ [] = c.in-Ok.ensures.unknown mid_clean s held none in
-    let kept = (c.in-Ok.ensures.answers.call.ok mid_clean s held).1 in
+    let kept = stays_held (state g.S.Store c.args.conn.now) (state g.S.Store c.passes_of.new.conn) s (c.in-Ok.ensures.answers.call.ok mid_clean s held).1 held in
     let checked : c.in-Ok-checked_of.value.items ≡ [] = c.in-Ok-checked_of.ensures.unknown clean s kept none in
     (rw (c.deref.ensures.value, c.deref-2.ensures.value, checked) at c.in-Ok-with_marks.ensures) tt ∙ ap (map (marked [])) passes
 

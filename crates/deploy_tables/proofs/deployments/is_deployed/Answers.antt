@@ -1,7 +1,7 @@
 use Rattle.std.proofs.Common.{◌∙◌}
 use Rattle.sqlite.specs.Held.{state}
 use Rattle.table_access.proofs.ReadLemmas.{number_found as found_number}
-use Rattle.broker_tables.proofs.Asked.{reads, why_number}
+use Rattle.broker_tables.proofs.Asked.{is_answer, still, why_number}
 use Rattle.broker_tables.proofs.QueryLemmas.{looked_ok, looked_err}
 use Rattle.deploy_tables.proofs.DeployedRows.{number_at, number_found}
 use Rattle.deploy_tables.proofs.DeployedState.{is_there, none_there}
@@ -18,13 +18,13 @@ returns g c =
     let n = c.args.number in
     let found = c.in-Ok.value in
     looked_ok old new found c.is_number.result _ _ (λ h s held.
-    let it = reads (number_at e p i) old new s held h.0 h.1 in
-    let there = found_number found h.0 h.2 ∙ number_found e p i old.now h.0 held.broker it.0 in (
+    let asked = number_at e p i in
+    let there = found_number found h.0 h.2 ∙ number_found e p i old.now h.0 held.broker (is_answer asked old new held.broker h.0 h.1) in (
       (
         λ v numbered owner. c.is_number.ensures ∙ is_there s.versions p _ (s.deployed (e, p, i)) found (held.deployed e p i) there v n numbered owner,
         λ none. c.is_number.ensures ∙ none_there s.versions p _ (s.deployed (e, p, i)) found (held.deployed e p i) there n (λ v is owner. none (v, is, owner)),
       ),
-      it.1,
+      still asked old new held.broker h.0 h.1,
     )) (rw (c.params-to_sql.ensures, c.params-to_sql-2.ensures, c.params-to_sql-3.ensures) at c.in-Ok.ensures.leaves)
 
 pub returns-in-Err : goal.returns-in-Err

@@ -5,6 +5,7 @@ use Rattle.std.specs.Ordering.{nat_cmp}
 use Rattle.sqlite.specs.Held.{state}
 use Rattle.sqlite.specs.State.{HasCleanDisk}
 use Rattle.table_access.specs.Reading.{AreRead}
+use Rattle.broker_tables.proofs.QueryLemmas.{stays_held}
 use Rattle.contract_tables.proofs.QueryLemmas.{query_then, computed}
 use Rattle.deploy_tables.specs.ToldResults.{TellPasses, TellChecked, ArePassesByNumber, IsMeant, IsRowTold}
 use Rattle.broker_tables.proofs.FailLemmas.{failed_after}
@@ -33,7 +34,7 @@ returns-clause-calm g c clean s here may =
     let mid_clean : HasCleanDisk (state g.S.Store c.passes_told.new.conn) = omega (arith, c.in-Ok-checked_told.ensures.call.survives.clean, clean) in
     let passes = c.in-Ok.value in
     let one = c.in-Ok.ensures.call.ok mid_clean s here.held in
-    let two = c.in-Ok-checked_told.ensures.call.ok clean s one.1 in
+    let two = c.in-Ok-checked_told.ensures.call.ok clean s (stays_held (state g.S.Store c.args.conn.now) (state g.S.Store c.passes_told.new.conn) s one.1 here.held) in
     IfErr-weaker c.rows_of.result _ _ (λ fault why. elim why [
       | inl room ↦ inr room
       | inr untold ↦ absurd (none_untold s may.0 c.args.number may.1.0 c.args.contracts.now may.1.1 passes.items c.in-Ok-checked_told.value.items one.0.1 two.0.1 c.args.entries.now may.1.2 untold.1)
