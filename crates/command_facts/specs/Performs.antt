@@ -1,7 +1,7 @@
 -- what a command does to the tables, inside its transaction
-use Rattle.std.specs.Prelude.{◌⊎◌, Result, Option, IfErr}
+use Rattle.std.specs.Prelude.{◌⊎◌, ⊤, Result, Option}
 use Rattle.sqlite.specs.Held.{Held, state}
-use Rattle.sqlite.specs.State.{State, HasCleanDisk}
+use Rattle.sqlite.specs.State.{State}
 use Rattle.sqlite_trees.specs.declared.store.Store.{Ghosts}
 use Rattle.table_access.specs.declared.StoreFault.{StoreFault}
 use Rattle.table_access.specs.Calls.{CallsTablesBetween}
@@ -15,8 +15,9 @@ use Rattle.broker_core.specs.declared.command.Command.{Command}
 use Rattle.broker_core.specs.declared.policy.Caller.{Caller}
 use Rattle.broker_core.specs.Machine.{StepOfCaller, Step}
 use Rattle.broker_core.specs.Text.{Text}
-use Rattle.broker_tables.specs.Calm.{Serves, HasFailedOrMemory, FailsFromBetween}
-use Rattle.broker_tables.specs.Holds.{Holds}
+use Rattle.broker_tables.specs.Calm.{FailsFromBetween}
+use Rattle.broker_tables.specs.Holds.{Holds, HoldsAfter}
+use Rattle.broker_tables.specs.Room.{enough}
 use Rattle.command_facts.specs.Primitives.{broker_primitives}
 use Rattle.command_facts.specs.Patterns.{RefusesPattern, ComparesPattern, AsksPattern}
 
@@ -42,24 +43,23 @@ TokensStep token command s out =
 abbrev pub PerformsBetween : State → State → (Broker → Transition → Type 0) → Result Answer StoreFault → Type 0
 PerformsBetween old new P r =
     CallsTablesBetween old new r (λ answer. (s : Broker) → Holds old.now s → (t : Broker)
-    × P s (record { answer = answer; state = t }) × Holds new.now t)
+    × P s (record { answer = answer; state = t }) × HoldsAfter enough old new t)
 
 -- the same where the state that the database held allows it
 abbrev pub PerformsWhereBetween : State → State → (Broker → Type 0) → (Broker → Transition → Type 0)
     → Result Answer StoreFault → Type 0
 PerformsWhereBetween old new Allows P r =
     CallsTablesBetween old new r (λ answer. (s : Broker) → Holds old.now s → Allows s → (t : Broker)
-    × P s (record { answer = answer; state = t }) × Holds new.now t)
+    × P s (record { answer = answer; state = t }) × HoldsAfter enough old new t)
 
 -- a step of the command from this state changes something
 abbrev pub IsToChange : (Broker → Transition → Type 0) → Broker → Type 0
 IsToChange P s = (detail : Detail) × (t : Broker) × P s (record { answer = Done detail; state = t })
 
 -- Why a call fails, in a transaction that shows a state which can be read back: as the store failed, or since a growth
--- was refused. Only at such states it may fail for another cause.
+-- was refused; or, only at such states, since a change of its own was refused.
 abbrev pub FailsOnlyAtBetween : {A : Type 0} → State → State → (Broker → Type 0) → Result A StoreFault → Type 0
-FailsOnlyAtBetween old new At r = HasCleanDisk new → (s : Broker) → Serves old s
-    → IfErr r (λ fault. HasFailedOrMemory old new fault ⊎ At s)
+FailsOnlyAtBetween old new At r = FailsFromBetween old new r (λ _. ⊤) At
 
 -- why a command fails: only of one that was to change something the change may be refused
 abbrev pub FailsToChangeBetween : State → State → (Broker → Transition → Type 0) → Result Answer StoreFault → Type 0

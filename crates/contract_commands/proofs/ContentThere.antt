@@ -1,10 +1,10 @@
 -- The content of each contract has a text, as the table of contracts REFERENCES that of contents.
-use Rattle.std.proofs.Common.{◌≡◌, ◌==◌, ◌+◌, ◌-◌, ◌<◌, ◌≤◌, inl, inr, ℕ, ℤ, pos, List, [], ◌∷◌, map, length, false, cond, get_or, slice_get, Option, Some, None, refl, sym, ap, ◌∙◌, arith}
+use Rattle.std.proofs.Common.{◌≡◌, ◌==◌, ◌+◌, ◌-◌, ◌<◌, ◌≤◌, inl, inr, ℕ, zero, suc, ℤ, pos, List, [], ◌∷◌, map, length, false, cond, get_or, slice_get, Option, Some, None, refl, sym, ap, ◌∙◌, arith}
 use Rattle.std.specs.Prelude.{option_and_then, option_map, Result, Ok, Err}
 use Rattle.std.specs.List.{enumerate_from}
 use Rattle.std.proofs.lemmas.Bool.Decides.{nat_tests}
 use Rattle.std.proofs.lemmas.List.{length-map}
-use Rattle.std.proofs.lemmas.Option.{slice_get-get_or}
+use Rattle.std.proofs.lemmas.Option.{slice_get-get_or, slice_get_within}
 use Rattle.sqlite.specs.Order.{Row}
 use Rattle.sqlite.specs.Effect.{Database}
 use Rattle.sqlite_rules.specs.Lists.{Has}
@@ -13,6 +13,7 @@ use Rattle.table_access.proofs.Maps.{find_has}
 use Rattle.table_access.proofs.SoundLemmas.{has_place}
 use Rattle.broker_core.specs.Text.{Text}
 use Rattle.broker_core.specs.State.{State}
+use Rattle.broker_core.specs.Change.{text_of}
 use Rattle.broker_core.specs.Request.{consumer_version}
 use Rattle.broker_core.specs.declared.answer.Answer.{Answer}
 use Rattle.broker_core.specs.declared.command.PactPath.{PactPath}
@@ -51,11 +52,19 @@ within {X} f (y ∷ rows) (x ∷ xs) m n is r (inr more) at =
 not_zero : (n : ℕ) → 1 ≤ n → (n == 0) ≡ false
 not_zero n low = grind (arith, nat_tests)
 
+text_at : (s : State) (n : ℕ) → 1 ≤ n → text_of s n ≡ slice_get s.contents (n - 1)
+text_at s n low = ap (λ b. cond b None (slice_get s.contents (n - 1))) (not_zero n low)
+
 -- a number from 1 to the count is that of a text
 text_there : (s : State) (n : ℕ) → 1 ≤ n → n ≤ length s.contents → HasContent s n
 text_there s n low high =
     let place : n - 1 < length s.contents = omega (arith, low, high) in
-    (get_or s.contents (n - 1) [], ap (λ b. cond b None (slice_get s.contents (n - 1))) (not_zero n low) ∙ slice_get-get_or s.contents (n - 1) [] place)
+    (get_or s.contents (n - 1) [], text_at s n low ∙ slice_get-get_or s.contents (n - 1) [] place)
+
+-- and only such a number is one
+pub number_there : (s : State) (n : ℕ) → HasContent s n → (1 ≤ n) × (n ≤ length s.contents)
+number_there s zero has = absurd cc
+number_there s (suc n) has = let within = slice_get_within s.contents (suc n - 1) has.0 (sym (text_at s (suc n) (omega arith)) ∙ has.1) in (omega arith, omega (arith, within))
 
 module _ (db : Database) (s : State) (held : Holds db s) where
   contract_row : (v : Version) (p : Text) (n : ℕ) → s.contracts (v, p) ≡ Some n → (r : Row) × Has (db.trees 15) r × (whole_at 3 r ≡ pos n)

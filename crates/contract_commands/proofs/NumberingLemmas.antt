@@ -1,25 +1,17 @@
 -- The numbers that versions and results have or get.
-use Rattle.std.proofs.Common.{◌≡◌, ◌+◌, ◌<◌, ◌≤◌, ◌||◌, ℕ, List, length, true, false, true≢false, is_some, IsTrue, Bool, Option, Some, None, ◌∷◌, [], ◌++◌, refl, sym, ap, ◌∙◌, subst, arith, Ok}
+use Rattle.std.proofs.Common.{◌≡◌, ◌+◌, ◌<◌, ◌≤◌, ◌||◌, ℕ, List, length, true, false, true≢false, is_some, IsTrue, Bool, Option, Some, None, ◌∷◌, [], ◌++◌, refl, sym, ap, ◌∙◌, subst, arith}
 use Rattle.std.specs.Prelude.{IfSome, IfNone, if◌then◌else◌}
-use Rattle.sqlite.specs.State.{State as Connection}
-use Rattle.table_access.proofs.CallLemmas.{idle, memory_ok}
 use Rattle.broker_core.specs.Limit.{HasRoom, has_room}
 use Rattle.broker_core.specs.Change.{can_name}
 use Rattle.broker_core.specs.Request.{is_known}
 use Rattle.broker_core.specs.State.{State}
 use Rattle.broker_core.specs.declared.command.Version.{Version}
-use Rattle.broker_tables.specs.Holds.{ChangesAndAnswersBetween}
 use Rattle.broker_tables.specs.Numbers.{number_of}
 use Rattle.registry_tables.specs.Registry.{AddsVersion, AllowsVersionAs}
 use Rattle.content_store.proofs.TextNumbers.{room_is}
 use Rattle.contract_commands.specs.Numbering.{IsNextNumber, IsNextOf, IsNumberFor, CanName, NamesAs}
 use Rattle.contract_commands.specs.declared.numbers.VersionNumber.{VersionNumber}
 use Rattle.contract_commands.specs.declared.numbers.VersionNumber.TheVariants.{Old, New}
-
--- ---- calls that ask nothing
-
-pub stays_with : {A : Type 0} (c : Connection) (a : A) (Allows : State → Type 0) (Next : A → State → State → Type 0) → ((s : State) → Allows s → Next a s s) → ChangesAndAnswersBetween c c (Ok a) Allows Next
-stays_with c a Allows Next f = record { call = idle c (Ok a) _ (λ s held allowed. (s, f s allowed, held)); memory = memory_ok c c a }
 
 -- ---- the next number
 

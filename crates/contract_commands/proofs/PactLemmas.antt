@@ -32,7 +32,7 @@ use Rattle.content_store.proofs.TextNumbers.{same_itself, none_before}
 use Rattle.contract_tables.specs.Verified.{AddsContract}
 use Rattle.pact_reading.specs.declared.reading.ReadFault.TheVariants.{Form}
 use Rattle.command_facts.specs.Owners.{owners_of}
-use Rattle.broker_tables.specs.Numbers.{number_of}
+use Rattle.contract_commands.specs.Numbering.{NamesAs}
 use Rattle.contract_commands.specs.Pacts.{AreSidesRead, missing_side, missing_part, Admits, IsPlaceRead, CanPublish, CanRecord, contracted, Publishes, AsksContract, Reaches, ShowsReached}
 use Rattle.contract_commands.specs.declared.numbers.VersionNumber.{VersionNumber}
 use Rattle.contract_commands.specs.declared.sides.ContractPlace.{ContractPlace}
@@ -106,6 +106,9 @@ pub put_first : (s : State) (v : Version) (provider text : Text) (b : Bool) → 
 put_first s v provider text b none is =
     sym (ap (λ (q : Option ℕ). option_map_or (λ n. unchanged_with s (republished s text n)) q (first_put s v provider text)) none
     ∙ ap (λ t. cond t (record { answer = Done (Content (content_number s text)); state = published s v provider text }) (unchanged_with s Full)) is)
+
+pub put_again : (s : State) (v : Version) (provider text : Text) (content : ℕ) (answer : Answer) → s.contracts (v, provider) ≡ Some content → answer ≡ republished s text content → unchanged_with s answer ≡ put_pact s v provider text
+put_again s v provider text content answer is told = ap (unchanged_with s) told ∙ sym (ap (λ (q : Option ℕ). option_map_or (λ n. unchanged_with s (republished s text n)) q (first_put s v provider text)) is)
 
 -- the number of a text that is stored is one of those that there are
 position_below : (texts : List Text) (body : Text) → is_among texts body ≡ true → position_or_len (same_text body) texts + 1 ≤ length texts
@@ -246,17 +249,17 @@ module _ (s : State) (text : Text) where
         let contracts_are : (named (stored s text) v).contracts ≡ s.contracts = named_contracts (stored s text) v ∙ contracts_stay (is_stored s text) in
         λ i. record (commutes i) { contracts = put_at (same_pair same_version same_text) (contracts_are i) (v, provider) (Some (is i)) }
 
--- the contract of a version that is named is added
-pub adds_contract : (s : State) (path : PactPath) (version : VersionNumber) (number content : ℕ) → CanRecord path version content s → number_of (named s (consumer_version path)).versions (consumer_version path) ≡ Some number
-    → AddsContract number path.provider content (named s (consumer_version path)) (contracted (named s (consumer_version path)) (consumer_version path) path.provider content)
-adds_contract s path version number content can numbered =
+-- where its version was named, a contract is added
+pub adds_contract : (s t : State) (path : PactPath) (provider : Text) (version : VersionNumber) (number content : ℕ) → provider ≡ path.provider → CanRecord path version content s → NamesAs (consumer_version path) number s t
+    → AddsContract number provider content t (contracted t (consumer_version path) provider content)
+adds_contract s t path provider version number content is can names =
     let v = consumer_version path in (
       v,
-      numbered,
-      ap (λ contracts. contracts (v, path.provider)) (named_contracts s v) ∙ can.0.1,
-      ap (λ table. is_some (table path.provider)) (named_pacticipants s v) ∙ can.0.2.0,
+      names.1,
+      (λ i. (names.0 i).contracts (v, is i)) ∙ ap (λ contracts. contracts (v, path.provider)) (named_contracts s v) ∙ can.0.1,
+      (λ i. is_some ((names.0 i).pacticipants (is i))) ∙ ap (λ table. is_some (table path.provider)) (named_pacticipants s v) ∙ can.0.2.0,
       can.1,
-      subst (λ (texts : List Text). content ≤ length texts) (sym (named_contents s v)) can.2,
+      subst (λ (texts : List Text). content ≤ length texts) (sym (ap (λ (u : State). u.contents) names.0 ∙ named_contents s v)) can.2,
       refl,
     )
 

@@ -1,7 +1,16 @@
 -- What the commands on results lead to, from what was read.
-use Rattle.std.proofs.Common.{◌≡◌, ℕ, ◌+◌, ◌==◌, List, [], ◌∷◌, ◌++◌, length, Bool, true, false, ◌&&◌, is_some, Option, Some, None, refl, sym, ap, ◌∙◌}
+use Rattle.std.proofs.Common.{◌≡◌, ℕ, ◌+◌, ◌==◌, List, [], ◌∷◌, ◌++◌, length, Bool, true, false, ◌&&◌, is_some, Option, Some, None, refl, sym, ap, subst, ◌∙◌, ◌≤◌, Ok, Result, arith}
 use Rattle.std.specs.Prelude.{option_map, if◌then◌else◌}
 use Rattle.std.specs.Option.{option_map_or}
+use Rattle.sqlite.specs.State.{State as Connection}
+use Rattle.table_access.specs.declared.StoreFault.{StoreFault}
+use Rattle.table_access.proofs.CallLemmas.{then_ok, statement_ok, statement_seq}
+use Rattle.broker_tables.specs.Calm.{CalmQueriesInPlaceBetween}
+use Rattle.broker_tables.specs.Holds.{AnswersTakingBetween}
+use Rattle.broker_tables.specs.Room.{TakesRoom, enough}
+use Rattle.broker_tables.proofs.QueryLemmas.{stays_held, in_store}
+use Rattle.broker_tables.proofs.RoomLemmas.{takes_none, takes_more}
+use Rattle.command_facts.specs.Performs.{PerformsWhereBetween}
 use Rattle.broker_core.specs.Text.{Text, same_bool, same_version, version}
 use Rattle.broker_core.specs.State.{State, Verification}
 use Rattle.broker_core.specs.Limit.{has_room}
@@ -24,12 +33,16 @@ use Rattle.broker_tables.specs.Numbers.{number_of}
 use Rattle.broker_core.proofs.Judgement.{version_is}
 use Rattle.broker_tables.proofs.NumberLemmas.{number_ties}
 use Rattle.broker_tables.proofs.Ties.{nat_ties}
-use Rattle.contract_tables.specs.Verified.{Told, told_of, RecordsResult}
+use Rattle.contract_tables.specs.Verified.{Told, told_of, result_for, RecordsResult, AllowsResult}
 use Rattle.contract_tables.specs.declared.lookups.ResultRow.{ResultRow}
+use Rattle.contract_commands.specs.Numbering.{NamesAs}
 use Rattle.contract_commands.specs.Pacts.{AsksContract}
-use Rattle.contract_commands.specs.Results.{HasPacticipant, reported_version, reported_result, Reports, told_row, IsRowOf, IsNumbered, recorded}
+use Rattle.contract_commands.specs.Results.{HasPacticipant, reported_version, reported_result, Reports, told_row, IsRowOf, IsNumbered, AllowsReport, recorded}
 use Rattle.contract_commands.specs.declared.results.Finding.{Finding}
 use Rattle.contract_commands.specs.declared.results.Reported.TheVariants.{Recorded, Known, RunTaken, Full}
+use Rattle.contract_commands.specs.declared.numbers.VersionNumber.{VersionNumber}
+use Rattle.contract_commands.proofs.ContentThere.{number_there}
+use Rattle.contract_commands.proofs.PactLemmas.{named_contents}
 
 -- ---- the two commands ask for the contract of their path
 
@@ -145,23 +158,63 @@ module _ (s : State) (provider : Text) (r : Report) (found : Finding) (row : Res
 
 -- ---- a result that is recorded
 
-results_by : (s : State) (v : Version) (b : Bool) → (if b then s else record s { versions = s.versions ++ v ∷ [] }).results ≡ s.results
-results_by s v true = refl
-results_by s v false = refl
+module _ (s : State) (v : Version) where
+  abbrev named_by : Bool → State
+  named_by b = if b then s else record s { versions = s.versions ++ v ∷ [] }
 
-named_results : (s : State) (v : Version) → (named s v).results ≡ s.results
-named_results s v = results_by s v (is_known s v)
+  results_by : (b : Bool) → (named_by b).results ≡ s.results
+  results_by true = refl
+  results_by false = refl
 
-pub records : (s : State) (provider : Text) (r : Report) (found : Finding) (number version : ℕ) → number ≡ length s.results + 1 → number_of (named s (reported_version provider r)).versions (reported_version provider r) ≡ Some version
-    → RecordsResult number found.content provider version found.pass found.checked r.run (named s (reported_version provider r)) (recorded s (reported_result provider r found))
-records s provider r found number version is numbered =
-    let v = reported_version provider r in (
-      v,
-      numbered,
-      refl,
-      is ∙ ap (λ (rows : List Verification). length rows + 1) (sym (named_results s v)),
-      λ i. record (named s v) { results = sym (named_results s v) i ++ reported_result provider r found ∷ [] },
-    )
+module _ (s t : State) (provider : Text) (r : Report) (found : Finding) (p : Text) (run : Option Text) (next number : ℕ) (of : p ≡ provider) (by : run ≡ r.run) (names : NamesAs (reported_version provider r) number s t) where
+  results_stay : t.results ≡ s.results
+  results_stay = ap (λ (u : State). u.results) names.0 ∙ results_by s (reported_version provider r) (is_known s (reported_version provider r))
+
+  is_next : next ≡ length s.results + 1 → next ≡ length t.results + 1
+  is_next is = is ∙ ap (λ (rows : List Verification). length rows + 1) (sym results_stay)
+
+  -- it stands last, where its version was named
+  pub records : next ≡ length s.results + 1 → RecordsResult next found.content p number found.pass found.checked run t (record t { results = t.results ++ result_for found.content (reported_version provider r) found.pass found.checked run ∷ [] })
+  records is = (reported_version provider r, names.1, sym of, is_next is, refl)
+
+  pub now_recorded : record t { results = t.results ++ result_for found.content (reported_version provider r) found.pass found.checked run ∷ [] } ≡ recorded s (reported_result provider r found)
+  now_recorded = λ i. record (names.0 i) { results = results_stay i ++ result_for found.content (reported_version provider r) found.pass found.checked (by i) ∷ [] }
+
+  -- and may, where its run is new and its content is there
+  pub allows : (version : VersionNumber) → AllowsReport provider r found version next s → AllowsResult next found.content p number run t
+  allows version can =
+      let there = number_there s found.content can.2 in (
+        reported_version provider r,
+        names.1,
+        sym of,
+        is_next can.1,
+        there.0,
+        subst (λ (texts : List Text). found.content ≤ length texts) (sym (ap (λ (u : State). u.contents) names.0 ∙ named_contents s (reported_version provider r))) there.1,
+        (λ i. result_of_run (record t { results = results_stay i }) (of i) (by i)) ∙ can.0.1,
+      )
+
+-- ---- calls that a report makes
+
+-- what was read is told, and nothing changes
+pub told_read : {A B : Type 0} (old new : Connection) (a : A) (b : B) (P : A → State → Type 0) (Allows : State → Type 0) (Next : B → State → State → Type 0) → ((s : State) → Allows s → P a s → Next b s s) → CalmQueriesInPlaceBetween old new (Ok a) P → AnswersTakingBetween 4 old new (Ok b) Allows Next
+told_read old new a b P Allows Next f it =
+    statement_ok old new a b _ _ (λ read s held may. let first = read s held in (s, f s may first.0, (stays_held old new s first.1 held, takes_none 4 old.now new.now first.1))) (in_store old new (Ok a) P it)
+
+-- what was read allows changes
+pub then_taken : {A B : Type 0} (old mid new : Connection) (a : A) (r : Result B StoreFault) (P : A → State → Type 0) (Allows Then : State → Type 0) (Next Last : B → State → State → Type 0)
+    → ((s : State) → Allows s → P a s → Then s × ((b : B) (t : State) → Next b s t → Last b s t)) → CalmQueriesInPlaceBetween old mid (Ok a) P → AnswersTakingBetween 4 mid new r Then Next → AnswersTakingBetween 4 old new r Allows Last
+then_taken old mid new a r P Allows Then Next Last f one two =
+    statement_seq old mid new a r _ _ _ (λ read b puts s held may.
+    let first = read s held in
+    let go = f s may first.0 in
+    let made = puts s (stays_held old mid s first.1 held) go.0 in
+    (made.0, go.1 b made.0 made.1, (made.2.0, subst (λ d. TakesRoom 4 d new.now) first.1 made.2.1))) (in_store old mid (Ok a) P one) two
+
+-- what came in is answered
+pub answers_report : {B : Type 0} (old new : Connection) (it : B) (answer : Answer) (Allows : State → Type 0) (Next : B → State → State → Type 0) (Q : State → Transition → Type 0)
+    → ((s t : State) → Next it s t → Q s (record { answer = answer; state = t })) → AnswersTakingBetween 4 old new (Ok it) Allows Next → PerformsWhereBetween old new Allows Q (Ok answer)
+answers_report old new it answer Allows Next Q f call =
+    then_ok old new it answer _ _ (λ h s held may. let next = h s held may in (next.0, f s next.0 next.1, (next.2.0, takes_more 4 enough (omega arith) old.now new.now next.2.1))) call.call
 
 -- ---- the version that a report is of
 

@@ -13,7 +13,7 @@ use Rattle.pact_reading.specs.Readings.{Tells}
 use Rattle.pact_reading.specs.declared.checking.Comparison.{Comparison}
 use Rattle.pact_reading.specs.declared.checking.Comparison.TheVariants.{Failing, UnknownReply, Pattern, NoPact}
 use Rattle.command_facts.specs.Patterns.{RefusesPattern}
-use Rattle.contract_commands.specs.Results.{HasPacticipant, reported_version}
+use Rattle.contract_commands.specs.Results.{HasPacticipant, CanReceive, reported_version}
 
 -- the result comes in, or the replies are at fault, or a pattern was refused
 abbrev pub Leads : State → Text → Report → ℕ → Comparison → Transition → Type 0
@@ -30,9 +30,9 @@ Checks s provider r content replies out =
     (text : Text) × (text_of s content ≡ Some text)
     × ((told : Comparison) × Tells text replies told × Leads s provider r content told out)
 
--- the provider is there, and a pact was read
-abbrev pub CanLead : Text → Comparison → State → Type 0
-CanLead provider told s = HasPacticipant s provider × (¬ (told ≡ NoPact))
+-- the provider and the content are there, and a pact was read
+abbrev pub CanLead : Text → ℕ → Comparison → State → Type 0
+CanLead provider content told s = CanReceive provider content s × (¬ (told ≡ NoPact))
 
 -- the provider is there, and the content has a text that is read as a pact
 abbrev pub CanCheck : Text → ℕ → State → Type 0

@@ -16,6 +16,7 @@ use Rattle.broker_tables.specs.Numbers.{number_of}
 use Rattle.contract_tables.specs.Verified.{Told, told, told_of, result_for}
 use Rattle.contract_tables.specs.declared.lookups.ResultRow.{ResultRow}
 use Rattle.contract_commands.specs.Numbering.{CanName}
+use Rattle.contract_commands.specs.Pacts.{HasContent}
 use Rattle.contract_commands.specs.declared.numbers.VersionNumber.{VersionNumber}
 use Rattle.contract_commands.specs.declared.results.Finding.{Finding}
 use Rattle.contract_commands.specs.declared.results.Reported.{Reported}
@@ -24,6 +25,10 @@ use Rattle.contract_commands.specs.declared.results.Reported.TheVariants.{Record
 -- the pacticipant is there
 abbrev pub HasPacticipant : Broker → Text → Type 0
 HasPacticipant s p = IsTrue (is_some (s.pacticipants p))
+
+-- a result of the provider for the content may come in: both are there
+abbrev pub CanReceive : Text → ℕ → Broker → Type 0
+CanReceive provider content s = HasPacticipant s provider × HasContent s content
 
 -- the version that a report is of
 abbrev pub reported_version : Text → Report → Version
@@ -104,6 +109,11 @@ CanReport provider report version s =
 abbrev pub CanRecordReport : Text → Report → VersionNumber → ℕ → Broker → Type 0
 CanRecordReport provider report version next s =
     CanName s (reported_version provider report) version × (next ≡ length s.results + 1)
+
+-- nothing stands against it: the run is new and the content of what was found is there
+abbrev pub AllowsReport : Text → Report → Finding → VersionNumber → ℕ → Broker → Type 0
+AllowsReport provider report found version next s =
+    CanReport provider report version s × (next ≡ length s.results + 1) × HasContent s found.content
 
 -- what was found is the last result, and the version of its report is named
 abbrev pub RecordsReport : Text → Report → Finding → Broker → Broker → Type 0

@@ -1,8 +1,9 @@
 //! The numbers that versions and results have or get.
-ghost use Rattle.std.specs.Prelude.{Some};
+ghost use Rattle.std.specs.Prelude.{Some, []};
 ghost use Rattle.broker_core.specs.Text.{version as version_named};
 ghost use Rattle.broker_tables.specs.Holds.{ChangesAndAnswers};
 ghost use Rattle.broker_tables.specs.Calm.{CalmQueriesInPlace};
+ghost use Rattle.broker_tables.specs.Refusals.{IsCalmIf};
 ghost use Rattle.contract_commands.specs.Numbering.{IsNextNumber, IsNextOf, IsNumberFor, CanName, NamesAs};
 
 use broker_core::limit::room;
@@ -73,9 +74,11 @@ pub(crate) fn name_version<S: Alter>(
     name: &Name,
     number: VersionNumber,
 ) -> Result<u32, StoreFault>
-    ensures { ChangesAndAnswers S.Store conn.old conn.new result
+    ensures answers { ChangesAndAnswers S.Store conn.old conn.new result
         (λ s. CanName s (version_named pacticipant.now name.now) number)
         (NamesAs (version_named pacticipant.now name.now)) }
+    ensures calm { IsCalmIf S.Store conn.old conn.new result []
+        (λ s. CanName s (version_named pacticipant.now name.now) number) }
 {
     match number {
         VersionNumber::Old(number) => Ok(number),

@@ -7,8 +7,9 @@ ghost use Rattle.broker_core.specs.Machine.{FindsFault};
 ghost use Rattle.broker_core.specs.Machine.Reading.{IsPact};
 ghost use Rattle.broker_core.specs.declared.command.Command.TheVariants.{PutPact};
 ghost use Rattle.broker_core.specs.declared.command.FormFault.{FormFault as FormFaultModel};
-ghost use Rattle.broker_tables.specs.Holds.{Queries, ChangesAndAnswers};
+ghost use Rattle.broker_tables.specs.Holds.{Queries, ChangesAndAnswers, AnswersTaking};
 ghost use Rattle.broker_tables.specs.Calm.{IsCalmFrom};
+ghost use Rattle.broker_tables.specs.Refusals.{IsCalmTaking};
 ghost use Rattle.pact_reading.specs.declared.reading.ReadFault.TheVariants.{Form};
 ghost use Rattle.command_facts.specs.Primitives.{broker_primitives};
 ghost use Rattle.command_facts.specs.Performs.{Performs, PerformsWhere, FailsOnlyAt, FailsToChange, FailsToChangeFrom, IsStepOf};
@@ -93,8 +94,9 @@ fn record_contract<S: Alter>(
     version: VersionNumber,
     content: u32,
 ) -> Result<(), StoreFault>
-    ensures { ChangesAndAnswers S.Store conn.old conn.new result
+    ensures answers { AnswersTaking S.Store conn.old conn.new 4 result
         (CanRecord path.now version content) (λ _. RecordsContract path.now content) }
+    ensures calm { IsCalmTaking S.Store conn.old conn.new 3 result (CanRecord path.now version content) }
 {
     let number = done!(name_version(conn, &path.consumer, &path.version, version));
     add_contract(conn, number, path.provider.as_str(), content)

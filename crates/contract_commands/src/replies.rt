@@ -7,7 +7,7 @@ ghost use Rattle.reply_check.specs.Replies.{RepliesRead};
 ghost use Rattle.broker_core.specs.Contents.{HasSoundContents};
 ghost use Rattle.command_facts.specs.Performs.{Performs, PerformsWhere, FailsToChangeFrom, CallersStep, IsStepOf};
 ghost use Rattle.command_facts.specs.Primitives.{broker_primitives};
-ghost use Rattle.contract_commands.specs.Results.{HasPacticipant, told_as};
+ghost use Rattle.contract_commands.specs.Results.{HasPacticipant, CanReceive, told_as};
 ghost use Rattle.contract_commands.specs.Checks.{Leads, Checks, CanLead, CanCheck};
 
 use crate::publish::tell_unread;
@@ -52,7 +52,7 @@ fn report_failing<S: Alter>(
 ) -> Result<Answer, StoreFault>
     ensures answers { PerformsWhere S.Store conn.old conn.new result (λ s. HasPacticipant s provider.now)
         (λ s out. Leads s provider.now report.now content (Failing failing) out) }
-    ensures calm { FailsToChangeFrom S.Store conn.old conn.new result (λ s. HasPacticipant s provider.now)
+    ensures calm { FailsToChangeFrom S.Store conn.old conn.new result (CanReceive provider.now content)
         (λ s out. Leads s provider.now report.now content (Failing failing) out) }
 {
     let pass = failing.as_slice().is_empty();
@@ -75,7 +75,7 @@ fn tell_compared<S: Alter>(
 ) -> Result<Answer, StoreFault>
     ensures answers { PerformsWhere S.Store conn.old conn.new result (λ s. HasPacticipant s provider.now)
         (λ s out. Leads s provider.now report.now content told out) }
-    ensures calm { FailsToChangeFrom S.Store conn.old conn.new result (CanLead provider.now told)
+    ensures calm { FailsToChangeFrom S.Store conn.old conn.new result (CanLead provider.now content told)
         (λ s out. Leads s provider.now report.now content told out) }
 {
     match told {

@@ -5,11 +5,13 @@ ghost use Rattle.broker_core.specs.State.{State as BrokerState};
 ghost use Rattle.broker_core.specs.Change.{result_of_run as run_result};
 ghost use Rattle.broker_core.specs.declared.answer.Detail.TheVariants as detail;
 ghost use Rattle.broker_core.specs.declared.command.Command.TheVariants.{PostResult};
-ghost use Rattle.broker_tables.specs.Holds.{ChangesAndAnswers};
+ghost use Rattle.broker_tables.specs.Holds.{AnswersTaking};
 ghost use Rattle.broker_tables.specs.Calm.{CalmQueriesInPlace, FailsFrom};
+ghost use Rattle.broker_tables.specs.Refusals.{IsCalmTaking};
 ghost use Rattle.contract_tables.specs.Verified.{told_of};
 ghost use Rattle.command_facts.specs.Performs.{Performs, PerformsWhere, FailsToChange, FailsToChangeFrom, IsStepOf};
-ghost use Rattle.contract_commands.specs.Results.{HasPacticipant, IsToReport, told_as, Receives, Claims, told_row, TellsSame, TellsAgain, IsUnused, CanReport, CanRecordReport, RecordsReport};
+ghost use Rattle.contract_commands.specs.Pacts.{HasContent};
+ghost use Rattle.contract_commands.specs.Results.{HasPacticipant, CanReceive, IsToReport, told_as, Receives, Claims, told_row, TellsSame, TellsAgain, IsUnused, CanReport, CanRecordReport, AllowsReport, RecordsReport};
 
 use crate::numbers::{VersionNumber, name_version, next_result, number_version};
 use crate::sides::read_contract_to_verify;
@@ -110,8 +112,10 @@ fn record_report<S: Alter>(
     version: VersionNumber,
     next: u32,
 ) -> Result<(), StoreFault>
-    ensures { ChangesAndAnswers S.Store conn.old conn.new result
+    ensures answers { AnswersTaking S.Store conn.old conn.new 4 result
         (CanRecordReport provider.now report.now version next) (λ _. RecordsReport provider.now report.now found) }
+    ensures calm { IsCalmTaking S.Store conn.old conn.new 3 result
+        (AllowsReport provider.now report.now found version next) }
 {
     let number = done!(name_version(conn, provider, &report.provider_version, version));
     record_result(
@@ -134,10 +138,11 @@ fn receive_numbered<S: Alter>(
     found: Finding,
     version: VersionNumber,
 ) -> Result<Reported, StoreFault>
-    ensures answers { ChangesAndAnswers S.Store conn.old conn.new result
+    ensures answers { AnswersTaking S.Store conn.old conn.new 4 result
         (CanReport provider.now report.now version) (Receives provider.now report.now found) }
     ensures calm { FailsFrom S.Store conn.old conn.new result
-        (CanReport provider.now report.now version) (IsToReport provider.now report.now found) }
+        (λ s. CanReport provider.now report.now version s × HasContent s found.content)
+        (IsToReport provider.now report.now found) }
 {
     match done!(next_result(conn)) {
         Some(next) => {
@@ -156,10 +161,11 @@ fn receive_new<S: Alter>(
     found: Finding,
     number: Option<u32>,
 ) -> Result<Reported, StoreFault>
-    ensures answers { ChangesAndAnswers S.Store conn.old conn.new result
+    ensures answers { AnswersTaking S.Store conn.old conn.new 4 result
         (λ s. IsUnused s provider.now report.now number) (Receives provider.now report.now found) }
     ensures calm { FailsFrom S.Store conn.old conn.new result
-        (λ s. IsUnused s provider.now report.now number) (IsToReport provider.now report.now found) }
+        (λ s. IsUnused s provider.now report.now number × HasContent s found.content)
+        (IsToReport provider.now report.now found) }
 {
     match done!(number_version(conn, number)) {
         Some(version) => receive_numbered(conn, provider, report, found, version),
@@ -174,10 +180,10 @@ pub(crate) fn receive<S: Alter>(
     report: &Report,
     found: Finding,
 ) -> Result<Reported, StoreFault>
-    ensures answers { ChangesAndAnswers S.Store conn.old conn.new result
+    ensures answers { AnswersTaking S.Store conn.old conn.new 4 result
         (λ s. HasPacticipant s provider.now) (Receives provider.now report.now found) }
     ensures calm { FailsFrom S.Store conn.old conn.new result
-        (λ s. HasPacticipant s provider.now) (IsToReport provider.now report.now found) }
+        (CanReceive provider.now found.content) (IsToReport provider.now report.now found) }
 {
     let number = done!(version_of(conn, provider.as_str(), report.provider_version.as_str()));
     match done!(read_run(conn, provider, &report.run)) {
@@ -208,7 +214,7 @@ fn claim<S: Alter>(
 ) -> Result<Answer, StoreFault>
     ensures answers { PerformsWhere S.Store conn.old conn.new result (λ s. HasPacticipant s provider.now)
         (Claims provider.now report.now content success) }
-    ensures calm { FailsToChangeFrom S.Store conn.old conn.new result (λ s. HasPacticipant s provider.now)
+    ensures calm { FailsToChangeFrom S.Store conn.old conn.new result (CanReceive provider.now content)
         (Claims provider.now report.now content success) }
 {
     let found = Finding {

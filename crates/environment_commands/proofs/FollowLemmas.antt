@@ -1,7 +1,6 @@
--- What a listing leads to, from what was read, and what is told after a query.
-use Rattle.std.proofs.Common.{◌≡◌, List, Ok, true, refl, sym, subst, ap}
+-- What a listing leads to, from what was read.
+use Rattle.std.proofs.Common.{◌≡◌, List, true, refl, sym, subst, ap}
 use Rattle.std.specs.Prelude.{Option, Some, None, MatchOption, IsTrue, is_some}
-use Rattle.sqlite.specs.State.{State as View}
 use Rattle.broker_core.specs.Text.{Text}
 use Rattle.broker_core.specs.State.{State}
 use Rattle.broker_core.specs.Listing.{Lists}
@@ -16,8 +15,6 @@ use Rattle.broker_core.specs.declared.command.Command.TheVariants.{GetEnvironmen
 use Rattle.broker_core.specs.declared.command.Marks.{Marks}
 use Rattle.broker_core.specs.declared.command.Version.{Version}
 use Rattle.broker_core.specs.declared.policy.Caller.{Caller}
-use Rattle.broker_tables.specs.Calm.{CalmQueriesBetween}
-use Rattle.broker_tables.proofs.QueryLemmas.{query_ok}
 use Rattle.command_facts.specs.Primitives.{broker_primitives}
 
 -- an environment that is there is shown with its two lists
@@ -31,7 +28,3 @@ is_listed s caller e name marks items versions is same deployed released = (
       (λ answer. unchanged_with s (Shown (shown.Environment name marks items versions)) ≡ unchanged_with s answer))
       (sym is) (marks, is, (items, deployed, (versions, released, ap (λ (n : Text). unchanged_with s (Shown (shown.Environment n marks items versions))) same))),
 )
-
--- another answer of a query
-pub told : {A B : Type 0} (old new : View) (x : A) (y : B) (P : A → State → Type 0) (Q : B → State → Type 0) → ((s : State) → P x s → Q y s) → CalmQueriesBetween old new (Ok x) P → CalmQueriesBetween old new (Ok y) Q
-told old new x y P Q f = query_ok old new x y P Q (λ h s held. let it = h s held in (f s it.0, it.1))

@@ -29,7 +29,7 @@ use Rattle.command_facts.specs.Primitives.{broker_primitives}
 use Rattle.command_facts.proofs.CallerSteps.{refuses, acts}
 use Rattle.command_facts.proofs.PerformLemmas.{answered_then, performs_where}
 use Rattle.environment_commands.specs.Effects.{Enacts}
-use Rattle.environment_commands.specs.Places.{IsVersionRead, IsAdmitted, IsAdmission, ChangesPlace}
+use Rattle.environment_commands.specs.Places.{IsVersionRead, HasPlace, IsAdmitted, IsAdmission, ChangesPlace}
 use Rattle.environment_commands.specs.declared.places.Admitted.{Admitted}
 use Rattle.environment_commands.specs.declared.places.VersionFacts.{VersionFacts}
 use Rattle.environment_commands.proofs.FailLemmas.{fails_next}
@@ -50,6 +50,10 @@ with_marks s e marks rest is = ap (λ (o : Option Marks). unless (is_some o) mis
 
 pub without_marks : (s : State) (e : Text) (rest : Option Missing) → s.environments e ≡ None → unless_environment s e rest ≡ Some missing.Environment
 without_marks s e rest is = ap (λ (o : Option Marks). unless (is_some o) missing.Environment rest) is
+
+-- what is admitted is there
+pub has_place : (s : State) (e : Text) (v : Version) (place : Admitted) → IsAdmitted e v place s → HasPlace e v place.number s
+has_place s e v place it = (ap is_some it.0, it.1)
 
 module _ (s : State) (caller : Caller) (e : Text) (v : Version) (what : Option Missing) (allowed : Bool) (first : unless_environment s e (unless_version s v None) ≡ what)
     (may : allows A7 caller (filter_map s.pacticipants (v.pacticipant ∷ [])) (has_grant s caller (Some e)) ≡ allowed) where
@@ -82,6 +86,6 @@ module _ (old mid : View) (caller : Caller) (e : Text) (v : Version) (command : 
   -- it is admitted, and it fails as what is done then
   pub admitted_fails : (new : View) (place : Admitted) (r : Result Answer StoreFault) (Q : Answer → Type 0)
       → QueriesBetween old mid (Ok (Ok place)) (IsAdmission caller e v) → CallsTablesBetween mid new r Q → FailsFromBetween mid new r (IsAdmitted e v place) (IsToChange (Enacts command)) → FailsToChangeBetween old new (IsStepOf caller command) r
-  admitted_fails new place r Q one two why clean s here =
+  admitted_fails new place r Q one two =
       fails_next old mid new (Ok place) r (IsAdmission caller e v) Q one two (λ s. ⊤) (IsAdmitted e v place) (Enacts command) (IsStepOf caller command)
-      (λ s all h. (h.0, λ out enacts. acts s caller command form out (h.1 command change) enacts)) why clean s here tt
+      (λ s all h. (h.0, λ out enacts. acts s caller command form out (h.1 command change) enacts))

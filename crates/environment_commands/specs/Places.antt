@@ -15,6 +15,7 @@ use Rattle.broker_core.specs.declared.policy.Rule.{Rule}
 use Rattle.broker_core.specs.declared.policy.Rule.TheVariants.{A6, A7}
 use Rattle.broker_tables.specs.Numbers.{number_of}
 use Rattle.command_facts.specs.Owners.{IsOwnerRead}
+use Rattle.deploy_tables.specs.Deployments.{IsEnvironment}
 use Rattle.environment_commands.specs.declared.places.Admitted.{Admitted}
 use Rattle.environment_commands.specs.declared.places.PlaceFacts.{PlaceFacts}
 use Rattle.environment_commands.specs.declared.places.VersionFacts.{VersionFacts}
@@ -35,6 +36,10 @@ pub record IsPlaceRead (s : Broker) (caller : Caller) (e : Text) (v : Version) (
 -- the version has this number
 abbrev pub HasNumber : Version → ℕ → Broker → Type 0
 HasNumber v number s = number_of s.versions v ≡ Some number
+
+-- the environment is there, and the version has this number
+abbrev pub HasPlace : Text → Version → ℕ → Broker → Type 0
+HasPlace e v number s = IsEnvironment e s × HasNumber v number s
 
 -- the environment is there with these marks, and the version with this number
 abbrev pub IsAdmitted : Text → Version → Admitted → Broker → Type 0

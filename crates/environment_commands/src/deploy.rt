@@ -4,7 +4,7 @@ ghost use Rattle.broker_core.specs.Change.{deploy as deployment};
 ghost use Rattle.broker_core.specs.declared.command.Command.TheVariants.{Deploy};
 ghost use Rattle.command_facts.specs.Performs.{Performs, PerformsWhere, FailsToChange, FailsToChangeFrom, IsStepOf};
 ghost use Rattle.environment_commands.specs.Effects.{Enacts};
-ghost use Rattle.environment_commands.specs.Places.{HasNumber, IsAdmitted};
+ghost use Rattle.environment_commands.specs.Places.{HasNumber, HasPlace, IsAdmitted};
 
 use crate::gate::judge;
 use crate::places::{Admitted, instance_text, read_admitted};
@@ -27,8 +27,8 @@ fn record_deployment<S: Alter>(
 ) -> Result<Answer, StoreFault>
     ensures answers { PerformsWhere S.Store conn.old conn.new result
         (HasNumber version.now number) (λ s out. out ≡ deployment s environment.now version.now instance.now) }
-    ensures calm { FailsToChangeFrom S.Store conn.old conn.new result
-        (HasNumber version.now number) (λ s out. out ≡ deployment s environment.now version.now instance.now) }
+    ensures calm { FailsToChangeFrom S.Store conn.old conn.new result (HasPlace environment.now version.now number)
+        (λ s out. out ≡ deployment s environment.now version.now instance.now) }
 {
     if done!(is_deployed(
         conn,

@@ -4,7 +4,7 @@ ghost use Rattle.broker_core.specs.Change.{release as released};
 ghost use Rattle.broker_core.specs.declared.command.Command.TheVariants.{Release};
 ghost use Rattle.command_facts.specs.Performs.{Performs, PerformsWhere, FailsToChange, FailsToChangeFrom, IsStepOf};
 ghost use Rattle.environment_commands.specs.Effects.{Enacts};
-ghost use Rattle.environment_commands.specs.Places.{HasNumber, IsAdmitted};
+ghost use Rattle.environment_commands.specs.Places.{HasNumber, HasPlace, IsAdmitted};
 
 use crate::gate::judge;
 use crate::places::{Admitted, read_admitted};
@@ -26,8 +26,8 @@ fn record_release<S: Alter>(
 ) -> Result<Answer, StoreFault>
     ensures answers { PerformsWhere S.Store conn.old conn.new result
         (HasNumber version.now number) (λ s out. out ≡ released s environment.now version.now) }
-    ensures calm { FailsToChangeFrom S.Store conn.old conn.new result
-        (HasNumber version.now number) (λ s out. out ≡ released s environment.now version.now) }
+    ensures calm { FailsToChangeFrom S.Store conn.old conn.new result (HasPlace environment.now version.now number)
+        (λ s out. out ≡ released s environment.now version.now) }
 {
     if done!(is_released(conn, environment.as_str(), number)) {
         return Ok(Answer::Already(Detail::Plain));

@@ -1,7 +1,6 @@
 -- what the registry's commands read of a state and decide of it, for the clauses of private functions: no public clause
 -- cites it
 use Rattle.std.specs.Prelude.{◌≡◌, ℕ, Option, Some, None, is_some, false, true, IsTrue, length, option_map, string_bytes}
-use Rattle.sqlite.specs.Effect.{Database}
 use Rattle.broker_core.specs.Text.{Text, put_at, same_text, same_pair}
 use Rattle.broker_core.specs.State.{State as Broker}
 use Rattle.broker_core.specs.Machine.{IsCallerOfDigest, StepOfCaller, fault_of_marks}
@@ -14,7 +13,6 @@ use Rattle.broker_core.specs.declared.command.Marks.{Marks}
 use Rattle.broker_core.specs.declared.command.Version.{Version}
 use Rattle.broker_core.specs.declared.policy.Caller.{Caller}
 use Rattle.broker_core.specs.declared.policy.Rule.TheVariants.{A3}
-use Rattle.broker_tables.specs.Holds.{Holds}
 use Rattle.broker_tables.specs.Numbers.{number_of}
 use Rattle.command_facts.specs.Primitives.{broker_primitives}
 use Rattle.command_facts.specs.Owners.{IsOwnerRead}
@@ -178,13 +176,12 @@ IsNamedApart v branch number s t =
     (t ≡ named s v) × (number_of t.versions v ≡ Some number)
     × ((b : Text) → branch ≡ Some b → t.branches (v, b) ≡ false)
 
--- the tables hold the state in which the version of this number has joined the branch, where it wasn't on it
-abbrev pub JoinsTable : ℕ → Option Text → Database → Database → Type 0
-JoinsTable number branch old new =
-    (s : Broker) → Holds old s → (v : Version) → number_of s.versions v ≡ Some number
-    → ((b : Text) → branch ≡ Some b → s.branches (v, b) ≡ false) → Holds new (joined s v branch)
+-- the version of this number joins the branch, on which it isn't
+abbrev pub JoinsBranch : ℕ → Option Text → Broker → Broker → Type 0
+JoinsBranch number branch s t =
+    (v : Version) × (number_of s.versions v ≡ Some number)
+    × ((b : Text) → branch ≡ Some b → s.branches (v, b) ≡ false) × (t ≡ joined s v branch)
 
--- the tables hold the state in which the version is named and on the branch
-abbrev pub RecordsVersion : Version → Option Text → Option ℕ → ℕ → Database → Database → Type 0
-RecordsVersion v branch number count old new =
-    (s : Broker) → Holds old s → CanJoin s v branch number count → Holds new (joined (named s v) v branch)
+-- the version is named, and on the branch
+abbrev pub RecordsVersion : Version → Option Text → Option ℕ → ℕ → Broker → Broker → Type 0
+RecordsVersion v branch number count s t = CanJoin s v branch number count × (t ≡ joined (named s v) v branch)

@@ -1,15 +1,15 @@
 //! Naming of a version, and putting it on a branch.
-ghost use Rattle.std.specs.Prelude.{◌≡◌, ℕ, List, Some, false, IfSome, IfNone, length};
-ghost use Rattle.table_access.specs.Calls.{CallsStore};
+ghost use Rattle.std.specs.Prelude.{◌≡◌, ℕ, List, [], ◌∷◌, codes, Some, IfSome, IfNone, length};
 ghost use Rattle.broker_core.specs.Change.{named, on_branch};
 ghost use Rattle.broker_core.specs.declared.command.Command.TheVariants.{PutVersion};
 ghost use Rattle.broker_core.specs.declared.command.Version.{Version as VersionModel};
 ghost use Rattle.broker_tables.specs.Calm.{CalmQueries, CalmQueriesInPlace};
-ghost use Rattle.broker_tables.specs.Holds.{ChangesAndAnswers};
+ghost use Rattle.broker_tables.specs.Holds.{Changes, ChangesTaking, ChangesAndAnswers};
+ghost use Rattle.broker_tables.specs.Refusals.{IsCalmIf, IsCalmChange, IsCalmTaking};
 ghost use Rattle.broker_tables.specs.Numbers.{number_of};
 ghost use Rattle.registry_tables.specs.Registry.{AllowsVersion, AddsVersion};
 ghost use Rattle.command_facts.specs.Performs.{Performs, FailsToChange, IsStepOf};
-ghost use Rattle.registry_commands.specs.Facts.{IsNumberRead, IsRoomRead, IsNamingRead, CanJoin, AnswersPutVersion, NamesOrJoins, IsNamedApart, JoinsTable, RecordsVersion};
+ghost use Rattle.registry_commands.specs.Facts.{IsNumberRead, IsRoomRead, IsNamingRead, CanJoin, AnswersPutVersion, NamesOrJoins, IsNamedApart, JoinsBranch, RecordsVersion};
 
 use broker_core::answer::{Answer, Detail, Missing};
 use broker_core::command::Version;
@@ -147,8 +147,10 @@ fn add_after<S: Alter>(
     version: &Version,
     count: u64,
 ) -> Result<u32, StoreFault>
-    ensures { ChangesAndAnswers S.Store conn.old conn.new result
+    ensures changes { ChangesAndAnswers S.Store conn.old conn.new result
         (λ s. AllowsVersion version.now s × (count ≡ length s.versions)) (AddsVersion version.now) }
+    ensures calm { IsCalmIf S.Store conn.old conn.new result []
+        (λ s. AllowsVersion version.now s × (count ≡ length s.versions)) }
 {
     let Some(number) = next_number(count) else {
         return Err(StoreFault::Store);
@@ -170,9 +172,11 @@ fn ensure_version<S: Alter>(
     number: Option<u32>,
     count: u64,
 ) -> Result<u32, StoreFault>
-    ensures { ChangesAndAnswers S.Store conn.old conn.new result
+    ensures changes { ChangesAndAnswers S.Store conn.old conn.new result
         (λ s. CanJoin s version.now branch.now number count)
         (IsNamedApart version.now branch.now) }
+    ensures calm { IsCalmIf S.Store conn.old conn.new result []
+        (λ s. CanJoin s version.now branch.now number count) }
 {
     match number {
         Some(number) => Ok(number),
@@ -186,8 +190,9 @@ fn put_on_branch<S: Alter>(
     number: u32,
     branch: &Option<Name>,
 ) -> Result<(), StoreFault>
-    ensures { CallsStore S.Store conn.old conn.new result
-        (λ _ old new. JoinsTable number branch.now old.now new.now) }
+    ensures changes { Changes S.Store conn.old conn.new result (JoinsBranch number branch.now) }
+    ensures calm { IsCalmChange S.Store conn.old conn.new result (codes "branches" ∷ [])
+        (JoinsBranch number branch.now) }
 {
     match branch {
         Some(branch) => add_branch(conn, number, branch.as_str()),
@@ -203,8 +208,10 @@ fn record_version<S: Alter>(
     old_number: Option<u32>,
     count: u64,
 ) -> Result<(), StoreFault>
-    ensures { CallsStore S.Store conn.old conn.new result
-        (λ _ old new. RecordsVersion version.now branch.now old_number count old.now new.now) }
+    ensures changes { ChangesTaking S.Store conn.old conn.new 4 result
+        (RecordsVersion version.now branch.now old_number count) }
+    ensures calm { IsCalmTaking S.Store conn.old conn.new 3 result
+        (λ s. CanJoin s version.now branch.now old_number count) }
 {
     let number = done!(ensure_version(conn, version, branch, old_number, count));
     put_on_branch(conn, number, branch)

@@ -1,4 +1,4 @@
-use Rattle.std.proofs.Common.{◌≡◌, Ok, Some, None, ap, ◌∙◌, subst}
+use Rattle.std.proofs.Common.{◌≡◌, Ok, Some, None, refl, ap, ◌∙◌, subst}
 use Rattle.std.specs.Prelude.{ℕ, Option}
 use Rattle.sqlite.specs.Held.{state}
 use Rattle.table_access.proofs.CallLemmas.{idle}
@@ -15,7 +15,7 @@ abbrev found_next : ℕ → Option ℕ → Option BranchVersion
 found_next number content = Some (record { number = number; content = content })
 
 pub loop-value-init : goal.loop-value-init
-loop-value-init g c = idle (state g.S.Store c.args.conn.now) (Ok c.args.bound) _ (λ s held. (λ none. none, held))
+loop-value-init g c = idle (state g.S.Store c.args.conn.now) (Ok c.args.bound) _ (λ s held. (λ none. none, refl))
 
 pub loop-value-preserved : goal.loop-value-preserved
 loop-value-preserved g c =

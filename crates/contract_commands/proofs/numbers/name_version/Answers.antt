@@ -1,24 +1,24 @@
-use Rattle.std.proofs.Common.{◌≡◌, subst}
+use Rattle.std.proofs.Common.{◌≡◌, sym, subst}
 use Rattle.sqlite.specs.Held.{state}
 use Rattle.table_access.proofs.CallLemmas.{statement_ok}
 use Rattle.broker_core.specs.State.{State}
 use Rattle.broker_core.specs.Text.{version as version_named}
 use Rattle.broker_core.specs.declared.command.Version.{Version}
-use Rattle.broker_tables.specs.Holds.{Holds}
+use Rattle.broker_tables.specs.Holds.{HoldsAfter}
+use Rattle.command_facts.proofs.PerformLemmas.{unchanged}
 use Rattle.registry_tables.specs.Registry.{AllowsVersionAs, AddsVersion}
-use Rattle.contract_commands.specs.Numbering.{CanName, NamesAs}
+use Rattle.contract_commands.specs.Numbering.{CanName}
 use Rattle.contract_commands.specs.declared.numbers.VersionNumber.{VersionNumber}
-use Rattle.contract_commands.proofs.NumberingLemmas.{stays_with, old_named, new_allowed, new_named}
+use Rattle.contract_commands.proofs.NumberingLemmas.{old_named, new_allowed, new_named}
 use Rattle.contract_commands.proofs.numbers.name_version.Goals as goal
 
-pub returns-in-Old : goal.returns-in-Old
-returns-in-Old g c =
+pub returns-in-Old-clause-answers : goal.returns-in-Old-clause-answers
+returns-in-Old-clause-answers g c =
     let v = version_named c.args.pacticipant.now c.args.name.now in
-    stays_with (state g.S.Store c.args.conn.now) c.in-Old.number (λ s. CanName s v c.args.number) (NamesAs v)
-    (λ s can. old_named s v c.in-Old.number (subst (λ (n : VersionNumber). CanName s v n) c.in-Old.is can))
+    unchanged (state g.S.Store c.args.conn.now) c.in-Old.number _ _ (λ s can. old_named s v c.in-Old.number (subst (λ (n : VersionNumber). CanName s v n) c.in-Old.is can))
 
-pub returns-in-Ok : goal.returns-in-Ok
-returns-in-Ok g c =
+pub returns-in-Ok-clause-answers : goal.returns-in-Ok-clause-answers
+returns-in-Ok-clause-answers g c =
     let old = state g.S.Store c.args.conn.now in
     let new = state g.S.Store c.add_version_as.new.conn in
     let number = c.in-New.number in
@@ -26,6 +26,12 @@ returns-in-Ok g c =
     let same : version_named c.as_str.result.now c.as_str-in-New.result.now ≡ v = λ i. version_named (c.as_str.ensures i) (c.as_str-in-New.ensures i) in
     statement_ok old new c.in-Ok.value number _ _ (λ adds s held can.
     let may = subst (λ (n : VersionNumber). CanName s v n) c.in-New.is can in
-    let it = subst (λ (w : Version). AllowsVersionAs number w s → (t : State) × AddsVersion w number s t × Holds new.now t) same (adds s held) (new_allowed s v number may) in
+    let it = subst (λ (w : Version). AllowsVersionAs number w s → (t : State) × AddsVersion w number s t × HoldsAfter 2 old new t) same (adds s held) (new_allowed s v number may) in
     (it.0, new_named s v number it.0 may it.1, it.2))
     c.in-Ok.ensures.changes
+
+pub returns-in-Err-clause-calm : goal.returns-in-Err-clause-calm
+returns-in-Err-clause-calm g c clean s here can =
+    let v = version_named c.args.pacticipant.now c.args.name.now in
+    let same : version_named c.as_str.result.now c.as_str-in-New.result.now ≡ v = λ i. version_named (c.as_str.ensures i) (c.as_str-in-New.ensures i) in
+    c.in-Err.ensures.calm clean s here (subst (λ (w : Version). AllowsVersionAs c.in-New.number w s) (sym same) (new_allowed s v c.in-New.number (subst (λ (n : VersionNumber). CanName s v n) c.in-New.is can)))

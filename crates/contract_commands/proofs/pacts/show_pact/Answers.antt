@@ -14,4 +14,4 @@ returns-in-Ok-clause-calm g c = λ clean s here has. c.show_pact_text.ensures.ca
 
 pub returns-in-Err-clause-answers : goal.returns-in-Err-clause-answers
 returns-in-Err-clause-answers g c =
-    idle (state g.S.Store c.args.conn.now) (Ok c.in-Err.answer) _ (λ s held. (subst (λ place. ShowsReached s place c.in-Err.answer) (sym c.in-Err.is) refl, held))
+    idle (state g.S.Store c.args.conn.now) (Ok c.in-Err.answer) _ (λ s held. (subst (λ place. ShowsReached s place c.in-Err.answer) (sym c.in-Err.is) refl, refl))

@@ -33,7 +33,7 @@ returns-in-None-clause-answers g c =
     c.in-Ok.ensures.call c.publish_between.ensures.answers
 
 pub returns-in-None-clause-calm : goal.returns-in-None-clause-calm
-returns-in-None-clause-calm g c = λ clean s here.
+returns-in-None-clause-calm g c =
     let caller = c.args.caller.now in
     let path = c.args.path.now in
     let text = c.args.text.now in
@@ -45,4 +45,4 @@ returns-in-None-clause-calm g c = λ clean s here.
       (h.provider_is ∙ both.0, h.consumer_is ∙ both.1),
       λ made. (made.0, made.1, publishes s caller path text _ (λ file. publication_refused s caller path text file sides h ∙ sym (c.refuse_sides.ensures (PutPact path file) refl) ∙ c.in-None.is) made.2),
     ))
-    c.in-Ok.ensures.call c.publish_between.ensures.answers c.publish_between.ensures.calm clean s here tt
+    c.in-Ok.ensures.call c.publish_between.ensures.answers c.publish_between.ensures.calm

@@ -1,4 +1,4 @@
-use Rattle.std.proofs.Common.{◌≡◌, None, Some, false, true, ap, ◌&&◌, ◌||◌}
+use Rattle.std.proofs.Common.{◌≡◌, None, Some, false, ap, ◌&&◌, ◌||◌}
 use Rattle.sqlite.specs.Held.{state}
 use Rattle.broker_core.specs.Change.{put_pact, is_stored}
 use Rattle.broker_core.specs.Limit.{has_room}

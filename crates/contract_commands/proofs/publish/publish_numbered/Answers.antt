@@ -1,12 +1,16 @@
-use Rattle.std.proofs.Common.{◌≡◌, inl, inr, None, Some, true, false, ◌||◌, sym, subst, ap, ◌∙◌, ◌&&◌, arith}
+use Rattle.std.proofs.Common.{◌≡◌, inl, inr, ◌≤◌, Ok, Err, None, Some, true, false, ◌||◌, sym, subst, ap, ◌∙◌, ◌&&◌, arith}
 use Rattle.std.specs.Prelude.{⊤}
 use Rattle.sqlite.specs.Held.{state}
+use Rattle.sqlite.specs.State.{HasCleanDisk}
 use Rattle.broker_core.specs.Change.{Transition, put_pact, content_number, named}
 use Rattle.broker_core.specs.Request.{consumer_version}
 use Rattle.broker_core.specs.State.{State}
 use Rattle.broker_core.specs.declared.answer.Answer.TheVariants.{Done, Full}
 use Rattle.broker_core.specs.declared.answer.Detail.TheVariants.{Content}
 use Rattle.content_store.specs.Contents.{has_place, StoresIfRoom}
+use Rattle.table_access.proofs.CallLemmas.{statement_with}
+use Rattle.broker_tables.specs.Room.{enough}
+use Rattle.broker_tables.proofs.FailLemmas.{fails_taking, taking_then}
 use Rattle.command_facts.specs.Performs.{IsToChange}
 use Rattle.command_facts.proofs.PerformLemmas.{where_told, where_told_then}
 use Rattle.broker_core.specs.Text.{Text}
@@ -43,7 +47,7 @@ returns-in-Ok-record_contract-clause-answers g c =
     let v = consumer_version path in
     let text = c.args.text.now in
     let content = c.in-Some.content in
-    where_told_then (state g.S.Store c.args.conn.now) (state g.S.Store c.put_text.new.conn) (state g.S.Store c.record_contract.new.conn) (Some content) c.in-Ok-record_contract.value (Done (Content content))
+    where_told_then (state g.S.Store c.args.conn.now) (state g.S.Store c.put_text.new.conn) (state g.S.Store c.record_contract.new.conn) (Some content) c.in-Ok-record_contract.value (Done (Content content)) 4 (omega arith)
     (CanPublish path c.args.version) (λ s. ⊤) (CanRecord path c.args.version content) (StoresIfRoom text) (RecordsContract path content) (λ s out. out ≡ put_pact s v path.provider text)
     (λ s can. (
       tt,
@@ -55,16 +59,29 @@ returns-in-Ok-record_contract-clause-answers g c =
             made ∙ put_first s v path.provider text true can.1 (λ i. may_be_named s v c.args.version can.0 i && next.2 i),
       ),
     ))
-    (rw c.in-Some.is at c.in-Ok.ensures.answers) c.in-Ok-record_contract.ensures
+    (rw c.in-Some.is at c.in-Ok.ensures.answers) c.in-Ok-record_contract.ensures.answers
 
 pub returns-in-Err-clause-calm : goal.returns-in-Err-clause-calm
-returns-in-Err-clause-calm g c = λ clean s here can. elim (c.in-Err.ensures.calm clean s here) [
+returns-in-Err-clause-calm g c clean s here can = elim (c.in-Err.ensures.calm clean s here tt) [
   | inl ended ↦ inl ended
-  | inr adds ↦ inr (to_publish c.args.path.now c.args.text.now c.args.version s can (λ i. adds.0 i || adds.1 i))
+  | inr adds ↦ inr (to_publish c.args.path.now c.args.text.now c.args.version s can (λ i. adds.0.0 i || adds.0.1 i), adds.1)
 ]
 
 pub returns-in-Err-record_contract-clause-calm : goal.returns-in-Err-record_contract-clause-calm
-returns-in-Err-record_contract-clause-calm g c = λ clean s here can.
+returns-in-Err-record_contract-clause-calm g c clean s here can =
+    let few : 5 ≤ enough = omega arith in
+    let old = state g.S.Store c.args.conn.now in
+    let mid = state g.S.Store c.put_text.new.conn in
+    let mid_clean : HasCleanDisk mid = omega (arith, c.in-Err-record_contract.ensures.answers.call.survives.clean, clean) in
+    let new = state g.S.Store c.record_contract.new.conn in
+    let path = c.args.path.now in
+    let text = c.args.text.now in
+    let version = c.args.version in
+    let content = c.in-Some.content in
+    let failed = c.in-Err-record_contract.ensures in
     let stored = rw c.in-Some.is at c.in-Ok.ensures.answers in
-    let it = stored.call.ok (omega (arith, c.in-Err-record_contract.ensures.call.survives.clean, clean)) s here.held tt in
-    inr (to_publish c.args.path.now c.args.text.now c.args.version s can it.1.2)
+    let it = stored.call.ok mid_clean s here.held tt in
+    fails_taking {A = Unit {0}} old new (Err c.in-Err-record_contract.fault) 5 few (CanPublish path version) (λ t. CanPublish path version t × (has_place t.contents text ≡ true)) _ (λ t held may. (may.0, to_publish path text version t may.0 may.1))
+    (taking_then old mid new (Some content) (Err c.in-Err-record_contract.fault) 2 3 _ (CanPublish path version) (StoresIfRoom text) (CanRecord path version content)
+    (λ t may u next. subst (CanRecord path version content) (sym next.1) (can_record t text path version content next.0 may)) (statement_with old mid (Ok (Some content)) _ _ (λ a puts t held may. puts t held tt) stored)
+    failed.answers.call failed.calm) clean s here (can, it.1.2)

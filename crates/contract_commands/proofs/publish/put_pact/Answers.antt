@@ -16,8 +16,8 @@ returns-in-Err-clause-answers g c =
     (λ found is s. form_fault s c.args.caller.now c.args.path.now c.args.file.now found (c.in-Err.ensures.fault found is))
 
 pub returns-in-Err-clause-calm : goal.returns-in-Err-clause-calm
-returns-in-Err-clause-calm g c = λ clean s here.
-    unread_fails (state g.S.Store c.args.conn.now) c.in-Err.fault c.tell_unread.result (λ s. ⊤) (IsToChange (IsStepOf c.args.caller.now (PutPact c.args.path.now c.args.file.now))) c.tell_unread.ensures clean s here tt
+returns-in-Err-clause-calm g c =
+    unread_fails (state g.S.Store c.args.conn.now) c.in-Err.fault c.tell_unread.result (λ s. ⊤) (IsToChange (IsStepOf c.args.caller.now (PutPact c.args.path.now c.args.file.now))) c.tell_unread.ensures
 
 pub returns-in-Ok-clause-calm : goal.returns-in-Ok-clause-calm
 returns-in-Ok-clause-calm g c =

@@ -1,7 +1,7 @@
-use Rattle.std.proofs.Common.{inl, inr, subst}
-use Rattle.std.proofs.lemmas.Result.{IfErr-weaker}
+use Rattle.std.proofs.Common.{inl, inr, ℕ, Ok, Err, Option, Result, subst}
 use Rattle.sqlite.specs.Held.{state}
-use Rattle.std.specs.Prelude.{⊤}
+use Rattle.std.specs.Prelude.{⊤, IfErr}
+use Rattle.table_access.specs.declared.StoreFault.{StoreFault}
 use Rattle.broker_core.specs.Text.{Text}
 use Rattle.broker_tables.specs.Holds.{ChangesAndAnswersBetween}
 use Rattle.content_store.specs.Contents.{CanBeAdded, StoresIfRoom}
@@ -15,9 +15,14 @@ returns-clause-answers g c =
     subst (λ (body : Text). ChangesAndAnswersBetween old new c.put_if_room.result (λ s. ⊤) (StoresIfRoom body)) c.as_str.ensures
     (puts_if_room_held old new c.put_if_room.result c.as_str.result.now c.put_if_room.ensures.call)
 
+both_told : (r : Result (Option ℕ) StoreFault) (P Q R : StoreFault → Type 0) → ((e : StoreFault) → P e → Q e → R e) → IfErr r P → IfErr r Q → IfErr r R
+both_told (Ok a) P Q R more one two = tt
+both_told (Err e) P Q R more one two = more e one two
+
 pub returns-clause-calm : goal.returns-clause-calm
-returns-clause-calm g c clean s here =
-    IfErr-weaker c.put_if_room.result _ _ (λ e why. elim why [
-      | inl ended ↦ inl (inl ended)
-      | inr adds ↦ inr (subst (λ (body : Text). CanBeAdded body s.contents) c.as_str.ensures adds)
-    ]) (c.put_if_room.ensures.rowless clean s here (contents_held (state g.S.Store c.args.conn.now).now s here.held))
+returns-clause-calm g c clean s here free =
+    both_told c.put_if_room.result _ _ _ (λ e ended why. elim why [
+      | inl failed ↦ inl (inl failed)
+      | inr adds ↦ inr (subst (λ (body : Text). CanBeAdded body s.contents) c.as_str.ensures adds, λ room. ended)
+    ]) (c.put_if_room.ensures.calm clean s (record { inside = here.inside; unlimited = here.unlimited; held = here.held }) here.readable tt)
+    (c.put_if_room.ensures.rowless clean s here (contents_held (state g.S.Store c.args.conn.now).now s here.held))

@@ -1,19 +1,16 @@
-use Rattle.std.proofs.Common.{◌≡◌, Some, refl, sym, subst}
+use Rattle.std.proofs.Common.{Ok, ◌∷◌, [], codes, refl, arith}
 use Rattle.sqlite.specs.Held.{state}
-use Rattle.table_access.proofs.CallLemmas.{statement_seq}
-use Rattle.broker_core.specs.State.{State}
-use Rattle.broker_core.specs.Change.{named}
+use Rattle.table_access.proofs.CallLemmas.{statement_with, statement_seq}
 use Rattle.broker_core.specs.Request.{consumer_version}
-use Rattle.broker_core.specs.Text.{Text}
-use Rattle.broker_tables.specs.Holds.{Holds}
-use Rattle.broker_tables.specs.Numbers.{number_of}
-use Rattle.contract_tables.specs.Verified.{AddsContract}
+use Rattle.broker_tables.proofs.FailLemmas.{taking, taking_then}
+use Rattle.broker_tables.proofs.RoomLemmas.{takes_then}
+use Rattle.contract_commands.specs.Numbering.{NamesAs}
 use Rattle.contract_commands.specs.Pacts.{contracted}
 use Rattle.contract_commands.proofs.PactLemmas.{adds_contract}
 use Rattle.contract_commands.proofs.publish.record_contract.Goals as goal
 
-pub returns : goal.returns
-returns g c =
+pub returns-clause-answers : goal.returns-clause-answers
+returns-clause-answers g c =
     let old = state g.S.Store c.args.conn.now in
     let mid = state g.S.Store c.name_version.new.conn in
     let new = state g.S.Store c.add_contract.new.conn in
@@ -23,9 +20,21 @@ returns g c =
     let number = c.in-Ok.value in
     statement_seq old mid new number c.add_contract.result _ _ _ (λ name u add s held can.
     let it = name s held can.0.0 in
-    let now : Holds mid.now (named s v) = subst (λ (t : State). Holds mid.now t) it.1.0 it.2 in
-    let numbered : number_of (named s v).versions v ≡ Some number = subst (λ (t : State). number_of t.versions v ≡ Some number) it.1.0 it.1.1 in
-    let to = contracted (named s v) v path.provider content in
-    let adds = subst (λ (p : Text). AddsContract number p content (named s v) to) (sym c.as_str.ensures) (adds_contract s path c.args.version number content can numbered) in
-    (to, refl, add (named s v) now to adds))
-    c.in-Ok.ensures c.add_contract.ensures
+    let provider = c.as_str.result.now in
+    let to = contracted it.0 v provider content in
+    let made = add it.0 it.2.0 to (adds_contract s it.0 path provider c.args.version number content c.as_str.ensures can it.1) in
+    (to, λ i. contracted (it.1.0 i) v (c.as_str.ensures i) content, (made.0, takes_then 2 2 old.now mid.now new.now it.2.1 made.1)))
+    c.in-Ok.ensures.answers c.add_contract.ensures.changes
+
+pub returns-clause-calm : goal.returns-clause-calm
+returns-clause-calm g c =
+    let old = state g.S.Store c.args.conn.now in
+    let mid = state g.S.Store c.name_version.new.conn in
+    let new = state g.S.Store c.add_contract.new.conn in
+    let number = c.in-Ok.value in
+    let content = c.args.content in
+    taking_then old mid new number c.add_contract.result 2 1 _ _ (NamesAs (consumer_version c.args.path.now)) _ (λ s can t names. (_, adds_contract s t c.args.path.now c.as_str.result.now c.args.version number content c.as_str.ensures can names))
+    (statement_with old mid (Ok number) _ _ (λ n name s held can. name s held can.0.0) c.in-Ok.ensures.answers) c.add_contract.ensures.changes.call (taking mid new c.add_contract.result (codes "contracts" ∷ []) (refl, tt) 1 (omega arith) _ c.add_contract.ensures.calm)
+
+pub returns-in-Err-clause-calm : goal.returns-in-Err-clause-calm
+returns-in-Err-clause-calm g c clean s here can room = c.in-Err.ensures.calm clean s here can.0.0 tt

@@ -28,9 +28,9 @@ returns-in-Ok-compare-clause-calm g c =
     let text = c.in-Ok.value in
     let told = c.in-Ok-compare.told in
     let tells = subst (λ t. Tells t replies told) c.as_str.ensures c.in-Ok-compare.ensures in
-    fails_after old mid (state g.S.Store c.tell_compared.new.conn) text c.tell_compared.result _ _ (CanCheck provider content) (CanLead provider told)
+    fails_after old mid (state g.S.Store c.tell_compared.new.conn) text c.tell_compared.result _ _ (CanCheck provider content) (CanLead provider content told)
     (IsToChange (λ s out. Checks s provider r content replies out)) (IsToChange (λ s out. Leads s provider r content told out))
-    (λ s held can stored. ((can.0, pact_told s content text replies told stored can.1 tells), λ made. (made.0, made.1, (text, stored, (told, tells, made.2)))))
+    (λ s held can stored. (((can.0, (text, stored)), pact_told s content text replies told stored can.1 tells), λ made. (made.0, made.1, (text, stored, (told, tells, made.2)))))
     c.in-Ok.ensures.answers c.tell_compared.ensures.answers c.tell_compared.ensures.calm
 
 pub returns-in-Err-clause-calm : goal.returns-in-Err-clause-calm

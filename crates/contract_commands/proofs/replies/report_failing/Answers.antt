@@ -7,12 +7,12 @@ use Rattle.broker_core.specs.Machine.{is_empty, report_replies}
 use Rattle.broker_core.specs.declared.answer.Detail.TheVariants.{Replies}
 use Rattle.pact_reading.specs.declared.checking.Comparison.TheVariants.{Failing}
 use Rattle.contract_commands.specs.Checks.{Leads}
-use Rattle.contract_commands.specs.Results.{HasPacticipant, IsToReport, told_as, reported_version}
+use Rattle.contract_commands.specs.Results.{CanReceive, IsToReport, told_as, reported_version}
 use Rattle.contract_commands.specs.declared.results.Reported.{Reported}
 use Rattle.broker_tables.proofs.FailLemmas.{fails_as}
 use Rattle.contract_commands.proofs.CheckLemmas.{empty_is}
 use Rattle.command_facts.specs.Performs.{IsToChange}
-use Rattle.command_facts.proofs.PerformLemmas.{where_told}
+use Rattle.contract_commands.proofs.ResultLemmas.{answers_report}
 use Rattle.contract_commands.proofs.replies.report_failing.Goals as goal
 
 pub returns-clause-answers : goal.returns-clause-answers
@@ -24,13 +24,10 @@ returns-clause-answers g c =
     let run = c.args.report.now.run in
     let pass = c.is_empty-pass.result in
     let passes : pass ≡ is_empty failing = c.is_empty-pass.ensures ∙ ap (λ (xs : List ℕ). length xs == 0) c.as_slice.ensures ∙ empty_is failing in
-    where_told (state g.S.Store c.args.conn.now) (state g.S.Store c.receive.new.conn) it c.tell_replies.result _ _ _ (λ s out. out ≡ report_replies s content v run (Some failing))
-    (λ s has. (
-      has,
-      λ t reports.
-          let told : ◌≡◌ {A = Transition} (record { answer = c.tell_replies.result; state = t }) (record { answer = told_as (λ n. Replies failing n pass) it; state = t }) = (λ i. record { answer = c.tell_replies.ensures i; state = t }) in
-          told ∙ reports (λ n. Replies failing n pass) ∙ (λ i. report s (checked_result content v (passes i) run) (λ n. Replies failing n (passes i))),
-    ))
+    answers_report (state g.S.Store c.args.conn.now) (state g.S.Store c.receive.new.conn) it c.tell_replies.result _ _ (λ s out. out ≡ report_replies s content v run (Some failing))
+    (λ s t reports.
+    let told : ◌≡◌ {A = Transition} (record { answer = c.tell_replies.result; state = t }) (record { answer = told_as (λ n. Replies failing n pass) it; state = t }) = (λ i. record { answer = c.tell_replies.ensures i; state = t }) in
+    told ∙ reports (λ n. Replies failing n pass) ∙ (λ i. report s (checked_result content v (passes i) run) (λ n. Replies failing n (passes i))))
     c.in-Ok.ensures.answers
 
 pub returns-in-Err-clause-calm : goal.returns-in-Err-clause-calm
@@ -41,7 +38,7 @@ returns-in-Err-clause-calm g c =
     let content = c.args.content in
     let pass = c.is_empty-pass.result in
     let passes : pass ≡ is_empty failing = c.is_empty-pass.ensures ∙ ap (λ (xs : List ℕ). length xs == 0) c.as_slice.ensures ∙ empty_is failing in
-    fails_as Reported Answer (state g.S.Store c.args.conn.now) (state g.S.Store c.receive.new.conn) c.in-Err.fault (λ s. HasPacticipant s provider) (IsToChange (λ s out. Leads s provider r content (Failing failing) out))
+    fails_as Reported Answer (state g.S.Store c.args.conn.now) (state g.S.Store c.receive.new.conn) c.in-Err.fault (CanReceive provider content) (IsToChange (λ s out. Leads s provider r content (Failing failing) out))
     (IsToReport provider r (record { content = content; pass = pass; checked = true }))
     (λ s has made. (
       Replies failing made.0 pass,

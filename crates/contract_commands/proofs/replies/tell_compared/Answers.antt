@@ -5,9 +5,11 @@ use Rattle.pact_reading.specs.declared.checking.Comparison.{Comparison}
 use Rattle.broker_core.specs.declared.answer.Answer.TheVariants.{BadForm, Pattern}
 use Rattle.broker_core.specs.declared.command.FormFault.TheVariants.{UnknownReply}
 use Rattle.command_facts.specs.Performs.{PerformsWhereBetween, IsToChange}
-use Rattle.contract_commands.specs.Results.{HasPacticipant}
+use Rattle.contract_commands.specs.Results.{HasPacticipant, CanReceive}
 use Rattle.contract_commands.specs.Checks.{Leads}
 use Rattle.broker_tables.specs.Calm.{FailsFromBetween}
+use Rattle.broker_tables.specs.Room.{enough}
+use Rattle.broker_tables.proofs.RoomLemmas.{takes_none}
 use Rattle.contract_commands.proofs.replies.tell_compared.Goals as goal
 
 pub returns-in-Failing-clause-answers : goal.returns-in-Failing-clause-answers
@@ -19,17 +21,17 @@ pub returns-in-UnknownReply-clause-answers : goal.returns-in-UnknownReply-clause
 returns-in-UnknownReply-clause-answers g c =
     let here = state g.S.Store c.args.conn.now in
     subst (λ (told : Comparison). PerformsWhereBetween here here (λ s. HasPacticipant s c.args.provider.now) (λ s out. Leads s c.args.provider.now c.args.report.now c.args.content told out) (Ok (BadForm UnknownReply)))
-    (sym c.in-UnknownReply.is) (idle here (Ok (BadForm UnknownReply)) _ (λ s held has. (s, refl, held)))
+    (sym c.in-UnknownReply.is) (idle here (Ok (BadForm UnknownReply)) _ (λ s held has. (s, refl, (held, takes_none enough here.now here.now refl))))
 
 pub returns-in-Pattern-clause-answers : goal.returns-in-Pattern-clause-answers
 returns-in-Pattern-clause-answers g c =
     let here = state g.S.Store c.args.conn.now in
     subst (λ (told : Comparison). PerformsWhereBetween here here (λ s. HasPacticipant s c.args.provider.now) (λ s out. Leads s c.args.provider.now c.args.report.now c.args.content told out) (Ok Pattern))
-    (sym c.in-Pattern.is) (idle here (Ok Pattern) _ (λ s held has. (s, refl, held)))
+    (sym c.in-Pattern.is) (idle here (Ok Pattern) _ (λ s held has. (s, refl, (held, takes_none enough here.now here.now refl))))
 
 pub returns-in-Failing-clause-calm : goal.returns-in-Failing-clause-calm
 returns-in-Failing-clause-calm g c = λ clean s here can.
-    subst (λ (told : Comparison). FailsFromBetween (state g.S.Store c.args.conn.now) (state g.S.Store c.report_failing.new.conn) c.report_failing.result (λ s. HasPacticipant s c.args.provider.now) (IsToChange (λ s out. Leads s c.args.provider.now c.args.report.now c.args.content told out)))
+    subst (λ (told : Comparison). FailsFromBetween (state g.S.Store c.args.conn.now) (state g.S.Store c.report_failing.new.conn) c.report_failing.result (CanReceive c.args.provider.now c.args.content) (IsToChange (λ s out. Leads s c.args.provider.now c.args.report.now c.args.content told out)))
     (sym c.in-Failing.is) c.report_failing.ensures.calm clean s here can.0
 
 pub returns-in-NoPact-clause-calm : goal.returns-in-NoPact-clause-calm

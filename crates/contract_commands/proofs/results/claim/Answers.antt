@@ -4,29 +4,26 @@ use Rattle.broker_core.specs.State.{claimed_result}
 use Rattle.broker_core.specs.Change.{Transition, report}
 use Rattle.broker_core.specs.declared.answer.Answer.{Answer}
 use Rattle.broker_core.specs.declared.answer.Detail.TheVariants.{Result}
-use Rattle.contract_commands.specs.Results.{HasPacticipant, IsToReport, Claims, told_as, reported_version}
+use Rattle.contract_commands.specs.Results.{CanReceive, IsToReport, Claims, told_as, reported_version}
 use Rattle.command_facts.specs.Performs.{IsToChange}
-use Rattle.command_facts.proofs.PerformLemmas.{where_told}
 use Rattle.contract_commands.specs.declared.results.Reported.{Reported}
 use Rattle.broker_tables.proofs.FailLemmas.{fails_as}
+use Rattle.contract_commands.proofs.ResultLemmas.{answers_report}
 use Rattle.contract_commands.proofs.results.claim.Goals as goal
 
 pub returns-clause-answers : goal.returns-clause-answers
 returns-clause-answers g c =
     let it = c.in-Ok.value in
-    where_told (state g.S.Store c.args.conn.now) (state g.S.Store c.receive.new.conn) it c.tell_result.result _ _ _
+    answers_report (state g.S.Store c.args.conn.now) (state g.S.Store c.receive.new.conn) it c.tell_result.result _ _
     (λ s out. out ≡ report s (claimed_result c.args.content (reported_version c.args.provider.now c.args.report.now) c.args.success c.args.report.now.run) Result)
-    (λ s has. (
-      has,
-      λ t reports.
-          let told : ◌≡◌ {A = Transition} (record { answer = c.tell_result.result; state = t }) (record { answer = told_as Result it; state = t }) = (λ i. record { answer = c.tell_result.ensures i; state = t }) in
-          told ∙ reports Result,
-    ))
+    (λ s t reports.
+    let told : ◌≡◌ {A = Transition} (record { answer = c.tell_result.result; state = t }) (record { answer = told_as Result it; state = t }) = (λ i. record { answer = c.tell_result.ensures i; state = t }) in
+    told ∙ reports Result)
     c.in-Ok.ensures.answers
 
 pub returns-in-Err-clause-calm : goal.returns-in-Err-clause-calm
 returns-in-Err-clause-calm g c =
     let provider = c.args.provider.now in
     let report = c.args.report.now in
-    fails_as Reported Answer (state g.S.Store c.args.conn.now) (state g.S.Store c.receive.new.conn) c.in-Err.fault (λ s. HasPacticipant s provider) (IsToChange (Claims provider report c.args.content c.args.success)) (IsToReport provider report (record { content = c.args.content; pass = c.args.success; checked = false }))
+    fails_as Reported Answer (state g.S.Store c.args.conn.now) (state g.S.Store c.receive.new.conn) c.in-Err.fault (CanReceive provider c.args.content) (IsToChange (Claims provider report c.args.content c.args.success)) (IsToReport provider report (record { content = c.args.content; pass = c.args.success; checked = false }))
     (λ s has made. (Result made.0, made.1, made.2 Result)) c.in-Err.ensures.calm

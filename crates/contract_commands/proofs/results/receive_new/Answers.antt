@@ -1,34 +1,28 @@
-use Rattle.std.proofs.Common.{◌&&◌, Ok, None, Some, ap}
+use Rattle.std.proofs.Common.{◌&&◌, None, Some, ap}
 use Rattle.sqlite.specs.Held.{state}
-use Rattle.table_access.proofs.CallLemmas.{statement_ok, statement_seq}
-use Rattle.broker_tables.proofs.QueryLemmas.{in_store}
 use Rattle.broker_core.specs.Limit.{has_room}
+use Rattle.contract_commands.specs.Pacts.{HasContent}
 use Rattle.contract_commands.specs.Results.{reported_version, reported_result, CanReport, IsUnused, IsToReport}
 use Rattle.contract_commands.specs.declared.results.Reported.TheVariants.{Full}
 use Rattle.broker_tables.proofs.FailLemmas.{fails_after}
 use Rattle.contract_commands.proofs.NumberingLemmas.{may_not_be_named, as_numbered}
-use Rattle.contract_commands.proofs.ResultLemmas.{no_place}
+use Rattle.contract_commands.proofs.ResultLemmas.{no_place, told_read, then_taken}
 use Rattle.contract_commands.proofs.results.receive_new.Goals as goal
 
 pub returns-in-None-clause-answers : goal.returns-in-None-clause-answers
 returns-in-None-clause-answers g c =
     let provider = c.args.provider.now in
     let report = c.args.report.now in
-    let v = reported_version provider report in
-    statement_ok (state g.S.Store c.args.conn.now) (state g.S.Store c.number_version.new.conn) None Full _ _
-    (λ h s held unused.
-    let read = h s held in
-    (s, no_place s (reported_result provider report c.args.found) unused.unused (ap (λ b. b && has_room s.results) (may_not_be_named s v c.args.number unused.version.known_is read.0)), read.1))
-    (in_store _ _ (Ok None) _ (rw c.in-None.is at c.in-Ok.ensures))
+    told_read (state g.S.Store c.args.conn.now) (state g.S.Store c.number_version.new.conn) None Full _ _ _
+    (λ s unused none. no_place s (reported_result provider report c.args.found) unused.unused (ap (λ b. b && has_room s.results) (may_not_be_named s (reported_version provider report) c.args.number unused.version.known_is none)))
+    (rw c.in-None.is at c.in-Ok.ensures)
 
 pub returns-in-Some-clause-answers : goal.returns-in-Some-clause-answers
 returns-in-Some-clause-answers g c =
     let v = reported_version c.args.provider.now c.args.report.now in
-    statement_seq (state g.S.Store c.args.conn.now) (state g.S.Store c.number_version.new.conn) (state g.S.Store c.receive_numbered.new.conn) (Some c.in-Some.version) c.receive_numbered.result _ _ _
-    (λ read it puts s held unused.
-    let first = read s held in
-    puts s first.1 (as_numbered s v c.args.number c.in-Some.version unused.version.number_is unused.version.known_is unused.owned first.0, unused.unused))
-    (in_store _ _ (Ok (Some c.in-Some.version)) _ (rw c.in-Some.is at c.in-Ok.ensures)) c.receive_numbered.ensures.answers
+    then_taken (state g.S.Store c.args.conn.now) (state g.S.Store c.number_version.new.conn) (state g.S.Store c.receive_numbered.new.conn) (Some c.in-Some.version) c.receive_numbered.result _ _ _ _ _
+    (λ s unused first. ((as_numbered s v c.args.number c.in-Some.version unused.version.number_is unused.version.known_is unused.owned first, unused.unused), λ b t made. made))
+    (rw c.in-Some.is at c.in-Ok.ensures) c.receive_numbered.ensures.answers
 
 pub returns-in-Some-clause-calm : goal.returns-in-Some-clause-calm
 returns-in-Some-clause-calm g c =
@@ -38,6 +32,6 @@ returns-in-Some-clause-calm g c =
     let report = c.args.report.now in
     let version = c.in-Some.version in
     let to = IsToReport provider report c.args.found in
-    fails_after old mid (state g.S.Store c.receive_numbered.new.conn) (Some version) c.receive_numbered.result _ _ (λ s. IsUnused s provider report c.args.number) (CanReport provider report version) to to
-    (λ s held unused first. ((as_numbered s (reported_version provider report) c.args.number version unused.version.number_is unused.version.known_is unused.owned first, unused.unused), λ made. made))
+    fails_after old mid (state g.S.Store c.receive_numbered.new.conn) (Some version) c.receive_numbered.result _ _ (λ s. IsUnused s provider report c.args.number × HasContent s c.args.found.content) (λ s. CanReport provider report version s × HasContent s c.args.found.content) to to
+    (λ s held can first. (((as_numbered s (reported_version provider report) c.args.number version can.0.version.number_is can.0.version.known_is can.0.owned first, can.0.unused), can.1), λ made. made))
     (rw c.in-Some.is at c.in-Ok.ensures.call) c.receive_numbered.ensures.answers.call c.receive_numbered.ensures.calm

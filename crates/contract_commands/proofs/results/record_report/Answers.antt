@@ -1,32 +1,35 @@
-use Rattle.std.proofs.Common.{◌≡◌, Some, refl, sym, subst}
+use Rattle.std.proofs.Common.{Ok, ◌∷◌, [], codes, refl, arith}
 use Rattle.sqlite.specs.Held.{state}
-use Rattle.table_access.proofs.CallLemmas.{statement_seq}
-use Rattle.broker_core.specs.State.{State}
-use Rattle.broker_core.specs.Change.{named}
-use Rattle.broker_tables.specs.Holds.{Holds}
-use Rattle.broker_tables.specs.Numbers.{number_of}
-use Rattle.contract_tables.specs.Verified.{RecordsResult}
-use Rattle.contract_commands.specs.Results.{reported_version, reported_result, recorded}
-use Rattle.contract_commands.proofs.ResultLemmas.{records}
+use Rattle.table_access.proofs.CallLemmas.{statement_with, statement_seq}
+use Rattle.broker_tables.proofs.FailLemmas.{taking, taking_then}
+use Rattle.broker_tables.proofs.RoomLemmas.{takes_then}
+use Rattle.contract_commands.specs.Numbering.{NamesAs}
+use Rattle.contract_commands.specs.Results.{reported_version}
+use Rattle.contract_commands.proofs.ResultLemmas.{records, now_recorded, allows}
 use Rattle.contract_commands.proofs.results.record_report.Goals as goal
 
-pub returns : goal.returns
-returns g c =
+pub returns-clause-answers : goal.returns-clause-answers
+returns-clause-answers g c =
     let old = state g.S.Store c.args.conn.now in
     let mid = state g.S.Store c.name_version.new.conn in
     let new = state g.S.Store c.record_result.new.conn in
-    let provider = c.args.provider.now in
-    let report = c.args.report.now in
-    let found = c.args.found in
-    let v = reported_version provider report in
     let next = c.args.next in
     let number = c.in-Ok.value in
     statement_seq old mid new number c.record_result.result _ _ _ (λ name u puts s held can.
     let it = name s held can.0 in
-    let now : Holds mid.now (named s v) = subst (λ (t : State). Holds mid.now t) it.1.0 it.2 in
-    let numbered = subst (λ (t : State). number_of t.versions v ≡ Some number) it.1.0 it.1.1 in
-    let to = recorded s (reported_result provider report found) in
-    let made = subst (λ run. RecordsResult next found.content c.as_str.result.now number found.pass found.checked run (named s v) to) (sym c.run_text.ensures)
-    (subst (λ p. RecordsResult next found.content p number found.pass found.checked report.run (named s v) to) (sym c.as_str.ensures) (records s provider report found next number can.1 numbered)) in
-    (to, refl, puts (named s v) now to made))
-    c.in-Ok.ensures c.record_result.ensures
+    let made = puts it.0 it.2.0 _ (records s it.0 c.args.provider.now c.args.report.now c.args.found c.as_str.result.now _ next number c.as_str.ensures c.run_text.ensures it.1 can.1) in
+    (_, now_recorded s it.0 c.args.provider.now c.args.report.now c.args.found c.as_str.result.now _ next number c.as_str.ensures c.run_text.ensures it.1, (made.0, takes_then 2 2 old.now mid.now new.now it.2.1 made.1)))
+    c.in-Ok.ensures.answers c.record_result.ensures.changes
+
+pub returns-clause-calm : goal.returns-clause-calm
+returns-clause-calm g c =
+    let old = state g.S.Store c.args.conn.now in
+    let mid = state g.S.Store c.name_version.new.conn in
+    let new = state g.S.Store c.record_result.new.conn in
+    let number = c.in-Ok.value in
+    taking_then old mid new number c.record_result.result 2 1 _ _ (NamesAs (reported_version c.args.provider.now c.args.report.now)) _
+    (λ s can t names. allows s t c.args.provider.now c.args.report.now c.args.found c.as_str.result.now _ c.args.next number c.as_str.ensures c.run_text.ensures names c.args.version can)
+    (statement_with old mid (Ok number) _ _ (λ n name s held can. name s held can.0.0) c.in-Ok.ensures.answers) c.record_result.ensures.changes.call (taking mid new c.record_result.result (codes "latest" ∷ []) (refl, tt) 1 (omega arith) _ c.record_result.ensures.calm)
+
+pub returns-in-Err-clause-calm : goal.returns-in-Err-clause-calm
+returns-in-Err-clause-calm g c clean s here can room = c.in-Err.ensures.calm clean s here can.0.0 tt

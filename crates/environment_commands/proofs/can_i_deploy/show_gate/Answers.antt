@@ -2,12 +2,12 @@ use Rattle.std.proofs.Common.{ap}
 use Rattle.sqlite.specs.Held.{state}
 use Rattle.broker_core.specs.Change.{unchanged_with}
 use Rattle.broker_core.specs.declared.answer.Answer.{Answer}
-use Rattle.environment_commands.proofs.FollowLemmas.{told}
+use Rattle.command_facts.proofs.CalmLemmas.{calm_answers}
 use Rattle.environment_commands.proofs.can_i_deploy.show_gate.Goals as goal
 
 pub returns : goal.returns
 returns g c =
-    told (state g.S.Store c.args.conn.now) (state g.S.Store c.judge.new.conn) c.in-Ok.value c.in-Ok-gate_answer.value _ _
+    calm_answers (state g.S.Store c.args.conn.now) (state g.S.Store c.judge.new.conn) c.in-Ok.value c.in-Ok-gate_answer.value _ _
     (λ s judged admitted. (
       c.args.place.marks,
       admitted.0,

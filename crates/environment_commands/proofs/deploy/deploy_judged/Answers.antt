@@ -12,10 +12,11 @@ use Rattle.broker_core.specs.declared.command.Version.{Version}
 use Rattle.broker_core.specs.declared.need.PairFault.{PairFault}
 use Rattle.broker_tables.specs.Numbers.{number_of}
 use Rattle.environment_commands.specs.Effects.{Enacts}
-use Rattle.environment_commands.specs.Places.{IsAdmitted}
+use Rattle.environment_commands.specs.Places.{HasPlace, IsAdmitted}
 use Rattle.command_facts.specs.Primitives.{broker_primitives}
 use Rattle.command_facts.proofs.PerformLemmas.{where_then, where_answered}
 use Rattle.environment_commands.proofs.FailLemmas.{fails_next}
+use Rattle.environment_commands.proofs.PlaceLemmas.{has_place}
 use Rattle.environment_commands.proofs.deploy.deploy_judged.Goals as goal
 
 -- what the gate permits is done
@@ -44,8 +45,8 @@ returns-then-permitted-clause-calm g c =
     let v = c.args.version.now in
     let judged = c.in-Ok.value in
     fails_next (state g.S.Store c.args.conn.now) (state g.S.Store c.judge.new.conn) (state g.S.Store c.record_deployment.new.conn) judged c.record_deployment.result _ _ c.in-Ok.ensures.call c.record_deployment.ensures.answers
-    (IsAdmitted e v c.args.place) (λ s. number_of s.versions v ≡ Some c.args.place.number) _ (Enacts (Deploy e v c.args.instance.now))
-    (λ s admitted says. (admitted.1, permitted_deploys s e v c.args.instance.now c.instance_text.result.now judged.0 judged.1.items c.instance_text.ensures c.if-permitted.true (says admitted)))
+    (IsAdmitted e v c.args.place) (HasPlace e v c.args.place.number) _ (Enacts (Deploy e v c.args.instance.now))
+    (λ s admitted says. (has_place s e v c.args.place admitted, permitted_deploys s e v c.args.instance.now c.instance_text.result.now judged.0 judged.1.items c.instance_text.ensures c.if-permitted.true (says admitted)))
     c.record_deployment.ensures.calm
 
 pub returns-else-permitted-clause-answers : goal.returns-else-permitted-clause-answers

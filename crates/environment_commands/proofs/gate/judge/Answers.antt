@@ -4,7 +4,7 @@ use Rattle.sqlite.specs.Held.{state}
 use Rattle.broker_core.specs.Gate.{Judges}
 use Rattle.broker_core.specs.Text.{Text}
 use Rattle.deploy_tables.specs.Needs.{AreFaults}
-use Rattle.environment_commands.proofs.FollowLemmas.{told}
+use Rattle.command_facts.proofs.CalmLemmas.{calm_answers}
 use Rattle.environment_commands.proofs.GateJudgement.{judged}
 use Rattle.environment_commands.proofs.gate.judge.Goals as goal
 
@@ -13,7 +13,7 @@ returns g c =
     let v = c.args.version.now in
     let marks = c.args.place.marks in
     let faults = c.in-Ok.value.items in
-    told (state g.S.Store c.args.conn.now) (state g.S.Store c.faults.new.conn) c.in-Ok.value (c.permits.result, c.in-Ok.value) _ _
+    calm_answers (state g.S.Store c.args.conn.now) (state g.S.Store c.faults.new.conn) c.in-Ok.value (c.permits.result, c.in-Ok.value) _ _
     (λ s listed admitted.
     let there : AreFaults s v c.as_str.result.now marks.strict faults =
     subst (λ (o : Option ℕ). MatchOption o (faults ≡ []) (λ _. AreFaults s v c.as_str.result.now marks.strict faults)) admitted.1 listed in

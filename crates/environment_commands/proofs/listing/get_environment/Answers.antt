@@ -1,17 +1,29 @@
-use Rattle.std.proofs.Common.{Some, Ok, sym, ap, ◌∙◌}
+use Rattle.std.proofs.Common.{Some, None, Option, Ok, true, refl, sym, ap, ◌∙◌}
 use Rattle.sqlite.specs.Held.{state}
 use Rattle.broker_core.specs.Machine.{StepOfCaller}
+use Rattle.broker_core.specs.Request.{refused}
+use Rattle.broker_core.specs.declared.answer.Answer.TheVariants.{Unknown}
+use Rattle.broker_core.specs.declared.answer.Missing.{Missing}
+use Rattle.broker_core.specs.declared.answer.Missing.TheVariants as missing
 use Rattle.broker_core.specs.declared.command.Command.TheVariants.{GetEnvironment}
 use Rattle.command_facts.specs.Primitives.{broker_primitives}
-use Rattle.command_facts.proofs.PerformLemmas.{shown_then}
+use Rattle.command_facts.proofs.CallerSteps.{refuses}
+use Rattle.command_facts.proofs.PerformLemmas.{answered_then, shown_then}
 use Rattle.broker_tables.proofs.QueryLemmas.{in_place}
 use Rattle.contract_tables.proofs.QueryLemmas.{calm_then}
+use Rattle.environment_commands.proofs.PlaceLemmas.{without_marks}
 use Rattle.environment_commands.proofs.listing.get_environment.Goals as goal
 
 pub returns-in-Some-clause-answers : goal.returns-in-Some-clause-answers
 returns-in-Some-clause-answers g c =
     shown_then (state g.S.Store c.args.conn.now) (state g.S.Store c.marks_of.new.conn) (state g.S.Store c.list_environment.new.conn) (Some c.in-Some.marks) c.list_environment.result _ _ (λ s out. StepOfCaller broker_primitives s c.args.caller.now (GetEnvironment c.args.environment.now) out)
     (λ s is answer h. h c.args.caller.now (ap s.environments (sym c.as_str.ensures) ∙ sym is)) (rw c.in-Some.is at c.in-Ok.ensures.answers.call) c.list_environment.ensures.call
+
+pub returns-in-None-clause-answers : goal.returns-in-None-clause-answers
+returns-in-None-clause-answers g c =
+    let e = c.args.environment.now in
+    answered_then (state g.S.Store c.args.conn.now) (state g.S.Store c.marks_of.new.conn) None (Unknown missing.Environment) _ (λ s out. StepOfCaller broker_primitives s c.args.caller.now (GetEnvironment e) out)
+    (λ s is. refuses s c.args.caller.now (GetEnvironment e) refl (Unknown missing.Environment) (ap (λ (m : Option Missing). refused (GetEnvironment e) m true) (without_marks s e None (ap s.environments (sym c.as_str.ensures) ∙ sym is)))) (rw c.in-None.is at c.in-Ok.ensures.answers.call)
 
 pub returns-in-Some-clause-calm : goal.returns-in-Some-clause-calm
 returns-in-Some-clause-calm g c =

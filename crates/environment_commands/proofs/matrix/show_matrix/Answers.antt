@@ -4,10 +4,10 @@ use Rattle.broker_core.specs.Change.{unchanged_with}
 use Rattle.broker_core.specs.declared.answer.Answer.TheVariants.{Shown}
 use Rattle.broker_core.specs.declared.answer.MatrixRow.{MatrixRow}
 use Rattle.broker_core.specs.declared.answer.Shown.TheVariants as shown
-use Rattle.environment_commands.proofs.FollowLemmas.{told}
+use Rattle.command_facts.proofs.CalmLemmas.{calm_answers}
 use Rattle.environment_commands.proofs.matrix.show_matrix.Goals as goal
 
 pub returns : goal.returns
 returns g c =
-    told (state g.S.Store c.args.conn.now) (state g.S.Store c.matrix.new.conn) c.in-Ok.value (Shown (shown.Matrix c.new.result)) _ _
+    calm_answers (state g.S.Store c.args.conn.now) (state g.S.Store c.matrix.new.conn) c.in-Ok.value (Shown (shown.Matrix c.new.result)) _ _
     (λ s rows. (c.in-Ok.value.items, rows, ap (λ (xs : List MatrixRow). unchanged_with s (Shown (shown.Matrix xs))) c.new.ensures)) c.in-Ok.ensures

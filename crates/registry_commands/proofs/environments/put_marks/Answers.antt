@@ -1,4 +1,4 @@
-use Rattle.std.proofs.Common.{Err, Some, sym, ◌∙◌, ap}
+use Rattle.std.proofs.Common.{[], ◌∷◌, codes, refl, Err, Some, sym, ◌∙◌, ap}
 use Rattle.sqlite.specs.Held.{state}
 use Rattle.broker_core.specs.Text.{put_at, same_text, Text}
 use Rattle.broker_core.specs.Machine.{StepOfCaller}
@@ -7,8 +7,13 @@ use Rattle.broker_core.specs.declared.answer.Answer.TheVariants.{Done}
 use Rattle.broker_core.specs.declared.answer.Detail.TheVariants.{Plain}
 use Rattle.command_facts.specs.Primitives.{broker_primitives}
 use Rattle.command_facts.proofs.FailLemmas.{change_fails}
-use Rattle.command_facts.proofs.PerformLemmas.{changed_then}
+use Rattle.command_facts.proofs.PerformLemmas.{answered_then, changed_then}
 use Rattle.registry_commands.proofs.environments.put_marks.Goals as goal
+
+pub returns-in-Some-clause-answers : goal.returns-in-Some-clause-answers
+returns-in-Some-clause-answers g c =
+    answered_then (state g.S.Store c.args.conn.now) (state g.S.Store c.marks_of.new.conn) _ c.in-Some.answer _ (λ s out. StepOfCaller broker_primitives s c.args.caller.now (PutEnvironment c.args.environment.now c.args.marks) out)
+    (λ s h. c.in-Some.ensures.unchanged s c.args.environment.now c.requires (ap s.environments (sym c.as_str.ensures) ∙ sym h)) c.in-Ok.ensures.answers.call
 
 pub returns-in-Ok-add_environment-clause-answers : goal.returns-in-Ok-add_environment-clause-answers
 returns-in-Ok-add_environment-clause-answers g c =
@@ -22,5 +27,10 @@ returns-in-Ok-add_environment-clause-answers g c =
 
 pub returns-in-Err-add_environment-clause-calm : goal.returns-in-Err-add_environment-clause-calm
 returns-in-Err-add_environment-clause-calm g c =
-    change_fails (state g.S.Store c.args.conn.now) (state g.S.Store c.marks_of.new.conn) (state g.S.Store c.add_environment.new.conn) c.in-Ok.value (Err c.in-Err-add_environment.fault) _ _ _
-    (λ s h. (Plain, _, (c.in-None.ensures.changes s c.args.environment.now c.requires (ap s.environments (sym c.as_str.ensures) ∙ sym h)).1)) c.in-Ok.ensures.answers.call c.in-Err-add_environment.ensures.changes.call
+    change_fails (state g.S.Store c.args.conn.now) (state g.S.Store c.marks_of.new.conn) (state g.S.Store c.add_environment.new.conn) c.in-Ok.value (Err c.in-Err-add_environment.fault) Plain (codes "environments" ∷ codes "strict_environments" ∷ []) (refl, (refl, tt)) _ _ _
+    (λ s out. StepOfCaller broker_primitives s c.args.caller.now (PutEnvironment c.args.environment.now c.args.marks) out)
+    (λ s h. let it = c.in-None.ensures.changes s c.args.environment.now c.requires (ap s.environments (sym c.as_str.ensures) ∙ sym h) in (
+      record s { environments = put_at same_text s.environments c.args.environment.now (Some c.args.marks) },
+      (ap s.environments c.as_str-in-None.ensures ∙ it.0, ap (λ (e : Text). record s { environments = put_at same_text s.environments e (Some c.args.marks) }) (sym c.as_str-in-None.ensures)),
+      it.1,
+    )) c.in-Ok.ensures.answers.call c.in-Err-add_environment.ensures.changes.call c.in-Err-add_environment.ensures.calm

@@ -11,8 +11,13 @@ use Rattle.broker_core.specs.declared.answer.Answer.TheVariants.{Done}
 use Rattle.broker_core.specs.declared.answer.Detail.TheVariants.{Plain}
 use Rattle.broker_tables.proofs.QueryLemmas.{in_place, in_calm, query_failed}
 use Rattle.command_facts.specs.Primitives.{broker_primitives}
-use Rattle.command_facts.proofs.PerformLemmas.{changed_then}
+use Rattle.command_facts.proofs.PerformLemmas.{answered_then, changed_then}
 use Rattle.registry_commands.proofs.grants.delete_grant.Goals as goal
+
+pub returns-in-Some-clause-answers : goal.returns-in-Some-clause-answers
+returns-in-Some-clause-answers g c =
+    answered_then (state g.S.Store c.args.conn.now) (state g.S.Store c.read_grant_facts.new.conn) _ c.in-Some.answer _ (λ s out. StepOfCaller broker_primitives s c.args.caller.now (DeleteGrant c.args.team.now c.args.environment.now) out)
+    (λ s h. c.in-Some.ensures.unchanged s c.args.team.now c.args.environment.now h) c.in-Ok.ensures.call
 
 pub returns-in-Ok-remove_grant-clause-answers : goal.returns-in-Ok-remove_grant-clause-answers
 returns-in-Ok-remove_grant-clause-answers g c =

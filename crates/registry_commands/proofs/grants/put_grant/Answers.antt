@@ -1,4 +1,4 @@
-use Rattle.std.proofs.Common.{Err, ◌≡◌, true, false, sym, ◌∙◌, ap}
+use Rattle.std.proofs.Common.{[], ◌∷◌, codes, refl, Err, ◌≡◌, true, false, sym, ◌∙◌, ap}
 use Rattle.std.specs.Option.{is_some}
 use Rattle.sqlite.specs.Held.{state}
 use Rattle.broker_core.specs.Text.{put_at, same_text, same_pair, Text}
@@ -8,8 +8,13 @@ use Rattle.broker_core.specs.declared.answer.Answer.TheVariants.{Done}
 use Rattle.broker_core.specs.declared.answer.Detail.TheVariants.{Plain}
 use Rattle.command_facts.specs.Primitives.{broker_primitives}
 use Rattle.command_facts.proofs.FailLemmas.{change_fails}
-use Rattle.command_facts.proofs.PerformLemmas.{changed_then}
+use Rattle.command_facts.proofs.PerformLemmas.{answered_then, changed_then}
 use Rattle.registry_commands.proofs.grants.put_grant.Goals as goal
+
+pub returns-in-Some-clause-answers : goal.returns-in-Some-clause-answers
+returns-in-Some-clause-answers g c =
+    answered_then (state g.S.Store c.args.conn.now) (state g.S.Store c.read_grant_facts.new.conn) _ c.in-Some.answer _ (λ s out. StepOfCaller broker_primitives s c.args.caller.now (PutGrant c.args.team.now c.args.environment.now) out)
+    (λ s h. c.in-Some.ensures.unchanged s c.args.team.now c.args.environment.now h) c.in-Ok.ensures.call
 
 pub returns-in-Ok-add_grant-clause-answers : goal.returns-in-Ok-add_grant-clause-answers
 returns-in-Ok-add_grant-clause-answers g c =
@@ -26,5 +31,13 @@ returns-in-Ok-add_grant-clause-answers g c =
 
 pub returns-in-Err-add_grant-clause-calm : goal.returns-in-Err-add_grant-clause-calm
 returns-in-Err-add_grant-clause-calm g c =
-    change_fails (state g.S.Store c.args.conn.now) (state g.S.Store c.read_grant_facts.new.conn) (state g.S.Store c.add_grant.new.conn) c.in-Ok.value (Err c.in-Err-add_grant.fault) _ _ _
-    (λ s h. (Plain, _, (c.in-None.ensures.changes s c.args.team.now c.args.environment.now h).3)) c.in-Ok.ensures.call c.in-Err-add_grant.ensures.changes.call
+    change_fails (state g.S.Store c.args.conn.now) (state g.S.Store c.read_grant_facts.new.conn) (state g.S.Store c.add_grant.new.conn) c.in-Ok.value (Err c.in-Err-add_grant.fault) Plain (codes "grants" ∷ []) (refl, tt) _ _ _
+    (λ s out. StepOfCaller broker_primitives s c.args.caller.now (PutGrant c.args.team.now c.args.environment.now) out)
+    (λ s h. let it = c.in-None.ensures.changes s c.args.team.now c.args.environment.now h in
+    let team_is : is_some (s.teams c.as_str.result.now) ≡ true = ap (λ t. is_some (s.teams t)) c.as_str.ensures ∙ h.team_is ∙ it.0 in
+    let environment_is : is_some (s.environments c.as_str-in-None.result.now) ≡ true = ap (λ e. is_some (s.environments e)) c.as_str-in-None.ensures ∙ h.environment_is ∙ it.1 in
+    let grant_is : s.grants (c.as_str.result.now, c.as_str-in-None.result.now) ≡ false = ap (λ (k : Text × Text). s.grants k) (λ i. (c.as_str.ensures i, c.as_str-in-None.ensures i)) ∙ h.grant_is ∙ it.2 in (
+      record s { grants = put_at (same_pair same_text same_text) s.grants (c.args.team.now, c.args.environment.now) true },
+      (team_is, environment_is, grant_is, λ i. record s { grants = put_at (same_pair same_text same_text) s.grants (sym c.as_str.ensures i, sym c.as_str-in-None.ensures i) true }),
+      it.3,
+    )) c.in-Ok.ensures.call c.in-Err-add_grant.ensures.changes.call c.in-Err-add_grant.ensures.calm

@@ -1,4 +1,4 @@
-use Rattle.std.proofs.Common.{Err, Some, sym, ◌∙◌, ap}
+use Rattle.std.proofs.Common.{[], ◌∷◌, codes, refl, Err, Some, sym, ◌∙◌, ap}
 use Rattle.std.specs.Option.{is_some}
 use Rattle.sqlite.specs.Held.{state}
 use Rattle.broker_core.specs.Text.{put_at, same_text}
@@ -28,5 +28,10 @@ returns-clause-answers g c =
 
 pub returns-in-Err-add_pacticipant-clause-calm : goal.returns-in-Err-add_pacticipant-clause-calm
 returns-in-Err-add_pacticipant-clause-calm g c =
-    change_fails (state g.S.Store c.args.conn.now) (state g.S.Store c.read_pacticipant_facts.new.conn) (state g.S.Store c.add_pacticipant.new.conn) c.in-Ok.value (Err c.in-Err-add_pacticipant.fault) _ _ _
-    (λ s h. (Plain, _, (c.in-None.ensures.changes s c.args.pacticipant.now h).2)) c.in-Ok.ensures.call c.in-Err-add_pacticipant.ensures.changes.call
+    change_fails (state g.S.Store c.args.conn.now) (state g.S.Store c.read_pacticipant_facts.new.conn) (state g.S.Store c.add_pacticipant.new.conn) c.in-Ok.value (Err c.in-Err-add_pacticipant.fault) Plain (codes "pacticipants" ∷ []) (refl, tt) _ _ _
+    (λ s out. StepOfCaller broker_primitives s c.args.caller.now (PutPacticipant c.args.pacticipant.now c.args.team.now) out)
+    (λ s h. let it = c.in-None.ensures.changes s c.args.pacticipant.now h in (
+      record s { pacticipants = put_at same_text s.pacticipants c.args.pacticipant.now (Some c.args.team.now) },
+      (ap s.pacticipants c.as_str.ensures ∙ it.0, ap (λ t. is_some (s.teams t)) c.as_str-in-None.ensures ∙ it.1, λ i. record s { pacticipants = put_at same_text s.pacticipants (sym c.as_str.ensures i) (Some (sym c.as_str-in-None.ensures i)) }),
+      it.2,
+    )) c.in-Ok.ensures.call c.in-Err-add_pacticipant.ensures.changes.call c.in-Err-add_pacticipant.ensures.calm

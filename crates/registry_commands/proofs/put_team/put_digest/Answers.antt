@@ -1,4 +1,4 @@
-use Rattle.std.proofs.Common.{Err, Some, sym, ◌∙◌, ap}
+use Rattle.std.proofs.Common.{[], ◌∷◌, codes, refl, Err, Some, sym, ◌∙◌, ap}
 use Rattle.sqlite.specs.Held.{state}
 use Rattle.broker_core.specs.Text.{put_at, same_text, Text}
 use Rattle.broker_core.specs.declared.answer.Answer.TheVariants.{Done}
@@ -23,8 +23,12 @@ returns-clause-answers g c =
 
 pub returns-in-Err-add_team-clause-calm : goal.returns-in-Err-add_team-clause-calm
 returns-in-Err-add_team-clause-calm g c =
-    change_fails (state g.S.Store c.args.conn.now) (state g.S.Store c.read_team_facts.new.conn) (state g.S.Store c.add_team.new.conn) c.in-Ok.value (Err c.in-Err-add_team.fault) _ _ _
-    (λ s h. (Plain, _, (c.in-None.ensures.changes s c.args.team.now h).1)) c.in-Ok.ensures.call c.in-Err-add_team.ensures.changes.call
+    change_fails (state g.S.Store c.args.conn.now) (state g.S.Store c.read_team_facts.new.conn) (state g.S.Store c.add_team.new.conn) c.in-Ok.value (Err c.in-Err-add_team.fault) Plain (codes "teams" ∷ []) (refl, tt) _ _ _ (λ s out. PutsTeam s c.args.caller.now c.args.team.now c.args.digest.now out)
+    (λ s h. let it = c.in-None.ensures.changes s c.args.team.now h in (
+      record s { teams = put_at same_text s.teams c.args.team.now (Some c.args.digest.now) },
+      (ap s.teams c.as_str.ensures ∙ it.0, c.in-None.ensures.unused s h.holder_is, ap (λ (team : Text). record s { teams = put_at same_text s.teams team (Some c.args.digest.now) }) (sym c.as_str.ensures)),
+      it.1,
+    )) c.in-Ok.ensures.call c.in-Err-add_team.ensures.changes.call c.in-Err-add_team.ensures.calm
 
 pub returns-in-Err-add_team-clause-answers : goal.returns-in-Err-add_team-clause-answers
 returns-in-Err-add_team-clause-answers g c =

@@ -1,19 +1,24 @@
-use Rattle.std.proofs.Common.{◌≡◌, ◌+◌, ap, ◌∙◌, subst}
+use Rattle.std.proofs.Common.{◌≡◌, ◌+◌, ap, sym, ◌∙◌, subst}
 use Rattle.sqlite.specs.Held.{state}
 use Rattle.table_access.proofs.CallLemmas.{statement_ok}
 use Rattle.broker_core.specs.declared.command.Version.{Version}
 use Rattle.broker_core.specs.State.{State}
 use Rattle.broker_core.specs.Text.{version as version_named}
-use Rattle.broker_tables.specs.Holds.{Holds}
+use Rattle.broker_tables.specs.Holds.{HoldsAfter}
 use Rattle.registry_tables.specs.Registry.{AllowsVersionAs, AddsVersion}
 use Rattle.registry_commands.proofs.versions.add_after.Goals as goal
 
-pub returns : goal.returns
-returns g c =
+pub returns-clause-changes : goal.returns-clause-changes
+returns-clause-changes g c =
     let old = state g.S.Store c.args.conn.now in
     let new = state g.S.Store c.add_version_as.new.conn in
     let number = c.in-Some.number in
     let same : version_named c.as_str.result.now c.as_str-2.result.now ≡ c.args.version.now = λ i. version_named (c.as_str.ensures i) (c.as_str-2.ensures i) in
     statement_ok old new c.in-Ok.value number _ _ (λ adds s held h.
-    subst (λ (v : Version). AllowsVersionAs number v s → (t : State) × AddsVersion v number s t × Holds new.now t) same (adds s held)
+    subst (λ (v : Version). AllowsVersionAs number v s → (t : State) × AddsVersion v number s t × HoldsAfter 2 old new t) same (adds s held)
     (h.0, c.in-Some.ensures.some ∙ ap (λ k. k + 1) h.1)) c.in-Ok.ensures.changes
+
+pub returns-in-Err-clause-calm : goal.returns-in-Err-clause-calm
+returns-in-Err-clause-calm g c clean s here may =
+    let same : version_named c.as_str.result.now c.as_str-2.result.now ≡ c.args.version.now = λ i. version_named (c.as_str.ensures i) (c.as_str-2.ensures i) in
+    c.in-Err.ensures.calm clean s here (subst (λ (v : Version). AllowsVersionAs c.in-Some.number v s) (sym same) (may.0, c.in-Some.ensures.some ∙ ap (λ k. k + 1) may.1))

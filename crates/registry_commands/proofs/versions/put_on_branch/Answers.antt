@@ -1,16 +1,32 @@
-use Rattle.std.proofs.Common.{◌≡◌, Option, Some, sym, subst, ap, ◌∙◌, refl}
+use Rattle.std.proofs.Common.{◌≡◌, Ok, Option, Some, sym, ap, subst, ◌∙◌, refl}
 use Rattle.sqlite.specs.Held.{state}
-use Rattle.table_access.proofs.CallLemmas.{statement_with}
+use Rattle.table_access.proofs.CallLemmas.{statement_with, idle, memory_ok}
 use Rattle.broker_core.specs.Text.{Text}
 use Rattle.broker_core.specs.Change.{joined}
-use Rattle.broker_tables.specs.Holds.{Holds}
+use Rattle.sqlite.specs.State.{State as View}
+use Rattle.broker_core.specs.State.{State}
+use Rattle.broker_tables.specs.Holds.{Holds, HoldsAfter}
+use Rattle.broker_tables.proofs.RoomLemmas.{takes_none}
 use Rattle.registry_commands.proofs.versions.put_on_branch.Goals as goal
 
-pub returns-in-Some : goal.returns-in-Some
-returns-in-Some g c =
-    let old = state g.S.Store c.args.conn.now in
-    let new = state g.S.Store c.add_branch.new.conn in
+held_as : (now : View) (s t : State) → t ≡ s → Holds now.now s → HoldsAfter 2 now now t
+held_as now s t is held = (subst (Holds now.now) (sym is) held, takes_none 2 now.now now.now refl)
+
+pub returns-in-Some-clause-changes : goal.returns-in-Some-clause-changes
+returns-in-Some-clause-changes g c =
     let is_branch : c.args.branch.now ≡ Some c.as_str.result.now = c.in-Some.is ∙ ap Some (sym c.as_str.ensures) in
-    statement_with old new c.add_branch.result _ _
-    (λ u h s held v is apart. subst (λ (o : Option Text). Holds (state g.S.Store c.add_branch.new.conn).now (joined s v o)) (sym is_branch)
-    (h s held (joined s v (Some c.as_str.result.now)) (v, is, apart c.as_str.result.now is_branch, refl))) c.add_branch.ensures.changes
+    statement_with (state g.S.Store c.args.conn.now) (state g.S.Store c.add_branch.new.conn) c.add_branch.result _ _
+    (λ u h s held t next. h s held t (next.0, next.1, next.2 c.as_str.result.now is_branch, next.3 ∙ ap (λ (o : Option Text). joined s next.0 o) is_branch)) c.add_branch.ensures.changes
+
+pub returns-in-Some-clause-calm : goal.returns-in-Some-clause-calm
+returns-in-Some-clause-calm g c clean s here next =
+    let is_branch : c.args.branch.now ≡ Some c.as_str.result.now = c.in-Some.is ∙ ap Some (sym c.as_str.ensures) in
+    c.add_branch.ensures.calm clean s here (_, (next.1.0, next.1.1, next.1.2 c.as_str.result.now is_branch, refl))
+
+pub returns-in-None-clause-changes : goal.returns-in-None-clause-changes
+returns-in-None-clause-changes g c =
+    let now = state g.S.Store c.args.conn.now in
+    record {
+      call = idle now (Ok tt) _ (λ s held t next. held_as now s t (next.3 ∙ ap (λ (o : Option Text). joined s next.0 o) c.in-None.is) held);
+      memory = memory_ok now now tt;
+    }

@@ -1,10 +1,31 @@
-use Rattle.std.proofs.Common.{Err}
+use Rattle.std.proofs.Common.{Err, refl, arith}
 use Rattle.sqlite.specs.Held.{state}
+use Rattle.broker_core.specs.Change.{joined, named}
+use Rattle.broker_core.specs.declared.answer.Answer.TheVariants.{Done}
 use Rattle.broker_core.specs.declared.answer.Detail.TheVariants.{Plain}
-use Rattle.command_facts.proofs.FailLemmas.{change_fails}
+use Rattle.broker_core.specs.declared.command.Command.TheVariants.{PutVersion}
+use Rattle.command_facts.specs.Performs.{IsStepOf}
+use Rattle.command_facts.proofs.FailLemmas.{taking_fails}
+use Rattle.command_facts.proofs.PerformLemmas.{answered_then, changed_taking}
+use Rattle.registry_commands.specs.Facts.{RecordsVersion}
 use Rattle.registry_commands.proofs.versions.put_version.Goals as goal
+
+pub returns-in-Some-clause-answers : goal.returns-in-Some-clause-answers
+returns-in-Some-clause-answers g c =
+    answered_then (state g.S.Store c.args.conn.now) (state g.S.Store c.read_naming_facts.new.conn) _ c.in-Some.answer _ (IsStepOf c.args.caller.now (PutVersion c.args.version.now c.args.branch.now))
+    (λ s h. c.in-Some.ensures.unchanged s c.args.caller.now c.args.version.now c.args.branch.now h) c.in-Ok.ensures.call
+
+pub returns-in-Ok-record_version-clause-answers : goal.returns-in-Ok-record_version-clause-answers
+returns-in-Ok-record_version-clause-answers g c =
+    let v = c.args.version.now in
+    let branch = c.args.branch.now in
+    changed_taking 4 (omega arith) (state g.S.Store c.args.conn.now) (state g.S.Store c.read_naming_facts.new.conn) (state g.S.Store c.record_version.new.conn) c.in-Ok.value c.in-Ok-record_version.value (Done Plain) _ _ (IsStepOf c.args.caller.now (PutVersion v branch))
+    (λ s h. let it = c.in-None.ensures.changes s c.args.caller.now v branch h in (joined (named s v) v branch, (it.0, refl), it.1)) c.in-Ok.ensures.call c.in-Ok-record_version.ensures.changes
 
 pub returns-in-Err-record_version-clause-calm : goal.returns-in-Err-record_version-clause-calm
 returns-in-Err-record_version-clause-calm g c =
-    change_fails (state g.S.Store c.args.conn.now) (state g.S.Store c.read_naming_facts.new.conn) (state g.S.Store c.record_version.new.conn) c.in-Ok.value (Err c.in-Err-record_version.fault) _ _ _
-    (λ s h. (Plain, _, (c.in-None.ensures.changes s c.args.caller.now c.args.version.now c.args.branch.now h).1)) c.in-Ok.ensures.call c.in-Err-record_version.ensures.call
+    let v = c.args.version.now in
+    let branch = c.args.branch.now in
+    taking_fails 3 (omega arith) (state g.S.Store c.args.conn.now) (state g.S.Store c.read_naming_facts.new.conn) (state g.S.Store c.record_version.new.conn) c.in-Ok.value (Err c.in-Err-record_version.fault) Plain _ _ (RecordsVersion v branch c.in-Ok.value.version.number c.in-Ok.value.versions.count) (IsStepOf c.args.caller.now (PutVersion v branch))
+    (λ s h. let it = c.in-None.ensures.changes s c.args.caller.now v branch h in (joined (named s v) v branch, (it.0, refl), it.1)) c.in-Ok.ensures.call c.in-Err-record_version.ensures.changes.call
+    (λ clean s here may. c.in-Err-record_version.ensures.calm clean s here may.1.0)
