@@ -16,6 +16,8 @@ use Rattle.broker_core.specs.Text.{Text}
 use Rattle.broker_core.specs.declared.answer.Answer.{Answer}
 use Rattle.broker_core.specs.declared.answer.Answer.TheVariants as answers
 use Rattle.broker_core.specs.declared.command.Command.{Command}
+use Rattle.broker_tables.specs.Readable.{IsReadable}
+use Rattle.broker_service.specs.Causes.{StaysReadable}
 use Rattle.broker_service.specs.BrokerView.{BrokerView}
 use Rattle.broker_service.specs.Calls.{Applied}
 use Rattle.broker_service.specs.Ends.{Applies, CommitsAtMostOnce}
@@ -82,11 +84,13 @@ fault_since first old new since clean up (inr shut) = elim (cases_Bool first.is_
   | inr was ↦ inr was
 ]
 
--- it is stopped only so, but for one that was stopped before
-abbrev pub StopsLater : Type 0 → State → State → Mode → Type 0
-StopsLater Before first here mode = Before ⊎ StopsOnlyBy first here mode
+-- A broker that runs is in a state that can be read back, if the first could; it is stopped only so, but for one that was
+-- stopped before.
+abbrev pub StopsLater : Type 0 → Broker → State → State → Mode → Type 0
+StopsLater Before first there here (Running s) = Before ⊎ (IsReadable first → IsReadable s)
+StopsLater Before first there here (IsStopped s token command) = Before ⊎ StopsOnlyBy first there here (IsStopped s token command)
 
-module _ {X : Type 0} (Before : Type 0) (shown : Held X → State) where
+module _ {X : Type 0} (Before : Type 0) (begun : Broker) (shown : Held X → State) where
   untouched : {P : Trees → Type 0} (old new : BrokerView X) → new ≡ old → Survives (shown old.connection) (shown new.connection) P
   untouched {P} old new same =
       subst (λ (b : BrokerView X). Survives (shown old.connection) (shown b.connection) P) (sym same) (outlives_itself (shown old.connection))
@@ -96,41 +100,45 @@ module _ {X : Type 0} (Before : Type 0) (shown : Held X → State) where
 
   -- an answer of a broker that runs
   applied : (first : State) (s : Broker) (token : Option Text) (command : Command) (answer : Answer) (new : BrokerView X)
-      → (IsTrue new.is_stopped ↔ (answer ≡ answers.Store)) → Applies s token command (shown new.connection) answer
-      → (answer ≡ answers.Store → StopsOnlyBy first (shown new.connection) (IsStopped s token command))
-      → (next : Mode) × ModeStep (Running s) token command answer next × IsInMode shown next new × StopsLater Before first (shown new.connection) next
-  applied first s token command answer new stops (inl p) why =
-      (Running p.next, inl (p.is_machines, p.step, p.teams_differ), (not_true new.is_stopped (λ yes. no_step answer p.is_machines (stops.0 yes)), p.keeps), inr tt)
-  applied first s token command answer new stops (inr (inl p)) why =
-      (Running s, inr (inr (p.0, p.1, refl)), (not_true new.is_stopped (λ yes. let wrong = sym p.0 ∙ stops.0 yes in cc), p.2), inr tt)
-  applied first s token command answer new stops (inr (inr (inl p))) why =
-      (Running s, inr (inl (p.0, refl)), (not_true new.is_stopped (λ yes. let wrong = sym p.0 ∙ stops.0 yes in cc), p.1), inr tt)
-  applied first s token command answer new stops (inr (inr (inr p))) why =
-      (IsStopped s token command, (p.0, refl, refl, refl), (stops.1 p.0, p.1), inr (why p.0))
+      → (IsTrue new.is_stopped ↔ (answer ≡ answers.Store)) → StaysReadable token command → Before ⊎ (IsReadable begun → IsReadable s) → Applies s token command (shown new.connection) answer
+      → (answer ≡ answers.Store → (IsReadable begun → IsReadable s) → StopsOnlyBy begun first (shown new.connection) (IsStopped s token command))
+      → (next : Mode) × ModeStep (Running s) token command answer next × IsInMode shown next new × StopsLater Before begun first (shown new.connection) next
+  applied first s token command answer new stops stays reads (inl p) why = (
+    Running p.next,
+    inl (p.is_machines, p.step, p.teams_differ),
+    (not_true new.is_stopped (λ yes. no_step answer p.is_machines (stops.0 yes)), p.keeps),
+    elim reads [ inl before ↦ inl before | inr here ↦ inr (λ first. stays s (record { answer = answer; state = p.next }) (here first) p.step) ],
+  )
+  applied first s token command answer new stops stays reads (inr (inl p)) why =
+      (Running s, inr (inr (p.0, p.1, refl)), (not_true new.is_stopped (λ yes. let wrong = sym p.0 ∙ stops.0 yes in cc), p.2), reads)
+  applied first s token command answer new stops stays reads (inr (inr (inl p))) why =
+      (Running s, inr (inl (p.0, refl)), (not_true new.is_stopped (λ yes. let wrong = sym p.0 ∙ stops.0 yes in cc), p.1), reads)
+  applied first s token command answer new stops stays reads (inr (inr (inr p))) why =
+      (IsStopped s token command, (p.0, refl, refl, refl), (stops.1 p.0, p.1), elim reads [ inl before ↦ inl before | inr here ↦ inr (why p.0 here) ])
 
   mode_step : (first : State) (mode : Mode) (old new : BrokerView X) (token : Option Text) (command : Command) (answer : Answer)
-      → HasCleanDisk (shown new.connection) → IsInMode shown mode old → IsSince first (shown old.connection) → StopsLater Before first (shown old.connection) mode → Applied shown old token command answer new
-      → (next : Mode) × ModeStep mode token command answer next × IsInMode shown next new × StopsLater Before first (shown new.connection) next
+      → HasCleanDisk (shown new.connection) → IsInMode shown mode old → IsSince first (shown old.connection) → StopsLater Before begun first (shown old.connection) mode → Applied shown old token command answer new
+      → (next : Mode) × ModeStep mode token command answer next × IsInMode shown next new × StopsLater Before begun first (shown new.connection) next
   mode_step first (Running s) old new token command answer clean held since stops a =
-      applied first s token command answer new (a.stops held.0) (a.applies clean held.0 s held.1)
-      (λ store unlimited readable. elim (a.calm clean held.0 store s (record { held = held.1; readable = readable; unlimited = since.limit ∙ unlimited })) [
+      applied first s token command answer new (a.stops held.0) a.readable stops (a.applies clean held.0 s held.1)
+      (λ store reads unlimited readable. elim (a.calm clean held.0 store s (record { held = held.1; readable = reads readable; unlimited = since.limit ∙ unlimited })) [
         | inl failed ↦ inl (fault_since first (shown old.connection) (shown new.connection) since (still_clean _ _ a.survives.1.clean clean) a.survives.1.counts (disk_at_fault (shown old.connection) (shown new.connection) failed))
-        | inr to_do ↦ inr to_do
+        | inr to_do ↦ inr to_do.0
       ])
   mode_step first (IsStopped s of failed) old new token command answer clean held since stops a =
       let still = a.stopped held.0 in
       let mode = IsStopped s of failed in
-      (mode, (still.0, refl), subst (λ (b : BrokerView X). IsInMode shown mode b) (sym still.1) held, subst (λ (b : BrokerView X). StopsLater Before first (shown b.connection) mode) (sym still.1) stops)
+      (mode, (still.0, refl), subst (λ (b : BrokerView X). IsInMode shown mode b) (sym still.1) held, subst (λ (b : BrokerView X). StopsLater Before begun first (shown b.connection) mode) (sym still.1) stops)
 
   -- a message that leaves the broker alone
-  left_alone : (first : State) (mode : Mode) (old new : BrokerView X) → new ≡ old → IsInMode shown mode old → StopsLater Before first (shown old.connection) mode
-      → IsInMode shown mode new × StopsLater Before first (shown new.connection) mode
-  left_alone first mode old new same held stops = (subst (IsInMode shown mode) (sym same) held, subst (λ (b : BrokerView X). StopsLater Before first (shown b.connection) mode) (sym same) stops)
+  left_alone : (first : State) (mode : Mode) (old new : BrokerView X) → new ≡ old → IsInMode shown mode old → StopsLater Before begun first (shown old.connection) mode
+      → IsInMode shown mode new × StopsLater Before begun first (shown new.connection) mode
+  left_alone first mode old new same held stops = (subst (IsInMode shown mode) (sym same) held, subst (λ (b : BrokerView X). StopsLater Before begun first (shown b.connection) mode) (sym same) stops)
 
   -- a message and its response
   exchanged : (first : State) (mode : Mode) (old new : BrokerView X) (asked : Request) (response : Response)
-      → HasCleanDisk (shown new.connection) → IsInMode shown mode old → IsSince first (shown old.connection) → StopsLater Before first (shown old.connection) mode → exchange.Responds (Applied shown) old asked response new
-      → (next : Mode) × exchange.Responds ModeStep mode asked response next × IsInMode shown next new × StopsLater Before first (shown new.connection) next
+      → HasCleanDisk (shown new.connection) → IsInMode shown mode old → IsSince first (shown old.connection) → StopsLater Before begun first (shown old.connection) mode → exchange.Responds (Applied shown) old asked response new
+      → (next : Mode) × exchange.Responds ModeStep mode asked response next × IsInMode shown next new × StopsLater Before begun first (shown new.connection) next
   exchanged first mode old new (Refused refusal is_bodiless) response clean held since stops p = let still = left_alone first mode old new p.1 held stops in (mode, (p.0, refl), still.0, still.1)
   exchanged first mode old new (NoRoute closes) response clean held since stops p = let still = left_alone first mode old new p.1 held stops in (mode, (p.0, refl), still.0, still.1)
   exchanged first mode old new (NoMethod resource closes) response clean held since stops p = let still = left_alone first mode old new p.1 held stops in (mode, (p.0, refl), still.0, still.1)
@@ -168,8 +176,8 @@ module _ {X : Type 0} (Before : Type 0) (shown : Held X → State) where
   -- what a broker answers is what the machine answers, and why it is stopped
   pub machine : (first : State) (mode : Mode) (old : BrokerView X) (stream : List ℕ) (responses : List Response) (new : BrokerView X) (rest : List ℕ)
       → Responses (exchange.Exchange (Applied shown)) old stream responses new rest
-      → HasCleanDisk (shown new.connection) → IsInMode shown mode old → IsSince first (shown old.connection) → StopsLater Before first (shown old.connection) mode
-      → (last : Mode) × Responses (exchange.Exchange ModeStep) mode stream responses last rest × IsInMode shown last new × StopsLater Before first (shown new.connection) last
+      → HasCleanDisk (shown new.connection) → IsInMode shown mode old → IsSince first (shown old.connection) → StopsLater Before begun first (shown old.connection) mode
+      → (last : Mode) × Responses (exchange.Exchange ModeStep) mode stream responses last rest × IsInMode shown last new × StopsLater Before begun first (shown new.connection) last
   machine first mode old stream [] new rest p clean held since stops = let still = left_alone first mode old new p.0 held stops in (mode, (refl, p.1), still.0, still.1)
   machine first mode old stream (response ∷ responses) new rest p clean held since stops =
       let mid_clean = all_clean p.1 p.2 responses new rest p.5 clean in

@@ -7,7 +7,6 @@ use Rattle.broker_core.specs.Change.{Transition}
 use Rattle.broker_core.specs.Laws.{TeamsDiffer}
 use Rattle.broker_core.proofs.Once.{step_once}
 use Rattle.broker_core.specs.declared.answer.Answer.{Answer}
-use Rattle.broker_core.specs.declared.answer.Answer.TheVariants.{NotPermitted}
 use Rattle.broker_core.specs.declared.command.Command.TheVariants.{Deploy}
 use Rattle.broker_core.specs.declared.policy.Caller.TheVariants.{Team}
 use Rattle.broker_core.specs.Machine.{Request, Step}
@@ -15,7 +14,6 @@ use Rattle.broker_core.specs.State.{State as Broker, claimed_result}
 use Rattle.broker_core.specs.Text.{Text, put_at, same_pair, same_place, same_text, same_version, version}
 use Rattle.broker_core.proofs.Judgement.{Rows, row_keys, judges, text_is}
 use Rattle.command_facts.specs.Primitives.{broker_primitives}
-use Rattle.answer_texts.specs.AnswerText.{answer_text}
 use Rattle.answer_texts.proofs.TextExamples.{is_claimed, refused_for_a_claim, the_body_of_a_refusal}
 use Rattle.http_responses.specs.Head.{phrase, status_line, content_fields, own_field, close_field}
 use Rattle.http_responses.specs.Responses.{Response, answer_response, response_of, sent_part}

@@ -10,7 +10,6 @@ use Rattle.broker_core.proofs.Callers.{teams_differ_step}
 use Rattle.broker_core.proofs.Headline.{deploys_exactly, releases_exactly}
 use Rattle.command_facts.specs.Primitives.{broker_primitives}
 use Rattle.broker_http.specs.Journal.{state_of}
-use Rattle.broker_http.specs.Serving.{Mode}
 use Rattle.broker_http.specs.Laws.{RunsSteps, IsServedExactly, EachServed, StreamsDeployExactly, StreamsReleaseExactly}
 
 module _ (r : Request) (IsExactly : Broker → Transition → Type 0)

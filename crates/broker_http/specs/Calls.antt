@@ -49,12 +49,12 @@ module _ {X : Type 0} (shown : Held X → State) (s t : BrokerView X) (before af
     pub machine : HasCleanDisk (shown t.connection) → (mode : Mode) → IsInMode shown mode s
         → (last : Journal) × IsInMode shown last.mode t × IsRunFrom mode last
         × ServesStream ByMachine (blank mode) last before after old new result
-    -- and if one of these answers stopped it, it was to a command that was to be done, or the disk failed, in each state
+    -- and if one of these answers stopped it, it was to a command that was to be done, or the disk failed, from each state
     -- that can be read back; so no request that is refused or only reads stops a broker whose disk works
     pub calm : HasCleanDisk (shown t.connection) → (first : Broker) → IsInMode shown (Running first) s
         → (last : Journal) × IsInMode shown last.mode t × IsRunFrom (Running first) last
         × ServesStream ByMachine (blank (Running first)) last before after old new result
-        × StopsOnlyBy (shown s.connection) (shown t.connection) last.mode
+        × StopsOnlyBy first (shown s.connection) (shown t.connection) last.mode
     -- what the store promises of the connection: it is shut by a fault of the disk alone, its step limit stays, and
     -- what a crash may leave it could leave before, or it is one of these commits, at most one a message
     pub survives : (commits : List Trees) × Survives (shown s.connection) (shown t.connection) (Contains commits)

@@ -59,12 +59,12 @@ module _ {X : Type 0} (shown : Held X → State) where
 abbrev pub IsDiskAtFault : State → State → Type 0
 IsDiskAtFault old new = HasCause old new ⊥ Io ⊎ HasCause old new ⊥ Broken
 
--- Why a broker is stopped, over a connection on which no query has a limit of steps: in a state that can be read back,
--- the disk failed, or the command was to be done.
-abbrev pub StopsOnlyBy : State → State → Mode → Type 0
-StopsOnlyBy old new (Running s) = Unit {0}
-StopsOnlyBy old new (IsStopped s token command) =
-    old.step_limit ≡ None → IsReadable s → IsDiskAtFault old new ⊎ IsToBeDone s token command
+-- Why a broker is stopped, over a connection on which no query has a limit of steps, from a first state that can be read
+-- back: the disk failed, or the command was to be done.
+abbrev pub StopsOnlyBy : Broker → State → State → Mode → Type 0
+StopsOnlyBy first old new (Running s) = Unit {0}
+StopsOnlyBy first old new (IsStopped s token command) =
+    old.step_limit ≡ None → IsReadable first → IsDiskAtFault old new ⊎ IsToBeDone s token command
 
 module _ {S : Type 0} (Exchange : S → Message → Response → S → Type 0) (s t : S)
     (before after old new : Option (List ℕ)) where

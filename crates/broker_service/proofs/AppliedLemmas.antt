@@ -14,7 +14,7 @@ use Rattle.broker_core.specs.declared.answer.Answer.TheVariants as answers
 use Rattle.broker_core.specs.declared.command.Command.{Command}
 use Rattle.broker_service.specs.BrokerView.{BrokerView}
 use Rattle.broker_service.specs.Calls.{Applied}
-use Rattle.broker_service.specs.Causes.{Transacted}
+use Rattle.broker_service.specs.Causes.{Transacted, StaysReadable}
 use Rattle.broker_service.specs.Ends.{Applies, AppliesOrFails, IsAsBefore, IsUnchangedUnless, IsNoFailure}
 use Rattle.broker_service.specs.Stored.{HoldsState}
 use Rattle.broker_service.proofs.EndLemmas.{deployed_exactly, released_exactly}
@@ -57,14 +57,16 @@ module _ {X : Type 0} (shown : Held X → State) where
   -- what a running broker's transaction leaves
   pub ran : (old : BrokerView X) (token : Option Text) (command : Command) (r : Result Answer StoreFault) (answer : Answer) (new : BrokerView X) → answer ≡ told r
       → Transacted shown token command old.connection new.connection r
-      → IfOk r IsNoFailure → (IsTrue new.is_stopped ↔ (answer ≡ answers.Store)) → old.is_stopped ≡ false → Applied shown old token command answer new
-  ran old token command r answer new is it answered stops running = record {
+      → IfOk r IsNoFailure → (IsTrue new.is_stopped ↔ (answer ≡ answers.Store)) → old.is_stopped ≡ false → StaysReadable token command → Applied shown old token command answer new
+  ran old token command r answer new is it answered stops running reads = record {
+    readable = reads;
     applies = λ clean _. applies clean;
     deployments = λ clean _ step s holds. deployed_exactly s token command _ answer (applies clean s holds) step;
     releases = λ clean _ step s holds. released_exactly s token command _ answer (applies clean s holds) step;
     unchanged = λ clean _ other undone. unchanged_told _ _ r (it.unchanged clean) (subst (λ (a : Answer). a ≢ answers.Store) is other) (subst (λ (a : Answer). ¬ (IsDone a)) is undone);
     fails = λ clean store. fails_told _ _ r (it.unchanged clean) (sym is ∙ store);
     calm = λ clean _ store s holds. it.calm clean s holds (store_told r answered (sym is ∙ store));
+    room = λ clean _. it.room clean;
     over = it.over;
     stops = λ _. stops;
     stopped = λ stopped. absurd (cc);
@@ -76,14 +78,16 @@ module _ {X : Type 0} (shown : Held X → State) where
       applies clean s holds = subst (λ (a : Answer). Applies s token command (shown new.connection) a) (sym is) (applies_told s token command (shown new.connection) r (it.ends clean s holds))
 
   -- what a stopped broker is left as
-  pub refused_stopped : (b : BrokerView X) (token : Option Text) (command : Command) → IsTrue b.is_stopped → Applied shown b token command answers.Stopped b
-  refused_stopped b token command is = record {
+  pub refused_stopped : (b : BrokerView X) (token : Option Text) (command : Command) → IsTrue b.is_stopped → StaysReadable token command → Applied shown b token command answers.Stopped b
+  refused_stopped b token command is reads = record {
+    readable = reads;
     applies = λ clean running. absurd (cc);
     deployments = λ clean running. absurd (cc);
     releases = λ clean running. absurd (cc);
     unchanged = λ clean running. absurd (cc);
     fails = λ clean store. absurd (cc);
     calm = λ clean running. absurd (cc);
+    room = λ clean running. absurd (cc);
     over = λ clean was. was;
     stops = λ running. absurd (cc);
     stopped = λ _. (refl, refl);

@@ -152,7 +152,7 @@ module _ {X : Type 0} (shown : Held X → State) (settled : (c : Held X) (t : Tr
     makes_new : (office : Text) (given : Result (BrokerView X) (Refused X)) (calls : List (Request × Exit)) → IsOnDisk IsBlank trees → Created shown first office given
         → GivenRuns shown given calls last → (new : Kept) × (LeavesAsWas Blank calls new ⊎ RunsFrom (opening office) calls new) × AreTreesOf new end
     makes_new office (Ok b) calls are made it =
-        let led = ran (opening office) b calls made.runs (made.made (given_clean shown (Ok b) calls last it clean) (holds_blank trees (shown first) on (settled first) are)) it in
+        let led = ran (opening office) b calls made.runs (made.made (given_clean shown (Ok b) calls last it clean) (holds_blank trees (shown first) on (settled first) are)).0 it in
         (led.0, inr led.1, led.2)
     makes_new office (Err r) calls are made it =
         by r.fault (made.refuses (given_clean shown (Err r) calls last it clean) (holds_blank trees (shown first) on (settled first) are) (no_table trees (shown first) on (settled first) are))

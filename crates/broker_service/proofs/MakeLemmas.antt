@@ -13,6 +13,7 @@ use Rattle.broker_core.specs.Text.{Text}
 use Rattle.broker_tables.specs.Former.{former_format}
 use Rattle.broker_tables.specs.Holds.{Holds}
 use Rattle.broker_tables.specs.Making.{IsBlank}
+use Rattle.broker_tables.specs.Room.{HasAllNumbers}
 use Rattle.registry_tables.specs.Format.{FindsFormer, IsOfFormat}
 use Rattle.broker_service.specs.Migration.{StoresFormer, IsFormer, BringsUp, BringsUpOrNot}
 use Rattle.broker_service.specs.Opening.{MakesOrFails, Refuses, open_fault}
@@ -42,21 +43,21 @@ made_kept (Ok u) = (λ _. tt, λ _. refl)
 made_kept (Err why) = (λ no. absurd (cc), λ no. absurd no)
 
 pub made : (office : Text) (old mid done new : State) (worked result : Result (Unit {0}) StoreFault) (keeps : Bool) → (HasCleanDisk mid → Begins old mid) → Survives old mid (λ _. ⊥)
-    → CallsTablesBetween mid done worked (λ _. IsBlank mid.now → Holds done.now (opening office)) → keeps ≡ is_ok worked → Concludes done new keeps worked result
-    → WholeTransaction old mid done new (λ _. IsBlank mid.now → Holds done.now (opening office)) (λ _. Unit {0}) result
+    → CallsTablesBetween mid done worked (λ _. IsBlank mid.now → Holds done.now (opening office) × HasAllNumbers done.now) → keeps ≡ is_ok worked → Concludes done new keeps worked result
+    → WholeTransaction old mid done new (λ _. IsBlank mid.now → Holds done.now (opening office) × HasAllNumbers done.now) (λ _. Unit {0}) result
 made office old mid done new worked result keeps begun begins works is concludes =
     record { worked = worked; keeps = keeps; begun = begun; begins = begins; works = works; kept = subst (λ (k : Bool). IsTrue k ↔ IsOkAnd worked (λ _. Unit {0})) (sym is) (made_kept worked); concludes = concludes }
 
-pub make_ends : (office : Text) (old mid done new : State) (r : Result (Unit {0}) StoreFault) → WholeTransaction old mid done new (λ _. IsBlank mid.now → Holds done.now (opening office)) (λ _. Unit {0}) r
+pub make_ends : (office : Text) (old mid done new : State) (r : Result (Unit {0}) StoreFault) → WholeTransaction old mid done new (λ _. IsBlank mid.now → Holds done.now (opening office) × HasAllNumbers done.now) (λ _. Unit {0}) r
     → HasCleanDisk new → HoldsDurably IsBlank old → MakesOrFails office new r
 make_ends office old mid done new r t clean holds =
-    transaction_ends old mid done new _ _ r t IsBlank (λ db. Stores db (opening office)) (λ _. HoldsState (opening office) new) clean holds
+    transaction_ends old mid done new _ _ r t IsBlank (λ db. Stores db (opening office)) (λ _. HoldsState (opening office) new × HoldsDurably HasAllNumbers new) clean holds
     (λ u blank makes _. stored blank makes)
-    (λ u blank makes _ commit. commit (λ db. Stores db (opening office)) (stored blank makes))
+    (λ u blank makes _ commit. (commit (λ db. Stores db (opening office)) (stored blank makes), commit HasAllNumbers (makes blank).1))
     (λ u blank makes never kept. absurd (never tt))
   where
-    stored : IsBlank mid.now → (IsBlank mid.now → Holds done.now (opening office)) → Stores done.now (opening office)
-    stored blank makes = record { tables = makes blank; contents = opens_sound office }
+    stored : IsBlank mid.now → (IsBlank mid.now → Holds done.now (opening office) × HasAllNumbers done.now) → Stores done.now (opening office)
+    stored blank makes = record { tables = (makes blank).0; contents = opens_sound office }
 
 -- as a failure is handed on
 pub refuses_as : (office : Text) (new : State) (why : StoreFault) → MakesOrFails office new (Err why) → Refuses IsBlank (λ db. Stores db (opening office)) new (open_fault why)

@@ -1,37 +1,20 @@
 -- Why a transaction is answered Store: the store failed, or what the work fails by besides.
-use Rattle.std.proofs.Common.{◌≡◌, ◌⊎◌, inl, inr, ◌≤◌, Bool, true, false, Result, Ok, Err, IfErr, refl, sym, subst, ◌∙◌, arith}
-use Rattle.sqlite.specs.State.{State, HasCleanDisk, HasCause}
-use Rattle.sqlite_trees.specs.declared.error.StoreError.{StoreError}
-use Rattle.sqlite_trees.specs.declared.error.StoreError.TheVariants.{OutOfMemory, Io, Corrupt, Full, Broken, Unstorable}
-use Rattle.sqlite_trees.specs.View.{Tells}
+use Rattle.std.proofs.Common.{◌≡◌, ◌⊎◌, inl, inr, ◌≤◌, Bool, true, false, IsTrue, Result, Ok, Err, IfErr, refl, sym, ◌∙◌, arith}
+use Rattle.sqlite.specs.State.{State, HasCleanDisk}
 use Rattle.table_access.specs.Calls.{HasFailed, GoesOn, FailsAs}
-use Rattle.table_access.specs.Unit.{Begins, IsIdle, TellsRollback}
+use Rattle.table_access.specs.Unit.{Begins, TellsRollback}
 use Rattle.table_access.specs.declared.StoreFault.{StoreFault}
 use Rattle.table_access.specs.declared.StoreFault.TheVariants.{Memory, Store}
 use Rattle.table_access.proofs.CallLemmas.{ended_since}
+use Rattle.table_access.proofs.RefusedEnds.{failed_idle}
 use Rattle.broker_service.specs.Transaction.{conclusion}
 use Rattle.broker_service.proofs.Transaction.{IsTransaction, WholeTransaction, transaction_begun}
 
--- a cause of an earlier call is one of both
-has_before : (a b c : State) (cause : StoreError) → b.faults ≤ c.faults → HasCause a b ⊥ cause → HasCause a c ⊥ cause
-has_before a b c OutOfMemory up h = tt
-has_before a b c Io up h = omega (arith, up, h)
-has_before a b c Corrupt up h = omega (arith, up, h)
-has_before a b c Full up h = omega (arith, up, h)
-has_before a b c Broken up h = h
-has_before a b c Unstorable up h = h
-
--- a failure that ended the transaction is still one where nothing was left to end
-pub failed_idle : (a b c : State) (f : StoreFault) → HasFailed a b f → b.faults ≤ c.faults → IsIdle b c → HasFailed a c f
-failed_idle a b c f failed up idle = record {
-  cause = failed.cause;
-  fault_is = failed.fault_is;
-  has = has_before a b c failed.cause up failed.has;
-  over = idle.mode;
-  blamed = subst (λ b. Tells b failed.cause) (sym idle.blamed_is) failed.blamed;
-}
-
 module _ {A : Type 0} (old mid done new : State) (X Keeps : A → Type 0) (Why : Type 0) (clean : HasCleanDisk new) where
+  -- what is to be kept isn't
+  abbrev Unkept : Bool → Type 0
+  Unkept keeps = (a : A) → X a → Keeps a → IsTrue keeps → GoesOn mid done → HasFailed old new Store ⊎ Why
+
   -- the failure of the work is that of the transaction
   failed_work : (r : Result A StoreFault) (ended : Result (Unit {0}) StoreFault) → Begins old mid → IsTransaction old mid done new r X Keeps false ended → TellsRollback done new ended → (f : StoreFault) → HasFailed mid done f → HasFailed old new f
   failed_work r (Ok u) begun t (inl idle) f failed =
@@ -50,10 +33,10 @@ module _ {A : Type 0} (old mid done new : State) (X Keeps : A → Type 0) (Why :
   still_open e refused f (inl on) = on
   still_open e refused f (inr ended) = absurd (let clash = ended.over in let inside = refused.1.0 in cc)
 
-  fails : (r : Result A StoreFault) (keeps : Bool) (ended : Result (Unit {0}) StoreFault) → IsTransaction old mid done new r X Keeps keeps ended → Begins old mid → HasCleanDisk done → IfErr r (λ f. f ≡ Store → HasFailed mid done f ⊎ Why) → ((a : A) → X a → Keeps a → Why)
+  fails : (r : Result A StoreFault) (keeps : Bool) (ended : Result (Unit {0}) StoreFault) → IsTransaction old mid done new r X Keeps keeps ended → Begins old mid → HasCleanDisk done → IfErr r (λ f. f ≡ Store → HasFailed mid done f ⊎ Why) → Unkept keeps
       → conclusion r ended ≡ Err Store → HasFailed old new Store ⊎ Why
   fails (Ok a) keeps (Ok u) t begun worked why kept is = absurd (cc)
-  fails (Ok a) true (Err e) t begun worked why kept is = inr (kept a (t.works.ok worked) (t.kept.0 refl))
+  fails (Ok a) true (Err e) t begun worked why kept is = kept a (t.works.ok worked) (t.kept.0 refl) refl (t.works.goes_on worked begun.1.mode)
   fails (Ok a) false (Err Memory) t begun worked why kept is = absurd (cc)
   fails (Ok a) false (Err Store) t begun worked why kept is = inl (failed_end (Ok a) Store begun t (t.works.goes_on worked begun.1.mode) (t.ends.told clean refl))
   fails (Err f) true ended t begun worked why kept is = absurd (t.kept.0 refl)
@@ -68,7 +51,7 @@ module _ {A : Type 0} (old mid done new : State) (X Keeps : A → Type 0) (Why :
   ]
 
   -- a transaction is answered Store as its work, its begin or its end is, or since what is to be kept isn't
-  pub transaction_fails : (result : Result A StoreFault) (t : WholeTransaction old mid done new X Keeps result) → IfErr t.worked (λ f. f ≡ Store → HasFailed mid done f ⊎ Why) → ((a : A) → X a → Keeps a → Why) → result ≡ Err Store → HasFailed old new Store ⊎ Why
+  pub transaction_fails : (result : Result A StoreFault) (t : WholeTransaction old mid done new X Keeps result) → IfErr t.worked (λ f. f ≡ Store → HasFailed mid done f ⊎ Why) → Unkept t.keeps → result ≡ Err Store → HasFailed old new Store ⊎ Why
   transaction_fails result t why kept is =
       let worked : HasCleanDisk done = omega (arith, t.concludes.ends.survives.clean, clean) in
       fails t.worked t.keeps t.concludes.ended (record { begun = t.begun; begins = t.begins; works = t.works; kept = t.kept; ends = t.concludes.ends }) (transaction_begun old mid done new X Keeps result t clean) worked why kept (sym t.concludes.answer ∙ is)

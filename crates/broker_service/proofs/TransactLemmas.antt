@@ -1,11 +1,12 @@
 -- What the transaction of a command leaves.
-use Rattle.std.proofs.Common.{◌≡◌, ◌⊎◌, ◌↔◌, inl, inr, arith, Option, Result, Err, IsOkAnd, Bool, IsTrue, sym, subst, ◌∙◌}
+use Rattle.std.proofs.Common.{◌≡◌, ◌⊎◌, ◌↔◌, ◌≤◌, inl, inr, arith, Option, Result, Ok, Err, IsOk, IfErr, IsOkAnd, Bool, IsTrue, refl, sym, subst, subst₂, ◌∙◌}
 use Rattle.std.proofs.lemmas.Result.{IfErr-weaker}
 use Rattle.sqlite.specs.Effect.{Database}
 use Rattle.sqlite.specs.Held.{Held}
 use Rattle.sqlite.specs.State.{State, HasCleanDisk, Survives}
-use Rattle.table_access.specs.Calls.{HasFailed}
-use Rattle.table_access.specs.Unit.{Begins, IsLeft, FailsToBegin}
+use Rattle.table_access.specs.Calls.{HasFailed, IsEnded, GoesOn}
+use Rattle.table_access.specs.Unit.{Begins, IsLeft, FailsToBegin, RefusesCommit, CommitIsRefused}
+use Rattle.table_access.proofs.CallLemmas.{ended_since}
 use Rattle.table_access.specs.declared.StoreFault.{StoreFault}
 use Rattle.table_access.specs.declared.StoreFault.TheVariants.{Memory, Store}
 use Rattle.table_access.proofs.EndLemmas as ends
@@ -19,15 +20,17 @@ use Rattle.broker_core.specs.declared.answer.Answer.{Answer}
 use Rattle.broker_core.specs.declared.answer.Answer.TheVariants.{Done}
 use Rattle.broker_core.specs.declared.command.Command.{Command}
 use Rattle.broker_tables.specs.Calm.{Serves, HasFailedOrMemory}
-use Rattle.broker_tables.specs.Holds.{Holds}
+use Rattle.broker_tables.specs.Holds.{Holds, HoldsAfter}
+use Rattle.broker_tables.specs.Room.{HasRoomFor, TakesRoom, enough}
+use Rattle.broker_tables.proofs.RoomLemmas.{takes_none}
 use Rattle.command_facts.specs.Performs.{PerformsBetween, TokensStep, IsToChange}
 use Rattle.command_facts.specs.Primitives.{broker_primitives}
 use Rattle.broker_tables.specs.Calm.{FailsFromBetween}
-use Rattle.broker_service.specs.Causes.{HoldsReadable, IsToBeDone, Transacted}
+use Rattle.broker_service.specs.Causes.{HoldsReadable, IsToBeDone, IsGivenUp, IsNotKept, KeepsRoom, Transacted}
 use Rattle.broker_service.specs.Ends.{AppliesOrFails, HoldsNext, Steps, KeepsAtPattern}
 use Rattle.broker_service.specs.Stored.{Stores, HoldsState}
 use Rattle.broker_service.specs.Transaction.{Concludes}
-use Rattle.broker_service.proofs.Transaction.{WholeTransaction, transaction_ends, transaction_unchanged, transaction_begun, transaction_over, transaction_once, unbegun_ends, unbegun_unchanged, unbegun_over, once_at_most}
+use Rattle.broker_service.proofs.Transaction.{WholeTransaction, transaction_ends, transaction_unchanged, transaction_shows, transaction_begun, transaction_over, transaction_once, unbegun_ends, unbegun_unchanged, unbegun_over, once_at_most}
 use Rattle.broker_service.proofs.EndLemmas.{done_steps, next_stored, steps_on, undone_keeps}
 use Rattle.broker_service.proofs.StoreFailures.{transaction_fails}
 
@@ -35,7 +38,7 @@ module _ (token : Option Text) (command : Command) where
   -- what the work promises of its answer
   abbrev IsPerformed : State → State → Answer → Type 0
   IsPerformed mid done answer = (s : Broker) → Holds mid.now s → (t : Broker)
-      × TokensStep token command s (record { answer = answer; state = t }) × Holds done.now t
+      × TokensStep token command s (record { answer = answer; state = t }) × HoldsAfter enough mid done t
 
   -- what is done is a step
   done_next : (s : Broker) (mid done : State) (answer : Answer) → Stores mid.now s → IsPerformed mid done answer → IsDone answer
@@ -43,7 +46,7 @@ module _ (token : Option Text) (command : Command) where
   done_next s mid done answer was performs is_done =
       let next = performs s was.tables in
       let step = done_steps s token command mid.now was (record { answer = answer; state = next.0 }) (next.1 was.contents) is_done in
-      (next.0, step, next_stored s token command mid.now was (record { answer = answer; state = next.0 }) done.now step next.2)
+      (next.0, step, next_stored s token command mid.now was (record { answer = answer; state = next.0 }) done.now step next.2.0)
 
   transacted_ends : (old mid done new : State) (result : Result Answer StoreFault) → WholeTransaction old mid done new (IsPerformed mid done) IsDone result
       → HasCleanDisk new → (s : Broker) → HoldsState s old → AppliesOrFails s token command new result
@@ -59,37 +62,77 @@ module _ (token : Option Text) (command : Command) where
       let out : Transition = record { answer = Done change.0; state = change.1 } in
       (out, tt, done_steps s token command db was out (change.2 was.contents) tt)
 
-  work_fails : (s : Broker) (mid done : State) (fault : StoreFault) → Stores mid.now s → HasFailedOrMemory mid done fault ⊎ IsToChange (TokensStep token command) s → fault ≡ Store → HasFailed mid done fault ⊎ IsToBeDone s token command
-  work_fails s mid done fault was (inl (inl failed)) is = inl failed
-  work_fails s mid done fault was (inl (inr memory)) is = absurd (let clash : Memory ≡ Store = sym memory ∙ is in cc)
-  work_fails s mid done fault was (inr change) is = inr (to_be_done s mid.now was change)
-
-  -- why it is answered Store
-  transacted_calm : (old mid done new : State) (result : Result Answer StoreFault) (t : WholeTransaction old mid done new (IsPerformed mid done) IsDone result) → FailsFromBetween mid done t.worked (HasSoundContents broker_primitives) (IsToChange (TokensStep token command))
-      → HasCleanDisk new → (s : Broker) → HoldsReadable s old → result ≡ Err Store → HasFailed old new Store ⊎ IsToBeDone s token command
-  transacted_calm old mid done new result t why clean s ready is =
-      let begun = transaction_begun old mid done new _ _ result t clean in
-      let was : Stores mid.now s = ends.begins (λ db. Stores db s) old mid begun ready.held in
-      let served : Serves mid s = record { inside = begun.1.mode; unlimited = t.begins.limit ∙ ready.unlimited; held = was.tables; readable = ready.readable } in
-      let worked : HasCleanDisk done = omega (arith, t.concludes.ends.survives.clean, clean) in
-      transaction_fails old mid done new _ _ (IsToBeDone s token command) clean result t
-      (IfErr-weaker t.worked _ _ (λ fault it store. work_fails s mid done fault was it store) (why worked s served was.contents))
-      (λ answer performs is_done. let it = done_next s mid done answer was performs is_done in (record { answer = answer; state = it.0 }, is_done, it.1)) is
-
   -- where BEGIN was refused, no transaction was open
   begin_fails : (s : Broker) (old new : State) (fault : StoreFault) → HoldsState s old → FailsToBegin old new fault → HasFailed old new fault
   begin_fails s old new fault holds (ran, inl failed) = failed
   begin_fails s old new fault holds (ran, inr within) = absurd (let outside = (holds.held within.1.0.was_open).autocommit in let inside = within.0 in cc)
 
+  -- there is no answer without one that was come to
+  done_is_ok : (r : Result Answer StoreFault) → IsOkAnd r IsDone → IsOk r
+  done_is_ok (Ok answer) is = refl
+  done_is_ok (Err fault) is = absurd is
+
+  -- and nothing changed
+  unbegun_shows : {s : Broker} (old new : State) → HoldsState s old → IsLeft old new → IsTrue new.is_open → new.now ≡ old.now
+  unbegun_shows old new holds (inl same) now = same.0.now_is
+  unbegun_shows old new holds (inr back) now = (back.undone now).0 ∙ sym (holds.held (back.was_open now)).same
+
+  -- at most the numbers of a command are taken
+  transacted_room : (old mid done new : State) (result : Result Answer StoreFault) → WholeTransaction old mid done new (IsPerformed mid done) IsDone result → HasCleanDisk new → (s : Broker) → HoldsState s old → KeepsRoom old new
+  transacted_room old mid done new result t clean s holds now =
+      let begun = transaction_begun old mid done new _ _ result t clean in
+      let was : Stores mid.now s = ends.begins (λ db. Stores db s) old mid begun holds in
+      elim (transaction_shows old mid done new _ _ result t clean (holds.held begun.1.was_open).same now) [
+        | inl same ↦ takes_none enough old.now new.now same
+        | inr left ↦ subst₂ (TakesRoom enough) left.2 (sym left.3) (left.1 s was.tables).2.1
+      ]
+
   module _ {X : Type 0} (shown : Held X → State) where
+    module _ (old mid done new : Held X) (result : Result Answer StoreFault) (t : WholeTransaction (shown old) (shown mid) (shown done) (shown new) (IsPerformed (shown mid) (shown done)) IsDone result) (clean : HasCleanDisk (shown new)) (s : Broker) (ready : HoldsReadable s (shown old)) where
+      begun_there : Begins (shown old) (shown mid)
+      begun_there = transaction_begun (shown old) (shown mid) (shown done) (shown new) _ _ result t clean
+
+      was : Stores (shown mid).now s
+      was = ends.begins (λ db. Stores db s) (shown old) (shown mid) begun_there ready.held
+
+      given_up : IsEnded (shown mid) (shown done) Store ⊎ (HoldsNext s token command (shown done).now × RefusesCommit shown done new Memory) → IsGivenUp shown s token command old new
+      given_up why = record { begun = mid; worked = done; begins = begun_there; refused = why }
+
+      -- what a refused change was to do is to be done
+      work_fails : (fault : StoreFault) → HasFailedOrMemory (shown mid) (shown done) fault ⊎ (IsToChange (TokensStep token command) s × (HasRoomFor enough (shown mid).now → IsEnded (shown mid) (shown done) fault)) → fault ≡ Store
+          → HasFailed (shown mid) (shown done) fault ⊎ IsNotKept shown s token command old new
+      work_fails fault (inl (inl failed)) is = inl failed
+      work_fails fault (inl (inr memory)) is = absurd (let clash : Memory ≡ Store = sym memory ∙ is in cc)
+      work_fails fault (inr (change, ended)) is =
+          inr (to_be_done s (shown mid).now was change, λ room. given_up (inl (subst (IsEnded (shown mid) (shown done)) is (ended (subst (HasRoomFor enough) (sym begun_there.1.now_is) room)))))
+
+      -- and what was done isn't kept
+      not_kept : (answer : Answer) → IsPerformed (shown mid) (shown done) answer → IsDone answer → GoesOn (shown mid) (shown done) → (fault : StoreFault) → RefusesCommit shown done new fault → HasFailed (shown old) (shown new) Store ⊎ IsNotKept shown s token command old new
+      not_kept answer performs is_done on Store refused =
+          inl (ended_since (shown old) (shown done) (shown new) Store (on.0, λ _. on.1 begun_there.1.is_open) (let up : (shown old).faults ≤ (shown done).faults = omega (arith, t.begins.counts, t.works.survives.counts) in up) (refused.failed on.0))
+      not_kept answer performs is_done on Memory refused =
+          let next = done_next s (shown mid) (shown done) answer was performs is_done in
+          inr ((record { answer = answer; state = next.0 }, is_done, next.1), λ room. given_up (inr ((answer, next.0, next.1, next.2), refused)))
+
+      -- why it is answered Store
+      transacted_calm : FailsFromBetween (shown mid) (shown done) t.worked (HasSoundContents broker_primitives) (IsToChange (TokensStep token command)) → (IsTrue t.keeps → IsOk t.worked → IfErr result (λ _. CommitIsRefused shown done new))
+          → result ≡ Err Store → HasFailed (shown old) (shown new) Store ⊎ IsNotKept shown s token command old new
+      transacted_calm why refused is =
+          let served : Serves (shown mid) s = record { inside = begun_there.1.mode; unlimited = t.begins.limit ∙ ready.unlimited; held = was.tables; readable = ready.readable } in
+          let worked : HasCleanDisk (shown done) = omega (arith, t.concludes.ends.survives.clean, clean) in
+          transaction_fails (shown old) (shown mid) (shown done) (shown new) _ _ (IsNotKept shown s token command old new) clean result t
+          (IfErr-weaker t.worked _ _ (λ fault it store. work_fails fault it store) (why worked s served was.contents))
+          (λ answer performs is_done kept on. let cause = subst (λ (r : Result Answer StoreFault). IfErr r (λ _. CommitIsRefused shown done new)) is (refused kept (done_is_ok t.worked (t.kept.0 kept))) in not_kept answer performs is_done on cause.0 cause.1) is
+
     pub transacted : (old mid done new : Held X) (worked result : Result Answer StoreFault) (keeps : Bool) → (HasCleanDisk (shown mid) → Begins (shown old) (shown mid)) → Survives (shown old) (shown mid) (λ _. ⊥)
         → PerformsBetween (shown mid) (shown done) (TokensStep token command) worked
         → FailsFromBetween (shown mid) (shown done) worked (HasSoundContents broker_primitives) (IsToChange (TokensStep token command)) → (IsTrue keeps ↔ IsOkAnd worked IsDone) → Concludes (shown done) (shown new) keeps worked result
-        → Transacted shown token command old new result
-    transacted old mid done new worked result keeps begun begins works calm kept concludes = record {
+        → (HasCleanDisk (shown new) → IsTrue keeps → IsOk worked → IfErr result (λ _. CommitIsRefused shown done new)) → Transacted shown token command old new result
+    transacted old mid done new worked result keeps begun begins works calm kept concludes refused = record {
       ends = transacted_ends (shown old) (shown mid) (shown done) (shown new) result t;
       unchanged = transaction_unchanged (shown old) (shown mid) (shown done) (shown new) _ _ result t;
-      calm = transacted_calm (shown old) (shown mid) (shown done) (shown new) result t calm;
+      calm = λ clean s ready. transacted_calm old mid done new result t clean s ready calm (refused clean);
+      room = transacted_room (shown old) (shown mid) (shown done) (shown new) result t;
       over = transaction_over (shown old) (shown mid) (shown done) (shown new) _ _ result t;
       survives = transaction_once (shown old) (shown mid) (shown done) (shown new) _ _ result t;
     }
@@ -104,6 +147,7 @@ module _ (token : Option Text) (command : Command) where
       ends = λ clean s holds. unbegun_ends (shown old) (shown new) why refused begins (λ db. Stores db s) (HoldsNext s token command) (λ answer. Steps s token command (shown new) answer ⊎ KeepsAtPattern s token command (shown new) answer) clean holds;
       unchanged = unbegun_unchanged (shown old) (shown new) why refused begins IsDone;
       calm = λ clean s ready is. let same : why ≡ Store = (let h = is in cc) in inl (subst (HasFailed (shown old) (shown new)) same (begin_fails s (shown old) (shown new) why ready.held (cause clean)));
+      room = λ clean s holds now. takes_none enough (shown old).now (shown new).now (unbegun_shows (shown old) (shown new) holds (refused clean) now);
       over = unbegun_over (shown old) (shown new) refused;
       survives = once_at_most (shown old) (shown new) begins;
     }

@@ -1,5 +1,5 @@
 -- What a transaction leaves of the connection that it began on.
-use Rattle.std.proofs.Common.{◌≡◌, ◌↔◌, inl, inr, Bool, true, false, refl, IsTrue, IsOkAnd, IfOk, Result, Ok, Err, sym, subst, ◌∙◌, arith}
+use Rattle.std.proofs.Common.{◌≡◌, ◌⊎◌, ◌↔◌, inl, inr, Bool, true, false, refl, IsTrue, IsOkAnd, IfOk, Result, Ok, Err, sym, subst, ◌∙◌, arith}
 use Rattle.sqlite.specs.Effect.{Database, IsDatabase}
 use Rattle.std.specs.Prelude.{⊤, is_ok}
 use Rattle.sqlite.specs.Tree.{Trees}
@@ -219,6 +219,16 @@ module _ {A : Type 0} (old mid done new : State) (X Keeps : A → Type 0) where
   spares (Ok a) true ended t never clean =
       absurd (never a (opened old mid done new (Ok a) _ _ true ended t clean).1 (t.works.ok (done_clean old mid done new (Ok a) _ _ true ended t clean)) (t.kept.0 refl))
 
+  -- what is seen then is what was seen before, or what the work left
+  shows : (r : Result A StoreFault) (keeps : Bool) (ended : Result (Unit {0}) StoreFault) → IsTransaction old mid done new r X Keeps keeps ended → HasCleanDisk new → old.now ≡ old.committed → IsTrue new.is_open
+      → (new.now ≡ old.now) ⊎ ((a : A) × X a × (mid.now ≡ old.now) × (new.now ≡ done.now))
+  shows (Ok a) true (Ok u) t clean settled now =
+      inr (a, t.works.ok (done_clean old mid done new (Ok a) _ _ true (Ok u) t clean), (opened old mid done new (Ok a) _ _ true (Ok u) t clean).1, (t.ends.committed clean refl).0.now_is)
+  shows r true (Err f) t clean settled now = inl (((t.ends.over clean (inr refl)).1 now).1 ∙ (last_commit old mid done new r _ _ true (Err f) t clean refl).committed now ∙ sym settled)
+  shows (Err f) true (Ok u) t clean settled now = absurd (t.kept.0 refl)
+  shows r false ended t clean settled now =
+      inl (((t.ends.over clean (inl refl)).1 now).1 ∙ (as_before old mid done new r _ _ false ended t clean refl).commit.committed now ∙ sym settled)
+
 -- one that was begun, worked in and concluded so
 pub record WholeTransaction {A : Type 0} (old mid done new : State) (X Keeps : A → Type 0) (result : Result A StoreFault) : Type 0 where
   pub worked : Result A StoreFault
@@ -246,6 +256,9 @@ module _ {A : Type 0} (old mid done new : State) (X Keeps : A → Type 0) (resul
 
   pub transaction_told : HasCleanDisk new → IfOk result (λ a. IsTrue old.is_open × (mid.now ≡ old.now) × X a)
   transaction_told clean = subst (λ (r : Result A StoreFault). IfOk r (λ a. IsTrue old.is_open × (mid.now ≡ old.now) × X a)) (sym t.concludes.answer) (told old mid done new X Keeps t.worked t.keeps t.concludes.ended parts clean)
+
+  pub transaction_shows : HasCleanDisk new → old.now ≡ old.committed → IsTrue new.is_open → (new.now ≡ old.now) ⊎ ((a : A) × X a × (mid.now ≡ old.now) × (new.now ≡ done.now))
+  transaction_shows = shows old mid done new X Keeps t.worked t.keeps t.concludes.ended parts
 
   pub transaction_spares : ((a : A) → mid.now ≡ old.now → X a → ¬ (Keeps a)) → HasCleanDisk new → AddsNoCrashState old new
   transaction_spares = spares old mid done new X Keeps t.worked t.keeps t.concludes.ended parts

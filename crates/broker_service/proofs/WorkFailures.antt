@@ -1,10 +1,9 @@
 -- Why the work of a command fails: the store failed, a growth was refused, or its change was.
-use Rattle.std.proofs.Common.{◌≡◌, inl, inr, arith, true, false, Ok, Some, Option, Result, sym, ap, subst, ◌∙◌}
+use Rattle.std.proofs.Common.{◌≡◌, inl, inr, true, false, Ok, Some, Option, Result, sym, ap, subst, ◌∙◌}
 use Rattle.std.proofs.lemmas.Result.{IfErr-weaker}
 use Rattle.sqlite.specs.State.{State, HasCleanDisk}
 use Rattle.table_access.specs.Calls.{CallsTablesBetween}
 use Rattle.table_access.specs.declared.StoreFault.{StoreFault}
-use Rattle.table_access.proofs.CallLemmas.{ended_since}
 use Rattle.broker_core.specs.Contents.{HasSoundContents}
 use Rattle.broker_core.specs.Change.{Transition}
 use Rattle.broker_core.specs.Machine.{IsCallerOfToken, is_step}
@@ -16,7 +15,7 @@ use Rattle.broker_core.specs.declared.command.Command.{Command}
 use Rattle.broker_core.specs.declared.policy.Caller.{Caller}
 use Rattle.broker_core.proofs.StepLemmas.{step_answers}
 use Rattle.broker_tables.specs.Calm.{Serves, FailsOnlyBy, HasFailedOrMemory, CalmQueriesBetween}
-use Rattle.broker_tables.proofs.QueryLemmas.{serves_on}
+use Rattle.broker_tables.proofs.FailLemmas.{fails_after}
 use Rattle.command_facts.specs.Performs.{PerformsBetween, FailsToChangeBetween, IsStepOf, CallersStep, TokensStep, IsToChange}
 use Rattle.command_facts.specs.Primitives.{broker_primitives}
 use Rattle.broker_tables.specs.Calm.{FailsFromBetween}
@@ -31,11 +30,11 @@ module _ (old new : State) (r : Result Answer StoreFault) (caller : Caller) (giv
 
   -- a command that may change something
   pub change_may_fail : FailsToChangeBetween old new (IsStepOf caller command) r → FailsFromBetween old new r (HasSoundContents broker_primitives) (IsToChange (CallersStep caller given))
-  change_may_fail why clean s here sound = IfErr-weaker r _ _ (λ fault it. elim it [ inl calm ↦ inl calm | inr change ↦ inr (changes s change) ]) (why clean s here)
+  change_may_fail why clean s here sound = IfErr-weaker r _ _ (λ fault it. elim it [ inl calm ↦ inl calm | inr change ↦ inr (changes s change.0, change.1) ]) (why clean s here tt)
 
   -- one that does so only where each stored pact can be read again
   pub sound_may_fail : FailsFromBetween old new r (HasSoundContents broker_primitives) (IsToChange (IsStepOf caller command)) → FailsFromBetween old new r (HasSoundContents broker_primitives) (IsToChange (CallersStep caller given))
-  sound_may_fail why clean s here sound = IfErr-weaker r _ _ (λ fault it. elim it [ inl calm ↦ inl calm | inr change ↦ inr (changes s change) ]) (why clean s here sound)
+  sound_may_fail why clean s here sound = IfErr-weaker r _ _ (λ fault it. elim it [ inl calm ↦ inl calm | inr change ↦ inr (changes s change.0, change.1) ]) (why clean s here sound)
 
 -- a command that no change of it is refused of
 pub never_by_change : (old new : State) (r : Result Answer StoreFault) (Allows Changes : Broker → Type 0) → FailsOnlyBy old new r (HasFailedOrMemory old new) → FailsFromBetween old new r Allows Changes
@@ -48,12 +47,7 @@ tokens_step s token command caller who out it sound = elim (it sound) [ inl step
 -- a query, and then a command
 pub fails_then : {A : Type 0} (old mid new : State) (a : A) (r : Result Answer StoreFault) (P : A → Broker → Type 0) (Q : Answer → Type 0) (Allows Made Changes : Broker → Type 0) → ((s : Broker) → P a s → Made s → Changes s)
     → CalmQueriesBetween old mid (Ok a) P → CallsTablesBetween mid new r Q → FailsFromBetween mid new r Allows Made → FailsFromBetween old new r Allows Changes
-fails_then old mid new a r P Q Allows Made Changes more one two why clean s here allowed =
-    let mid_clean : HasCleanDisk mid = omega (arith, two.survives.clean, clean) in
-    IfErr-weaker r _ _ (λ fault it. elim it [
-      | inl calm ↦ inl (elim calm [ inl failed ↦ inl (ended_since old mid new fault (one.call.goes_on mid_clean here.inside) one.call.survives.counts failed) | inr memory ↦ inr memory ])
-      | inr made ↦ inr (more s (one.call.ok mid_clean s here.held).0 made)
-    ]) (why clean s (serves_on old mid a P mid_clean one.call s here) allowed)
+fails_then old mid new a r P Q Allows Made Changes more one = fails_after old mid new a r P Q Allows Allows Changes Made (λ s held allowed read. (allowed, more s read)) one.call
 
 -- ---- what a command came to is no failure
 

@@ -20,7 +20,7 @@ use Rattle.broker_tables.specs.Holds.{format}
 use Rattle.broker_tables.specs.Making.{IsBlank, IsMarked}
 use Rattle.broker_tables.specs.Schema.{no_schema}
 use Rattle.broker_service.specs.BrokerView.{BrokerView}
-use Rattle.broker_service.specs.Causes.{HoldsReadable, IsToBeDone}
+use Rattle.broker_service.specs.Causes.{HoldsReadable, IsNotKept, KeepsRoom, StaysReadable}
 use Rattle.broker_service.specs.Ends.{Applies, IsAsBefore, AddsNoCrashState, CommitsAtMostOnce, LeavesNoTransaction}
 use Rattle.broker_service.specs.Handed.{left_by, verdict}
 use Rattle.broker_service.specs.Headline.{RecordsExactly}
@@ -58,10 +58,17 @@ module _ {X : Type 0} (shown : Held X → State) where
     pub fails : HasCleanDisk (shown new.connection) → answer ≡ answers.Store
         → KeepsLastCommit (shown old.connection) (shown new.connection)
     -- Store, from a state that can be read back: the store failed, unless the command was to be done; so no refusal, no
-    -- request without a token and none that only reads stops a broker whose disk works
+    -- request without a token and none that only reads stops a broker whose disk works. And one that was to be done only
+    -- if a row was too big, or COMMIT was refused for want of memory.
     pub calm : HasCleanDisk (shown new.connection) → old.is_stopped ≡ false → answer ≡ answers.Store
         → (s : Broker) → HoldsReadable s (shown old.connection)
-        → HasFailed (shown old.connection) (shown new.connection) faults.Store ⊎ IsToBeDone s token command
+        → HasFailed (shown old.connection) (shown new.connection) faults.Store
+        ⊎ IsNotKept shown s token command old.connection new.connection
+    -- a step leads from a state that can be read back to one that can
+    pub readable : StaysReadable token command
+    -- the numbers of rows that the tables have left: a command takes some at most
+    pub room : HasCleanDisk (shown new.connection) → old.is_stopped ≡ false
+        → (s : Broker) → HoldsState s (shown old.connection) → KeepsRoom (shown old.connection) (shown new.connection)
     -- whatever the answer is, no transaction is left open
     pub over : LeavesNoTransaction (shown old.connection) (shown new.connection)
     -- Store alone stops the broker

@@ -11,6 +11,7 @@ use Rattle.broker_core.specs.State.{opening}
 use Rattle.broker_core.specs.Text.{Text}
 use Rattle.broker_tables.specs.Holds.{format}
 use Rattle.broker_tables.specs.Making.{IsBlank, HasTables}
+use Rattle.broker_tables.specs.Room.{HasAllNumbers}
 use Rattle.broker_tables.specs.Schema.{no_schema, registry_part, contents, contract_part, all_tables}
 use Rattle.registry_tables.specs.Format.{IsOfFormat, IsForeign}
 use Rattle.broker_service.specs.Ends.{IsAsBefore}
@@ -36,7 +37,9 @@ MakesRest old new = (office : Text) → HasTables first_tables format office old
 
 -- a transaction that makes the tables of a new broker on a database without any, or fails
 abbrev pub MakesOrFails : Text → State → Result (Unit {0}) StoreFault → Type 0
-MakesOrFails office new = EndsOrFails IsBlank (λ db. Stores db (opening office)) (λ _. HoldsState (opening office) new) new
+MakesOrFails office new =
+    EndsOrFails IsBlank (λ db. Stores db (opening office))
+    (λ _. HoldsState (opening office) new × HoldsDurably HasAllNumbers new) new
 
 -- ---- what making a broker leaves
 
@@ -53,9 +56,10 @@ abbrev pub IsUnchangedUnlessStore : State → State → OpenFault → Type 0
 IsUnchangedUnlessStore old new Store = KeepsLastCommit old new
 IsUnchangedUnlessStore old new _ = IsAsBefore old new
 
--- on a database without tables: a new broker's database, whose office's token has this digest
+-- on a database without tables: a new broker's database, whose office's token has this digest, and all numbers of rows
 abbrev pub MakesNew : Text → State → State → Type 0
-MakesNew office old new = HasCleanDisk new → HoldsDurably IsBlank old → HoldsState (opening office) new
+MakesNew office old new = HasCleanDisk new → HoldsDurably IsBlank old
+    → HoldsState (opening office) new × HoldsDurably HasAllNumbers new
 
 -- or a failure: there are no tables, and after Store a crash may leave the new broker's
 abbrev pub RefusesNew : Text → State → State → OpenFault → Type 0

@@ -4,6 +4,7 @@ ghost use Rattle.sqlite.specs.Held.{state};
 ghost use Rattle.command_facts.specs.Callers.{token_of};
 ghost use Rattle.command_facts.specs.Primitives.{broker_primitives};
 ghost use Rattle.broker_service.specs.Calls.{Applied, Created, Opened};
+ghost use Rattle.broker_service.specs.Causes.{StaysReadable};
 
 use crate::opening::{self, OpenFault};
 use crate::work::transact;
@@ -11,6 +12,8 @@ use answer_texts::Answer;
 use broker_core::answer::Answer as Outcome;
 use broker_core::command::Command;
 use broker_core::name::Token;
+use broker_tables::has_readable_names;
+use command_facts::laws::readable_stays;
 use sqlite::{Alter, Connection};
 use std::alloc::Global;
 use std::marker::Model;
@@ -112,11 +115,14 @@ impl<S: Alter> Broker<S> {
     /// has changed. `Memory`: an allocation failed, or the database has no memory, be it for a rollback; nothing has
     /// changed. `Store`: the database refused the commit, or another call for another cause than memory, or a row broke
     /// the rules of the tables: from a state that can be read back, and on a disk that works, this comes only of a
-    /// command that is to change something. From then on each answer is `Stopped`, and nothing changes. After a refused
-    /// commit a crash may leave the next state.
+    /// command that is to change something, and only if its commit was refused for want of memory or a row was too big.
+    /// From then on each answer is `Stopped`, and nothing changes. After a refused commit a crash may leave the next
+    /// state.
     pub fn apply(&mut self, alloc: Global, token: Option<&str>, command: &Command) -> Answer
         ensures { Applied (state S.Store) self.old (token_of token.entry) command.now result self.new }
     {
+        has_readable_names(command);
+        readable_stays();
         if self.stopped {
             return Answer::failed(Outcome::Stopped);
         }
@@ -125,7 +131,7 @@ impl<S: Alter> Broker<S> {
 
     /// Runs one command of the caller with this token, in one transaction. If the database fails the broker is stopped.
     fn run(&mut self, alloc: Global, token: Option<&str>, command: &Command) -> Answer
-        ensures { self.old.is_stopped ≡ false →
+        ensures { self.old.is_stopped ≡ false → StaysReadable (token_of token.entry) command.now →
             Applied (state S.Store) self.old (token_of token.entry) command.now result self.new }
     {
         let answer = match transact(alloc, &mut self.conn, token, command) {

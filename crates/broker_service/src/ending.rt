@@ -1,8 +1,10 @@
 //! The end of a transaction.
-ghost use Rattle.std.specs.Prelude.{◌≡◌};
+ghost use Rattle.std.specs.Prelude.{◌≡◌, IsTrue, IsOk, IfErr};
 ghost use Rattle.sqlite.specs.Held.{state};
+ghost use Rattle.sqlite.specs.State.{HasCleanDisk};
 ghost use Rattle.broker_service.specs.Transaction as spec;
 ghost use Rattle.broker_service.specs.Transaction.{Concludes, Finishes};
+ghost use Rattle.table_access.specs.Unit.{CommitIsRefused};
 
 use sqlite::{Alter, Connection};
 use table_access::{StoreFault, commit, rollback};
@@ -11,7 +13,9 @@ use table_access::{StoreFault, commit, rollback};
 /// nothing is committed. A refused commit is `Store`, and a crash may leave what was to be kept. A refused rollback is
 /// what it was refused by, and leaves what a done one leaves.
 fn finish<S: Alter>(conn: &mut Connection<S>, keeps: bool) -> Result<(), StoreFault>
-    ensures { Finishes (state S.Store conn.old) (state S.Store conn.new) keeps result }
+    ensures finishes { Finishes (state S.Store conn.old) (state S.Store conn.new) keeps result }
+    ensures refused { HasCleanDisk (state S.Store conn.new) → IsTrue keeps →
+        IfErr result (λ _. CommitIsRefused (state S.Store) conn.old conn.new) }
 {
     if !keeps {
         return rollback(conn);
@@ -39,7 +43,9 @@ pub(crate) fn conclude<S: Alter, A: Drop>(
     worked: Result<A, StoreFault>,
     keeps: bool,
 ) -> Result<A, StoreFault>
-    ensures { Concludes (state S.Store conn.old) (state S.Store conn.new) keeps worked result }
+    ensures concludes { Concludes (state S.Store conn.old) (state S.Store conn.new) keeps worked result }
+    ensures refused { HasCleanDisk (state S.Store conn.new) → IsTrue keeps → IsOk worked →
+        IfErr result (λ _. CommitIsRefused (state S.Store) conn.old conn.new) }
 {
     match finish(conn, keeps) {
         Ok(()) => worked,

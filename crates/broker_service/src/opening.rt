@@ -13,6 +13,7 @@ ghost use Rattle.registry_tables.specs.Format.{Finds};
 ghost use Rattle.command_facts.specs.Primitives.{broker_primitives};
 ghost use Rattle.broker_service.specs.Ends.{IsAsBefore, IsUnchangedUnless, CommitsAtMostOnce, LeavesNoTransaction};
 ghost use Rattle.broker_service.specs.Stored.{Stores};
+ghost use Rattle.broker_tables.specs.Room.{HasAllNumbers};
 ghost use Rattle.broker_service.specs.Opening as spec;
 ghost use Rattle.broker_service.specs.Opening.{MakesRest, MakesOrFails, MakesNew, RefusesNew, IsUnchangedUnlessStore, Judged, OpensOrRefuses, judgement};
 
@@ -90,7 +91,7 @@ pub(crate) fn make_indexes<S: Alter>(conn: &mut Connection<S>) -> Result<(), Sto
 /// Makes all tables, and then the indexes.
 fn make_all<S: Alter>(conn: &mut Connection<S>, digest: &str) -> Result<(), StoreFault>
     ensures { CallsStore S.Store conn.old conn.new result
-        (λ _ old new. IsBlank old.now → Holds new.now (opening digest.now)) }
+        (λ _ old new. IsBlank old.now → Holds new.now (opening digest.now) × HasAllNumbers new.now) }
 {
     done!(make_first(conn, digest));
     done!(make_rest(conn));

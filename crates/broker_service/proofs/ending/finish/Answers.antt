@@ -4,8 +4,8 @@ use Rattle.broker_service.proofs.Transaction.{outlives_as}
 use Rattle.broker_service.proofs.ending.finish.Goals as goal
 
 -- what is to be kept isn't, since the commit was refused
-pub returns-then-not-keeps : goal.returns-then-not-keeps
-returns-then-not-keeps g c =
+pub returns-then-not-keeps-clause-finishes : goal.returns-then-not-keeps-clause-finishes
+returns-then-not-keeps-clause-finishes g c =
     let old = state g.S.Store c.args.conn.now in
     let new = state g.S.Store c.rollback.new.conn in
     record {
@@ -18,8 +18,8 @@ returns-then-not-keeps g c =
       survives = outlives_as old new (λ trees never. absurd never) c.rollback.ensures.survives;
     }
 
-pub returns : goal.returns
-returns g c =
+pub returns-clause-finishes : goal.returns-clause-finishes
+returns-clause-finishes g c =
     let old = state g.S.Store c.args.conn.now in
     let new = state g.S.Store c.commit.new.conn in
     record {
@@ -32,8 +32,8 @@ returns g c =
       survives = outlives_as old new (λ trees is. (c.if-not-keeps.false, is)) c.commit.ensures.survives;
     }
 
-pub returns-then-not-commit : goal.returns-then-not-commit
-returns-then-not-commit g c =
+pub returns-then-not-commit-clause-finishes : goal.returns-then-not-commit-clause-finishes
+returns-then-not-commit-clause-finishes g c =
     let old = state g.S.Store c.args.conn.now in
     let new = state g.S.Store c.commit.new.conn in
     record {
@@ -45,3 +45,9 @@ returns-then-not-commit g c =
       settled = λ trees now may. g.met.S.Store.settled _ trees now may;
       survives = outlives_as old new (λ trees is. (c.if-not-keeps.false, is)) c.commit.ensures.survives;
     }
+
+pub returns-then-not-commit-clause-refused : goal.returns-then-not-commit-clause-refused
+returns-then-not-commit-clause-refused g c clean kept = (c.commit.ensures.refused clean c.if-not-commit.true).2
+
+pub returns-then-not-keeps-clause-refused : goal.returns-then-not-keeps-clause-refused
+returns-then-not-keeps-clause-refused g c clean kept = absurd (cc)

@@ -11,22 +11,22 @@ pub returns-clause-found : goal.returns-clause-found
 returns-clause-found g c clean =
     IfOk-weaker c.conclude.result _ _ (λ found it. (it.0, subst (λ (db : Database). Finds db found) it.1 it.2.0))
     (transaction_told (state g.S.Store c.args.conn.now) (state g.S.Store c.begin.new.conn) (state g.S.Store c.format_of-found.new.conn) (state g.S.Store c.conclude.new.conn) _ _ c.conclude.result
-    (looked (state g.S.Store c.args.conn.now) (state g.S.Store c.begin.new.conn) (state g.S.Store c.format_of-found.new.conn) (state g.S.Store c.conclude.new.conn) _ c.format_of-found.result c.conclude.result c.in-Ok.ensures.begun c.begin.ensures.survives c.format_of-found.ensures.finds.call c.conclude.ensures) clean)
+    (looked (state g.S.Store c.args.conn.now) (state g.S.Store c.begin.new.conn) (state g.S.Store c.format_of-found.new.conn) (state g.S.Store c.conclude.new.conn) _ c.format_of-found.result c.conclude.result c.in-Ok.ensures.begun c.begin.ensures.survives c.format_of-found.ensures.finds.call c.conclude.ensures.concludes) clean)
 
 pub returns-clause-same : goal.returns-clause-same
 returns-clause-same g c clean =
     transaction_as_before (state g.S.Store c.args.conn.now) (state g.S.Store c.begin.new.conn) (state g.S.Store c.format_of-found.new.conn) (state g.S.Store c.conclude.new.conn) _ _ c.conclude.result
-    (looked (state g.S.Store c.args.conn.now) (state g.S.Store c.begin.new.conn) (state g.S.Store c.format_of-found.new.conn) (state g.S.Store c.conclude.new.conn) _ c.format_of-found.result c.conclude.result c.in-Ok.ensures.begun c.begin.ensures.survives c.format_of-found.ensures.finds.call c.conclude.ensures) refl clean
+    (looked (state g.S.Store c.args.conn.now) (state g.S.Store c.begin.new.conn) (state g.S.Store c.format_of-found.new.conn) (state g.S.Store c.conclude.new.conn) _ c.format_of-found.result c.conclude.result c.in-Ok.ensures.begun c.begin.ensures.survives c.format_of-found.ensures.finds.call c.conclude.ensures.concludes) refl clean
 
 pub returns-clause-survives : goal.returns-clause-survives
 returns-clause-survives g c =
     transaction_undone (state g.S.Store c.args.conn.now) (state g.S.Store c.begin.new.conn) (state g.S.Store c.format_of-found.new.conn) (state g.S.Store c.conclude.new.conn) _ _ c.conclude.result
-    (looked (state g.S.Store c.args.conn.now) (state g.S.Store c.begin.new.conn) (state g.S.Store c.format_of-found.new.conn) (state g.S.Store c.conclude.new.conn) _ c.format_of-found.result c.conclude.result c.in-Ok.ensures.begun c.begin.ensures.survives c.format_of-found.ensures.finds.call c.conclude.ensures) refl
+    (looked (state g.S.Store c.args.conn.now) (state g.S.Store c.begin.new.conn) (state g.S.Store c.format_of-found.new.conn) (state g.S.Store c.conclude.new.conn) _ c.format_of-found.result c.conclude.result c.in-Ok.ensures.begun c.begin.ensures.survives c.format_of-found.ensures.finds.call c.conclude.ensures.concludes) refl
 
 pub returns-clause-over : goal.returns-clause-over
 returns-clause-over g c =
     transaction_over (state g.S.Store c.args.conn.now) (state g.S.Store c.begin.new.conn) (state g.S.Store c.format_of-found.new.conn) (state g.S.Store c.conclude.new.conn) _ _ c.conclude.result
-    (looked (state g.S.Store c.args.conn.now) (state g.S.Store c.begin.new.conn) (state g.S.Store c.format_of-found.new.conn) (state g.S.Store c.conclude.new.conn) _ c.format_of-found.result c.conclude.result c.in-Ok.ensures.begun c.begin.ensures.survives c.format_of-found.ensures.finds.call c.conclude.ensures)
+    (looked (state g.S.Store c.args.conn.now) (state g.S.Store c.begin.new.conn) (state g.S.Store c.format_of-found.new.conn) (state g.S.Store c.conclude.new.conn) _ c.format_of-found.result c.conclude.result c.in-Ok.ensures.begun c.begin.ensures.survives c.format_of-found.ensures.finds.call c.conclude.ensures.concludes)
 
 pub returns-in-Err-clause-same : goal.returns-in-Err-clause-same
 returns-in-Err-clause-same g c clean = not_begun (state g.S.Store c.args.conn.now) (state g.S.Store c.begin.new.conn) (c.in-Err.ensures.refused clean) c.begin.ensures.survives clean

@@ -4,7 +4,7 @@ use Rattle.table_access.proofs.CallLemmas.{statement_seq}
 use Rattle.broker_tables.specs.Schema.{all_tables}
 use Rattle.broker_tables.specs.Holds.{format}
 use Rattle.broker_tables.specs.Making.{IsBlank, HasTables}
-use Rattle.broker_tables.proofs.Opening.{has_all, opens}
+use Rattle.broker_tables.proofs.Opening.{has_all, opens, opens_with_room}
 use Rattle.broker_service.proofs.Transaction.{second_fails}
 use Rattle.broker_service.proofs.opening.make_all.Goals as goal
 
@@ -16,7 +16,7 @@ returns g c =
     let new = state g.S.Store c.make_indexes.new.conn in
     let digest = c.args.digest.now in
     statement_seq old second new c.in-Ok-make_rest.value c.make_indexes.result (λ _. IsBlank old.now → HasTables all_tables format digest second.now) _ _
-    (λ has u makes blank. let before = has blank in opens digest new.now (has_all format digest second.now new.now before (makes before.schema)))
+    (λ has u makes blank. let before = has blank in let all = has_all format digest second.now new.now before (makes before.schema) in (opens digest new.now all, opens_with_room format digest new.now all))
     (statement_seq old first second c.in-Ok.value (Ok c.in-Ok-make_rest.value) _ _ (λ _. IsBlank old.now → HasTables all_tables format digest second.now) (λ has u rest blank. rest digest (has blank)) c.in-Ok.ensures c.in-Ok-make_rest.ensures)
     c.make_indexes.ensures
 

@@ -9,9 +9,9 @@ use Rattle.broker_service.proofs.broker.Broker.run.Goals as goal
 use Rattle.broker_service.proofs.broker.Broker.run.Goals.{in-Ok, in-Err-Memory, in-Err-Store, in-Store, in_default}
 
 pub returns : goal.returns
-returns g c running =
+returns g c running reads =
     subst (λ (b : BrokerView g.row.S.Denot). Applied (state g.S.Store) b (token_of c.args.token) c.args.command.now c.match-transact.answer after) c.self.view_is
-    (ran (state g.S.Store) (record { connection = c.self.inside.conn; is_stopped = c.self.inside.stopped }) (token_of c.args.token) c.args.command.now c.transact.result c.match-transact.answer after is c.transact.ensures.transacts c.transact.ensures.answers stops (cc))
+    (ran (state g.S.Store) (record { connection = c.self.inside.conn; is_stopped = c.self.inside.stopped }) (token_of c.args.token) c.args.command.now c.transact.result c.match-transact.answer after is c.transact.ensures.transacts c.transact.ensures.answers stops (cc) reads)
   where
     after : BrokerView g.row.S.Denot
     after = record { connection = c.transact.new.conn; is_stopped = c.match-matches.self }
