@@ -1,5 +1,5 @@
 -- The commands of peers that are served one after another are those of one session.
-use Rattle.std.proofs.Common.{◌≡◌, inl, ℕ, zero, suc, List, [], ◌∷◌, Option, None, Ok, Err, Result, refl, sym, subst}
+use Rattle.std.proofs.Common.{inl, ℕ, zero, suc, List, [], ◌∷◌, Option, None, Ok, Err, Result, refl, subst}
 use Rattle.sqlite.specs.Held.{Held}
 use Rattle.sqlite.specs.State.{State}
 use Rattle.sqlite.specs.Files.{file_state}
@@ -18,7 +18,7 @@ use Rattle.broker_http.specs.Exchange.{Responds}
 use Rattle.broker_http.specs.Stream.{Responses}
 use Rattle.broker_http.specs.declared.served.ServeFault.{ServeFault}
 use Rattle.broker_http.specs.declared.served.Served.{Served}
-use Rattle.broker_program.specs.Serving.{ServesPeer, ServesPeers}
+use Rattle.broker_program.specs.Serving.{ServesPeers}
 
 -- shown is what a connection shows of its store
 module _ {X : Type 0} (shown : Held X → State) where

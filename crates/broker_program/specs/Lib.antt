@@ -3,6 +3,7 @@ pub mod Replays
 pub mod Told
 pub mod Files
 pub mod Serving
+pub mod Reopening
 pub mod Making
 pub mod Running
 pub mod Faults

@@ -1,8 +1,10 @@
 //! A broker in a file.
-ghost use Rattle.std.specs.Prelude.{◌≡◌, false, IfErr, IfOk};
+ghost use Rattle.std.specs.Prelude.{◌≡◌, false, Ok, IfErr, IfOk};
+ghost use Rattle.sqlite.specs.Files.{file_state};
 ghost use Rattle.sqlite.specs.WalFiles.{image_at};
+ghost use Rattle.broker_service.specs.Calls.{Opened};
 ghost use Rattle.broker_program.specs.Files.{ClosesAs, GivesUpAs, LeavesStore, OpensBroker, OpensOn};
-ghost use Rattle.broker_program.specs.Reasons.{FailsToOpen, IsFromOutside};
+ghost use Rattle.broker_program.specs.Reasons.{FailsToOpen, IsFromOutside, IsOpeningFault};
 ghost use Rattle.broker_program.specs.Refusals.{IsOfDatabase, OpensNone};
 
 use crate::fault::RunFault;
@@ -20,6 +22,14 @@ pub(crate) type FileBroker<S> = Broker<FileStore<FileFrom<S>>>;
 
 /// Why a command over a file failed, and what it left of the file.
 pub(crate) type Failed<S> = (RunFault, Left<FileFrom<S>>);
+
+/// Why it failed, without what is left of the file.
+pub(crate) fn fault_of<S: Start>(failed: Failed<S>) -> RunFault
+    ensures { result ≡ failed.0 }
+{
+    let (fault, _) = failed;
+    fault
+}
 
 /// A connection over the file of this path, which is made with page sums if it isn't there. `File`: it can't be read or
 /// written, another program has it open, or it is no database.
@@ -83,11 +93,12 @@ pub(crate) fn give_up<S: Start>(connection: FileConnection<S>, fault: OpenFault)
 }
 
 /// The broker in the database of the connection.
-fn broker_of<S: Start>(connection: FileConnection<S>) -> Result<FileBroker<S>, Failed<S>>
-    requires { OpensOn (image_at S.Start) connection }
+pub(crate) fn broker_of<S: Start>(connection: FileConnection<S>) -> Result<FileBroker<S>, Failed<S>>
     ensures runs { IfOk result (λ b. b.is_stopped ≡ false) }
-    ensures opened { IfOk result (OpensBroker (image_at S.Start)) }
-    ensures cause { IfErr result (λ failed. IsOfDatabase (image_at S.Start) OpensNone failed.0 failed.1) }
+    ensures opened { IfOk result (λ b. Opened file_state connection (Ok b)) }
+    ensures fault { IfErr result (λ failed. IsOpeningFault failed.0) }
+    ensures cause { OpensOn (image_at S.Start) connection
+        → IfErr result (λ failed. IsOfDatabase (image_at S.Start) OpensNone failed.0 failed.1) }
 {
     match Broker::open(connection) {
         Ok(broker) => Ok(broker),

@@ -9,7 +9,7 @@ pub struct Service<D: Disk> {
     pub served: u32,
     /// and how many were lost as they came in.
     pub lost: u32,
-    /// The files, closed, if they were opened once: all of it is in the file itself. After a failure none.
+    /// The files, closed: all of it is in the file itself. None if a sync of them failed, or `serve` did.
     pub files: Option<Files<D>>,
 }
 

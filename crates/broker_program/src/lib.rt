@@ -13,6 +13,7 @@ mod migrate;
 mod normalise;
 mod output;
 mod process;
+mod reopening;
 mod replay;
 mod report;
 mod routes;

@@ -1,17 +1,21 @@
 //! Serving connections over the broker in a file.
-ghost use Rattle.std.specs.Prelude.{◌≡◌, ◌≢◌, ◌≤◌, ◌+◌, false, IfErr, IfOk, IfSome, MatchOption, OnOk};
+ghost use Rattle.std.specs.Prelude.{◌≡◌, ◌≢◌, ◌<◌, ◌≤◌, ◌+◌, ◌⊎◌, false, IfErr, IfOk, IfSome, MatchOption, OnOk};
 ghost use Rattle.sqlite.specs.WalFiles.{image_at};
+ghost use Rattle.broker_program.specs.Files.{OpensBroker};
 ghost use Rattle.broker_program.specs.Listening.{IsLoopback, IsOfLoopback, ListensOn};
-ghost use Rattle.broker_program.specs.Reasons.{CutsService, FailsToServe, IsFromOutside, IsReopeningFault};
-ghost use Rattle.broker_program.specs.Serving.{ServesAll, ServesFile, ServesMore, ServesNext};
+ghost use Rattle.broker_program.specs.Reasons.{CutsService, FailsToServe, IsFromOutside, IsOpeningFault};
+ghost use Rattle.broker_program.specs.Reasons.{IsReopeningFault};
+ghost use Rattle.broker_program.specs.Reopening.{ServesAll};
+ghost use Rattle.broker_program.specs.Serving.{ServesFile, ServesNext};
 
 use crate::fault::RunFault;
-use crate::files::{Failed, FileBroker, close, open_broker, release};
+use crate::files::{Failed, FileBroker, close, fault_of, open_broker, release};
 use crate::left::{Left, Service};
+use crate::reopening::running;
 use crate::routes::route_table;
 use broker_http::RouteTable;
 use broker_http::patience::{Door, LIMITS, serve_peer};
-use sqlite::{FileFrom, Start, Unknown};
+use sqlite::{FileFrom, Files, Start, Unknown};
 use sqlite_disk::Disk;
 use std::net::{SocketAddr, TcpListener, TcpStream};
 
@@ -183,60 +187,41 @@ fn serve_next<S: Start>(
     }
 }
 
-/// Serves the connections, one after the other, until the broker is stopped.
-fn serve_while_running<S: Start>(
+/// Serves the connections that are left, one after the other, over the broker of the file, and closes it. If the broker
+/// stops, its files are opened again before the next connection. None if a sync of them failed: then some are left.
+fn serve_over<S: Start>(
     rt: &HostRuntime,
     routes: &RouteTable,
-    broker: &mut FileBroker<S>,
+    broker: FileBroker<S>,
     connections: &mut Connections,
-)
-    ensures left { broker.new.is_stopped ≡ false → connections.new.left ≡ 0 }
+) -> Result<Option<Files<FileFrom<S>>>, RunFault>
+    requires runs { broker.is_stopped ≡ false }
+    requires opened { OpensBroker (image_at S.Start) broker }
+    ensures done { IfOk result (λ found. IfSome found (λ _. connections.new.left ≡ 0)) }
+    ensures fewer { connections.old.left ≢ 0 → OnOk result (connections.new.left < connections.old.left) }
+    ensures some { IfOk result (λ found. found ≡ None → connections.old.served < connections.new.served) }
     ensures all { connections.new.all ≡ connections.old.all }
-    ensures peers { ServesMore broker.old broker.new connections.old.served connections.new.served }
+    ensures grows { connections.old.served ≤ connections.new.served }
+    ensures ok { IfOk result (ServesAll ⟦<FileFrom<S> as Disk>⟧ (image_at S.Start)
+        connections.old.served connections.new.served) }
+    ensures cause { IfErr result (λ fault. IsFromOutside fault
+        ⊎ (IsOpeningFault fault × (connections.old.served < connections.new.served))) }
 {
-    while connections.left > 0 && !broker.is_stopped() {
-        serve_next(rt, routes, broker, connections);
+    let mut broker = broker;
+    while connections.left > 0 {
+        broker = match running(rt, broker)? {
+            Some(broker) => broker,
+            None => return Ok(None),
+        };
+        serve_next(rt, routes, &mut broker, connections);
     }
-}
-
-/// Closes the broker's file, and keeps nothing of it.
-fn end<S: Start>(broker: FileBroker<S>) -> Result<(), RunFault>
-    ensures { IfErr result IsFromOutside }
-{
     match close(broker) {
-        Ok(_) => Ok(()),
-        Err((fault, _)) => Err(fault),
+        Ok(files) => Ok(Some(files)),
+        Err(failed) => Err(fault_of(failed)),
     }
 }
 
-/// The broker of the file, opened again.
-fn reopen(rt: &HostRuntime, file: &str) -> Result<FileBroker<Unknown>, RunFault>
-    ensures runs { IfOk result (λ b. b.is_stopped ≡ false) }
-    ensures cause { IfErr result IsReopeningFault }
-{
-    match open_broker(rt, file, Unknown) {
-        Ok(broker) => Ok(broker),
-        Err((fault, _)) => Err(fault),
-    }
-}
-
-/// The broker, or if it is stopped the one of its file, opened again.
-fn running(
-    rt: &HostRuntime,
-    broker: FileBroker<Unknown>,
-    file: &str,
-) -> Result<FileBroker<Unknown>, RunFault>
-    ensures runs { IfOk result (λ b. b.is_stopped ≡ false) }
-    ensures cause { IfErr result IsReopeningFault }
-{
-    if !broker.is_stopped() {
-        return Ok(broker);
-    }
-    let _ = end(broker);
-    reopen(rt, file)
-}
-
-/// Serves the connections that are left, one after the other, over the broker of the file, which was opened again.
+/// Serves the connections that are left over the file that has this path then.
 fn serve_again(
     rt: &HostRuntime,
     routes: &RouteTable,
@@ -247,26 +232,57 @@ fn serve_again(
     ensures grows { connections.old.served ≤ connections.new.served }
     ensures cause { IfErr result IsReopeningFault }
 {
-    let mut broker = reopen(rt, file)?;
-    while connections.left > 0 {
-        broker = running(rt, broker, file)?;
-        serve_next(rt, routes, &mut broker, connections);
+    while 0 < connections.left {
+        match open_broker(rt, file, Unknown) {
+            Ok(broker) => {
+                let _ = serve_over(rt, routes, broker, connections)?;
+            }
+            Err(failed) => return Err(fault_of(failed)),
+        }
     }
-    end(broker)
+    Ok(())
 }
 
-/// What was served over a file that was opened again.
-fn service_of<S: Start>(connections: &Connections) -> Service<FileFrom<S>>
-    ensures { (result.served ≡ connections.now.served) × (result.lost ≡ connections.now.lost) × (result.files ≡ None) }
+/// Serves the connections that are left. If a sync of the broker's files fails, those of its path are opened.
+fn serve_all<S: Start>(
+    rt: &HostRuntime,
+    routes: &RouteTable,
+    broker: FileBroker<S>,
+    file: &str,
+    connections: &mut Connections,
+) -> Result<Option<Files<FileFrom<S>>>, RunFault>
+    requires runs { broker.is_stopped ≡ false }
+    requires opened { OpensBroker (image_at S.Start) broker }
+    ensures done { OnOk result ((connections.new.left ≡ 0) × (connections.new.all ≡ connections.old.all)) }
+    ensures ok { IfOk result (ServesAll ⟦<FileFrom<S> as Disk>⟧ (image_at S.Start)
+        connections.old.served connections.new.served) }
+    ensures cause { IfErr result (λ fault. IsFromOutside fault
+        ⊎ (IsOpeningFault fault × (connections.old.served < connections.new.served))) }
+{
+    match serve_over(rt, routes, broker, connections)? {
+        Some(files) => Ok(Some(files)),
+        None => match serve_again(rt, routes, file, connections) {
+            Ok(()) => Ok(None),
+            Err(fault) => Err(fault),
+        },
+    }
+}
+
+/// What was served, and what is left of the files.
+fn service_of<S: Start>(
+    connections: &Connections,
+    files: Option<Files<FileFrom<S>>>,
+) -> Service<FileFrom<S>>
+    ensures { (result.served ≡ connections.now.served) × (result.lost ≡ connections.now.lost) × (result.files ≡ files) }
 {
     Service {
         served: connections.served,
         lost: connections.lost,
-        files: None,
+        files,
     }
 }
 
-/// Serves the connections, one after the other, over the broker of the file. If it stops, the file is opened again.
+/// Serves the connections, one after the other, over the broker of the file.
 fn serve_each<S: Start>(
     rt: &HostRuntime,
     routes: &RouteTable,
@@ -275,24 +291,14 @@ fn serve_each<S: Start>(
     connections: &mut Connections,
 ) -> Result<Service<FileFrom<S>>, Failed<S>>
     requires runs { broker.is_stopped ≡ false }
+    requires opened { OpensBroker (image_at S.Start) broker }
     requires fresh { connections.old.served ≡ 0 }
-    ensures ok { IfOk result (ServesAll ⟦<FileFrom<S> as Disk>⟧ broker connections.old.all) }
+    ensures ok { IfOk result (ServesFile ⟦<FileFrom<S> as Disk>⟧ (image_at S.Start) connections.old.all) }
     ensures cause { IfErr result (λ failed. CutsService failed.0 failed.1) }
 {
-    let mut broker = broker;
-    serve_while_running(rt, routes, &mut broker, connections);
-    if connections.left == 0 {
-        let files = close(broker)?;
-        return Ok(Service {
-            served: connections.served,
-            lost: connections.lost,
-            files: Some(files),
-        });
-    }
-    let _ = end(broker);
-    match serve_again(rt, routes, file, connections) {
-        Ok(()) => Ok(service_of(connections)),
-        Err(fault) => Err((fault, Left::Served(service_of(connections)))),
+    match serve_all(rt, routes, broker, file, connections) {
+        Ok(files) => Ok(service_of(connections, files)),
+        Err(fault) => Err((fault, Left::Served(service_of(connections, None)))),
     }
 }
 

@@ -1,7 +1,7 @@
 use Rattle.std.proofs.Common.{◌≡◌, ◌≤◌}
 use Rattle.broker_program.proofs.serve.serve_again.Given as goal
 
--- each turn takes one of those that are left
+-- each opening takes one of those that are left
 abbrev pub decreases-loop-connections : goal.decreases-loop-connections
 decreases-loop-connections l = l.connections.left
 

@@ -1,16 +1,14 @@
-use Rattle.std.proofs.Common.{◌∙◌, inl, inr}
-use Rattle.std.proofs.lemmas.Result.{IfErr-weaker, IfOk-weaker}
+use Rattle.std.proofs.Common.{inl, inr}
+use Rattle.std.proofs.lemmas.Result.{IfErr-weaker}
 use Rattle.broker_program.proofs.ResultLemmas.{if_ok}
-use Rattle.broker_program.proofs.ServingLemmas.{served_over, unserved}
+use Rattle.broker_program.proofs.ServingLemmas.{unserved}
 use Rattle.broker_program.proofs.serve.serve_at.Goals as goal
 
 pub returns-in-Ok-clause-said : goal.returns-in-Ok-clause-said
 returns-in-Ok-clause-said g c = if_ok c.serve_each.result c.in-Ok.ensures.said
 
 pub returns-in-Ok-clause-ok : goal.returns-in-Ok-clause-ok
-returns-in-Ok-clause-ok g c =
-    IfOk-weaker c.serve_each.result _ _ (λ service all.
-    (all.0 ∙ c.in-Ok.ensures.count.0, served_over _ c.in_ok-broker.broker service.served service.files c.in_ok-broker.ensures.opened all.1)) c.serve_each.ensures.ok
+returns-in-Ok-clause-ok g c = rw c.in-Ok.ensures.count.0 at c.serve_each.ensures.ok
 
 pub returns-in-Ok-clause-cause : goal.returns-in-Ok-clause-cause
 returns-in-Ok-clause-cause g c =
