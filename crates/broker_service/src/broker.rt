@@ -121,6 +121,7 @@ impl<S: Alter> Broker<S> {
     pub fn apply(&mut self, alloc: Global, token: Option<&str>, command: &Command) -> Answer
         ensures { Applied (state S.Store) self.old (token_of token.entry) command.now result self.new }
     {
+        // For the proof: the names are in UTF-8, so that a step keeps what can be read back such (the clause `readable`).
         has_readable_names(command);
         readable_stays();
         if self.stopped {

@@ -23,7 +23,7 @@ held_on : (old new : State) (s : Broker) → new.now ≡ old.now → Holds old.n
 held_on old new s same held = (stays_held old new s same held, takes_none enough old.now new.now same)
 
 -- after a query
-after_read : (taken : ℕ) (old mid new : State) (t : Broker) → mid.now ≡ old.now → HoldsAfter taken mid new t → HoldsAfter taken old new t
+pub after_read : (taken : ℕ) (old mid new : State) (t : Broker) → mid.now ≡ old.now → HoldsAfter taken mid new t → HoldsAfter taken old new t
 after_read taken old mid new t same it = (it.0, subst (λ d. TakesRoom taken d new.now) same it.1)
 
 -- after changes
@@ -122,11 +122,11 @@ where_changed old mid new x u answer Allows P Next Q f one two =
     then_ok old new u answer (λ _. (s : Broker) → Holds old.now s → Allows s → (t : Broker) × Q s (record { answer = answer; state = t }) × HoldsAfter enough old new t) _ (λ h. h)
     (seq old mid new x (Ok u) _ _ _ (λ p b q s held allowed. let first = p s held in let next = f s allowed first.0 in (next.0, next.2, changed_on 2 (omega arith) old mid new next.0 first.1 (q s (stays_held old mid s first.1 held) next.0 next.1))) one two.call)
 
--- a change that answers
-pub where_told : {A : Type 0} (old new : State) (x : A) (answer : Answer) (Allows Takes : Broker → Type 0) (Next : A → Broker → Broker → Type 0) (Q : Broker → Transition → Type 0)
-    → ((s : Broker) → Allows s → Takes s × ((t : Broker) → Next x s t → Q s (record { answer = answer; state = t }))) → ChangesAndAnswersBetween old new (Ok x) Takes Next → PerformsWhereBetween old new Allows Q (Ok answer)
-where_told old new x answer Allows Takes Next Q f it =
-    then_ok old new x answer _ _ (λ h s held allowed. let go = f s allowed in let next = h s held go.0 in (next.0, go.1 next.0 next.1, changed_alone 2 (omega arith) old new next.0 next.2)) it.call
+-- changes that answer
+pub where_told : {A : Type 0} (taken : ℕ) → taken ≤ enough → (old new : State) (x : A) (answer : Answer) (Allows Takes : Broker → Type 0) (Next : A → Broker → Broker → Type 0) (Q : Broker → Transition → Type 0)
+    → ((s : Broker) → Allows s → Takes s × ((t : Broker) → Next x s t → Q s (record { answer = answer; state = t }))) → AnswersTakingBetween taken old new (Ok x) Takes Next → PerformsWhereBetween old new Allows Q (Ok answer)
+where_told taken few old new x answer Allows Takes Next Q f it =
+    then_ok old new x answer _ _ (λ h s held allowed. let go = f s allowed in let next = h s held go.0 in (next.0, go.1 next.0 next.1, changed_alone taken few old new next.0 next.2)) it.call
 
 -- a change that answers, and another change
 pub where_told_then : {A : Type 0} (old mid new : State) (x : A) (u : Unit {0}) (answer : Answer) (taken : ℕ) → 2 + taken ≤ enough → (Allows Takes Then : Broker → Type 0) (Next : A → Broker → Broker → Type 0) (Last : Broker → Broker → Type 0) (Q : Broker → Transition → Type 0)

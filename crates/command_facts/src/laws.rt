@@ -1,4 +1,4 @@
-//! Laws of what can be read back, as they are of this broker. The program calls none of these.
+//! Laws of what can be read back, as they are of this broker. The program calls them only for a proof.
 ghost use Rattle.broker_tables.specs.Laws.{KeepsUtf8, ReadableStays, ReadableStaysInRuns};
 ghost use Rattle.command_facts.specs.Laws.{ReachedIsReadable};
 ghost use Rattle.command_facts.specs.Primitives.{broker_primitives};

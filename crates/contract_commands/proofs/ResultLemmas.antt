@@ -4,13 +4,12 @@ use Rattle.std.specs.Prelude.{option_map, if◌then◌else◌}
 use Rattle.std.specs.Option.{option_map_or}
 use Rattle.sqlite.specs.State.{State as Connection}
 use Rattle.table_access.specs.declared.StoreFault.{StoreFault}
-use Rattle.table_access.proofs.CallLemmas.{then_ok, statement_ok, statement_seq}
+use Rattle.table_access.proofs.CallLemmas.{statement_ok, statement_seq}
 use Rattle.broker_tables.specs.Calm.{CalmQueriesInPlaceBetween}
 use Rattle.broker_tables.specs.Holds.{AnswersTakingBetween}
-use Rattle.broker_tables.specs.Room.{TakesRoom, enough}
 use Rattle.broker_tables.proofs.QueryLemmas.{stays_held, in_store}
-use Rattle.broker_tables.proofs.RoomLemmas.{takes_none, takes_more}
-use Rattle.command_facts.specs.Performs.{PerformsWhereBetween}
+use Rattle.broker_tables.proofs.RoomLemmas.{takes_none}
+use Rattle.command_facts.proofs.PerformLemmas.{after_read}
 use Rattle.broker_core.specs.Text.{Text, same_bool, same_version, version}
 use Rattle.broker_core.specs.State.{State, Verification}
 use Rattle.broker_core.specs.Limit.{has_room}
@@ -208,13 +207,7 @@ then_taken old mid new a r P Allows Then Next Last f one two =
     let first = read s held in
     let go = f s may first.0 in
     let made = puts s (stays_held old mid s first.1 held) go.0 in
-    (made.0, go.1 b made.0 made.1, (made.2.0, subst (λ d. TakesRoom 4 d new.now) first.1 made.2.1))) (in_store old mid (Ok a) P one) two
-
--- what came in is answered
-pub answers_report : {B : Type 0} (old new : Connection) (it : B) (answer : Answer) (Allows : State → Type 0) (Next : B → State → State → Type 0) (Q : State → Transition → Type 0)
-    → ((s t : State) → Next it s t → Q s (record { answer = answer; state = t })) → AnswersTakingBetween 4 old new (Ok it) Allows Next → PerformsWhereBetween old new Allows Q (Ok answer)
-answers_report old new it answer Allows Next Q f call =
-    then_ok old new it answer _ _ (λ h s held may. let next = h s held may in (next.0, f s next.0 next.1, (next.2.0, takes_more 4 enough (omega arith) old.now new.now next.2.1))) call.call
+    (made.0, go.1 b made.0 made.1, after_read 4 old mid new made.0 first.1 made.2)) (in_store old mid (Ok a) P one) two
 
 -- ---- the version that a report is of
 

@@ -204,7 +204,7 @@ point_puts c v n = record {
   fits = refl;
 }
 
-or_false : (b : Bool) → (b || false) ≡ b
+pub or_false : (b : Bool) → (b || false) ≡ b
 or_false true = refl
 or_false false = refl
 

@@ -46,6 +46,7 @@ use Rattle.broker_tables.proofs.Ties.{both_eq}
 use Rattle.broker_tables.proofs.Placed.{deployed, deployed_there, calm}
 use Rattle.broker_tables.proofs.RoomLemmas.{Grows, grows_kept}
 use Rattle.broker_tables.proofs.Upserted.{PutsOver, upserted, upsert_grows}
+use Rattle.contract_tables.proofs.ResultRows.{or_false}
 
 -- an environment, a pacticipant and an instance
 abbrev pub Place : Type 0
@@ -150,10 +151,6 @@ recording e p i n = record {
 -- as it is stored
 pub stored : (e p i : List ℕ) (n : ℕ) → cast_all deployed.columns (row_for e p i n) ≡ row_for e p i n
 stored e p i n = ap (λ v. Text e ∷ Text p ∷ Text i ∷ v ∷ []) (cast_int (pos n))
-
-or_false : (b : Bool) → (b || false) ≡ b
-or_false true = refl
-or_false false = refl
 
 module _ (db : Database) (broker : IsBroker db) (e p i : List ℕ) (n : ℕ) where
   abbrev there : List Row

@@ -32,7 +32,7 @@ returns-in-None-clause-answers g c =
     let path = c.args.path.now in
     let v = consumer_version path in
     let text = c.args.text.now in
-    where_told (state g.S.Store c.args.conn.now) (state g.S.Store c.put_text.new.conn) None Full (CanPublish path c.args.version) (λ s. ⊤) (StoresIfRoom text) (λ s out. out ≡ put_pact s v path.provider text)
+    where_told 2 (omega arith) (state g.S.Store c.args.conn.now) (state g.S.Store c.put_text.new.conn) None Full (CanPublish path c.args.version) (λ s. ⊤) (StoresIfRoom text) (λ s out. out ≡ put_pact s v path.provider text)
     (λ s can. (
       tt,
       λ t next.

@@ -1,4 +1,4 @@
-use Rattle.std.proofs.Common.{true, ◌≡◌, ◌==◌, ℕ, List, Some, length, ap, ◌∙◌}
+use Rattle.std.proofs.Common.{true, ◌≡◌, ◌==◌, ℕ, List, Some, length, ap, ◌∙◌, arith}
 use Rattle.sqlite.specs.Held.{state}
 use Rattle.broker_core.specs.State.{checked_result}
 use Rattle.broker_core.specs.Change.{Transition, report}
@@ -12,7 +12,7 @@ use Rattle.contract_commands.specs.declared.results.Reported.{Reported}
 use Rattle.broker_tables.proofs.FailLemmas.{fails_as}
 use Rattle.contract_commands.proofs.CheckLemmas.{empty_is}
 use Rattle.command_facts.specs.Performs.{IsToChange}
-use Rattle.contract_commands.proofs.ResultLemmas.{answers_report}
+use Rattle.command_facts.proofs.PerformLemmas.{where_told}
 use Rattle.contract_commands.proofs.replies.report_failing.Goals as goal
 
 pub returns-clause-answers : goal.returns-clause-answers
@@ -24,10 +24,13 @@ returns-clause-answers g c =
     let run = c.args.report.now.run in
     let pass = c.is_empty-pass.result in
     let passes : pass ≡ is_empty failing = c.is_empty-pass.ensures ∙ ap (λ (xs : List ℕ). length xs == 0) c.as_slice.ensures ∙ empty_is failing in
-    answers_report (state g.S.Store c.args.conn.now) (state g.S.Store c.receive.new.conn) it c.tell_replies.result _ _ (λ s out. out ≡ report_replies s content v run (Some failing))
-    (λ s t reports.
-    let told : ◌≡◌ {A = Transition} (record { answer = c.tell_replies.result; state = t }) (record { answer = told_as (λ n. Replies failing n pass) it; state = t }) = (λ i. record { answer = c.tell_replies.ensures i; state = t }) in
-    told ∙ reports (λ n. Replies failing n pass) ∙ (λ i. report s (checked_result content v (passes i) run) (λ n. Replies failing n (passes i))))
+    where_told 4 (omega arith) (state g.S.Store c.args.conn.now) (state g.S.Store c.receive.new.conn) it c.tell_replies.result _ _ _ (λ s out. out ≡ report_replies s content v run (Some failing))
+    (λ s may. (
+      may,
+      λ t reports.
+          let told : ◌≡◌ {A = Transition} (record { answer = c.tell_replies.result; state = t }) (record { answer = told_as (λ n. Replies failing n pass) it; state = t }) = (λ i. record { answer = c.tell_replies.ensures i; state = t }) in
+          told ∙ reports (λ n. Replies failing n pass) ∙ (λ i. report s (checked_result content v (passes i) run) (λ n. Replies failing n (passes i))),
+    ))
     c.in-Ok.ensures.answers
 
 pub returns-in-Err-clause-calm : goal.returns-in-Err-clause-calm

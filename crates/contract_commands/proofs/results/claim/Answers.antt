@@ -1,4 +1,4 @@
-use Rattle.std.proofs.Common.{◌≡◌, ◌∙◌, false}
+use Rattle.std.proofs.Common.{◌≡◌, ◌∙◌, false, arith}
 use Rattle.sqlite.specs.Held.{state}
 use Rattle.broker_core.specs.State.{claimed_result}
 use Rattle.broker_core.specs.Change.{Transition, report}
@@ -8,17 +8,20 @@ use Rattle.contract_commands.specs.Results.{CanReceive, IsToReport, Claims, told
 use Rattle.command_facts.specs.Performs.{IsToChange}
 use Rattle.contract_commands.specs.declared.results.Reported.{Reported}
 use Rattle.broker_tables.proofs.FailLemmas.{fails_as}
-use Rattle.contract_commands.proofs.ResultLemmas.{answers_report}
+use Rattle.command_facts.proofs.PerformLemmas.{where_told}
 use Rattle.contract_commands.proofs.results.claim.Goals as goal
 
 pub returns-clause-answers : goal.returns-clause-answers
 returns-clause-answers g c =
     let it = c.in-Ok.value in
-    answers_report (state g.S.Store c.args.conn.now) (state g.S.Store c.receive.new.conn) it c.tell_result.result _ _
+    where_told 4 (omega arith) (state g.S.Store c.args.conn.now) (state g.S.Store c.receive.new.conn) it c.tell_result.result _ _ _
     (λ s out. out ≡ report s (claimed_result c.args.content (reported_version c.args.provider.now c.args.report.now) c.args.success c.args.report.now.run) Result)
-    (λ s t reports.
-    let told : ◌≡◌ {A = Transition} (record { answer = c.tell_result.result; state = t }) (record { answer = told_as Result it; state = t }) = (λ i. record { answer = c.tell_result.ensures i; state = t }) in
-    told ∙ reports Result)
+    (λ s may. (
+      may,
+      λ t reports.
+          let told : ◌≡◌ {A = Transition} (record { answer = c.tell_result.result; state = t }) (record { answer = told_as Result it; state = t }) = (λ i. record { answer = c.tell_result.ensures i; state = t }) in
+          told ∙ reports Result,
+    ))
     c.in-Ok.ensures.answers
 
 pub returns-in-Err-clause-calm : goal.returns-in-Err-clause-calm

@@ -1,4 +1,4 @@
-use Rattle.std.proofs.Common.{◌≡◌, ℕ, Bool, true, false, Some, refl, sym, ap, ◌∙◌}
+use Rattle.std.proofs.Common.{◌≡◌, ℕ, Bool, true, false, Some, refl, sym, ap, ◌∙◌, arith}
 use Rattle.sqlite.specs.Held.{state}
 use Rattle.std.specs.Prelude.{if◌then◌else◌}
 use Rattle.broker_core.specs.Change.{end_support as unsupported, done, unchanged_with}
@@ -40,12 +40,12 @@ pub returns-then-value-clause-answers : goal.returns-then-value-clause-answers
 returns-then-value-clause-answers g c =
     let e = c.args.environment.now in
     let v = c.args.version.now in
-    where_told (state g.S.Store c.args.conn.now) (state g.S.Store c.end_support.new.conn) c.in-Ok.value (Done Plain) (λ s. number_of s.versions v ≡ Some c.args.number) _ _ (λ s out. out ≡ unsupported s e v)
+    where_told 2 (omega arith) (state g.S.Store c.args.conn.now) (state g.S.Store c.end_support.new.conn) c.in-Ok.value (Done Plain) (λ s. number_of s.versions v ≡ Some c.args.number) _ _ (λ s out. out ≡ unsupported s e v)
     (λ s number. ((v, number), λ t next. ended s t e c.as_str.result.now v c.args.number c.in-Ok.value true c.as_str.ensures number next.0 next.1 c.if-value.true)) c.in-Ok.ensures.ended
 
 pub returns-else-value-clause-answers : goal.returns-else-value-clause-answers
 returns-else-value-clause-answers g c =
     let e = c.args.environment.now in
     let v = c.args.version.now in
-    where_told (state g.S.Store c.args.conn.now) (state g.S.Store c.end_support.new.conn) c.in-Ok.value (Unknown missing.Released) (λ s. number_of s.versions v ≡ Some c.args.number) _ _ (λ s out. out ≡ unsupported s e v)
+    where_told 2 (omega arith) (state g.S.Store c.args.conn.now) (state g.S.Store c.end_support.new.conn) c.in-Ok.value (Unknown missing.Released) (λ s. number_of s.versions v ≡ Some c.args.number) _ _ (λ s out. out ≡ unsupported s e v)
     (λ s number. ((v, number), λ t next. ended s t e c.as_str.result.now v c.args.number c.in-Ok.value false c.as_str.ensures number next.0 next.1 c.if-value.false)) c.in-Ok.ensures.ended

@@ -1,4 +1,4 @@
-use Rattle.std.proofs.Common.{◌≡◌, Bool, true, false, Some, sym, ap, ◌∙◌}
+use Rattle.std.proofs.Common.{◌≡◌, Bool, true, false, Some, sym, ap, ◌∙◌, arith}
 use Rattle.sqlite.specs.Held.{state}
 use Rattle.std.specs.Prelude.{if◌then◌else◌}
 use Rattle.broker_core.specs.Change.{undeploy as undeployment, done, unchanged_with, is_text}
@@ -14,7 +14,7 @@ use Rattle.environment_commands.proofs.undeploy.remove_deployment.Goals as goal
 
 pub returns-then-value-clause-answers : goal.returns-then-value-clause-answers
 returns-then-value-clause-answers g c =
-    where_told (state g.S.Store c.args.conn.now) (state g.S.Store c.take_out.new.conn) c.in-Ok.value (Done Plain)
+    where_told 2 (omega arith) (state g.S.Store c.args.conn.now) (state g.S.Store c.take_out.new.conn) c.in-Ok.value (Done Plain)
     (λ s. number_of s.versions c.args.version.now ≡ Some c.args.number) _ _ (λ s out. out ≡ undeployment s c.args.environment.now c.args.version.now c.args.instance.now)
     (λ s number. (
       (c.args.version.now, number, sym c.as_str-2.ensures),
@@ -27,7 +27,7 @@ returns-then-value-clause-answers g c =
 
 pub returns-else-value-clause-answers : goal.returns-else-value-clause-answers
 returns-else-value-clause-answers g c =
-    where_told (state g.S.Store c.args.conn.now) (state g.S.Store c.take_out.new.conn) c.in-Ok.value (Unknown missing.Deployed)
+    where_told 2 (omega arith) (state g.S.Store c.args.conn.now) (state g.S.Store c.take_out.new.conn) c.in-Ok.value (Unknown missing.Deployed)
     (λ s. number_of s.versions c.args.version.now ≡ Some c.args.number) _ _ (λ s out. out ≡ undeployment s c.args.environment.now c.args.version.now c.args.instance.now)
     (λ s number. (
       (c.args.version.now, number, sym c.as_str-2.ensures),

@@ -1,14 +1,27 @@
-use Rattle.std.proofs.Common.{[], ◌∷◌, codes, refl, Err, Some, sym, ◌∙◌, ap}
+use Rattle.std.proofs.Common.{◌≡◌, Option, None, [], ◌∷◌, codes, refl, Err, Some, sym, ◌∙◌, ap}
 use Rattle.sqlite.specs.Held.{state}
 use Rattle.broker_core.specs.Text.{put_at, same_text, Text}
-use Rattle.broker_core.specs.Machine.{StepOfCaller}
+use Rattle.broker_core.specs.Change.{done}
+use Rattle.broker_core.specs.Machine.{StepOfCaller, fault_of_marks}
+use Rattle.broker_core.specs.State.{State}
+use Rattle.broker_core.specs.declared.command.Marks.{Marks}
+use Rattle.broker_core.specs.declared.policy.Caller.{Caller}
 use Rattle.broker_core.specs.declared.command.Command.TheVariants.{PutEnvironment}
 use Rattle.broker_core.specs.declared.answer.Answer.TheVariants.{Done}
 use Rattle.broker_core.specs.declared.answer.Detail.TheVariants.{Plain}
 use Rattle.command_facts.specs.Primitives.{broker_primitives}
 use Rattle.command_facts.proofs.FailLemmas.{change_fails}
 use Rattle.command_facts.proofs.PerformLemmas.{answered_then, changed_then}
+use Rattle.registry_tables.specs.Registry.{AddsEnvironment}
+use Rattle.registry_commands.specs.Facts.{AddsNewEnvironment}
 use Rattle.registry_commands.proofs.environments.put_marks.Goals as goal
+
+-- the environment that was found to be new is added
+adds : (s : State) (caller : Caller) (old : Option Marks) (marks : Marks) (environment e : Text) → e ≡ environment → fault_of_marks marks ≡ None → AddsNewEnvironment caller old marks → s.environments environment ≡ old
+    → (w : State) × AddsEnvironment e marks s w × StepOfCaller broker_primitives s caller (PutEnvironment environment marks) (done w)
+adds s caller old marks environment e is well decided h =
+    let it = decided s environment well h in
+    (_, (ap s.environments is ∙ it.0, ap (λ (x : Text). record s { environments = put_at same_text s.environments x (Some marks) }) (sym is)), it.1)
 
 pub returns-in-Some-clause-answers : goal.returns-in-Some-clause-answers
 returns-in-Some-clause-answers g c =
@@ -19,18 +32,10 @@ pub returns-in-Ok-add_environment-clause-answers : goal.returns-in-Ok-add_enviro
 returns-in-Ok-add_environment-clause-answers g c =
     changed_then (state g.S.Store c.args.conn.now) (state g.S.Store c.marks_of.new.conn) (state g.S.Store c.add_environment.new.conn) c.in-Ok.value c.in-Ok-add_environment.value (Done Plain) _ _
     (λ s out. StepOfCaller broker_primitives s c.args.caller.now (PutEnvironment c.args.environment.now c.args.marks) out)
-    (λ s h. let it = c.in-None.ensures.changes s c.args.environment.now c.requires (ap s.environments (sym c.as_str.ensures) ∙ sym h) in (
-      record s { environments = put_at same_text s.environments c.args.environment.now (Some c.args.marks) },
-      (ap s.environments c.as_str-in-None.ensures ∙ it.0, ap (λ (e : Text). record s { environments = put_at same_text s.environments e (Some c.args.marks) }) (sym c.as_str-in-None.ensures)),
-      it.1,
-    )) c.in-Ok.ensures.answers.call c.in-Ok-add_environment.ensures.changes
+    (λ s h. adds s c.args.caller.now c.in-Ok.value c.args.marks c.args.environment.now c.as_str-in-None.result.now c.as_str-in-None.ensures c.requires c.in-None.ensures.changes (ap s.environments (sym c.as_str.ensures) ∙ sym h)) c.in-Ok.ensures.answers.call c.in-Ok-add_environment.ensures.changes
 
 pub returns-in-Err-add_environment-clause-calm : goal.returns-in-Err-add_environment-clause-calm
 returns-in-Err-add_environment-clause-calm g c =
     change_fails (state g.S.Store c.args.conn.now) (state g.S.Store c.marks_of.new.conn) (state g.S.Store c.add_environment.new.conn) c.in-Ok.value (Err c.in-Err-add_environment.fault) Plain (codes "environments" ∷ codes "strict_environments" ∷ []) (refl, (refl, tt)) _ _ _
     (λ s out. StepOfCaller broker_primitives s c.args.caller.now (PutEnvironment c.args.environment.now c.args.marks) out)
-    (λ s h. let it = c.in-None.ensures.changes s c.args.environment.now c.requires (ap s.environments (sym c.as_str.ensures) ∙ sym h) in (
-      record s { environments = put_at same_text s.environments c.args.environment.now (Some c.args.marks) },
-      (ap s.environments c.as_str-in-None.ensures ∙ it.0, ap (λ (e : Text). record s { environments = put_at same_text s.environments e (Some c.args.marks) }) (sym c.as_str-in-None.ensures)),
-      it.1,
-    )) c.in-Ok.ensures.answers.call c.in-Err-add_environment.ensures.changes.call c.in-Err-add_environment.ensures.calm
+    (λ s h. adds s c.args.caller.now c.in-Ok.value c.args.marks c.args.environment.now c.as_str-in-None.result.now c.as_str-in-None.ensures c.requires c.in-None.ensures.changes (ap s.environments (sym c.as_str.ensures) ∙ sym h)) c.in-Ok.ensures.answers.call c.in-Err-add_environment.ensures.changes.call c.in-Err-add_environment.ensures.calm

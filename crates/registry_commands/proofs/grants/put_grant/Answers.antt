@@ -2,14 +2,30 @@ use Rattle.std.proofs.Common.{[], ◌∷◌, codes, refl, Err, ◌≡◌, true, 
 use Rattle.std.specs.Option.{is_some}
 use Rattle.sqlite.specs.Held.{state}
 use Rattle.broker_core.specs.Text.{put_at, same_text, same_pair, Text}
+use Rattle.broker_core.specs.Change.{done}
 use Rattle.broker_core.specs.Machine.{StepOfCaller}
+use Rattle.broker_core.specs.State.{State}
+use Rattle.broker_core.specs.declared.policy.Caller.{Caller}
 use Rattle.broker_core.specs.declared.command.Command.TheVariants.{PutGrant}
 use Rattle.broker_core.specs.declared.answer.Answer.TheVariants.{Done}
 use Rattle.broker_core.specs.declared.answer.Detail.TheVariants.{Plain}
 use Rattle.command_facts.specs.Primitives.{broker_primitives}
 use Rattle.command_facts.proofs.FailLemmas.{change_fails}
 use Rattle.command_facts.proofs.PerformLemmas.{answered_then, changed_then}
+use Rattle.registry_tables.specs.Registry.{AddsGrant}
+use Rattle.registry_commands.specs.Facts.{IsGrantRead, AddsNewGrant}
+use Rattle.registry_commands.specs.declared.grants.GrantFacts.{GrantFacts}
 use Rattle.registry_commands.proofs.grants.put_grant.Goals as goal
+
+-- the grant that was found to be new is added
+adds : (s : State) (caller : Caller) (found : GrantFacts) (team environment t e : Text) → t ≡ team → e ≡ environment → AddsNewGrant caller found → IsGrantRead s team environment found
+    → (w : State) × AddsGrant t e s w × StepOfCaller broker_primitives s caller (PutGrant team environment) (done w)
+adds s caller found team environment t e by of decided h =
+    let it = decided s team environment h in
+    let team_is : is_some (s.teams t) ≡ true = ap (λ x. is_some (s.teams x)) by ∙ h.team_is ∙ it.0 in
+    let environment_is : is_some (s.environments e) ≡ true = ap (λ x. is_some (s.environments x)) of ∙ h.environment_is ∙ it.1 in
+    let grant_is : s.grants (t, e) ≡ false = ap (λ (k : Text × Text). s.grants k) (λ i. (by i, of i)) ∙ h.grant_is ∙ it.2 in
+    (_, (team_is, environment_is, grant_is, λ i. record s { grants = put_at (same_pair same_text same_text) s.grants (sym by i, sym of i) true }), it.3)
 
 pub returns-in-Some-clause-answers : goal.returns-in-Some-clause-answers
 returns-in-Some-clause-answers g c =
@@ -20,24 +36,10 @@ pub returns-in-Ok-add_grant-clause-answers : goal.returns-in-Ok-add_grant-clause
 returns-in-Ok-add_grant-clause-answers g c =
     changed_then (state g.S.Store c.args.conn.now) (state g.S.Store c.read_grant_facts.new.conn) (state g.S.Store c.add_grant.new.conn) c.in-Ok.value c.in-Ok-add_grant.value (Done Plain) _ _
     (λ s out. StepOfCaller broker_primitives s c.args.caller.now (PutGrant c.args.team.now c.args.environment.now) out)
-    (λ s h. let it = c.in-None.ensures.changes s c.args.team.now c.args.environment.now h in
-    let team_is : is_some (s.teams c.as_str.result.now) ≡ true = ap (λ t. is_some (s.teams t)) c.as_str.ensures ∙ h.team_is ∙ it.0 in
-    let environment_is : is_some (s.environments c.as_str-in-None.result.now) ≡ true = ap (λ e. is_some (s.environments e)) c.as_str-in-None.ensures ∙ h.environment_is ∙ it.1 in
-    let grant_is : s.grants (c.as_str.result.now, c.as_str-in-None.result.now) ≡ false = ap (λ (k : Text × Text). s.grants k) (λ i. (c.as_str.ensures i, c.as_str-in-None.ensures i)) ∙ h.grant_is ∙ it.2 in (
-      record s { grants = put_at (same_pair same_text same_text) s.grants (c.args.team.now, c.args.environment.now) true },
-      (team_is, environment_is, grant_is, λ i. record s { grants = put_at (same_pair same_text same_text) s.grants (sym c.as_str.ensures i, sym c.as_str-in-None.ensures i) true }),
-      it.3,
-    )) c.in-Ok.ensures.call c.in-Ok-add_grant.ensures.changes
+    (λ s h. adds s c.args.caller.now c.in-Ok.value c.args.team.now c.args.environment.now c.as_str.result.now c.as_str-in-None.result.now c.as_str.ensures c.as_str-in-None.ensures c.in-None.ensures.changes h) c.in-Ok.ensures.call c.in-Ok-add_grant.ensures.changes
 
 pub returns-in-Err-add_grant-clause-calm : goal.returns-in-Err-add_grant-clause-calm
 returns-in-Err-add_grant-clause-calm g c =
     change_fails (state g.S.Store c.args.conn.now) (state g.S.Store c.read_grant_facts.new.conn) (state g.S.Store c.add_grant.new.conn) c.in-Ok.value (Err c.in-Err-add_grant.fault) Plain (codes "grants" ∷ []) (refl, tt) _ _ _
     (λ s out. StepOfCaller broker_primitives s c.args.caller.now (PutGrant c.args.team.now c.args.environment.now) out)
-    (λ s h. let it = c.in-None.ensures.changes s c.args.team.now c.args.environment.now h in
-    let team_is : is_some (s.teams c.as_str.result.now) ≡ true = ap (λ t. is_some (s.teams t)) c.as_str.ensures ∙ h.team_is ∙ it.0 in
-    let environment_is : is_some (s.environments c.as_str-in-None.result.now) ≡ true = ap (λ e. is_some (s.environments e)) c.as_str-in-None.ensures ∙ h.environment_is ∙ it.1 in
-    let grant_is : s.grants (c.as_str.result.now, c.as_str-in-None.result.now) ≡ false = ap (λ (k : Text × Text). s.grants k) (λ i. (c.as_str.ensures i, c.as_str-in-None.ensures i)) ∙ h.grant_is ∙ it.2 in (
-      record s { grants = put_at (same_pair same_text same_text) s.grants (c.args.team.now, c.args.environment.now) true },
-      (team_is, environment_is, grant_is, λ i. record s { grants = put_at (same_pair same_text same_text) s.grants (sym c.as_str.ensures i, sym c.as_str-in-None.ensures i) true }),
-      it.3,
-    )) c.in-Ok.ensures.call c.in-Err-add_grant.ensures.changes.call c.in-Err-add_grant.ensures.calm
+    (λ s h. adds s c.args.caller.now c.in-Ok.value c.args.team.now c.args.environment.now c.as_str.result.now c.as_str-in-None.result.now c.as_str.ensures c.as_str-in-None.ensures c.in-None.ensures.changes h) c.in-Ok.ensures.call c.in-Err-add_grant.ensures.changes.call c.in-Err-add_grant.ensures.calm

@@ -1,15 +1,28 @@
-use Rattle.std.proofs.Common.{[], ◌∷◌, codes, refl, Err, Some, sym, ◌∙◌, ap}
+use Rattle.std.proofs.Common.{◌≡◌, [], ◌∷◌, codes, refl, Err, Some, sym, ◌∙◌, ap}
 use Rattle.std.specs.Option.{is_some}
 use Rattle.sqlite.specs.Held.{state}
-use Rattle.broker_core.specs.Text.{put_at, same_text}
+use Rattle.broker_core.specs.Text.{put_at, same_text, Text}
+use Rattle.broker_core.specs.Change.{done}
 use Rattle.broker_core.specs.Machine.{StepOfCaller}
+use Rattle.broker_core.specs.State.{State}
+use Rattle.broker_core.specs.declared.policy.Caller.{Caller}
 use Rattle.broker_core.specs.declared.command.Command.TheVariants.{PutPacticipant}
 use Rattle.broker_core.specs.declared.answer.Answer.TheVariants.{Done}
 use Rattle.broker_core.specs.declared.answer.Detail.TheVariants.{Plain}
 use Rattle.command_facts.specs.Primitives.{broker_primitives}
 use Rattle.command_facts.proofs.FailLemmas.{change_fails}
 use Rattle.command_facts.proofs.PerformLemmas.{answered_then, changed_then}
+use Rattle.registry_tables.specs.Registry.{AddsPacticipant}
+use Rattle.registry_commands.specs.Facts.{IsPacticipantRead, AddsNewPacticipant}
+use Rattle.registry_commands.specs.declared.put_pacticipant.PacticipantFacts.{PacticipantFacts}
 use Rattle.registry_commands.proofs.put_pacticipant.put_pacticipant.Goals as goal
+
+-- the pacticipant that was found to be new is added
+adds : (s : State) (caller : Caller) (found : PacticipantFacts) (pacticipant team p t : Text) → p ≡ pacticipant → t ≡ team → AddsNewPacticipant caller team found → IsPacticipantRead s pacticipant team found
+    → (w : State) × AddsPacticipant p t s w × StepOfCaller broker_primitives s caller (PutPacticipant pacticipant team) (done w)
+adds s caller found pacticipant team p t is by decided h =
+    let it = decided s pacticipant h in
+    (_, (ap s.pacticipants is ∙ it.0, ap (λ x. is_some (s.teams x)) by ∙ it.1, λ i. record s { pacticipants = put_at same_text s.pacticipants (sym is i) (Some (sym by i)) }), it.2)
 
 pub returns-in-Some-clause-answers : goal.returns-in-Some-clause-answers
 returns-in-Some-clause-answers g c =
@@ -20,18 +33,10 @@ pub returns-clause-answers : goal.returns-clause-answers
 returns-clause-answers g c =
     changed_then (state g.S.Store c.args.conn.now) (state g.S.Store c.read_pacticipant_facts.new.conn) (state g.S.Store c.add_pacticipant.new.conn) _ c.in-Ok-add_pacticipant.value (Done Plain) _ _
     (λ s out. StepOfCaller broker_primitives s c.args.caller.now (PutPacticipant c.args.pacticipant.now c.args.team.now) out)
-    (λ s h. let it = c.in-None.ensures.changes s c.args.pacticipant.now h in (
-      record s { pacticipants = put_at same_text s.pacticipants c.args.pacticipant.now (Some c.args.team.now) },
-      (ap s.pacticipants c.as_str.ensures ∙ it.0, ap (λ t. is_some (s.teams t)) c.as_str-in-None.ensures ∙ it.1, λ i. record s { pacticipants = put_at same_text s.pacticipants (sym c.as_str.ensures i) (Some (sym c.as_str-in-None.ensures i)) }),
-      it.2,
-    )) c.in-Ok.ensures.call c.in-Ok-add_pacticipant.ensures.changes
+    (λ s h. adds s c.args.caller.now c.in-Ok.value c.args.pacticipant.now c.args.team.now c.as_str.result.now c.as_str-in-None.result.now c.as_str.ensures c.as_str-in-None.ensures c.in-None.ensures.changes h) c.in-Ok.ensures.call c.in-Ok-add_pacticipant.ensures.changes
 
 pub returns-in-Err-add_pacticipant-clause-calm : goal.returns-in-Err-add_pacticipant-clause-calm
 returns-in-Err-add_pacticipant-clause-calm g c =
     change_fails (state g.S.Store c.args.conn.now) (state g.S.Store c.read_pacticipant_facts.new.conn) (state g.S.Store c.add_pacticipant.new.conn) c.in-Ok.value (Err c.in-Err-add_pacticipant.fault) Plain (codes "pacticipants" ∷ []) (refl, tt) _ _ _
     (λ s out. StepOfCaller broker_primitives s c.args.caller.now (PutPacticipant c.args.pacticipant.now c.args.team.now) out)
-    (λ s h. let it = c.in-None.ensures.changes s c.args.pacticipant.now h in (
-      record s { pacticipants = put_at same_text s.pacticipants c.args.pacticipant.now (Some c.args.team.now) },
-      (ap s.pacticipants c.as_str.ensures ∙ it.0, ap (λ t. is_some (s.teams t)) c.as_str-in-None.ensures ∙ it.1, λ i. record s { pacticipants = put_at same_text s.pacticipants (sym c.as_str.ensures i) (Some (sym c.as_str-in-None.ensures i)) }),
-      it.2,
-    )) c.in-Ok.ensures.call c.in-Err-add_pacticipant.ensures.changes.call c.in-Err-add_pacticipant.ensures.calm
+    (λ s h. adds s c.args.caller.now c.in-Ok.value c.args.pacticipant.now c.args.team.now c.as_str.result.now c.as_str-in-None.result.now c.as_str.ensures c.as_str-in-None.ensures c.in-None.ensures.changes h) c.in-Ok.ensures.call c.in-Err-add_pacticipant.ensures.changes.call c.in-Err-add_pacticipant.ensures.calm

@@ -1,14 +1,24 @@
-use Rattle.std.proofs.Common.{Err, refl, arith}
+use Rattle.std.proofs.Common.{Err, Option, refl, arith}
 use Rattle.sqlite.specs.Held.{state}
-use Rattle.broker_core.specs.Change.{joined, named}
+use Rattle.broker_core.specs.Change.{done}
+use Rattle.broker_core.specs.State.{State}
+use Rattle.broker_core.specs.Text.{Text}
+use Rattle.broker_core.specs.declared.command.Version.{Version}
+use Rattle.broker_core.specs.declared.policy.Caller.{Caller}
 use Rattle.broker_core.specs.declared.answer.Answer.TheVariants.{Done}
 use Rattle.broker_core.specs.declared.answer.Detail.TheVariants.{Plain}
 use Rattle.broker_core.specs.declared.command.Command.TheVariants.{PutVersion}
 use Rattle.command_facts.specs.Performs.{IsStepOf}
 use Rattle.command_facts.proofs.FailLemmas.{taking_fails}
 use Rattle.command_facts.proofs.PerformLemmas.{answered_then, changed_taking}
-use Rattle.registry_commands.specs.Facts.{RecordsVersion}
+use Rattle.registry_commands.specs.Facts.{IsNamingRead, NamesOrJoins, RecordsVersion}
+use Rattle.registry_commands.specs.declared.versions.NamingFacts.{NamingFacts}
 use Rattle.registry_commands.proofs.versions.put_version.Goals as goal
+
+-- what was found to be new is named and put on the branch
+records : (s : State) (caller : Caller) (v : Version) (branch : Option Text) (found : NamingFacts) → NamesOrJoins found → IsNamingRead s caller v branch found
+    → (w : State) × RecordsVersion v branch found.version.number found.versions.count s w × IsStepOf caller (PutVersion v branch) s (done w)
+records s caller v branch found decided h = let it = decided s caller v branch h in (_, (it.0, refl), it.1)
 
 pub returns-in-Some-clause-answers : goal.returns-in-Some-clause-answers
 returns-in-Some-clause-answers g c =
@@ -20,12 +30,12 @@ returns-in-Ok-record_version-clause-answers g c =
     let v = c.args.version.now in
     let branch = c.args.branch.now in
     changed_taking 4 (omega arith) (state g.S.Store c.args.conn.now) (state g.S.Store c.read_naming_facts.new.conn) (state g.S.Store c.record_version.new.conn) c.in-Ok.value c.in-Ok-record_version.value (Done Plain) _ _ (IsStepOf c.args.caller.now (PutVersion v branch))
-    (λ s h. let it = c.in-None.ensures.changes s c.args.caller.now v branch h in (joined (named s v) v branch, (it.0, refl), it.1)) c.in-Ok.ensures.call c.in-Ok-record_version.ensures.changes
+    (λ s h. records s c.args.caller.now v branch c.in-Ok.value c.in-None.ensures.changes h) c.in-Ok.ensures.call c.in-Ok-record_version.ensures.changes
 
 pub returns-in-Err-record_version-clause-calm : goal.returns-in-Err-record_version-clause-calm
 returns-in-Err-record_version-clause-calm g c =
     let v = c.args.version.now in
     let branch = c.args.branch.now in
     taking_fails 3 (omega arith) (state g.S.Store c.args.conn.now) (state g.S.Store c.read_naming_facts.new.conn) (state g.S.Store c.record_version.new.conn) c.in-Ok.value (Err c.in-Err-record_version.fault) Plain _ _ (RecordsVersion v branch c.in-Ok.value.version.number c.in-Ok.value.versions.count) (IsStepOf c.args.caller.now (PutVersion v branch))
-    (λ s h. let it = c.in-None.ensures.changes s c.args.caller.now v branch h in (joined (named s v) v branch, (it.0, refl), it.1)) c.in-Ok.ensures.call c.in-Err-record_version.ensures.changes.call
+    (λ s h. records s c.args.caller.now v branch c.in-Ok.value c.in-None.ensures.changes h) c.in-Ok.ensures.call c.in-Err-record_version.ensures.changes.call
     (λ clean s here may. c.in-Err-record_version.ensures.calm clean s here may.1.0)
