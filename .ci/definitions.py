@@ -23,6 +23,34 @@ def files_of(crate, part, ending):
     return sorted(f"{at}/{name}" for at, _, names in os.walk(home) for name in names if name.endswith(ending))
 
 
+def parts_of(text):
+    """The items of a list, parted by the commas that stand in no braces."""
+    found, depth, item = [], 0, ""
+    for letter in text + ",":
+        depth += (letter == "{") - (letter == "}")
+        if letter == "," and depth == 0:
+            found.append(item.strip())
+            item = ""
+        else:
+            item += letter
+    return [it for it in found if it]
+
+
+def names_in(path, text):
+    """Each module that a `use` line names names of, as its path, with these; of a module that it takes whole, the path."""
+    names = []
+    for part in parts_of(text):
+        inner = re.fullmatch(r"([\w.+]+)\.\{(.*)\}", part)
+        if inner:
+            yield from names_in(f"{path}.{inner[1]}", inner[2])
+        elif re.match(r"[\w.]+\.\w+ as \w+$", part):
+            yield f"{path}.{part}", None
+        else:
+            names.append(part)
+    if names:
+        yield path, names
+
+
 def definitions_in(text):
     """The names that a file of specs/ defines, operators aside, with their lines: those of the file itself, and of its
     modules."""
