@@ -1,13 +1,8 @@
 -- the states after sessions are those of runs over what is done of them
-use Rattle.std.proofs.Common.{◌≡◌, ◌⊎◌, List, [], ◌∷◌, ◌++◌, refl, sym, ◌∙◌, ap, subst, inl, inr}
-use Rattle.std.specs.Prelude.{Option, Some, None}
+use Rattle.std.{specs.Prelude.{Option, Some, None}, proofs.Common.{◌≡◌, ◌⊎◌, List, [], ◌∷◌, ◌++◌, refl, sym, ◌∙◌, ap, subst, inl, inr}}
 use Rattle.std.proofs.lemmas.List.{append-nil, append_assoc, append_cancel_left}
-use Rattle.broker_core.specs.declared.answer.Answer.{Answer}
-use Rattle.broker_core.specs.State.{State}
-use Rattle.broker_core.specs.Machine.{Primitives, Request, Run, Step}
-use Rattle.broker_core.specs.Laws.{Session, Sessions, CutLeaves}
-use Rattle.broker_core.specs.Sessions.{with_cut, IsDoneOf, AreDoneOf, RunsDone, SessionsRun}
-use Rattle.broker_core.proofs.SessionLemmas.{Run-append}
+use Rattle.broker_core.specs.{declared.answer.Answer.{Answer}, State.{State}, Machine.{Primitives, Request, Run, Step}, Laws.{Session, Sessions, CutLeaves}}
+use Rattle.broker_core.{specs.Sessions.{with_cut, IsDoneOf, AreDoneOf, RunsDone, SessionsRun}, proofs.SessionLemmas.{Run-append}}
 
 -- ---- what is done of one session
 

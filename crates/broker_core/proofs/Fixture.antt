@@ -1,23 +1,13 @@
 -- what the worked examples begin with: simple parts, two teams with a pacticipant each, and a gated environment with the grants of both
+use Rattle.std.specs.{Prelude.{codes, Option, Some, None, ◌∷◌, []}, Cmp.Lexicographic.{other_text}}
 use Rattle.std.proofs.Common.{◌≡◌, ◌≢◌, refl, Bool, true, false, List, if◌then◌else◌}
-use Rattle.std.specs.Prelude.{codes, Option, Some, None, ◌∷◌, []}
-use Rattle.std.specs.Cmp.Lexicographic.{other_text}
-use Rattle.broker_core.specs.declared.policy.Caller.TheVariants.{Office, Team}
-use Rattle.broker_core.specs.declared.command.Command.{Command}
-use Rattle.broker_core.specs.declared.command.Command.TheVariants.{PutTeam, PutPacticipant, PutEnvironment, PutGrant}
-use Rattle.broker_core.specs.declared.command.Marks.{Marks}
-use Rattle.broker_core.specs.declared.command.PactPath.{PactPath}
-use Rattle.broker_core.specs.declared.need.Kind.{Kind}
-use Rattle.broker_core.specs.declared.need.PairFault.{PairFault}
-use Rattle.broker_core.specs.declared.answer.Answer.{Answer}
-use Rattle.broker_core.specs.declared.answer.Answer.TheVariants.{Done}
-use Rattle.broker_core.specs.declared.answer.Detail.TheVariants.{Plain, Result}
-use Rattle.broker_core.specs.Text.{Text, same_text, put_at, version}
-use Rattle.broker_core.specs.State.{State, opening, claimed_result}
 use Rattle.broker_core.specs.Change.{Transition, put_team, put_pacticipant, put_environment, put_grant, put_version, put_pact, report}
-use Rattle.broker_core.specs.Machine.{Primitives, Step, Run, Request, IsCallerOfDigest}
-use Rattle.broker_core.specs.Machine.Reading.{IsPact}
-use Rattle.broker_core.proofs.Judgement.{Rows}
+use Rattle.broker_core.specs.{Machine.{Primitives, Step, Run, Request, IsCallerOfDigest}, Machine.Reading.{IsPact}}
+use Rattle.broker_core.specs.{declared.policy.Caller.TheVariants.{Office, Team}, declared.command.Command.{Command}}
+use Rattle.broker_core.specs.{declared.command.Command.TheVariants.{PutTeam, PutPacticipant, PutEnvironment, PutGrant}, declared.command.Marks.{Marks}}
+use Rattle.broker_core.specs.{declared.command.PactPath.{PactPath}, declared.need.Kind.{Kind}, declared.need.PairFault.{PairFault}}
+use Rattle.broker_core.specs.{declared.answer.Answer.{Answer}, declared.answer.Answer.TheVariants.{Done}, declared.answer.Detail.TheVariants.{Plain, Result}}
+use Rattle.broker_core.{specs.{Text.{Text, same_text, put_at, version}, State.{State, opening, claimed_result}}, proofs.{Judgement.{Rows}, Lists.{some_is}}}
 
 abbrev pub shop : Text
 shop = codes "shop"
@@ -120,10 +110,7 @@ blue_is_no_office = other_text office_token blue_token refl
 -- no one has a digest that no token of the table has
 pub put_other : (table : Text → Option Text) (key value x : Text) → value ≢ x → ((q : Text) → table q ≢ Some x) → (q : Text) → put_at same_text table key (Some value) q ≢ Some x
 put_other table key value x other none q e =
-    elim (same_text q key) as (λ b. (if b then Some value else table q) ≡ Some x → ⊥) [ true ↦ λ is. other (inside value x is) | false ↦ none q ] e
-  where
-    inside : (a b : Text) → Some a ≡ Some b → a ≡ b
-    inside a b is = cc
+    elim (same_text q key) as (λ b. (if b then Some value else table q) ≡ Some x → ⊥) [ true ↦ λ is. other (some_is value x is) | false ↦ none q ] e
 
 pub no_team : (x q : Text) → (opening office_token).teams q ≢ Some x
 no_team x q e = absurd (cc)

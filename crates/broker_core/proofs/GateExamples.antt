@@ -1,18 +1,12 @@
 -- worked examples of the gate
-use Rattle.std.proofs.Common.{true, false, refl}
-use Rattle.std.specs.Prelude.{codes, Some, None, ◌∷◌, []}
-use Rattle.broker_core.specs.declared.policy.Caller.TheVariants.{Team}
-use Rattle.broker_core.specs.declared.command.Command.TheVariants.{Deploy, CanIDeploy}
-use Rattle.broker_core.specs.declared.command.Marks.{Marks}
-use Rattle.broker_core.specs.declared.need.Kind.TheVariants.{Absent, Missing, Failed}
-use Rattle.broker_core.specs.declared.answer.Answer.TheVariants.{Done, NotPermitted, Shown}
-use Rattle.broker_core.specs.declared.answer.Shown.TheVariants as shown
-use Rattle.broker_core.specs.declared.answer.Detail.TheVariants.{Plain, Result}
-use Rattle.broker_core.specs.Text.{Text, version}
-use Rattle.broker_core.specs.State.{State, claimed_result}
-use Rattle.broker_core.specs.Change.{put_environment, put_grant, put_version, put_pact, report, deploy, release}
-use Rattle.broker_core.proofs.Judgement.{Rows, row_keys, judges}
+use Rattle.std.{specs.Prelude.{codes, Some, None, ◌∷◌, []}, proofs.Common.{true, false, refl}}
+use Rattle.broker_core.specs.{declared.policy.Caller.TheVariants.{Team}, declared.command.Command.TheVariants.{Deploy, CanIDeploy}}
+use Rattle.broker_core.specs.{declared.command.Marks.{Marks}, declared.need.Kind.TheVariants.{Absent, Missing, Failed}}
+use Rattle.broker_core.specs.{declared.answer.Answer.TheVariants.{Done, NotPermitted, Shown}, declared.answer.Detail.TheVariants.{Plain, Result}}
+use Rattle.broker_core.specs.{Text.{Text, version}, State.{State, claimed_result}}
+use Rattle.broker_core.{specs.Change.{put_environment, put_grant, put_version, put_pact, report, deploy, release}, proofs.Judgement.{Rows, row_keys, judges}}
 use Rattle.broker_core.proofs.Fixture.{blue_is_no_office, red_is_no_office, shop, stock, Answers, red_token, blue_token, red, blue, live, one, two, three, first_file, second_file, gated, lacks, fixture, published, named_stock, claims, no_rows, pact_rows}
+use Rattle.broker_core.specs.declared.answer.Shown.TheVariants as shown
 
 abbrev pub named_shop : State
 named_shop = (put_version fixture (version shop one) None).state

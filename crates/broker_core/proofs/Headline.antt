@@ -1,37 +1,23 @@
 -- a deployment, and a release, is recorded exactly where it may be
-use Rattle.std.proofs.Common.{◌≡◌, ◌≢◌, ◌⊎◌, List, [], ◌∷◌, refl, sym, ◌∙◌, ap, subst, inl, inr, Bool, true, false, ◌&&◌, ◌||◌, if◌then◌else◌}
 use Rattle.std.specs.Prelude.{Option, Some, None, MatchOption, IsTrue, IsSomeAnd, Contains, is_some, filter_map, option_and_then}
 use Rattle.std.specs.List.{list_any, cons_option}
+use Rattle.std.proofs.Common.{◌≡◌, ◌≢◌, ◌⊎◌, List, [], ◌∷◌, refl, sym, ◌∙◌, ap, subst, inl, inr, Bool, true, false, ◌&&◌, ◌||◌, if◌then◌else◌}
 use Rattle.std.proofs.lemmas.Map.Views.{Contains-from_any}
-use Rattle.broker_core.specs.declared.policy.Caller.{Caller}
-use Rattle.broker_core.specs.declared.policy.Caller.TheVariants.{Office, Team}
-use Rattle.broker_core.specs.declared.command.Command.{Command}
-use Rattle.broker_core.specs.declared.command.Command.TheVariants.{Deploy, Release}
-use Rattle.broker_core.specs.declared.command.Version.{Version}
-use Rattle.broker_core.specs.declared.command.FormFault.{FormFault}
-use Rattle.broker_core.specs.declared.need.Need.{Need}
-use Rattle.broker_core.specs.declared.need.Latest.{Latest}
-use Rattle.broker_core.specs.declared.need.PairFault.{PairFault}
-use Rattle.broker_core.specs.declared.answer.Answer.{Answer}
 use Rattle.broker_core.specs.declared.answer.Answer.TheVariants.{Done, Already, NotPermitted, BadForm, Denied, Unknown}
-use Rattle.broker_core.specs.declared.answer.Detail.TheVariants.{Plain}
-use Rattle.broker_core.specs.declared.answer.Missing.{Missing}
-use Rattle.broker_core.specs.declared.answer.Missing.TheVariants as missing
-use Rattle.broker_core.specs.declared.policy.Rule.{Rule}
-use Rattle.broker_core.specs.declared.policy.Rule.TheVariants.{A1, A7}
-use Rattle.broker_core.specs.Text.{Text, same_text, same_version, same_pair, same_place, put_at, version}
-use Rattle.broker_core.specs.State.{State, latest, is_gated, is_strict}
-use Rattle.broker_core.specs.Policy.{allows}
 use Rattle.broker_core.specs.Gate.{Stands, consumer_of, NeedsStanding, NeedsAbsent, NeedsAsProvider, IsNeed, IsGood, IsPermitted, Judges}
 use Rattle.broker_core.specs.Request.{refusal, refused, unless, is_known, has_grant, rule_of}
 use Rattle.broker_core.specs.Change.{Transition, unchanged_with, already, done, deploy, release, instance_of, is_text}
-use Rattle.broker_core.specs.Machine.{Primitives, IsCallerOfToken, StepOfCaller, FindsFault, Step, TakesEffect}
-use Rattle.broker_core.specs.Laws.{TeamsDiffer}
 use Rattle.broker_core.specs.Headline.{IsVerified, AreVerified, NoneIsAbsent, PermitsVerified, NamesExist, HasCaller, IsGranted, MayBeRecorded, IsRefusal, IsRecordedExactly, DeploysExactly, ReleasesExactly}
-use Rattle.broker_core.proofs.Lists.{some_is, contains_none, contains_cases}
-use Rattle.broker_core.proofs.Judgement.{text_is, text_refl, and_both, version_is, version_refl}
-use Rattle.broker_core.proofs.Locality.{calls_same}
+use Rattle.broker_core.specs.{declared.policy.Caller.{Caller}, declared.policy.Caller.TheVariants.{Office, Team}, declared.command.Command.{Command}}
+use Rattle.broker_core.specs.{declared.command.Command.TheVariants.{Deploy, Release}, declared.command.Version.{Version}}
+use Rattle.broker_core.specs.{declared.command.FormFault.{FormFault}, declared.need.Need.{Need}, declared.need.Latest.{Latest}}
+use Rattle.broker_core.specs.{declared.need.PairFault.{PairFault}, declared.answer.Answer.{Answer}, declared.answer.Detail.TheVariants.{Plain}}
+use Rattle.broker_core.specs.{declared.answer.Missing.{Missing}, declared.policy.Rule.{Rule}, declared.policy.Rule.TheVariants.{A1, A7}}
+use Rattle.broker_core.specs.{Text.{Text, same_text, same_version, same_pair, same_place, put_at, version}, State.{State, latest, is_gated, is_strict}}
+use Rattle.broker_core.specs.{Policy.{allows}, Machine.{Primitives, IsCallerOfToken, StepOfCaller, FindsFault, Step, TakesEffect}, Laws.{TeamsDiffer}}
+use Rattle.broker_core.proofs.{Lists.{some_is, any_true}, Judgement.{text_is, text_refl, and_both, version_is, version_refl}, Locality.{calls_same}}
 use Rattle.broker_core.proofs.Retry.{put_at-same, place-refl, mark-refl}
+use Rattle.broker_core.specs.declared.answer.Missing.TheVariants as missing
 
 -- the row stands, and the answer says so
 Recorded : State → Text → Version → Text → Bool → Type 0
@@ -83,18 +69,6 @@ unfolding told
 told_of c rule (Some what) b = refl
 told_of c rule None true = refl
 told_of c rule None false = ap (λ r. Some (Denied r)) rule
-
--- a version that has a number is among the versions
-among : (vs : List Version) (v : Version) → Contains vs v → list_any (same_version v) vs ≡ true
-among [] v c = absurd (contains_none v c)
-among (w ∷ vs) v c = elim (contains_cases w vs v c) [
-  | inl here ↦ ap (λ b. b || list_any (same_version v) vs) (ap (same_version v) here ∙ version_refl v)
-  | inr later ↦ either (same_version v w) (among vs v later)
-]
-  where
-    either : (b : Bool) → list_any (same_version v) vs ≡ true → (b || list_any (same_version v) vs) ≡ true
-    either true h = refl
-    either false h = h
 
 -- what the owner's rule asks of the caller
 owns : State → Text → Version → Caller → Bool
@@ -199,7 +173,7 @@ module _ (parts : Primitives) (s : State) (token : Option Text) (e : Text) (v : 
       by_names true false ver own a b c d is =
           refuses IsRecorded out (Unknown missing.Pacticipant) is (known, (a, b)) (λ may. clash _ b may.names.pacticipant) (unknown_differs missing.Pacticipant)
       by_names true true false own a b c d is =
-          let bars : ¬ (Contains s.versions v) = λ there. clash _ c (among s.versions v there) in
+          let bars : ¬ (Contains s.versions v) = λ there. clash _ c (any_true (same_version v) s.versions v there (version_refl v)) in
           refuses IsRecorded out (Unknown missing.Version) is (known, (a, b, bars)) (λ may. bars may.names.version) (unknown_differs missing.Version)
       by_names true true true own a b c d is =
           let names : NamesExist s e v = record { environment = a; pacticipant = b; version = Contains-from_any version_is v s.versions c } in

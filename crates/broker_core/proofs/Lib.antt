@@ -2,6 +2,7 @@ pub mod Lists
 pub mod Order
 pub mod Listing
 pub mod Locality
+mod Effects
 pub mod Retry
 pub mod Judgement
 mod Fixture

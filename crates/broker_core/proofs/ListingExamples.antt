@@ -1,20 +1,13 @@
 -- worked examples of what is listed and taken out, and of the matrix
-use Rattle.std.proofs.Common.{ℕ, Bool, true, false, refl}
-use Rattle.std.specs.Prelude.{codes, Option, Some, None, ◌∷◌, []}
-use Rattle.broker_core.specs.declared.policy.Caller.TheVariants.{Team}
-use Rattle.broker_core.specs.declared.command.Command.TheVariants.{Undeploy, EndSupport, GetEnvironment, GetMatrix}
-use Rattle.broker_core.specs.declared.answer.Answer.TheVariants.{Done, Shown, Unknown}
-use Rattle.broker_core.specs.declared.answer.Shown.TheVariants as shown
-use Rattle.broker_core.specs.declared.answer.Detail.TheVariants.{Plain}
-use Rattle.broker_core.specs.declared.answer.Missing.TheVariants as missing
-use Rattle.broker_core.specs.declared.answer.Verified.{Verified}
-use Rattle.broker_core.specs.Text.{Text, version}
-use Rattle.broker_core.specs.Change.{end_support}
-use Rattle.broker_core.proofs.Judgement.{Rows, row_keys}
-use Rattle.broker_core.proofs.Listings.{deployed_listed, released_listed}
-use Rattle.broker_core.proofs.Matrix.{row, matrix_listed}
+use Rattle.std.{specs.Prelude.{codes, Option, Some, None, ◌∷◌, []}, proofs.Common.{ℕ, Bool, true, false, refl}}
+use Rattle.broker_core.specs.{declared.policy.Caller.TheVariants.{Team}, declared.command.Command.TheVariants.{Undeploy, EndSupport, GetEnvironment, GetMatrix}}
+use Rattle.broker_core.specs.{declared.answer.Answer.TheVariants.{Done, Shown, Unknown}, declared.answer.Detail.TheVariants.{Plain}}
+use Rattle.broker_core.{specs.{declared.answer.Verified.{Verified}, Text.{Text, version}, Change.{end_support}}, proofs.Judgement.{Rows, row_keys}}
+use Rattle.broker_core.proofs.{Listings.{deployed_listed, released_listed}, Matrix.{row, matrix_listed}}
 use Rattle.broker_core.proofs.Fixture.{blue_is_no_office, red_is_no_office, shop, stock, Answers, red_token, blue_token, red, blue, live, one, two, gated, published, pact_rows}
 use Rattle.broker_core.proofs.GateExamples.{both_standing, standing_rows, two_instances, instance_rows, passed_again, stock_rows, both_passed}
+use Rattle.broker_core.specs.declared.answer.Shown.TheVariants as shown
+use Rattle.broker_core.specs.declared.answer.Missing.TheVariants as missing
 
 an_environment_lists_what_stands : Answers both_standing blue_token (GetEnvironment live) (Shown (shown.Environment live gated
     (record { pacticipant = shop; instance = []; version = two } ∷ record { pacticipant = stock; instance = []; version = one } ∷ []) (version shop one ∷ [])))

@@ -1,29 +1,16 @@
 -- the answer to a deployment depends on little
+use Rattle.std.specs.{Prelude.{Option, Some, None, option_and_then, IsTrue, IsSomeAnd, MatchOption, if◌then◌else◌}, Option.{option_map_or}}
 use Rattle.std.proofs.Common.{◌≡◌, ◌⊎◌, ℕ, List, refl, sym, ◌∙◌, ap, subst, inl, inr, Bool, true, false}
-use Rattle.std.specs.Prelude.{Option, Some, None, option_and_then, IsTrue, IsSomeAnd, MatchOption, if◌then◌else◌}
-use Rattle.std.specs.Option.{option_map_or}
-use Rattle.broker_core.specs.declared.policy.Caller.{Caller}
-use Rattle.broker_core.specs.declared.policy.Caller.TheVariants.{Office, Team}
-use Rattle.broker_core.specs.declared.policy.Rule.TheVariants.{A1}
-use Rattle.broker_core.specs.declared.command.Command.{Command}
-use Rattle.broker_core.specs.declared.command.Command.TheVariants.{Deploy}
-use Rattle.broker_core.specs.declared.command.Version.{Version}
-use Rattle.broker_core.specs.declared.command.FormFault.{FormFault}
-use Rattle.broker_core.specs.declared.answer.Answer.{Answer}
-use Rattle.broker_core.specs.declared.answer.Answer.TheVariants.{Denied, NotPermitted, BadForm, Already, Done}
-use Rattle.broker_core.specs.declared.answer.Detail.TheVariants.{Plain}
-use Rattle.broker_core.specs.declared.need.Need.{Need}
-use Rattle.broker_core.specs.declared.need.PairFault.{PairFault}
-use Rattle.broker_core.specs.Text.{Text, version, same_place, put_at}
-use Rattle.broker_core.specs.State.{State, latest, is_gated, is_strict}
-use Rattle.broker_core.specs.Faults.{fault_of}
+use Rattle.broker_core.specs.{declared.policy.Caller.{Caller}, declared.policy.Caller.TheVariants.{Office, Team}, declared.policy.Rule.TheVariants.{A1}}
+use Rattle.broker_core.specs.{declared.command.Command.{Command}, declared.command.Command.TheVariants.{Deploy}, declared.command.Version.{Version}}
+use Rattle.broker_core.specs.{declared.command.FormFault.{FormFault}, declared.answer.Answer.{Answer}}
+use Rattle.broker_core.specs.{declared.answer.Answer.TheVariants.{Denied, NotPermitted, BadForm, Already, Done}, declared.answer.Detail.TheVariants.{Plain}}
+use Rattle.broker_core.specs.{declared.need.Need.{Need}, declared.need.PairFault.{PairFault}, Text.{Text, version, same_place, put_at}}
+use Rattle.broker_core.specs.{State.{State, latest, is_gated, is_strict}, Faults.{fault_of}}
 use Rattle.broker_core.specs.Gate.{Stands, consumer_of, NeedsStanding, NeedsAbsent, NeedsAsProvider, IsNeed, IsGood, IsPermitted, IsFault, Judges}
-use Rattle.broker_core.specs.Request.{refusal}
-use Rattle.broker_core.specs.Change.{Transition, unchanged_with, already, done, deploy, instance_of, is_text}
+use Rattle.broker_core.specs.{Request.{refusal}, Change.{Transition, unchanged_with, already, done, deploy, instance_of, is_text}}
 use Rattle.broker_core.specs.Machine.{Primitives, StepOfCaller, HasDigest, IsCallerOfDigest, IsCallerOfToken, Step, TakesEffect}
-use Rattle.broker_core.specs.Laws.{TeamsDiffer, Concerns, Agree, GateLocality, GateAnswersOnce}
-use Rattle.broker_core.proofs.Listing.{Lists-same}
-use Rattle.broker_core.proofs.Order.{fault_cmp_total}
+use Rattle.broker_core.{specs.Laws.{TeamsDiffer, Concerns, Agree, GateLocality, GateAnswersOnce}, proofs.{Listing.{Lists-same}, Order.{fault_cmp_total}}}
 
 -- what the gate reads of two states is the same
 pub record AgreeHere (s t : State) (v : Version) (e : Text) : Type 0 where

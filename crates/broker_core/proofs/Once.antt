@@ -1,30 +1,17 @@
 -- a step has one outcome, a refused pattern aside
-use Rattle.std.proofs.Common.{◌≡◌, ◌⊎◌, refl, sym, ◌∙◌, ap, subst, inl, inr, if◌then◌else◌}
-use Rattle.std.specs.Prelude.{Option, Some, None, MatchOption, is_some, IsTrue, Bool}
-use Rattle.std.specs.Cmp.{IsTotalOrder, on_total, then_total}
-use Rattle.std.specs.Cmp.Lexicographic.{nat_list_cmp_total, options_total}
-use Rattle.broker_core.specs.declared.policy.Caller.{Caller}
-use Rattle.broker_core.specs.declared.policy.Rule.TheVariants.{A1}
-use Rattle.broker_core.specs.declared.command.Command.{Command}
-use Rattle.broker_core.specs.declared.command.Command.TheVariants.{PutTeam, PutPacticipant, PutEnvironment, PutGrant, DeleteGrant, PutVersion, PutPact, GetPact, GetBranchPact, PostResult, PostReplies, Deploy, Undeploy, Release, EndSupport, GetEnvironment, CanIDeploy, GetMatrix, Malformed}
-use Rattle.broker_core.specs.declared.command.Version.{Version}
-use Rattle.broker_core.specs.declared.command.FormFault.{FormFault}
-use Rattle.broker_core.specs.declared.answer.Answer.{Answer}
-use Rattle.broker_core.specs.declared.answer.Answer.TheVariants.{Denied, BadForm, NotPermitted, Shown}
-use Rattle.broker_core.specs.declared.answer.Shown.TheVariants as shown
-use Rattle.broker_core.specs.declared.answer.DeployedItem.{DeployedItem}
-use Rattle.broker_core.specs.declared.answer.MatrixRow.{MatrixRow}
-use Rattle.broker_core.specs.Text.{Text, version}
-use Rattle.broker_core.specs.State.{State, claimed_result}
-use Rattle.broker_core.specs.Request.{refusal, consumer_version}
+use Rattle.std.specs.{Cmp.Lexicographic.{nat_list_cmp_total, options_total}, Prelude.{Option, Some, None, MatchOption, is_some, IsTrue, Bool}}
+use Rattle.std.{specs.Cmp.{IsTotalOrder, on_total, then_total}, proofs.Common.{◌≡◌, ◌⊎◌, refl, sym, ◌∙◌, ap, subst, inl, inr, if◌then◌else◌}}
+use Rattle.broker_core.specs.declared.command.Command.TheVariants.{PutTeam, PutPact, GetPact, GetBranchPact, PostResult, PostReplies, Deploy, Release, GetEnvironment, CanIDeploy, GetMatrix, Malformed}
 use Rattle.broker_core.specs.Change.{Transition, unchanged_with, put_team, put_pact, report, deploy, release, instance_of, text_of}
 use Rattle.broker_core.specs.declared.answer.Detail.TheVariants.{Result}
 use Rattle.broker_core.specs.Machine.{Primitives, StepOfCaller, Reading, pact_text, Step, FindsFault, TakesEffect, deployed_cmp, version_cmp, matrix_cmp, verified_version, report_replies, fault_of_reading}
-use Rattle.broker_core.specs.Machine.Reading.{IsPact, IsRefused}
-use Rattle.broker_core.specs.Laws.{TeamsDiffer, ReadsRefusal, IsReadOnce, AnswersRefusal, StepOnce}
-use Rattle.broker_core.proofs.Lists.{some_is}
-use Rattle.broker_core.proofs.Listing.{Lists-unique}
-use Rattle.broker_core.proofs.Locality.{AgreeHere, same_verdict, same_faults, same_who, calls_same}
+use Rattle.broker_core.specs.{declared.policy.Caller.{Caller}, declared.policy.Rule.TheVariants.{A1}, declared.command.Command.{Command}}
+use Rattle.broker_core.specs.{declared.command.Version.{Version}, declared.command.FormFault.{FormFault}, declared.answer.Answer.{Answer}}
+use Rattle.broker_core.specs.{declared.answer.Answer.TheVariants.{Denied, BadForm, NotPermitted, Shown}, declared.answer.DeployedItem.{DeployedItem}}
+use Rattle.broker_core.specs.{declared.answer.MatrixRow.{MatrixRow}, Text.{Text, version}, State.{State, claimed_result}, Request.{refusal, consumer_version}}
+use Rattle.broker_core.specs.{Machine.Reading.{IsPact, IsRefused}, Laws.{TeamsDiffer, ReadsRefusal, IsReadOnce, AnswersRefusal, StepOnce}}
+use Rattle.broker_core.proofs.{Lists.{some_is}, Listing.{Lists-unique}, Locality.{AgreeHere, same_verdict, same_faults, same_who, calls_same}}
+use Rattle.broker_core.specs.declared.answer.Shown.TheVariants as shown
 
 pub deployed_cmp_total : IsTotalOrder deployed_cmp
 deployed_cmp_total = then_total (on_total (λ (x : DeployedItem). x.pacticipant) nat_list_cmp_total)
@@ -63,11 +50,6 @@ module _ (parts : Primitives) (is_refusal : FormFault → Bool) (s : State) (one
   acts_once : (c : Command) → IsReadOnce parts is_refusal c → (a b : Transition) → TakesEffect parts s c a → TakesEffect parts s c b → a ≡ b
   acts_once (PutTeam team token) are a b x y =
       x.2 ∙ (λ i. put_team s team (parts.digest_of token) (is_some (same_who s s (parts.digest_of token) one (λ caller. (λ k. k, λ k. k)) x.0 y.0 x.1 y.1 i))) ∙ sym y.2
-  acts_once (PutPacticipant p team) are a b x y = x ∙ sym y
-  acts_once (PutEnvironment e marks) are a b x y = x ∙ sym y
-  acts_once (PutGrant team e) are a b x y = x ∙ sym y
-  acts_once (DeleteGrant team e) are a b x y = x ∙ sym y
-  acts_once (PutVersion v branch) are a b x y = x ∙ sym y
   acts_once (PutPact path file) are a b x y =
       x.2 ∙ ap (put_pact s (consumer_version path) path.provider) (one_text is_refusal path.consumer path.provider x.0 y.0 (are _ _ x.1 y.1)) ∙ sym y.2
   acts_once (GetPact path) are a b x y = x.2 ∙ ap (λ text. unchanged_with s (Shown (shown.Pact text))) (found_is _ x.0 y.0 x.1 y.1) ∙ sym y.2
@@ -84,10 +66,8 @@ module _ (parts : Primitives) (is_refusal : FormFault → Bool) (s : State) (one
       x.2.2.2 ∙ (λ i. report_replies s (content i) (version path.provider r.provider_version) r.run (failing i)) ∙ sym y.2.2.2
   acts_once (Deploy e v instance) are a b x y =
       x.3 ∙ (λ i. if same_verdict (itself s v e) x.2 y.2 i then deploy s e v (instance_of instance) else unchanged_with s (NotPermitted (same_faults (itself s v e) x.2 y.2 i))) ∙ sym y.3
-  acts_once (Undeploy e v instance) are a b x y = x ∙ sym y
   acts_once (Release e v) are a b x y =
       x.3 ∙ (λ i. if same_verdict (itself s v e) x.2 y.2 i then release s e v else unchanged_with s (NotPermitted (same_faults (itself s v e) x.2 y.2 i))) ∙ sym y.3
-  acts_once (EndSupport e v) are a b x y = x ∙ sym y
   acts_once (GetEnvironment e) are a b x y =
       let marks = found_is _ x.0 y.0 x.1 y.1 in
       let items = Lists-unique deployed_cmp_total x.2.0 y.2.0 x.2.1 y.2.1 in
@@ -98,11 +78,11 @@ module _ (parts : Primitives) (is_refusal : FormFault → Bool) (s : State) (one
       x.2.3 ∙ (λ i. unchanged_with s (Shown (shown.Gate e (marks i) (same_verdict (itself s v e) x.2.2 y.2.2 i) (same_faults (itself s v e) x.2.2 y.2.2 i)))) ∙ sym y.2.3
   acts_once (GetMatrix v) are a b x y = x.2 ∙ ap (λ rows. unchanged_with s (Shown (shown.Matrix rows))) (Lists-unique matrix_cmp_total x.0 y.0 x.1 y.1) ∙ sym y.2
   acts_once (Malformed fault) are a b x y = absurd x
+  acts_once _ are a b x y = x ∙ sym y
 
   form_once : (c : Command) → IsReadOnce parts is_refusal c → (f g : Option FormFault) → FindsFault parts c f → FindsFault parts c g
       → (f ≡ g) ⊎ (Refuses f ⊎ Refuses g)
   unfolding Refuses
-  form_once (Malformed fault) are f g x y = inl (x ∙ sym y)
   form_once (PutPact path file) are f g x y = by_reading x.0 y.0 x.2 y.2 (are x.0 y.0 x.1 y.1)
     where
       refused : (h : Option FormFault) (r : Reading) → h ≡ fault_of_reading path.consumer path.provider r → ReadsRefusal is_refusal r → Refuses h
@@ -115,22 +95,7 @@ module _ (parts : Primitives) (is_refusal : FormFault → Bool) (s : State) (one
       by_reading r q d e (inr (inl refusal)) = inr (inl (refused f r d refusal))
       by_reading r q d e (inr (inr refusal)) = inr (inr (refused g q e refusal))
   form_once (PostReplies path r replies) are f g x y = inl (are.0 f g x y)
-  form_once (PutTeam team token) are f g x y = inl (x ∙ sym y)
-  form_once (PutPacticipant p team) are f g x y = inl (x ∙ sym y)
-  form_once (PutEnvironment e marks) are f g x y = inl (x ∙ sym y)
-  form_once (PutGrant team e) are f g x y = inl (x ∙ sym y)
-  form_once (DeleteGrant team e) are f g x y = inl (x ∙ sym y)
-  form_once (PutVersion v branch) are f g x y = inl (x ∙ sym y)
-  form_once (GetPact path) are f g x y = inl (x ∙ sym y)
-  form_once (GetBranchPact provider consumer branch) are f g x y = inl (x ∙ sym y)
-  form_once (PostResult path r success) are f g x y = inl (x ∙ sym y)
-  form_once (Deploy e v instance) are f g x y = inl (x ∙ sym y)
-  form_once (Undeploy e v instance) are f g x y = inl (x ∙ sym y)
-  form_once (Release e v) are f g x y = inl (x ∙ sym y)
-  form_once (EndSupport e v) are f g x y = inl (x ∙ sym y)
-  form_once (GetEnvironment e) are f g x y = inl (x ∙ sym y)
-  form_once (CanIDeploy v e) are f g x y = inl (x ∙ sym y)
-  form_once (GetMatrix v) are f g x y = inl (x ∙ sym y)
+  form_once _ are f g x y = inl (x ∙ sym y)
 
   Rest : Command → Transition → Option Caller → Type 0
   Rest c out who = MatchOption who (out ≡ unchanged_with s (Denied A1)) (λ caller. StepOfCaller parts s caller c out)

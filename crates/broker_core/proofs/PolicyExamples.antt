@@ -1,19 +1,11 @@
 -- worked examples of who may do what
-use Rattle.std.proofs.Common.{true, false, refl}
-use Rattle.std.specs.Prelude.{codes, Some, None}
-use Rattle.std.specs.Cmp.Lexicographic.{other_text}
-use Rattle.broker_core.specs.declared.policy.Caller.TheVariants.{Office, Team}
-use Rattle.broker_core.specs.declared.policy.Rule.TheVariants.{A7, A1}
-use Rattle.broker_core.specs.declared.command.Command.{Command}
-use Rattle.broker_core.specs.declared.command.Command.TheVariants.{Deploy, PutEnvironment, Malformed}
-use Rattle.broker_core.specs.declared.command.FormFault.TheVariants.{Json, Field}
-use Rattle.broker_core.specs.declared.answer.Answer.TheVariants.{Denied, BadForm, Unknown}
-use Rattle.broker_core.specs.declared.answer.Missing.TheVariants as missing
-use Rattle.broker_core.specs.Text.{Text, version}
-use Rattle.broker_core.specs.State.{State, opening}
-use Rattle.broker_core.specs.Change.{unchanged_with, put_team, put_environment, put_grant, delete_grant, put_version}
-use Rattle.broker_core.specs.Machine.{IsCallerOfDigest}
+use Rattle.std.{specs.{Prelude.{codes, Some, None}, Cmp.Lexicographic.{other_text}}, proofs.Common.{true, false, refl}}
+use Rattle.broker_core.specs.{declared.policy.Caller.TheVariants.{Office, Team}, declared.policy.Rule.TheVariants.{A7, A1}, declared.command.Command.{Command}}
+use Rattle.broker_core.specs.{declared.command.Command.TheVariants.{Deploy, PutEnvironment, Malformed}, declared.command.FormFault.TheVariants.{Json, Field}}
+use Rattle.broker_core.specs.{declared.answer.Answer.TheVariants.{Denied, BadForm, Unknown}, Text.{Text, version}, State.{State, opening}}
+use Rattle.broker_core.specs.{Change.{unchanged_with, put_team, put_environment, put_grant, delete_grant, put_version}, Machine.{IsCallerOfDigest}}
 use Rattle.broker_core.proofs.Fixture.{blue_is_no_office, red_is_no_office, shop, Answers, office_token, red_token, blue_token, red, blue, live, one, fixture, put_other, no_team}
+use Rattle.broker_core.specs.declared.answer.Missing.TheVariants as missing
 
 -- red has named shop 1 and has no grant for live
 abbrev pub without_grant : State

@@ -1,19 +1,13 @@
 -- worked examples of publications and branches
-use Rattle.std.proofs.Common.{refl}
-use Rattle.std.specs.Prelude.{codes, Some, None}
-use Rattle.broker_core.specs.declared.policy.Caller.TheVariants.{Team}
-use Rattle.broker_core.specs.declared.command.Command.TheVariants.{PutPact, GetBranchPact}
+use Rattle.std.{specs.Prelude.{codes, Some, None}, proofs.Common.{refl}}
+use Rattle.broker_core.specs.{declared.policy.Caller.TheVariants.{Team}, declared.command.Command.TheVariants.{PutPact, GetBranchPact}}
 use Rattle.broker_core.specs.declared.command.FormFault.TheVariants.{Names}
-use Rattle.broker_core.specs.declared.answer.Answer.TheVariants.{Done, Already, Taken, BadForm, Shown, Unknown}
-use Rattle.broker_core.specs.declared.answer.Shown.TheVariants as shown
-use Rattle.broker_core.specs.declared.answer.Detail.TheVariants.{Content}
-use Rattle.broker_core.specs.declared.answer.Missing.TheVariants as missing
-use Rattle.broker_core.specs.declared.answer.Clash.TheVariants.{OtherContent}
-use Rattle.broker_core.specs.Text.{version}
-use Rattle.broker_core.specs.State.{State}
-use Rattle.broker_core.specs.Change.{put_version, put_pact}
+use Rattle.broker_core.specs.{declared.answer.Answer.TheVariants.{Done, Already, Taken, BadForm, Shown, Unknown}, declared.answer.Detail.TheVariants.{Content}}
+use Rattle.broker_core.specs.{declared.answer.Clash.TheVariants.{OtherContent}, Text.{version}, State.{State}, Change.{put_version, put_pact}}
 use Rattle.broker_core.specs.Machine.Reading.{IsPact}
 use Rattle.broker_core.proofs.Fixture.{blue_is_no_office, red_is_no_office, shop, stock, Answers, red_token, blue_token, red, blue, one, two, three, first_file, second_file, path_of, fixture, published}
+use Rattle.broker_core.specs.declared.answer.Shown.TheVariants as shown
+use Rattle.broker_core.specs.declared.answer.Missing.TheVariants as missing
 
 a_publication_is_numbered : Answers fixture red_token (PutPact (path_of one) first_file) (Done (Content 1))
 a_publication_is_numbered = (_, (Some (Team red), (red_is_no_office, refl), (None, (IsPact shop stock first_file, refl, refl), (first_file, refl, refl))), refl)

@@ -1,15 +1,9 @@
 -- worked examples of results that name the run of the provider's pipeline
-use Rattle.std.proofs.Common.{true, false, refl}
-use Rattle.std.specs.Prelude.{codes, Some, None, []}
-use Rattle.broker_core.specs.declared.policy.Caller.TheVariants.{Team}
-use Rattle.broker_core.specs.declared.command.Command.TheVariants.{PostReplies, PostResult}
-use Rattle.broker_core.specs.declared.command.Report.{Report}
-use Rattle.broker_core.specs.declared.answer.Answer.TheVariants.{Done, Already, Taken}
-use Rattle.broker_core.specs.declared.answer.Detail.TheVariants.{Result}
-use Rattle.broker_core.specs.declared.answer.Clash.TheVariants.{Run}
-use Rattle.broker_core.specs.Text.{Text, version}
-use Rattle.broker_core.specs.State.{State, claimed_result}
-use Rattle.broker_core.specs.Change.{report}
+use Rattle.std.{specs.Prelude.{codes, Some, None, []}, proofs.Common.{true, false, refl}}
+use Rattle.broker_core.specs.{declared.policy.Caller.TheVariants.{Team}, declared.command.Command.TheVariants.{PostReplies, PostResult}}
+use Rattle.broker_core.specs.{declared.command.Report.{Report}, declared.answer.Answer.TheVariants.{Done, Already, Taken}}
+use Rattle.broker_core.specs.{declared.answer.Detail.TheVariants.{Result}, declared.answer.Clash.TheVariants.{Run}, Text.{Text, version}}
+use Rattle.broker_core.specs.{State.{State, claimed_result}, Change.{report}}
 use Rattle.broker_core.proofs.Fixture.{blue_is_no_office, stock, Answers, blue_token, blue, one, two, first_file, path_of, published, claims}
 
 abbrev pub run : Text

@@ -1,14 +1,9 @@
 -- each deployment and each release of a run is recorded exactly where it may be
 use Rattle.std.proofs.Common.{◌++◌, List, [], ◌∷◌, refl, ap}
-use Rattle.broker_core.specs.declared.command.Command.TheVariants.{Deploy, Release}
-use Rattle.broker_core.specs.declared.answer.Answer.{Answer}
-use Rattle.broker_core.specs.State.{State}
-use Rattle.broker_core.specs.Change.{Transition}
-use Rattle.broker_core.specs.Machine.{Primitives, Request, Step, Run}
-use Rattle.broker_core.specs.Laws.{TeamsDiffer}
+use Rattle.broker_core.specs.{declared.command.Command.TheVariants.{Deploy, Release}, declared.answer.Answer.{Answer}, State.{State}, Change.{Transition}}
+use Rattle.broker_core.specs.{Machine.{Primitives, Request, Step, Run}, Laws.{TeamsDiffer}}
 use Rattle.broker_core.specs.RunHeadline.{IsTaken, RunsDeployExactly, RunsReleaseExactly, TeamsStayApart, TeamsBeginApart}
-use Rattle.broker_core.proofs.Callers.{teams_differ_step, teams_differ_opening, teams_differ_run}
-use Rattle.broker_core.proofs.Headline.{deploys_exactly, releases_exactly}
+use Rattle.broker_core.proofs.{Callers.{teams_differ_step, teams_differ_opening, teams_differ_run}, Headline.{deploys_exactly, releases_exactly}}
 
 module _ (parts : Primitives) (r : Request) (IsExactly : State → Transition → Type 0)
     (each : (s : State) (out : Transition) → TeamsDiffer s → Step parts s r.token r.command out → IsExactly s out) where

@@ -1,17 +1,9 @@
 -- worked examples of sessions: one is stopped in a command, and the next one begins with that command again
-use Rattle.std.proofs.Common.{refl, inl, inr, List, [], ◌∷◌}
-use Rattle.std.specs.Prelude.{Some, None}
-use Rattle.broker_core.specs.declared.policy.Caller.TheVariants.{Team}
-use Rattle.broker_core.specs.declared.command.Command.TheVariants.{PutPact, PutVersion}
-use Rattle.broker_core.specs.declared.answer.Answer.{Answer}
-use Rattle.broker_core.specs.declared.answer.Answer.TheVariants.{Done, Already}
-use Rattle.broker_core.specs.declared.answer.Detail.TheVariants.{Plain, Content}
-use Rattle.broker_core.specs.Text.{version}
-use Rattle.broker_core.specs.State.{State}
-use Rattle.broker_core.specs.Change.{put_version}
-use Rattle.broker_core.specs.Machine.{Request, Run, Step}
-use Rattle.broker_core.specs.Machine.Reading.{IsPact}
-use Rattle.broker_core.specs.Laws.{Exit, LeavesSessions, ComeAgain, sessions_of, all_answered}
+use Rattle.std.{specs.Prelude.{Some, None}, proofs.Common.{refl, inl, inr, List, [], ◌∷◌}}
+use Rattle.broker_core.specs.{declared.policy.Caller.TheVariants.{Team}, declared.command.Command.TheVariants.{PutPact, PutVersion}}
+use Rattle.broker_core.specs.{declared.answer.Answer.{Answer}, declared.answer.Answer.TheVariants.{Done, Already}}
+use Rattle.broker_core.specs.{declared.answer.Detail.TheVariants.{Plain, Content}, Text.{version}, State.{State}, Change.{put_version}}
+use Rattle.broker_core.specs.{Machine.{Request, Run, Step}, Machine.Reading.{IsPact}, Laws.{Exit, LeavesSessions, ComeAgain, sessions_of, all_answered}}
 use Rattle.broker_core.specs.Laws.Exit.{Stepped, WasCut}
 use Rattle.broker_core.proofs.Fixture.{red_is_no_office, simple_parts, shop, stock, red_token, red, one, two, first_file, path_of, fixture, published}
 

@@ -1,19 +1,12 @@
 -- worked examples of a strict environment, beside one that is gated alone
-use Rattle.std.proofs.Common.{true, false, refl}
-use Rattle.std.specs.Prelude.{codes, Some, None, ◌∷◌, []}
-use Rattle.broker_core.specs.declared.policy.Caller.TheVariants.{Team}
-use Rattle.broker_core.specs.declared.command.Command.TheVariants.{Deploy, CanIDeploy, PostReplies}
-use Rattle.broker_core.specs.declared.command.Marks.{Marks}
-use Rattle.broker_core.specs.declared.need.Kind.TheVariants.{Failed, Claimed}
-use Rattle.broker_core.specs.declared.answer.Answer.TheVariants.{Done, NotPermitted, Shown}
-use Rattle.broker_core.specs.declared.answer.Shown.TheVariants as shown
-use Rattle.broker_core.specs.declared.answer.Detail.TheVariants.{Plain, Result, Replies}
-use Rattle.broker_core.specs.Text.{Text, version}
-use Rattle.broker_core.specs.State.{State, checked_result}
-use Rattle.broker_core.specs.Change.{put_environment, put_grant, put_pact, report, deploy}
-use Rattle.broker_core.specs.Machine.{Request, Run}
-use Rattle.broker_core.proofs.Judgement.{Rows, row_keys, judges}
+use Rattle.std.{specs.Prelude.{codes, Some, None, ◌∷◌, []}, proofs.Common.{true, false, refl}}
+use Rattle.broker_core.specs.{declared.policy.Caller.TheVariants.{Team}, declared.command.Command.TheVariants.{Deploy, CanIDeploy, PostReplies}}
+use Rattle.broker_core.specs.{declared.command.Marks.{Marks}, declared.need.Kind.TheVariants.{Failed, Claimed}}
+use Rattle.broker_core.specs.{declared.answer.Answer.TheVariants.{Done, NotPermitted, Shown}, declared.answer.Detail.TheVariants.{Plain, Result, Replies}}
+use Rattle.broker_core.specs.{Text.{Text, version}, State.{State, checked_result}, Change.{put_environment, put_grant, put_pact, report, deploy}}
+use Rattle.broker_core.{specs.Machine.{Request, Run}, proofs.Judgement.{Rows, row_keys, judges}}
 use Rattle.broker_core.proofs.Fixture.{blue_is_no_office, red_is_no_office, simple_parts, shop, stock, Answers, red_token, blue_token, red, blue, live, one, first_file, path_of, lacks, fixture, claims, pact_rows}
+use Rattle.broker_core.specs.declared.answer.Shown.TheVariants as shown
 
 abbrev pub prod : Text
 prod = codes "prod"

@@ -1,8 +1,5 @@
-use Rattle.std.proofs.Common.{sym, subst}
-use Rattle.std.specs.Prelude.{Contains}
-use Rattle.std.proofs.lemmas.List.Filters.{dedup_is}
-use Rattle.broker_core.specs.Listing.{Lists}
-use Rattle.broker_core.specs.Faults.{fault_cmp, IsFaultAmong, fault_of}
+use Rattle.std.{specs.Prelude.{Contains}, proofs.{Common.{sym, subst}, lemmas.List.Filters.{dedup_is}}}
+use Rattle.broker_core.specs.{Listing.{Lists}, Faults.{fault_cmp, IsFaultAmong, fault_of}}
 use Rattle.broker_core.proofs.Lists.{Contains-from_filter_map, Contains-filter_map, sorted_dedup}
 use Rattle.broker_core.proofs.Order.{fault_cmp_total, fault_eq, fault_eq_equiv, fault_ties, fault_same}
 use Rattle.broker_core.proofs.gate.decide.Goals as goal

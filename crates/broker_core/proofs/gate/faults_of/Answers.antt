@@ -1,11 +1,7 @@
-use Rattle.std.proofs.Common.{sym, ap, ◌∙◌, arith, take, ◌∷◌, [], ◌++◌}
-use Rattle.std.specs.Prelude.{filter_map}
-use Rattle.std.specs.List.{cons_option}
+use Rattle.std.{specs.{Prelude.{filter_map}, List.{cons_option}}, proofs.Common.{sym, ap, ◌∙◌, arith, take, ◌∷◌, [], ◌++◌}}
 use Rattle.std.proofs.lemmas.List.{take_all, append-nil}
-use Rattle.broker_core.specs.Faults.{fault_of}
-use Rattle.broker_core.proofs.Lists.{filter_map_more}
+use Rattle.broker_core.{specs.Faults.{fault_of}, proofs.{Lists.{filter_map_more}, gate.faults_of.Goals.{in-Some+in_ok-push, in_default}}}
 use Rattle.broker_core.proofs.gate.faults_of.Goals as goal
-use Rattle.broker_core.proofs.gate.faults_of.Goals.{in-Some+in_ok-push, in_default}
 
 pub loop-need-preserved : goal.loop-need-preserved
 loop-need-preserved c =

@@ -1,5 +1,4 @@
-use Rattle.std.proofs.Common.{◌≡◌, take}
-use Rattle.std.specs.Prelude.{filter_map}
+use Rattle.std.{specs.Prelude.{filter_map}, proofs.Common.{◌≡◌, take}}
 use Rattle.broker_core.specs.Faults.{fault_of}
 use Rattle.broker_core.proofs.gate.faults_of.Given as goal
 

@@ -1,0 +1,206 @@
+-- what a step does: it is answered and changes nothing, or it is answered Done and makes one change, that of its command
+use Rattle.std.specs.{Prelude.{Option, Some, None, MatchOption, is_some}, Option.{option_map_or}, List.{list_any}}
+use Rattle.std.proofs.Common.{◌≡◌, ◌∷◌, [], ◌++◌, ℕ, List, refl, sym, ◌∙◌, ap, subst, Bool, true, false, ◌&&◌, ◌||◌, if◌then◌else◌}
+use Rattle.broker_core.specs.declared.command.Command.TheVariants.{PutTeam, PutPacticipant, PutEnvironment, PutGrant, DeleteGrant, PutVersion, PutPact, GetPact, GetBranchPact, PostResult, PostReplies, Deploy, Undeploy, Release, EndSupport, GetEnvironment, CanIDeploy, GetMatrix, Malformed}
+use Rattle.broker_core.specs.Request.{refusal, refused, first_missing, is_allowed, is_known, consumer_version}
+use Rattle.broker_core.specs.Change.{Transition, unchanged_with, repeated, named, joined, stored, is_stored, can_name, on_branch, is_text, text_of, content_number, result_of_run, says_same, report, instance_of}
+use Rattle.broker_core.specs.Machine.{Primitives, HasDigest, IsCallerOfDigest, Step, StepOfCaller, TakesEffect, report_replies, is_step, is_empty}
+use Rattle.broker_core.specs.{Machine.Reading.{IsPact}, declared.policy.Caller.{Caller}, declared.policy.Rule.TheVariants.{A1}}
+use Rattle.broker_core.specs.{declared.command.Command.{Command}, declared.command.Marks.{Marks}, declared.command.PactPath.{PactPath}}
+use Rattle.broker_core.specs.{declared.command.Report.{Report}, declared.command.Version.{Version}, declared.command.FormFault.{FormFault}}
+use Rattle.broker_core.specs.{declared.answer.Answer.{Answer}, declared.answer.Answer.TheVariants.{Denied, BadForm, Done}, declared.answer.Detail.{Detail}}
+use Rattle.broker_core.specs.{declared.answer.Missing.{Missing}, Text.{Text, same_text, same_version, same_pair, same_place, put_at, version}}
+use Rattle.broker_core.specs.{State.{State, Verification, claimed_result, checked_result}, Limit.{has_room}}
+
+-- ---- the tables afterwards
+
+abbrev pub versions_with : State → Version → List Version
+versions_with s v = if is_known s v then s.versions else s.versions ++ v ∷ []
+
+abbrev pub branches_with : State → Version → Option Text → Version × Text → Bool
+branches_with s v None = s.branches
+branches_with s v (Some branch) = put_at (same_pair same_version same_text) s.branches (v, branch) true
+
+abbrev pub contents_with : List Text → Text → List Text
+contents_with texts text = if list_any (same_text text) texts then texts else texts ++ text ∷ []
+
+abbrev pub with_contract : State → Version → Text → Text → State
+with_contract s v provider text = record s {
+  versions = versions_with s v;
+  contents = contents_with s.contents text;
+  contracts = put_at (same_pair same_version same_text) s.contracts (v, provider) (Some (content_number s text));
+}
+
+abbrev pub with_result : State → Verification → State
+with_result s r = record s { versions = versions_with s r.version; results = s.results ++ r ∷ [] }
+
+named_is : (s : State) (v : Version) → named s v ≡ record s { versions = versions_with s v }
+named_is s v =
+    let more : State = record s { versions = s.versions ++ v ∷ [] } in
+    elim (is_known s v) as (λ b. (if b then s else more) ≡ record s { versions = if b then s.versions else more.versions }) [ true ↦ refl | false ↦ refl ]
+
+stored_is : (s : State) (text : Text) → stored s text ≡ record s { contents = contents_with s.contents text }
+stored_is s text =
+    let more : State = record s { contents = s.contents ++ text ∷ [] } in
+    elim (is_stored s text) as (λ b. (if b then s else more) ≡ record s { contents = if b then s.contents else more.contents }) [ true ↦ refl | false ↦ refl ]
+
+joined_is : (s : State) (v : Version) (branch : Option Text) → joined s v branch ≡ record s { branches = branches_with s v branch }
+joined_is s v None = refl
+joined_is s v (Some branch) = refl
+
+-- ---- the changes
+
+-- the change that a command makes of s, with what holds before
+pub data Change (parts : Primitives) (s : State) : Command → State → Type 0 where
+  team : (name token : Text) → s.teams name ≡ None → ((c : Caller) → ¬ (HasDigest s (parts.digest_of token) c))
+      → Change parts s (PutTeam name token) (record s { teams = put_at same_text s.teams name (Some (parts.digest_of token)) })
+  pacticipant : (p owner : Text) → s.pacticipants p ≡ None
+      → Change parts s (PutPacticipant p owner) (record s { pacticipants = put_at same_text s.pacticipants p (Some owner) })
+  environment : (e : Text) (marks : Marks) → s.environments e ≡ None
+      → Change parts s (PutEnvironment e marks) (record s { environments = put_at same_text s.environments e (Some marks) })
+  grant : (name e : Text) → s.grants (name, e) ≡ false
+      → Change parts s (PutGrant name e) (record s { grants = put_at (same_pair same_text same_text) s.grants (name, e) true })
+  end_of_grant : (name e : Text) → s.grants (name, e) ≡ true
+      → Change parts s (DeleteGrant name e) (record s { grants = put_at (same_pair same_text same_text) s.grants (name, e) false })
+  named_version : (v : Version) (branch : Option Text) → (is_known s v && on_branch s v branch) ≡ false
+      → Change parts s (PutVersion v branch) (record s { versions = versions_with s v; branches = branches_with s v branch })
+  contract : (path : PactPath) (file text : Text) → s.contracts (consumer_version path, path.provider) ≡ None
+      → parts.Reads file (IsPact path.consumer path.provider text)
+      → Change parts s (PutPact path file) (with_contract s (consumer_version path) path.provider text)
+  claim : (path : PactPath) (r : Report) (success : Bool) (content : ℕ) → s.contracts (consumer_version path, path.provider) ≡ Some content
+      → result_of_run s path.provider r.run ≡ None
+      → Change parts s (PostResult path r success) (with_result s (claimed_result content (version path.provider r.provider_version) success r.run))
+  check : (path : PactPath) (r : Report) (replies : Text) (content : ℕ) (failing : List ℕ) → s.contracts (consumer_version path, path.provider) ≡ Some content
+      → result_of_run s path.provider r.run ≡ None
+      → Change parts s (PostReplies path r replies) (with_result s (checked_result content (version path.provider r.provider_version) (is_empty failing) r.run))
+  deployment : (e : Text) (v : Version) (instance : Option Text) → is_text v.name (s.deployed (e, v.pacticipant, instance_of instance)) ≡ false
+      → Change parts s (Deploy e v instance) (record s { deployed = put_at same_place s.deployed (e, v.pacticipant, instance_of instance) (Some v.name) })
+  end_of_deployment : (e : Text) (v : Version) (instance : Option Text) → is_text v.name (s.deployed (e, v.pacticipant, instance_of instance)) ≡ true
+      → Change parts s (Undeploy e v instance) (record s { deployed = put_at same_place s.deployed (e, v.pacticipant, instance_of instance) None })
+  release : (e : Text) (v : Version) → s.released (e, v) ≡ false
+      → Change parts s (Release e v) (record s { released = put_at (same_pair same_text same_version) s.released (e, v) true })
+  end_of_support : (e : Text) (v : Version) → s.released (e, v) ≡ true
+      → Change parts s (EndSupport e v) (record s { released = put_at (same_pair same_text same_version) s.released (e, v) false })
+
+-- a step of this command: an answer of the machine's own alone, or Done and the change
+pub data Effect (parts : Primitives) (s : State) (c : Command) : Transition → Type 0 where
+  told : (answer : Answer) → is_step answer ≡ true → Effect parts s c (unchanged_with s answer)
+  changed : (t : State) (detail : Detail) → Change parts s c t → Effect parts s c (record { answer = Done detail; state = t })
+
+-- ---- each step is one
+
+nobody_has : (s : State) (digest : Text) (holder : Option Caller) → is_some holder ≡ false → IsCallerOfDigest s digest holder → (c : Caller)
+    → ¬ (HasDigest s digest c)
+nobody_has s digest None none free = free
+nobody_has s digest (Some c) none has = absurd (cc)
+
+module _ (parts : Primitives) (s : State) (c : Command) where
+  equal : {out x : Transition} → out ≡ x → Effect parts s c x → Effect parts s c out
+  equal is = subst (λ (o : Transition). Effect parts s c o) (sym is)
+
+  look_up : {X : Type 0} (f : X → Transition) (other : Transition) (o : Option X) → ((x : X) → Effect parts s c (f x)) → (o ≡ None → Effect parts s c other)
+      → Effect parts s c (option_map_or f o other)
+  look_up f other None each rest = rest refl
+  look_up f other (Some x) each rest = each x
+
+  test : (b : Bool) (x y : Transition) → (b ≡ true → Effect parts s c x) → (b ≡ false → Effect parts s c y) → Effect parts s c (if b then x else y)
+  test true x y h k = h refl
+  test false x y h k = k refl
+
+  repeats : (b : Bool) → Effect parts s c (repeated s b)
+  repeats true = told _ refl
+  repeats false = told _ refl
+
+  either : (b : Bool) (x y : Answer) → is_step x ≡ true → is_step y ≡ true → Effect parts s c (unchanged_with s (if b then x else y))
+  either true x y h k = told x h
+  either false x y h k = told y k
+
+  done_with : (t u : State) (detail : Detail) → t ≡ u → Change parts s c u → Effect parts s c (record { answer = Done detail; state = t })
+  done_with t u detail is change = subst (λ (x : State). Effect parts s c (record { answer = Done detail; state = x })) (sym is) (changed u detail change)
+
+  reports : (r : Verification) (detail : ℕ → Detail)
+      → (result_of_run s r.version.pacticipant r.run ≡ None → Change parts s c (with_result s r)) → Effect parts s c (report s r detail)
+  reports r detail change =
+      let added = ap (λ (t : State). record t { results = s.results ++ r ∷ [] }) (named_is s r.version) in
+      look_up _ _ (result_of_run s r.version.pacticipant r.run) (λ e. either (says_same e.1 r) _ _ refl refl)
+      (λ free. test (can_name s r.version && has_room s.results) _ _ (λ _. done_with _ (with_result s r) _ added (change free)) (λ _. told _ refl))
+
+module _ (parts : Primitives) (s : State) where
+  acts : (c : Command) (out : Transition) → TakesEffect parts s c out → Effect parts s c out
+  acts (PutTeam name token) out x = equal parts s _ x.2 (look_up parts s _ _ _ (s.teams name) (λ old. repeats parts s _ _)
+      (λ free. test parts s _ (is_some x.0) _ _ (λ _. told _ refl) (λ none. changed _ _ (team name token free (nobody_has s _ x.0 none x.1)))))
+  acts (PutPacticipant p owner) out x =
+      equal parts s _ x (look_up parts s _ _ _ (s.pacticipants p) (λ old. repeats parts s _ _) (λ free. changed _ _ (pacticipant p owner free)))
+  acts (PutEnvironment e marks) out x =
+      equal parts s _ x (look_up parts s _ _ _ (s.environments e) (λ old. repeats parts s _ _) (λ free. changed _ _ (environment e marks free)))
+  acts (PutGrant name e) out x = equal parts s _ x (test parts s _ (s.grants (name, e)) _ _ (λ _. told _ refl) (λ none. changed _ _ (grant name e none)))
+  acts (DeleteGrant name e) out x =
+      equal parts s _ x (test parts s _ (s.grants (name, e)) _ _ (λ there. changed _ _ (end_of_grant name e there)) (λ _. told _ refl))
+  acts (PutVersion v branch) out x =
+      let put = ap (λ (t : State). joined t v branch) (named_is s v) ∙ joined_is (record s { versions = versions_with s v }) v branch in
+      equal parts s _ x (test parts s _ (is_known s v && on_branch s v branch) _ _ (λ _. told _ refl)
+      (λ new. test parts s _ (can_name s v) _ _ (λ _. done_with parts s _ _ _ _ put (named_version v branch new)) (λ _. told _ refl)))
+  acts (PutPact path file) out x =
+      let v = consumer_version path in
+      equal parts s _ x.2 (look_up parts s _ _ _ (s.contracts (v, path.provider)) (λ content. either parts s _ (is_text x.0 (text_of s content)) _ _ refl refl)
+      (λ free. test parts s _ (can_name s v && (is_stored s x.0 || has_room s.contents)) _ _
+      (λ _. done_with parts s _ _ _ _ (published v path.provider x.0) (contract path file x.0 free x.1)) (λ _. told _ refl)))
+    where
+      published : (v : Version) (provider text : Text)
+          → record (stored (named s v) text) { contracts = put_at (same_pair same_version same_text) s.contracts (v, provider) (Some (content_number s text)) }
+          ≡ with_contract s v provider text
+      published v provider text =
+          let table = put_at (same_pair same_version same_text) s.contracts (v, provider) (Some (content_number s text)) in
+          ap (λ (t : State). record (stored t text) { contracts = table }) (named_is s v)
+          ∙ ap (λ (t : State). record t { contracts = table }) (stored_is (record s { versions = versions_with s v }) text)
+  acts (GetPact path) out x = equal parts s _ x.2 (told _ refl)
+  acts (GetBranchPact provider consumer branch) out x = equal parts s _ x.2.2 (told _ refl)
+  acts (PostResult path r success) out x = equal parts s _ x.2 (reports parts s _ _ _ (claim path r success x.0 x.1))
+  acts (PostReplies path r replies) out x = equal parts s _ x.2.2.2 (by_failing x.2.2.0)
+    where
+      by_failing : (failing : Option (List ℕ))
+          → Effect parts s (PostReplies path r replies) (report_replies s x.0 (version path.provider r.provider_version) r.run failing)
+      by_failing None = told _ refl
+      by_failing (Some failing) = reports parts s _ _ _ (check path r replies x.0 failing x.1)
+  acts (Deploy e v instance) out x =
+      let stands = is_text v.name (s.deployed (e, v.pacticipant, instance_of instance)) in
+      equal parts s _ x.3 (test parts s _ x.0 _ _
+      (λ _. test parts s _ stands _ _ (λ _. told _ refl) (λ new. changed _ _ (deployment e v instance new))) (λ _. told _ refl))
+  acts (Undeploy e v instance) out x =
+      let stands = is_text v.name (s.deployed (e, v.pacticipant, instance_of instance)) in
+      equal parts s _ x (test parts s _ stands _ _ (λ there. changed _ _ (end_of_deployment e v instance there)) (λ _. told _ refl))
+  acts (Release e v) out x = equal parts s _ x.3 (test parts s _ x.0 _ _
+      (λ _. test parts s _ (s.released (e, v)) _ _ (λ _. told _ refl) (λ new. changed _ _ (release e v new))) (λ _. told _ refl))
+  acts (EndSupport e v) out x = equal parts s _ x (test parts s _ (s.released (e, v)) _ _ (λ there. changed _ _ (end_of_support e v there)) (λ _. told _ refl))
+  acts (GetEnvironment e) out x = equal parts s _ x.2.2.2 (told _ refl)
+  acts (CanIDeploy v e) out x = equal parts s _ x.2.3 (told _ refl)
+  acts (GetMatrix v) out x = equal parts s _ x.2 (told _ refl)
+  acts (Malformed fault) out x = absurd x
+
+-- ---- a step, by how far the command comes
+
+module _ (parts : Primitives) (s : State) (c : Command) (P : Transition → Type 0) (told_it : (answer : Answer) → is_step answer ≡ true → P (unchanged_with s answer)) (acted : (out : Transition) → TakesEffect parts s c out → P out) where
+  told_by : (out : Transition) (answer : Answer) → is_step answer ≡ true → out ≡ unchanged_with s answer → P out
+  told_by out answer step is = subst P (sym is) (told_it answer step)
+
+  after_refusal : (out : Transition) (m : Option Missing) (b : Bool) → MatchOption (refused c m b) (TakesEffect parts s c out) (λ answer. out ≡ unchanged_with s answer) → P out
+  after_refusal out (Some what) b is = told_by out _ refl is
+  after_refusal out None true h = acted out h
+  after_refusal out None false is = told_by out _ refl is
+
+  after_form : (caller : Caller) (out : Transition) (found : Option FormFault)
+      → MatchOption found (MatchOption (refusal s caller c) (TakesEffect parts s c out) (λ answer. out ≡ unchanged_with s answer)) (λ fault. out ≡ unchanged_with s (BadForm fault)) → P out
+  after_form caller out None h = after_refusal out (first_missing s c) (is_allowed s caller c) h
+  after_form caller out (Some fault) is = told_by out (BadForm fault) refl is
+
+  after_who : (out : Transition) (who : Option Caller) → MatchOption who (out ≡ unchanged_with s (Denied A1)) (λ caller. StepOfCaller parts s caller c out) → P out
+  after_who out None is = told_by out (Denied A1) refl is
+  after_who out (Some caller) h = after_form caller out h.0 h.2
+
+  -- what is so of each answer that changes nothing, and of what the command does once it is let through, is so of a step
+  pub by_step : (token : Option Text) (out : Transition) → Step parts s token c out → P out
+  by_step token out step = after_who out step.0 step.2
+
+-- the one form of each step
+pub effect_of : (parts : Primitives) (s : State) (token : Option Text) (c : Command) (out : Transition) → Step parts s token c out → Effect parts s c out
+effect_of parts s token c out step = by_step parts s c (Effect parts s c) told (acts parts s c) token out step
