@@ -1,51 +1,27 @@
 -- The normal text of a pact is read as that pact.
-use Rattle.std.proofs.Common.{◌≡◌, ◌⊎◌, inl, inr, ℕ, suc, ◌+◌, ◌≤◌, List, [], ◌∷◌, length, codes, map, not, Bool, true, false, cond, nat_le, Option, Some, None, option_map, option_and_then, Result, Ok, Err, Ordering, Less, Equal, Greater, refl, sym, ap, ◌∙◌, subst, arith}
-use Rattle.std.proofs.lemmas.Bool.Decides.{nat_tests}
-use Rattle.std.proofs.lemmas.Option.{same_Some}
-use Rattle.std.specs.Option.{ok_or}
-use Rattle.std.specs.Ordering.{match_ordering}
-use Rattle.std.specs.Str.{IsUtf8, bytes_eq}
-use Rattle.serde_json.specs.Data.{Data, Items, no_items, item}
-use Rattle.serde_json.specs.Events.{items_len}
-use Rattle.serde_json.specs.Find.{get, as_array}
-use Rattle.serde_json.specs.View.{items_of}
+use Rattle.std.specs.{Option.{ok_or}, Str.{IsUtf8, bytes_eq}}
+use Rattle.std.proofs.Common.{◌≡◌, ◌⊎◌, inl, inr, ℕ, suc, ◌+◌, ◌≤◌, List, [], ◌∷◌, length, codes, map, not, Bool, true, false, cond, nat_le, Option, Some, None, option_and_then, Result, Ok, Err, refl, sym, ap, ◌∙◌, subst, ⊎_elim, leb-true, le-leb, arith}
+use Rattle.serde_json.specs.{Data.{Data, Items, no_items, item}, Events.{items_len}, Find.{get, as_array}, View.{items_of}}
 use Rattle.serde_json.proofs.OnLiterals.{serde_json_on_literals}
 use Rattle.broker_core.specs.Name.{is_name}
 use Rattle.pact_file.specs.File.{most_bytes, most_interactions, file_of, is_version_3, has_no_messages, side_of, sides_of, items_of as items_at}
-use Rattle.pact_file.specs.Laws.{NormalAgain, OnePact}
-use Rattle.pact_file.specs.Normal.{InteractionRead, InOrder, InteractionsRead, if_short, Normal, IsRefusal}
-use Rattle.pact_rules.specs.Outcome.{guard}
-use Rattle.pact_file.specs.Pact.{Interaction, Pact, interaction_data, key_cmp, pact_data, normal_text}
-use Rattle.pact_file.specs.Parts.{text_at, object_at, listed}
-use Rattle.pact_file.specs.Sorting.{insert_sorted, insert_all_sorted, same_text}
-use Rattle.pact_rules.specs.Reading.{just, EachRead}
-use Rattle.pact_rules.specs.Lists.{IsIn}
-use Rattle.pact_file.specs.Sets.{IsRising, HasClash}
-use Rattle.pact_file.specs.Sound.{IsSound}
 use Rattle.pact_file.specs.declared.fault.PactFault.{PactFault}
 use Rattle.pact_file.specs.declared.fault.PactFault.TheVariants.{SameInteraction, Shape, Version, Messages, SelfContract, TooMany, TooLong}
-use Rattle.pact_file.specs.declared.fault.Place.{Place}
-use Rattle.pact_file.specs.declared.fault.Place.TheVariants.{Consumer, ConsumerName, Provider, ProviderName, Interactions}
-use Rattle.pact_file.proofs.Agreement.{one_answer}
-use Rattle.pact_file.specs.Objects.{json_of, object_of}
-use Rattle.pact_file.proofs.Objects.{is_json}
-use Rattle.pact_file.proofs.Itself.{interaction_again, listed_again}
-use Rattle.pact_file.proofs.OrderedSets.{IsGood, ordered, one_order}
-use Rattle.pact_file.proofs.ReadBack.{read-compact_text}
-use Rattle.pact_file.proofs.ReadLemmas.{read_ok, is_tree, file_sound, items_sound, each_sound, interactions_sound}
-use Rattle.pact_file.proofs.SetLemmas.{one_such, each_such}
-use Rattle.pact_file.proofs.SoundData.{kept, whole, shallow, text_utf8}
-use Rattle.pact_file.proofs.SoundParts.{of_object_at, of_text_at, of_pact}
-use Rattle.pact_file.proofs.Steps.{bind_ok, found_ok, guard_ok, ok_same}
+use Rattle.pact_file.specs.{Objects.{json_of, object_of}, Laws.{NormalAgain, OnePact}}
+use Rattle.pact_file.specs.Normal.{InteractionRead, InOrder, InteractionsRead, if_short, Normal, IsRefusal}
+use Rattle.pact_file.specs.{Pact.{Interaction, Pact, interaction_data, key_cmp, pact_data, normal_text}, Parts.{text_at, object_at, listed}}
+use Rattle.pact_file.specs.{Sorting.{insert_all_sorted, same_text}, Sound.{IsSound}, declared.fault.Place.{Place}}
+use Rattle.pact_file.{specs.declared.fault.Place.TheVariants.{Consumer, ConsumerName, Provider, ProviderName, Interactions}, proofs.Agreement.{one_answer}}
+use Rattle.pact_file.proofs.{Objects.{is_json}, Itself.{interaction_again, listed_again}, Steps.{bind_ok, found_ok, guard_ok, ok_same}}
+use Rattle.pact_file.proofs.{OrderedSets.{IsGood, key_total, ordered, ordered_few, one_order}, ReadBack.{read-compact_text}}
+use Rattle.pact_file.proofs.{ReadLemmas.{read_ok, is_tree, file_sound, items_sound, each_sound, interactions_sound}, SetLemmas.{rising_apart}}
+use Rattle.pact_file.proofs.{SoundData.{kept, whole, shallow, text_utf8}, SoundParts.{of_object_at, of_text_at, of_pact}}
+use Rattle.pact_rules.specs.{Outcome.{guard}, Reading.{just, EachRead}, Lists.{IsIn}}
 
 -- ---- each interaction reads to itself
 
 abbrev IsAgain : Interaction → Type 0
 IsAgain z = (j : ℕ) → InteractionRead j (interaction_data z) (Ok z)
-
-first_again : (x z : Interaction) (xs : List Interaction) → IsAgain x → ((w : Interaction) → IsIn w xs → IsAgain w) → IsIn z (x ∷ xs) → IsAgain z
-first_again x z xs h k (inl same) = subst IsAgain (sym same) h
-first_again x z xs h k (inr m) = k z m
 
 each_again : (i : ℕ) (ds : List Data) (xs : List Interaction) → EachRead InteractionRead i ds (Ok xs) → (z : Interaction) → IsIn z xs → IsAgain z
 unfolding EachRead
@@ -54,7 +30,7 @@ each_again i (d ∷ ds) xs e z m =
     let first = read_ok (InteractionRead i d) _ xs e in
     let others = read_ok (EachRead InteractionRead (i + 1) ds) _ xs first.2 in
     let same : first.0 ∷ others.0 ≡ xs = ok_same _ _ others.2 in
-    first_again first.0 z others.0 (λ j. interaction_again i j d first.0 first.1) (λ w k. each_again (i + 1) ds others.0 others.1 w k) (subst (IsIn z) (sym same) m)
+    ⊎_elim (λ is. subst IsAgain (sym is) (λ j. interaction_again i j d first.0 first.1)) (each_again (i + 1) ds others.0 others.1 z) (subst (IsIn z) (sym same) m)
 
 normals_read : (i : ℕ) (xs : List Interaction) → ((z : Interaction) → IsIn z xs → IsAgain z) → EachRead InteractionRead i (map interaction_data xs) (Ok xs)
 unfolding EachRead
@@ -71,52 +47,18 @@ each_length i (d ∷ ds) xs e =
     let others = read_ok (EachRead InteractionRead (i + 1) ds) _ xs first.2 in
     ap length (sym (ok_same _ _ others.2)) ∙ ap suc (each_length (i + 1) ds others.0 others.1)
 
-placed_case : (o : Ordering) (b : Bool) (x y : Interaction) (ys zs : List Interaction) → ((ms : List Interaction) → insert_sorted key_cmp same_text x ys ≡ Some ms → length ms ≤ suc (length ys))
-    → match_ordering o (Some (x ∷ y ∷ ys)) (cond b (Some (y ∷ ys)) None) (option_map (λ more. y ∷ more) (insert_sorted key_cmp same_text x ys)) ≡ Some zs → length zs ≤ suc (suc (length ys))
-placed_case Less b x y ys zs k e = subst (λ l. length l ≤ suc (suc (length ys))) (same_Some _ _ e) (omega arith)
-placed_case Equal true x y ys zs k e = subst (λ l. length l ≤ suc (suc (length ys))) (same_Some _ _ e) (omega arith)
-placed_case Equal false x y ys zs k e = absurd cc
-placed_case Greater b x y ys zs k e = more (insert_sorted key_cmp same_text x ys) refl e where
-  more : (o : Option (List Interaction)) → insert_sorted key_cmp same_text x ys ≡ o → option_map (λ more. y ∷ more) o ≡ Some zs → length zs ≤ suc (suc (length ys))
-  more None is h = absurd cc
-  more (Some ms) is h = let few = k ms is in subst (λ l. length l ≤ suc (suc (length ys))) (same_Some _ _ h) (omega (arith, few))
-
-placed_length : (x : Interaction) (ys zs : List Interaction) → insert_sorted key_cmp same_text x ys ≡ Some zs → length zs ≤ suc (length ys)
-unfolding insert_sorted
-placed_length x [] zs e = subst (λ l. length l ≤ 1) (same_Some _ _ e) (omega arith)
-placed_length x (y ∷ ys) zs e = placed_case (key_cmp x y) (same_text x y) x y ys zs (λ ms is. placed_length x ys ms is) e
-
-all_length : (list xs zs : List Interaction) → insert_all_sorted key_cmp same_text list xs ≡ Some zs → length zs ≤ length list + length xs
-unfolding insert_all_sorted
-all_length list [] zs e = subst (λ l. length l ≤ length list + 0) (same_Some _ _ e) (omega arith)
-all_length list (x ∷ xs) zs e = by_case (λ more h. all_length more xs zs h) (insert_sorted key_cmp same_text x list) refl e where
-  by_case : ((more : List Interaction) → insert_all_sorted key_cmp same_text more xs ≡ Some zs → length zs ≤ length more + length xs)
-      → (o : Option (List Interaction)) → insert_sorted key_cmp same_text x list ≡ o → option_and_then (λ more. insert_all_sorted key_cmp same_text more xs) o ≡ Some zs → length zs ≤ length list + suc (length xs)
-  by_case again None is h = absurd cc
-  by_case again (Some more) is h = omega (arith, again more h, placed_length x list more is)
-
 order_length : (found xs : List Interaction) → ((z : Interaction) → IsIn z found → IsGood z) → InOrder found (Ok xs) → length xs ≤ length found
 order_length found xs good h = by_case (insert_all_sorted key_cmp same_text [] found) refl where
   by_case : (o : Option (List Interaction)) → insert_all_sorted key_cmp same_text [] found ≡ o → length xs ≤ length found
   by_case None is = let clash : Ok xs ≡ Err SameInteraction = one_order found (Ok xs) (Err SameInteraction) h (ordered found (Err SameInteraction) good (ap (λ o. ok_or o SameInteraction) is)) in absurd cc
   by_case (Some ys) is =
       let same : Ok xs ≡ Ok ys = one_order found (Ok xs) (Ok ys) h (ordered found (Ok ys) good (ap (λ o. ok_or o SameInteraction) is)) in
-      subst (λ l. length l ≤ length found) (sym (ok_same _ _ same)) (omega (arith, all_length [] found ys is))
+      subst (λ l. length l ≤ length found) (sym (ok_same _ _ same)) (ordered_few found ys good is)
 
 -- ---- the order stays
 
-not_both : (o : Ordering) → o ≡ Less → ¬ (o ≡ Equal)
-not_both o h k = let e : Less ≡ Equal = sym h ∙ k in absurd cc
-
-rising_apart : (D : Interaction → Interaction → Type 0) (xs : List Interaction) → IsRising key_cmp xs → ¬ HasClash key_cmp D xs
-rising_apart D [] r h = h
-rising_apart D (x ∷ xs) r (inl one) =
-    let p = one_such (λ y. (key_cmp x y ≡ Equal) × D x y) xs one in
-    not_both (key_cmp x p.0) (each_such (λ y. key_cmp x y ≡ Less) xs p.0 r.0 p.1) p.2.0
-rising_apart D (x ∷ xs) r (inr h) = rising_apart D xs r.1 h
-
 in_order_itself : (found xs : List Interaction) → InOrder found (Ok xs) → InOrder xs (Ok xs)
-in_order_itself found xs h = (rising_apart _ xs h.1.rising, record { rising = h.1.rising; kept = λ z m. m; known = λ z m. m })
+in_order_itself found xs h = (rising_apart key_cmp key_total _ xs h.1.rising, record { rising = h.1.rising; kept = λ z m. m; known = λ z m. m })
 
 listed_len : (ds : Items) → length (listed ds) ≡ items_len ds
 listed_len no_items = refl
@@ -127,7 +69,7 @@ normals_len [] = refl
 normals_len (x ∷ xs) = ap suc (normals_len xs)
 
 fewer : (m n k : ℕ) → m ≤ n → nat_le n k ≡ true → nat_le m k ≡ true
-fewer m n k h e = grind (arith, nat_tests)
+fewer m n k h e = let few : n ≤ k = leb-true n k e in le-leb m k (omega arith)
 
 items_few : (file : Data) (ds : List Data) → items_at file ≡ Ok ds → nat_le (length ds) most_interactions ≡ true
 unfolding items_at

@@ -2,24 +2,13 @@
 use Rattle.std.proofs.Common.{◌≡◌, ◌⊎◌, inl, inr, ℕ, ◌+◌, List, [], ◌∷◌, codes, Option, Some, None, Result, Ok, Err, sym, ap, ◌∙◌, subst}
 use Rattle.std.proofs.lemmas.Option.{same_Some}
 use Rattle.serde_json.specs.Data.{Data}
-use Rattle.pact_rules.specs.Rules.{Rules as Table}
-use Rattle.pact_rules.specs.RuleReading.{IsReading}
+use Rattle.pact_rules.specs.{Rules.{Rules as Table}, RuleReading.{IsReading}, declared.rule_fault.RuleFault.{RuleFault}}
+use Rattle.pact_rules.specs.{declared.rule_fault.RuleFault.TheVariants.{Pattern}, Reading.{just, Follows, ◌>>=◌, EachRead}}
 use Rattle.pact_rules.proofs.ReadingLemmas.{reading_agrees}
-use Rattle.pact_rules.specs.declared.rule_fault.RuleFault.{RuleFault}
-use Rattle.pact_rules.specs.declared.rule_fault.RuleFault.TheVariants.{Pattern}
-use Rattle.pact_file.specs.File.{file_of, sides_of, items_of}
-use Rattle.pact_file.specs.Interactions.{parts_at}
-use Rattle.pact_file.specs.Headers.{HeadersRead}
-use Rattle.pact_file.specs.Interactions.{at}
-use Rattle.pact_file.specs.declared.fault.Part.TheVariants.{Headers}
-use Rattle.pact_file.specs.Normal.{InteractionRead, InteractionsRead, Normal, IsRefusal, if_short}
-use Rattle.pact_file.specs.Parts.{optional_at}
-use Rattle.pact_rules.specs.Reading.{just, Follows, ◌>>=◌, EachRead}
-use Rattle.pact_file.specs.Rules.{TableRead, rules_or_fault, RulesRead}
-use Rattle.pact_file.specs.declared.fault.PactFault.{PactFault}
-use Rattle.pact_file.specs.declared.fault.PactFault.TheVariants.{Rules}
-use Rattle.pact_file.proofs.HeaderSets.{one_list}
-use Rattle.pact_file.proofs.OrderedSets.{one_order}
+use Rattle.pact_file.specs.{File.{file_of, sides_of, items_of}, Interactions.{parts_at, at}, Headers.{HeadersRead}, declared.fault.Part.TheVariants.{Headers}}
+use Rattle.pact_file.specs.{Normal.{InteractionRead, InteractionsRead, Normal, IsRefusal, if_short}, Parts.{optional_at}}
+use Rattle.pact_file.specs.{Rules.{TableRead, rules_or_fault, RulesRead}, declared.fault.PactFault.{PactFault}, declared.fault.PactFault.TheVariants.{Rules}}
+use Rattle.pact_file.proofs.{HeaderSets.{one_list}, OrderedSets.{one_order}, Steps.{err_same}}
 
 abbrev pub Agree : {A : Type 0} → Result A PactFault → Result A PactFault → Type 0
 Agree r s = (r ≡ s) ⊎ (IsRefusal r ⊎ IsRefusal s)
@@ -34,9 +23,7 @@ just_definite read r s h k = inl (sym h ∙ k)
 module _ {A B : Type 0} (first : Result A PactFault → Type 0) (next : A → Result B PactFault → Type 0) (one : IsDefinite first) (then : (x : A) → IsDefinite (next x)) where
   refused : (a : Result A PactFault) (r : Result B PactFault) → IsRefusal a → Follows a next r → IsRefusal r
   refused (Ok x) r (i, is) h = absurd cc
-  refused (Err e) r (i, is) h = (i, h ∙ ap Err (err_same e (Rules i Pattern) is)) where
-    err_same : (x y : PactFault) → ◌≡◌ {A = Result A PactFault} (Err x) (Err y) → x ≡ y
-    err_same x y k = cc
+  refused (Err e) r (i, is) h = (i, h ∙ ap Err (err_same e (Rules i Pattern) is))
 
   both : (a : Result A PactFault) (r s : Result B PactFault) → Follows a next r → Follows a next s → Agree r s
   both (Ok x) r s h k = then x r s h k

@@ -1,13 +1,8 @@
 -- The headers that a response has.
-use Rattle.std.proofs.Common.{◌≡◌, List, Option, Some, None, MatchOption, sym, ◌∙◌, subst}
-use Rattle.std.specs.Cmp.{IsTotalOrder}
-use Rattle.std.proofs.lemmas.Cmp.{nat_list_cmp_total, on_total}
-use Rattle.std.proofs.lemmas.Option.{same_Some}
+use Rattle.std.{specs.Cmp.{IsTotalOrder}, proofs.Common.{◌≡◌, List, Option, Some, None, MatchOption, sym, ◌∙◌, subst}}
+use Rattle.std.proofs.{lemmas.Cmp.{nat_list_cmp_total, on_total}, lemmas.Option.{same_Some}}
 use Rattle.serde_json.specs.Data.{Data}
-use Rattle.pact_file.specs.Headers.{HasTwins, HasHeaders, LacksHeaders}
-use Rattle.pact_file.specs.Pact.{Header, name_cmp}
-use Rattle.pact_file.specs.Parts.{headers_found}
-use Rattle.pact_file.specs.Sets.{IsSetInOrder}
+use Rattle.pact_file.specs.{Headers.{HasTwins, HasHeaders, LacksHeaders}, Pact.{Header, name_cmp}, Parts.{headers_found}, Sets.{IsSetInOrder}}
 use Rattle.pact_file.proofs.SetLemmas.{one_ordered_set}
 
 pub name_total : IsTotalOrder name_cmp

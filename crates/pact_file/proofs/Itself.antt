@@ -1,25 +1,15 @@
 -- The normal form of an interaction is read as that interaction, at any place.
+use Rattle.std.specs.{Prelude.{⊤}, Option.{ok_or}}
 use Rattle.std.proofs.Common.{◌≡◌, ℕ, List, [], ◌∷◌, codes, map, is_some, Option, Some, None, option_map, option_and_then, Result, Ok, Err, refl, ap, subst}
-use Rattle.std.specs.Prelude.{⊤}
-use Rattle.std.specs.Option.{ok_or}
 use Rattle.std.proofs.lemmas.Option.{same_Some}
-use Rattle.serde_json.specs.Data.{Data, null, boolean, number, string, array, object}
-use Rattle.serde_json.specs.Find.{get, as_str, as_array, as_object}
-use Rattle.serde_json.specs.View.{items_of}
+use Rattle.serde_json.specs.{Data.{Data, null, boolean, number, string, array, object}, Find.{get, as_str, as_array, as_object}, View.{items_of}}
 use Rattle.serde_json.proofs.OnLiterals.{serde_json_on_literals}
-use Rattle.pact_rules.specs.Rules.{Rules as Table}
-use Rattle.pact_rules.specs.declared.rule_fault.RuleFault.{RuleFault}
-use Rattle.pact_file.specs.Interactions.{at, parts_at}
-use Rattle.pact_file.specs.Headers.{HeadersRead}
-use Rattle.pact_file.specs.Normal.{InteractionRead}
-use Rattle.pact_rules.specs.Outcome.{guard}
 use Rattle.pact_file.specs.Pact.{State, Interaction, params_data, state_data, interaction_data}
 use Rattle.pact_file.specs.Parts.{unless_null, optional_at, text_at, if_object, object_at, listed, all_of, state_in, one_state, states_from, states_in, status_in}
-use Rattle.pact_rules.specs.Reading.{just}
-use Rattle.pact_file.specs.Rules.{rules_or_fault, RulesRead}
-use Rattle.pact_file.specs.declared.fault.Part.TheVariants.{Headers, Whole, Description, States, Request, Response, Status}
-use Rattle.pact_file.proofs.ReadLemmas.{read_ok}
+use Rattle.pact_file.specs.{Interactions.{at, parts_at}, Headers.{HeadersRead}, Normal.{InteractionRead}, Rules.{rules_or_fault, RulesRead}}
+use Rattle.pact_file.{specs.declared.fault.Part.TheVariants.{Headers, Whole, Description, States, Request, Response, Status}, proofs.ReadLemmas.{read_ok}}
 use Rattle.pact_file.proofs.Steps.{bind_ok, found_ok, ok_same, map_some, then_some}
+use Rattle.pact_rules.specs.{Rules.{Rules as Table}, declared.rule_fault.RuleFault.{RuleFault}, Outcome.{guard}, Reading.{just}}
 
 -- ---- states: parameters that are there aren't null
 

@@ -1,8 +1,7 @@
 -- Reading values one after the other, as a loop does.
 use Rattle.std.proofs.Common.{◌≡◌, List, [], ◌∷◌, ◌++◌, map, Option, Some, None, option_map, refl, sym, ap, ◌∙◌, append_assoc, append-nil}
-use Rattle.serde_json.specs.View.{view, items_view}
-use Rattle.serde_json.specs.declared.value.Value.{Value}
 use Rattle.pact_file.specs.Parts.{all_of, listed}
+use Rattle.serde_json.specs.{View.{view, items_view}, declared.value.Value.{Value}}
 
 pub listed_view : (vs : List Value) → listed (items_view vs) ≡ map view vs
 listed_view [] = refl

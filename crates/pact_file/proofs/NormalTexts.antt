@@ -1,18 +1,12 @@
 -- The text of a normal form, made of the texts of its parts, and what it says.
-use Rattle.std.proofs.Common.{◌≡◌, ℕ, zero, suc, ◌+◌, ◌≤◌, ◌<◌, nat_le, List, [], ◌∷◌, ◌++◌, map, codes, true, false, Option, Some, None, MatchOption, refl, sym, ap, ◌∙◌, length, append_assoc, length-append, add-one, arith}
+use Rattle.std.proofs.Common.{◌≡◌, ℕ, zero, suc, ◌+◌, ◌≤◌, ◌<◌, nat_le, List, [], ◌∷◌, ◌++◌, map, codes, true, false, Option, Some, None, MatchOption, refl, sym, ap, ◌∙◌, length, append_assoc, length-append, add-one, le-leb, arith}
+use Rattle.std.proofs.lemmas.Bool.{lt-leb}
 use Rattle.json.specs.Print.{quoted, escape_byte}
-use Rattle.serde_json.specs.Data.{Data, Items, no_items, item}
-use Rattle.serde_json.specs.Read.{read}
-use Rattle.serde_json.specs.View.{items_of}
-use Rattle.serde_json.specs.Written.{compact_text, items_text}
+use Rattle.serde_json.specs.{Data.{Data, Items, no_items, item}, Read.{read}, View.{items_of}, Written.{compact_text, items_text}}
 use Rattle.serde_json.proofs.OnLiterals.{serde_json_on_literals}
-use Rattle.std.proofs.lemmas.Bool.Decides.{nat_tests}
-use Rattle.pact_file.specs.File.{most_bytes}
-use Rattle.pact_file.specs.Pact.{State, Interaction, interaction_with, states_data, interaction_data, pact_with, normal_text}
-use Rattle.pact_file.specs.Sound.{IsSound}
-use Rattle.pact_file.specs.Texts.{text_of_parts, interaction_of_text, interactions_text, item_length, pact_length}
-use Rattle.pact_file.proofs.ReadBack.{read-compact_text}
-use Rattle.pact_file.proofs.SoundData.{kept, whole, shallow}
+use Rattle.pact_file.specs.{File.{most_bytes}, Pact.{State, Interaction, interaction_with, states_data, interaction_data, pact_with, normal_text}}
+use Rattle.pact_file.specs.{Sound.{IsSound}, Texts.{text_of_parts, interaction_of_text, interactions_text, item_length, pact_length}}
+use Rattle.pact_file.proofs.{ReadBack.{read-compact_text}, SoundData.{kept, whole, shallow}}
 
 -- ---- an interaction
 
@@ -44,6 +38,7 @@ still (suc i) ds = items_text true ds
 abbrev pub left : ℕ → List Interaction → List ℕ
 left i xs = still i (items_of (map interaction_data xs))
 
+-- one more text is joined to those before it
 pub joins : (i : ℕ) (text new : List ℕ) (xs : List Interaction) (x : Interaction) (more : List Interaction) (total : List ℕ)
     → xs ≡ x ∷ more → (i ≡ 0 → new ≡ text ++ compact_text (interaction_data x)) → (0 < i → new ≡ text ++ (codes "," ++ compact_text (interaction_data x)))
     → text ++ left i xs ≡ total → new ++ left (i + 1) more ≡ total
@@ -55,9 +50,6 @@ joins i text new xs x more total is first later so_far = rw add-one (step i firs
 nothing : (i : ℕ) → left i [] ≡ codes "]"
 nothing zero = refl
 nothing (suc i) = refl
-
-pub joins_end : (i : ℕ) (text : List ℕ) (xs : List Interaction) (total : List ℕ) → xs ≡ [] → text ++ left i xs ≡ total → text ++ codes "]" ≡ total
-joins_end i text xs total is so_far = ap (λ t. text ++ t) (sym (nothing i)) ∙ ap (λ ys. text ++ left i ys) (sym is) ∙ so_far
 
 -- ---- a pact
 
@@ -122,20 +114,14 @@ text_length c p xs =
     ap length whole
     ∙ omega (arith, length-append (quoted c ++ codes "}") behind, length-append (quoted c) (codes "}"), length-append items last, length-append (quoted p ++ codes "}") (codes "}"), length-append (quoted p) (codes "}"))
 
-short : (n : ℕ) → n ≤ most_bytes → nat_le n most_bytes ≡ true
-short n h = grind (arith, nat_tests)
-
-long : (n : ℕ) → most_bytes < n → nat_le n most_bytes ≡ false
-long n h = grind (arith, nat_tests)
-
 length_by : (c p q r : List ℕ) (xs : List Interaction) → q ≡ quoted c → r ≡ quoted p → length (normal_text (pact_with c p xs)) ≡ pact_length q r xs
 length_by c p q r xs h k = text_length c p xs ∙ ap (λ a. pact_length a (quoted p) xs) (sym h) ∙ ap (λ a. pact_length q a xs) (sym k)
 
 pub has_room : (c p q r : List ℕ) (xs : List Interaction) → q ≡ quoted c → r ≡ quoted p → pact_length q r xs ≤ most_bytes → true ≡ nat_le (length (normal_text (pact_with c p xs))) most_bytes
-has_room c p q r xs h k fits = sym (ap (λ n. nat_le n most_bytes) (length_by c p q r xs h k) ∙ short (pact_length q r xs) fits)
+has_room c p q r xs h k fits = sym (ap (λ n. nat_le n most_bytes) (length_by c p q r xs h k) ∙ le-leb (pact_length q r xs) most_bytes fits)
 
 pub lacks_room : (c p q r : List ℕ) (xs : List Interaction) → q ≡ quoted c → r ≡ quoted p → most_bytes < pact_length q r xs → false ≡ nat_le (length (normal_text (pact_with c p xs))) most_bytes
-lacks_room c p q r xs h k over = sym (ap (λ n. nat_le n most_bytes) (length_by c p q r xs h k) ∙ long (pact_length q r xs) over)
+lacks_room c p q r xs h k over = sym (ap (λ n. nat_le n most_bytes) (length_by c p q r xs h k) ∙ lt-leb (pact_length q r xs) most_bytes over)
 
 left_of : (o : Option ℕ) (c p room size : ℕ) → c + (p + room) + 61 ≡ most_bytes → MatchOption o (room + 1 < size) (λ rest. rest + size ≡ room + 1)
     → MatchOption o (most_bytes < 60 + (c + (p + size))) (λ _. 60 + (c + (p + size)) ≤ most_bytes)

@@ -1,32 +1,15 @@
 -- A file that is one object: its text as JSON, and that what is read is sound.
-use Rattle.std.proofs.Common.{◌≡◌, arith, Bool, true, false, cond, is_some, nat_le, List, [], ◌∷◌, ℕ, Option, Some, None, Result, Ok, Err, refl, sym, ap, ◌∙◌, subst}
+use Rattle.std.specs.{Str.{IsUtf8, is_utf8}, Prelude.{⊤}, Option.{ok_or}}
+use Rattle.std.proofs.Common.{◌≡◌, arith, Bool, true, false, cond, is_some, nat_le, leb-true, List, [], ◌∷◌, ℕ, Option, Some, None, Result, Ok, Err, refl, sym, ap, ◌∙◌, subst}
 use Rattle.std.proofs.lemmas.Str.{is_utf8-from_IsUtf8, IsUtf8-from_is_utf8}
-use Rattle.std.specs.Str.{IsUtf8, is_utf8}
-use Rattle.serde_json.specs.Data.{Data}
-use Rattle.serde_json.specs.Read.{read}
-use Rattle.std.specs.Prelude.{⊤}
-use Rattle.std.specs.Option.{ok_or}
-use Rattle.serde_json.specs.Data.{depth}
-use Rattle.serde_json.specs.Find.{as_object}
-use Rattle.serde_json.specs.View.{view}
-use Rattle.serde_json.specs.declared.value.Value.{Value}
+use Rattle.serde_json.specs.{Data.{Data, depth}, Read.{read}, Find.{as_object}, View.{view}, declared.value.Value.{Value}}
 use Rattle.serde_json.proofs.OnLiterals.{serde_json_on_literals}
-use Rattle.pact_rules.proofs.Bridge.{no_float}
-use Rattle.pact_rules.specs.Outcome.{guard, Gives}
-use Rattle.pact_rules.specs.Trees.{Node}
-use Rattle.pact_rules.specs.TreeReading.{whole_tree, whole_or, tree_in}
-use Rattle.pact_rules.specs.declared.tree.TreeFault.{TreeFault}
-use Rattle.pact_rules.specs.declared.tree.TreeFault.TheVariants.{TooDeep}
-use Rattle.pact_file.specs.File.{as_file_fault}
-use Rattle.pact_file.specs.Objects.{IsSomeText, json_of, tree_or_fault, object_of, with_fault}
-use Rattle.pact_file.specs.Sound.{IsSound}
-use Rattle.pact_file.specs.declared.fault.PactFault.{PactFault}
-use Rattle.pact_file.specs.declared.fault.PactFault.TheVariants.{Memory as PactMemory}
-use Rattle.pact_file.specs.declared.object.FileFault.{FileFault}
-use Rattle.pact_file.specs.declared.object.FileFault.TheVariants.{NotJson, Tree, NotObject, Memory}
-use Rattle.pact_file.proofs.ReadKept.{read_kept, at_most}
-use Rattle.pact_file.proofs.SoundData.{sound}
-use Rattle.pact_file.proofs.Steps.{bind_ok, found_ok, ok_same, err_same, ok_err}
+use Rattle.pact_rules.specs.{declared.tree.TreeFault.TheVariants.{TooDeep}, Outcome.{guard, Gives}, Trees.{Node}, TreeReading.{whole_tree, whole_or, tree_in}}
+use Rattle.pact_rules.{specs.declared.tree.TreeFault.{TreeFault}, proofs.Bridge.{no_float}}
+use Rattle.pact_file.specs.{File.{as_file_fault}, Objects.{IsSomeText, json_of, tree_or_fault, object_of, with_fault}, Sound.{IsSound}}
+use Rattle.pact_file.specs.{declared.fault.PactFault.{PactFault}, declared.fault.PactFault.TheVariants.{Memory as PactMemory}}
+use Rattle.pact_file.specs.{declared.object.FileFault.{FileFault}, declared.object.FileFault.TheVariants.{NotJson, Tree, NotObject, Memory}}
+use Rattle.pact_file.proofs.{ReadKept.{read_kept}, SoundData.{sound}, Steps.{bind_ok, found_ok, ok_same, err_same, ok_err}}
 
 -- ---- a text as JSON
 
@@ -61,7 +44,7 @@ whole_case false o n h = absurd cc
 read_sound : (bytes : List ℕ) (d : Data) (t : Node) → IsUtf8 bytes → read bytes ≡ Some d → tree_in d ≡ Ok t → IsSound 100 d
 read_sound bytes d t utf8 is tree =
     let parts = whole_case (nat_le (depth d) 100) (whole_tree d) t tree in
-    sound 100 d (read_kept bytes d utf8 is) (no_float d t parts.1) (at_most (depth d) 100 parts.0)
+    sound 100 d (read_kept bytes d utf8 is) (no_float d t parts.1) (leb-true (depth d) 100 parts.0)
 
 -- where a text reads as one object, that is sound data, nesting at most 100
 pub object_sound : (bytes : List ℕ) (d : Data) → object_of bytes ≡ Ok d → IsSound 100 d

@@ -1,22 +1,13 @@
 -- Interactions of a sound file that are inserted one after another make the set in order, or clash.
-use Rattle.std.proofs.Common.{◌≡◌, ℕ, ◌≤◌, List, [], ◌∷◌, map, true, false, true≢false, Option, Some, None, Result, Ok, Err, refl, sym, ap, ap₂, ◌∙◌, subst, arith}
-use Rattle.std.specs.Cmp.{IsTotalOrder}
-use Rattle.std.specs.Option.{ok_or}
-use Rattle.std.proofs.lemmas.Cmp.{nat_list_cmp_total, on_total, then_total}
-use Rattle.std.proofs.lemmas.Slice.Eq.{bytes_eq-Decides}
-use Rattle.serde_json.specs.Data.{Data, string, array, object, Items, item, Members, no_members, member}
-use Rattle.serde_json.specs.View.{items_of}
-use Rattle.serde_json.specs.Written.{compact_text}
-use Rattle.pact_file.specs.Normal.{InOrder}
-use Rattle.pact_file.specs.Pact.{State, Interaction, params_data, state_data, states_data, interaction_data, key_cmp}
-use Rattle.pact_file.specs.Sorting.{insert_all_sorted, same_text}
+use Rattle.std.specs.{Cmp.{IsTotalOrder}, Option.{ok_or}}
+use Rattle.std.proofs.Common.{◌≡◌, ℕ, ◌≤◌, List, [], ◌∷◌, map, length, true, false, true≢false, Option, Some, None, Result, Ok, Err, refl, sym, ap, ap₂, ◌∙◌, subst, arith}
+use Rattle.std.proofs.{lemmas.Cmp.{nat_list_cmp_total, on_total, then_total}, lemmas.Slice.Eq.{bytes_eq-Decides}}
+use Rattle.pact_file.specs.{declared.fault.PactFault.TheVariants.{SameInteraction}, Normal.{InOrder}}
+use Rattle.pact_file.specs.{Pact.{State, Interaction, params_data, state_data, states_data, interaction_data, key_cmp}, Sorting.{insert_all_sorted, same_text}}
+use Rattle.pact_file.{specs.{Sound.{IsSound}, declared.fault.PactFault.{PactFault}}, proofs.ReadBack.{compact_text_once}}
+use Rattle.pact_file.proofs.{SetLemmas.{set_of, set_few, clash_of, one_ordered_set}, SoundData.{kept, whole, shallow}}
 use Rattle.pact_rules.specs.Lists.{IsIn}
-use Rattle.pact_file.specs.Sound.{IsSound}
-use Rattle.pact_file.specs.declared.fault.PactFault.{PactFault}
-use Rattle.pact_file.specs.declared.fault.PactFault.TheVariants.{SameInteraction}
-use Rattle.pact_file.proofs.ReadBack.{compact_text_once}
-use Rattle.pact_file.proofs.SetLemmas.{set_of, clash_of, one_ordered_set}
-use Rattle.pact_file.proofs.SoundData.{kept, whole, shallow}
+use Rattle.serde_json.specs.{Data.{Data, string, array, object, Items, item, Members, no_members, member}, View.{items_of}, Written.{compact_text}}
 
 pub key_total : IsTotalOrder key_cmp
 key_total = then_total (on_total (λ (x : Interaction). x.description) nat_list_cmp_total) (on_total (λ (x : Interaction). compact_text (states_data x.states)) nat_list_cmp_total)
@@ -117,6 +108,11 @@ ordered found answer good e = subst (InOrder found) e (by_case (insert_all_sorte
   by_case : (o : Option (List Interaction)) → insert_all_sorted key_cmp same_text [] found ≡ o → InOrder found (ok_or o SameInteraction)
   by_case (Some list) is = set_of key_cmp key_total same_text Differ IsGood alike unlike found list good is
   by_case None is = (clash_of key_cmp key_total same_text Differ IsGood alike unlike found good is, refl)
+
+-- a set in order has at most as many as were found
+pub ordered_few : (found list : List Interaction) → ((z : Interaction) → IsIn z found → IsGood z)
+    → insert_all_sorted key_cmp same_text [] found ≡ Some list → length list ≤ length found
+ordered_few found list good is = set_few key_cmp key_total same_text Differ IsGood alike unlike found list good is
 
 -- two answers are one
 pub one_order : (found : List Interaction) (a b : Result (List Interaction) PactFault) → InOrder found a → InOrder found b → a ≡ b

@@ -1,40 +1,19 @@
 -- What is read has whole numbers of 64 bits, and an object's keys in order, each once.
-use Rattle.std.proofs.Common.{◌≡◌, ℕ, zero, suc, ◌<◌, ◌≤◌, ◌^◌, ◌&&◌, ◌==◌, nat_lt, nat_le, List, drop, get_or, Bool, true, false, cond, Float, Option, Some, None, option_map, option_and_then, Ordering, Less, Equal, Greater, refl, ap, ◌∙◌, subst, arith}
-use Rattle.std.specs.Ordering.{nat_cmp, match_ordering, ordering_reverse}
-use Rattle.std.specs.Cmp.Lexicographic.{slice_cmp}
-use Rattle.std.specs.Float.{binary64, float_is_finite}
-use Rattle.std.proofs.lemmas.Bool.Decides.{nat_tests}
-use Rattle.std.proofs.lemmas.Cmp.{nat_list_cmp_total}
+use Rattle.std.specs.{Ordering.{nat_cmp, match_ordering, ordering_reverse}, Cmp.Lexicographic.{slice_cmp}, Float.{binary64, float_is_finite}, Str.{IsUtf8}}
+use Rattle.std.proofs.Common.{◌≡◌, ℕ, zero, suc, ◌<◌, ◌≤◌, ◌^◌, ◌&&◌, ◌==◌, nat_lt, nat_le, List, drop, get_or, Bool, true, false, cond, Float, Option, Some, None, option_map, option_and_then, Ordering, Less, Equal, Greater, refl, ap, ◌∙◌, subst, ltb-true, leb-true, arith}
+use Rattle.std.proofs.{lemmas.Bool.{and_parts, cond_both}, lemmas.Cmp.{nat_list_cmp_total}, lemmas.Option.{same_Some, cond_some}}
 use Rattle.fast_float.specs.Text.{Parts, scan, digits_of, nearest, with_sign}
 use Rattle.json.specs.Lex.{tokens}
-use Rattle.json.specs.Json as json
 use Rattle.serde_json.specs.Data.{Num, unsigned, negative, float, Data, number, array, object, Items, item, Members, no_members, member, put}
 use Rattle.serde_json.specs.Read.{is_integer, float_of, number_from, number_of, of_json, of_items, of_members, max_depth, read}
-use Rattle.std.specs.Str.{IsUtf8}
 use Rattle.pact_rules.specs.Kept.{IsBelow, IsNumber, IsKept, AreKept, MembersAreKept}
-use Rattle.std.proofs.lemmas.Option.{same_Some}
-use Rattle.pact_file.proofs.Steps.{map_some, then_some}
-use Rattle.pact_file.proofs.Utf8Tokens.{HasTexts, ItemsHaveTexts, MembersHaveTexts, value_texts}
+use Rattle.pact_file.proofs.{Steps.{map_some, then_some}, Utf8Tokens.{HasTexts, ItemsHaveTexts, MembersHaveTexts, value_texts}}
+use Rattle.json.specs.Json as json
 
 -- ---- numbers
 
-below : (m k : ℕ) → nat_lt m k ≡ true → m < k
-below m k h = grind (arith, nat_tests)
-
-pub at_most : (m k : ℕ) → nat_le m k ≡ true → m ≤ k
-at_most m k h = grind (arith, nat_tests)
-
-right_true : (a b : Bool) → (a && b) ≡ true → b ≡ true
-right_true true b h = h
-right_true false b h = absurd cc
-
-left_true : (a b : Bool) → (a && b) ≡ true → a ≡ true
-left_true true b h = refl
-left_true false b h = absurd cc
-
 float_case : (b : Bool) (x : Float) (n : Num) → cond b (Some (float x)) None ≡ Some n → IsNumber n
-float_case true x n h = subst IsNumber (same_Some _ _ h) tt
-float_case false x n h = absurd cc
+float_case b x n h = subst IsNumber (cond_some b (float x) n h).1 tt
 
 plain_case : (t : Bool) (m : ℕ) (rest : Option Num) (n : Num) → (t ≡ true → m < 2 ^ 64) → (rest ≡ Some n → IsNumber n) → cond t (Some (unsigned m)) rest ≡ Some n → IsNumber n
 plain_case true m rest n fits other h = subst IsNumber (same_Some _ _ h) (fits refl)
@@ -50,19 +29,18 @@ signed_case false m rest n fits other h = other h
 
 from_parts : (sign : Bool) (p : Parts) (n : Num) → number_from sign p ≡ Some n → IsNumber n
 from_parts false p n h =
-    plain_case (is_integer p && nat_lt (digits_of p) (2 ^ 64)) (digits_of p) (float_of false p) n (λ t. below _ _ (right_true (is_integer p) _ t)) (λ o. float_case (float_is_finite (nearest binary64 false p)) (nearest binary64 false p) n o) h
+    plain_case (is_integer p && nat_lt (digits_of p) (2 ^ 64)) (digits_of p) (float_of false p) n (λ t. ltb-true (digits_of p) (2 ^ 64) (and_parts (is_integer p) _ t).1) (λ o. float_case (float_is_finite (nearest binary64 false p)) (nearest binary64 false p) n o) h
 from_parts true p n h =
     signed_case (is_integer p && nat_lt 0 (digits_of p) && nat_le (digits_of p) (2 ^ 63)) (digits_of p) (float_of true p) n
-    (λ t. (below _ _ (right_true (is_integer p) _ (left_true (is_integer p && nat_lt 0 (digits_of p)) _ t)), at_most _ _ (right_true (is_integer p && nat_lt 0 (digits_of p)) _ t)))
+    (λ t. let parts = and_parts (is_integer p && nat_lt 0 (digits_of p)) _ t in
+    (ltb-true 0 (digits_of p) (and_parts (is_integer p) _ parts.0).1, leb-true (digits_of p) (2 ^ 63) parts.1))
     (λ o. float_case (float_is_finite (nearest binary64 true p)) (nearest binary64 true p) n o) h
-
-number_case : (b : Bool) (p q : Parts) (n : Num) → cond b (number_from true p) (number_from false q) ≡ Some n → IsNumber n
-number_case true p q n h = from_parts true p n h
-number_case false p q n h = from_parts false q n h
 
 number_kept : (s : List ℕ) (n : Num) → number_of s ≡ Some n → IsNumber n
 unfolding number_of
-number_kept s n h = number_case (get_or s 0 0 == 45) (scan (drop 1 s)) (scan s) n h
+number_kept s n h =
+    cond_both (get_or s 0 0 == 45) (number_from true (scan (drop 1 s))) (number_from false (scan s)) (λ o. o ≡ Some n → IsNumber n)
+    (λ minus. from_parts true (scan (drop 1 s)) n) (λ other. from_parts false (scan s) n) h
 
 -- ---- members
 

@@ -1,52 +1,29 @@
 -- What a reading that succeeds went through, and that what is read of sound data is sound.
-use Rattle.std.proofs.Common.{◌≡◌, inl, inr, ℕ, zero, suc, ◌+◌, ◌≤◌, ◌<◌, nat_le, List, [], ◌∷◌, length, map, codes, get_or, Bool, true, false, cond, is_some, Some, None, option_and_then, Result, Ok, Err, refl, sym, ap, ◌∙◌, subst, arith}
-use Rattle.std.specs.Prelude.{⊤}
-use Rattle.std.specs.Option.{ok_or}
-use Rattle.std.proofs.lemmas.Bool.Decides.{nat_tests}
-use Rattle.serde_json.specs.Data.{Data, Items, no_items, item, depth}
-use Rattle.serde_json.specs.Events.{items_len}
-use Rattle.serde_json.specs.Find.{get, as_array, as_object}
+use Rattle.std.specs.{Prelude.{⊤}, Option.{ok_or}}
+use Rattle.std.proofs.Common.{◌≡◌, inl, inr, ℕ, zero, suc, ◌+◌, ◌≤◌, ◌<◌, nat_le, List, [], ◌∷◌, length, map, codes, get_or, Bool, true, false, cond, is_some, Some, None, option_and_then, Result, Ok, Err, refl, sym, ap, ◌∙◌, subst, ⊎_elim, le-leb, arith}
+use Rattle.serde_json.specs.{declared.value.Value.{Value}, Data.{Data, Items, no_items, item, depth}, Events.{items_len}, Find.{get, as_array, as_object}}
 use Rattle.serde_json.specs.View.{view, items_view, items_of}
-use Rattle.serde_json.specs.declared.value.Value.{Value}
-use Rattle.pact_rules.proofs.Bridge.{has_tree}
-use Rattle.pact_rules.specs.Trees.{Node}
-use Rattle.pact_rules.specs.Rules.{no_rules, Rules as Table}
-use Rattle.pact_rules.specs.RuleReading.{IsReading}
-use Rattle.pact_rules.specs.TreeReading.{whole_tree, tree_in}
-use Rattle.pact_rules.specs.declared.tree.TreeFault.{TreeFault}
-use Rattle.pact_rules.specs.declared.rule_fault.RuleFault.{RuleFault}
-use Rattle.pact_rules.specs.declared.rule_fault.RuleFault.TheVariants as rule_fault
-use Rattle.pact_file.specs.File.{most_bytes, most_interactions, as_file_fault, file_of, sides_of, items_of as items_at, seen_of}
-use Rattle.pact_file.specs.Interactions.{at, parts_at}
-use Rattle.pact_file.specs.Headers.{HeadersRead}
-use Rattle.pact_file.specs.Normal.{InteractionRead, InteractionsRead, PactRead, Normal, if_short}
-use Rattle.pact_rules.specs.Outcome.{guard, Gives}
-use Rattle.pact_file.specs.Pact.{Interaction, Pact, interaction_data, normal_text}
-use Rattle.pact_file.specs.Parts.{text_at, object_at, states_in, status_in, listed, optional_at}
-use Rattle.pact_rules.specs.Reading.{◌>>=◌, Follows, just, EachRead, GivesOne}
-use Rattle.pact_file.specs.Rules.{TableRead, rules_or_fault, RulesRead, IsRulesOf}
-use Rattle.pact_rules.specs.Lists.{IsIn}
-use Rattle.pact_file.specs.Sound.{IsSound, AreSound}
-use Rattle.pact_file.specs.PartsView.{as_pact_fault}
-use Rattle.pact_file.specs.declared.fault.PactFault.{PactFault}
-use Rattle.pact_file.specs.declared.fault.PactFault.TheVariants.{Memory, Rules, Shape, TooLong, TooMany}
+use Rattle.pact_rules.specs.{Reading.{◌>>=◌, Follows, just, EachRead, GivesOne}, Lists.{IsIn}, Trees.{Node}, Rules.{no_rules, Rules as Table}}
+use Rattle.pact_rules.specs.{RuleReading.{IsReading}, TreeReading.{whole_tree, tree_in}, declared.tree.TreeFault.{TreeFault}}
+use Rattle.pact_rules.{specs.{declared.rule_fault.RuleFault.{RuleFault}, Outcome.{guard, Gives}}, proofs.Bridge.{has_tree}}
 use Rattle.pact_file.specs.declared.fault.Part.TheVariants.{Headers, Whole, Description, States, Request, Response, Status}
-use Rattle.pact_file.specs.declared.fault.Place.TheVariants.{Interactions}
-use Rattle.pact_file.specs.Objects.{IsSomeText, json_of, object_of}
-use Rattle.pact_file.proofs.Objects.{object_ok, object_sound, json_text}
-use Rattle.pact_file.proofs.SoundData.{shallow, whole as is_whole}
+use Rattle.pact_file.specs.{File.{most_bytes, most_interactions, as_file_fault, file_of, sides_of, items_of as items_at, seen_of}, Interactions.{at, parts_at}}
+use Rattle.pact_file.specs.{Headers.{HeadersRead}, Normal.{InteractionRead, InteractionsRead, PactRead, Normal, if_short}}
+use Rattle.pact_file.specs.{Pact.{Interaction, Pact, interaction_data, normal_text}, Parts.{text_at, object_at, states_in, status_in, listed, optional_at}}
+use Rattle.pact_file.specs.{Rules.{TableRead, rules_or_fault, RulesRead, IsRulesOf}, Sound.{IsSound, AreSound}, PartsView.{as_pact_fault}}
+use Rattle.pact_file.specs.{declared.fault.PactFault.{PactFault}, declared.fault.PactFault.TheVariants.{Memory, Rules, Shape, TooLong, TooMany}}
+use Rattle.pact_file.specs.{declared.fault.Place.TheVariants.{Interactions}, Objects.{IsSomeText, json_of, object_of}}
 use Rattle.pact_file.proofs.SoundParts.{of_get, of_object_at, of_text_at, of_array, of_states, of_parts}
 use Rattle.pact_file.proofs.Steps.{bind_ok, bind_first, bind_second, first_of, found_ok, ok_same, ok_err, then_some}
+use Rattle.pact_file.proofs.{Objects.{object_ok, object_sound, json_text}, SoundData.{shallow, whole as is_whole}}
+use Rattle.pact_rules.specs.declared.rule_fault.RuleFault.TheVariants as rule_fault
 
 -- ---- trees
-
-test_le : (m k : ℕ) → m ≤ k → nat_le m k ≡ true
-test_le m k h = grind (arith, nat_tests)
 
 pub is_tree : (n : ℕ) (d : Data) → n ≤ 100 → IsSound n d → (t : Node) × (tree_in d ≡ Ok t)
 is_tree n d few h =
     let t = has_tree d (is_whole n d h) in
-    let fits : nat_le (depth d) 100 ≡ true = test_le (depth d) 100 (omega (arith, shallow n d h)) in
+    let fits : nat_le (depth d) 100 ≡ true = le-leb (depth d) 100 (omega (arith, shallow n d h)) in
     (t.0, rw (fits, t.1) refl)
 
 pub no_tree_fault : {P : Type 0} (n : ℕ) (d : Data) (e : TreeFault) → n ≤ 100 → IsSound n d → tree_in d ≡ Err e → P
@@ -125,10 +102,6 @@ pub listed_sound : (ds : Items) → AreSound 98 ds → AllSound (listed ds)
 listed_sound no_items h = tt
 listed_sound (item d ds) h = (h.0, listed_sound ds h.1)
 
-first_sound : (x z : Interaction) (xs : List Interaction) → IsSound 98 (interaction_data x) → ((w : Interaction) → IsIn w xs → IsSound 98 (interaction_data w)) → IsIn z (x ∷ xs) → IsSound 98 (interaction_data z)
-first_sound x z xs h k (inl same) = subst (λ w. IsSound 98 (interaction_data w)) (sym same) h
-first_sound x z xs h k (inr m) = k z m
-
 pub each_sound : (i : ℕ) (ds : List Data) (xs : List Interaction) → AllSound ds → EachRead InteractionRead i ds (Ok xs) → (z : Interaction) → IsIn z xs → IsSound 98 (interaction_data z)
 unfolding EachRead
 each_sound i [] xs h e z m = absurd (subst (IsIn z) (sym (ok_same _ _ e)) m)
@@ -136,7 +109,7 @@ each_sound i (d ∷ ds) xs h e z m =
     let first = read_ok (InteractionRead i d) _ xs e in
     let others = read_ok (EachRead InteractionRead (i + 1) ds) _ xs first.2 in
     let same : first.0 ∷ others.0 ≡ xs = ok_same _ _ others.2 in
-    first_sound first.0 z others.0 (interaction_sound i d first.0 h.0 first.1) (λ w k. each_sound (i + 1) ds others.0 h.1 others.1 w k) (subst (IsIn z) (sym same) m)
+    ⊎_elim (λ is. subst (λ w. IsSound 98 (interaction_data w)) (sym is) (interaction_sound i d first.0 h.0 first.1)) (each_sound (i + 1) ds others.0 h.1 others.1 z) (subst (IsIn z) (sym same) m)
 
 -- ---- the file
 

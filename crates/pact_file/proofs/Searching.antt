@@ -1,23 +1,11 @@
 -- Where a binary search finds the place of a new one in a list whose keys rise.
-use Rattle.std.proofs.Common.{◌≡◌, ℕ, zero, suc, ◌+◌, ◌≤◌, ◌<◌, List, [], ◌∷◌, ◌++◌, Bool, true, false, cond, Ordering, Less, Equal, Greater, Option, Some, None, option_map, get_or, length, take, drop, refl, sym, ap, ◌∙◌, subst, arith}
-use Rattle.std.specs.List.{AllByRecursion}
-use Rattle.std.specs.List.Sorted.{IsSortedBy, IsNonDecreasingBy}
+use Rattle.std.specs.{Cmp.{IsTotalOrder}, List.{AllByRecursion}, List.Sorted.{IsSortedBy, IsNonDecreasingBy}}
 use Rattle.std.specs.Ordering.{is_lt, ordering_index, ordering_reverse, match_ordering}
-use Rattle.std.specs.Cmp.{IsTotalOrder}
-use Rattle.std.proofs.lemmas.List.Sorted.{searchable_from_sorted}
-use Rattle.std.proofs.lemmas.Option.{same_Some}
-use Rattle.pact_file.specs.Sets.{IsRising}
-use Rattle.pact_file.specs.Sorting.{insert_sorted}
-use Rattle.pact_file.proofs.SetLemmas.{lower}
-use Rattle.pact_file.proofs.SortedSets.{next}
+use Rattle.std.proofs.Common.{◌≡◌, ℕ, zero, suc, ◌+◌, ◌≤◌, ◌<◌, List, [], ◌∷◌, ◌++◌, Bool, true, false, cond, Ordering, Less, Equal, Greater, Option, Some, None, option_map, get_or, length, take, drop, refl, sym, ap, ◌∙◌, subst, arith}
+use Rattle.std.proofs.{lemmas.List.Sorted.{searchable_from_sorted}, lemmas.Option.{same_Some}}
+use Rattle.pact_file.{specs.{Sets.{IsRising}, Sorting.{insert_sorted}}, proofs.{SetLemmas.{Below, turned, lower}, SortedSets.{next}, Steps.{map_some}}}
 
 module _ {A : Type 0} (cmp : A → A → Ordering) (total : IsTotalOrder cmp) where
-  abbrev Below : A → List A → Type 0
-  Below x ys = AllByRecursion (λ y. cmp x y ≡ Less) ys
-
-  turned : (x y : A) (o : Ordering) → cmp x y ≡ o → cmp y x ≡ ordering_reverse o
-  turned x y o h = total.antisymm y x ∙ ap ordering_reverse h
-
   -- ---- the keys rise as a search asks it
 
   neighbours : (xs : List A) (k : ℕ) (d : A) → k + 1 < length xs → IsRising cmp xs → cmp (get_or xs k d) (get_or xs (k + 1) d) ≡ Less
@@ -36,7 +24,7 @@ module _ {A : Type 0} (cmp : A → A → Ordering) (total : IsTotalOrder cmp) wh
 
   -- ---- the place
 
-  below_at : (x : A) (ys : List A) (k : ℕ) (d : A) → Below x ys → k < length ys → cmp x (get_or ys k d) ≡ Less
+  below_at : (x : A) (ys : List A) (k : ℕ) (d : A) → Below cmp total x ys → k < length ys → cmp x (get_or ys k d) ≡ Less
   below_at x [] k d b h = absurd (omega (arith, h))
   below_at x (y ∷ ys) zero d b h = b.0
   below_at x (y ∷ ys) (suc k) d b h = below_at x ys k d b.1 (omega (arith, h))
@@ -52,10 +40,10 @@ module _ {A : Type 0} (cmp : A → A → Ordering) (total : IsTotalOrder cmp) wh
     goes_between x [] zero h before behind = refl
     goes_between x [] (suc i) h before behind = absurd (omega (arith, h))
     goes_between x (y ∷ ys) zero h before behind =
-        let first : cmp x y ≡ Less = turned y x Greater (behind 0 x (omega arith) (omega arith)) in
+        let first : cmp x y ≡ Less = turned cmp total y x Greater (behind 0 x (omega arith) (omega arith)) in
         ap (λ o. with_first o x y ys (insert_sorted cmp same x ys)) first
     goes_between x (y ∷ ys) (suc i) h before behind =
-        let past : cmp x y ≡ Greater = turned y x Less (before 0 x (omega arith)) in
+        let past : cmp x y ≡ Greater = turned cmp total y x Less (before 0 x (omega arith)) in
         let rest = goes_between x ys i (omega (arith, h)) (λ k d b. before (suc k) d (omega (arith, b))) (λ k d a b. behind (suc k) d (omega (arith, a)) (omega (arith, b))) in
         ap (λ o. with_first o x y ys (insert_sorted cmp same x ys)) past ∙ ap (option_map (λ zs. y ∷ zs)) rest
 
@@ -68,30 +56,26 @@ module _ {A : Type 0} (cmp : A → A → Ordering) (total : IsTotalOrder cmp) wh
         → insert_sorted cmp same x list ≡ cond (same x (get_or list k d)) (Some list) None
     unfolding insert_sorted
     meets x [] k d r h e = absurd (omega (arith, h))
-    meets x (y ∷ ys) zero d r h e = ap (λ o. with_first o x y ys (insert_sorted cmp same x ys)) (turned y x Equal e)
+    meets x (y ∷ ys) zero d r h e = ap (λ o. with_first o x y ys (insert_sorted cmp same x ys)) (turned cmp total y x Equal e)
     meets x (y ∷ ys) (suc k) d r h e =
         let z = get_or ys k d in
         let less : cmp y z ≡ Less = below_at y ys k d r.0 (omega (arith, h)) in
-        let past : cmp x y ≡ Greater = sym (total.congr z x y e) ∙ turned y z Less less in
+        let past : cmp x y ≡ Greater = sym (total.congr z x y e) ∙ turned cmp total y z Less less in
         ap (λ o. with_first o x y ys (insert_sorted cmp same x ys)) past ∙ ap (option_map (λ zs. y ∷ zs)) (meets x ys k d r.1 (omega (arith, h)) e)
         ∙ kept_or_not y ys (same x z)
 
     -- ---- the keys rise afterwards
 
-    some_map : (y : A) (o : Option (List A)) (new : List A) → option_map (λ more. y ∷ more) o ≡ Some new → (more : List A) × (o ≡ Some more) × (y ∷ more ≡ new)
-    some_map y None new e = absurd cc
-    some_map y (Some more) new e = (more, refl, same_Some _ _ e)
-
-    below_case : (o : Ordering) (b : Bool) (w x y : A) (ys new : List A) → cmp w x ≡ Less → Below w (y ∷ ys) → ((more : List A) → insert_sorted cmp same x ys ≡ Some more → Below w more)
-        → match_ordering o (Some (x ∷ y ∷ ys)) (cond b (Some (y ∷ ys)) None) (option_map (λ more. y ∷ more) (insert_sorted cmp same x ys)) ≡ Some new → Below w new
-    below_case Less b w x y ys new h r k e = subst (Below w) (same_Some _ _ e) (h, r)
-    below_case Equal true w x y ys new h r k e = subst (Below w) (same_Some _ _ e) r
+    below_case : (o : Ordering) (b : Bool) (w x y : A) (ys new : List A) → cmp w x ≡ Less → Below cmp total w (y ∷ ys) → ((more : List A) → insert_sorted cmp same x ys ≡ Some more → Below cmp total w more)
+        → match_ordering o (Some (x ∷ y ∷ ys)) (cond b (Some (y ∷ ys)) None) (option_map (λ more. y ∷ more) (insert_sorted cmp same x ys)) ≡ Some new → Below cmp total w new
+    below_case Less b w x y ys new h r k e = subst (Below cmp total w) (same_Some _ _ e) (h, r)
+    below_case Equal true w x y ys new h r k e = subst (Below cmp total w) (same_Some _ _ e) r
     below_case Equal false w x y ys new h r k e = absurd cc
-    below_case Greater b w x y ys new h r k e = let m = some_map y (insert_sorted cmp same x ys) new e in subst (Below w) m.2 (r.0, k m.0 m.1)
+    below_case Greater b w x y ys new h r k e = let m = map_some (λ more. y ∷ more) (insert_sorted cmp same x ys) new e in subst (Below cmp total w) m.2 (r.0, k m.0 m.1)
 
-    stays_below : (w x : A) (list new : List A) → cmp w x ≡ Less → Below w list → insert_sorted cmp same x list ≡ Some new → Below w new
+    stays_below : (w x : A) (list new : List A) → cmp w x ≡ Less → Below cmp total w list → insert_sorted cmp same x list ≡ Some new → Below cmp total w new
     unfolding insert_sorted
-    stays_below w x [] new h r e = subst (Below w) (same_Some _ _ e) (h, tt)
+    stays_below w x [] new h r e = subst (Below cmp total w) (same_Some _ _ e) (h, tt)
     stays_below w x (y ∷ ys) new h r e = below_case (cmp x y) (same x y) w x y ys new h r (λ more k. stays_below w x ys more h r.1 k) e
 
     rising_case : (o : Ordering) (b : Bool) (x y : A) (ys new : List A) → cmp x y ≡ o → IsRising cmp (y ∷ ys) → ((more : List A) → insert_sorted cmp same x ys ≡ Some more → IsRising cmp more)
@@ -100,8 +84,8 @@ module _ {A : Type 0} (cmp : A → A → Ordering) (total : IsTotalOrder cmp) wh
     rising_case Equal true x y ys new is r k e = subst (IsRising cmp) (same_Some _ _ e) r
     rising_case Equal false x y ys new is r k e = absurd cc
     rising_case Greater b x y ys new is r k e =
-        let m = some_map y (insert_sorted cmp same x ys) new e in
-        subst (IsRising cmp) m.2 (stays_below y x ys m.0 (turned x y Greater is) r.0 m.1, k m.0 m.1)
+        let m = map_some (λ more. y ∷ more) (insert_sorted cmp same x ys) new e in
+        subst (IsRising cmp) m.2 (stays_below y x ys m.0 (turned cmp total x y Greater is) r.0 m.1, k m.0 m.1)
 
     pub still_rising : (x : A) (list new : List A) → IsRising cmp list → insert_sorted cmp same x list ≡ Some new → IsRising cmp new
     unfolding insert_sorted

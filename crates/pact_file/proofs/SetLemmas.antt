@@ -1,12 +1,9 @@
 -- Placing one after another makes the set in order, and there is one such set.
-use Rattle.std.proofs.Common.{◌≡◌, ◌⊎◌, inl, inr, List, [], ◌∷◌, Bool, true, false, cond, Ordering, Less, Equal, Greater, Option, Some, None, option_map, option_and_then, refl, sym, ap, ap₂, ◌∙◌, subst}
-use Rattle.std.specs.List.{AllByRecursion}
-use Rattle.std.specs.Ordering.{match_ordering, ordering_reverse}
-use Rattle.std.specs.Cmp.{IsTotalOrder}
+use Rattle.std.specs.{List.{AllByRecursion}, Ordering.{match_ordering, ordering_reverse}, Cmp.{IsTotalOrder}}
+use Rattle.std.proofs.Common.{◌≡◌, ◌⊎◌, inl, inr, List, [], ◌∷◌, Bool, true, false, cond, Ordering, Less, Equal, Greater, Option, Some, None, option_map, option_and_then, refl, sym, ap, ap₂, ◌∙◌, subst, ⊎_elim, ◌+◌, suc, ◌≤◌, length, arith}
 use Rattle.std.proofs.lemmas.Option.{same_Some}
-use Rattle.pact_file.specs.Sorting.{insert_sorted, insert_all_sorted}
 use Rattle.pact_rules.specs.Lists.{OneOf, IsIn}
-use Rattle.pact_file.specs.Sets.{IsRising, IsSetInOrder, HasClash}
+use Rattle.pact_file.{specs.{Sorting.{insert_sorted, insert_all_sorted}, Sets.{IsRising, IsSetInOrder, HasClash}}, proofs.Steps.{map_some, then_some}}
 
 -- ---- one of them
 
@@ -21,14 +18,14 @@ each_such P (x ∷ xs) z a (inl same) = subst P (sym same) a.0
 each_such P (x ∷ xs) z a (inr h) = each_such P xs z a.1 h
 
 module _ {A : Type 0} (cmp : A → A → Ordering) (total : IsTotalOrder cmp) where
-  abbrev Below : A → List A → Type 0
+  abbrev pub Below : A → List A → Type 0
   Below x ys = AllByRecursion (λ y. cmp x y ≡ Less) ys
 
   pub lower : (w x : A) (ys : List A) → cmp w x ≡ Less → Below x ys → Below w ys
   lower w x [] h b = tt
   lower w x (y ∷ ys) h b = (total.trans w x y h b.0, lower w x ys h b.1)
 
-  turned : (x y : A) (o : Ordering) → cmp x y ≡ o → cmp y x ≡ ordering_reverse o
+  pub turned : (x y : A) (o : Ordering) → cmp x y ≡ o → cmp y x ≡ ordering_reverse o
   turned x y o h = total.antisymm y x ∙ ap ordering_reverse h
 
   not_less : (x : A) → ¬ (cmp x x ≡ Less)
@@ -61,6 +58,14 @@ module _ {A : Type 0} (cmp : A → A → Ordering) (total : IsTotalOrder cmp) wh
   pub one_ordered_set : (found xs ys : List A) → IsSetInOrder cmp found xs → IsSetInOrder cmp found ys → xs ≡ ys
   one_ordered_set found xs ys a b = one_set xs ys a.rising b.rising (λ z h. b.kept z (a.known z h)) (λ z h. a.kept z (b.known z h))
 
+  -- a list whose keys rise has no clash
+  pub rising_apart : (D : A → A → Type 0) (xs : List A) → IsRising cmp xs → ¬ HasClash cmp D xs
+  rising_apart D [] r h = h
+  rising_apart D (x ∷ xs) r (inl one) =
+      let t = one_such (λ y. (cmp x y ≡ Equal) × D x y) xs one in
+      let e : Less ≡ Equal = sym (each_such (λ y. cmp x y ≡ Less) xs t.0 r.0 t.1) ∙ t.2.0 in cc
+  rising_apart D (x ∷ xs) r (inr h) = rising_apart D xs r.1 h
+
   -- ---- placing
 
   module _ (same : A → A → Bool) (Differ : A → A → Type 0) (Good : A → Type 0)
@@ -72,6 +77,7 @@ module _ {A : Type 0} (cmp : A → A → Ordering) (total : IsTotalOrder cmp) wh
       old : (z : A) → IsIn z list → IsIn z new
       known : (z : A) → IsIn z new → (z ≡ x) ⊎ IsIn z list
       apart : (z : A) → IsIn z list → cmp z x ≡ Equal → ¬ (Differ z x)
+      few : length new ≤ suc (length list)
 
     less_apart : (x z : A) → cmp x z ≡ Less → ¬ (cmp z x ≡ Equal)
     less_apart x z h k = let g : cmp z x ≡ Greater = turned x z Less h in let e : Equal ≡ Greater = sym k ∙ g in cc
@@ -79,17 +85,14 @@ module _ {A : Type 0} (cmp : A → A → Ordering) (total : IsTotalOrder cmp) wh
     greater_apart : (x z : A) → cmp x z ≡ Greater → ¬ (cmp z x ≡ Equal)
     greater_apart x z h k = let g : cmp z x ≡ Less = turned x z Greater h in let e : Equal ≡ Less = sym k ∙ g in cc
 
-    known_here : (x z : A) (ys : List A) → IsIn z (x ∷ ys) → (z ≡ x) ⊎ IsIn z ys
-    known_here x z ys (inl same) = inl same
-    known_here x z ys (inr h) = inr h
-
     here : (x y : A) (ys : List A) → cmp x y ≡ Less → IsRising cmp (y ∷ ys) → IsPlaced x (y ∷ ys) (x ∷ y ∷ ys)
     here x y ys h r = record {
       rising = ((h, lower x y ys h r.0), r);
       fresh = inl refl;
       old = λ z k. inr k;
-      known = λ z k. known_here x z (y ∷ ys) k;
+      known = λ z k. k;
       apart = λ z k e. absurd (less_apart x z (each_such (λ w. cmp x w ≡ Less) (y ∷ ys) z (h, lower x y ys h r.0) k) e);
+      few = omega arith;
     }
 
     there_apart : (x y : A) (ys : List A) → x ≡ y → ¬ (Differ y x) → Below y ys → (z : A) → IsIn z (y ∷ ys) → cmp z x ≡ Equal → ¬ (Differ z x)
@@ -103,46 +106,27 @@ module _ {A : Type 0} (cmp : A → A → Ordering) (total : IsTotalOrder cmp) wh
       old = λ z k. k;
       known = λ z k. inr k;
       apart = there_apart x y ys is alone r.0;
+      few = omega arith;
     }
 
     past_below : (x y : A) (ys more : List A) → cmp y x ≡ Less → Below y ys → ((z : A) → IsIn z more → (z ≡ x) ⊎ IsIn z ys) → Below y more
     past_below x y ys more h b known = all_below more known where
-      step_below : (z : A) → (z ≡ x) ⊎ IsIn z ys → cmp y z ≡ Less
-      step_below z (inl same) = subst (λ w. cmp y w ≡ Less) (sym same) h
-      step_below z (inr k) = each_such (λ w. cmp y w ≡ Less) ys z b k
-
       all_below : (zs : List A) → ((z : A) → IsIn z zs → (z ≡ x) ⊎ IsIn z ys) → Below y zs
       all_below [] f = tt
-      all_below (z ∷ zs) f = (step_below z (f z (inl refl)), all_below zs (λ w k. f w (inr k)))
-
-    past_old : (y : A) (ys more : List A) → ((z : A) → IsIn z ys → IsIn z more) → (z : A) → IsIn z (y ∷ ys) → IsIn z (y ∷ more)
-    past_old y ys more f z (inl same) = inl same
-    past_old y ys more f z (inr k) = inr (f z k)
-
-    shift : (x y z : A) (ys : List A) → (z ≡ x) ⊎ IsIn z ys → (z ≡ x) ⊎ IsIn z (y ∷ ys)
-    shift x y z ys (inl same) = inl same
-    shift x y z ys (inr k) = inr (inr k)
-
-    past_known : (x y : A) (ys more : List A) → ((z : A) → IsIn z more → (z ≡ x) ⊎ IsIn z ys) → (z : A) → IsIn z (y ∷ more) → (z ≡ x) ⊎ IsIn z (y ∷ ys)
-    past_known x y ys more f z (inl same) = inr (inl same)
-    past_known x y ys more f z (inr k) = shift x y z ys (f z k)
-
-    past_apart : (x y : A) (ys : List A) → cmp x y ≡ Greater → ((z : A) → IsIn z ys → cmp z x ≡ Equal → ¬ (Differ z x)) → (z : A) → IsIn z (y ∷ ys) → cmp z x ≡ Equal → ¬ (Differ z x)
-    past_apart x y ys h f z (inl same) e d = greater_apart x y h (subst (λ w. cmp w x ≡ Equal) same e)
-    past_apart x y ys h f z (inr k) e d = f z k e d
+      all_below (z ∷ zs) f = (
+        ⊎_elim (λ first. subst (λ w. cmp y w ≡ Less) (sym first) h) (each_such (λ w. cmp y w ≡ Less) ys z b) (f z (inl refl)),
+        all_below zs (λ w k. f w (inr k)),
+      )
 
     past : (x y : A) (ys more : List A) → cmp x y ≡ Greater → IsRising cmp (y ∷ ys) → IsPlaced x ys more → IsPlaced x (y ∷ ys) (y ∷ more)
     past x y ys more h r p = record {
       rising = (past_below x y ys more (turned x y Greater h) r.0 p.known, p.rising);
       fresh = inr p.fresh;
-      old = past_old y ys more p.old;
-      known = past_known x y ys more p.known;
-      apart = past_apart x y ys h p.apart;
+      old = λ z. ⊎_elim inl (λ k. inr (p.old z k));
+      known = λ z. ⊎_elim (λ first. inr (inl first)) (λ k. ⊎_elim inl (λ m. inr (inr m)) (p.known z k));
+      apart = λ z k e. ⊎_elim (λ first. absurd (greater_apart x y h (subst (λ w. cmp w x ≡ Equal) first e))) (λ m. p.apart z m e) k;
+      few = omega (arith, p.few);
     }
-
-    some_map : (y : A) (o : Option (List A)) (new : List A) → option_map (λ more. y ∷ more) o ≡ Some new → (more : List A) × (o ≡ Some more) × (y ∷ more ≡ new)
-    some_map y None new e = absurd cc
-    some_map y (Some more) new e = (more, refl, same_Some _ _ e)
 
     placed_case : (o : Ordering) (b : Bool) (x y : A) (ys new : List A) → cmp x y ≡ o → same x y ≡ b → Good x → Good y → IsRising cmp (y ∷ ys)
         → ((more : List A) → insert_sorted cmp same x ys ≡ Some more → IsPlaced x ys more)
@@ -151,17 +135,13 @@ module _ {A : Type 0} (cmp : A → A → Ordering) (total : IsTotalOrder cmp) wh
     placed_case Equal true x y ys new is eq g h r k e = let a = alike x y g h eq in subst (IsPlaced x (y ∷ ys)) (same_Some _ _ e) (there x y ys a.0 a.1 r)
     placed_case Equal false x y ys new is eq g h r k e = absurd cc
     placed_case Greater b x y ys new is eq g h r k e =
-        let m = some_map y (insert_sorted cmp same x ys) new e in
+        let m = map_some (λ more. y ∷ more) (insert_sorted cmp same x ys) new e in
         subst (IsPlaced x (y ∷ ys)) m.2 (past x y ys m.0 is r (k m.0 m.1))
-
-    alone_known : (x z : A) → IsIn z (x ∷ []) → (z ≡ x) ⊎ IsIn z []
-    alone_known x z (inl same) = inl same
-    alone_known x z (inr k) = inr k
 
     is_placed : (x : A) (list new : List A) → Good x → ((z : A) → IsIn z list → Good z) → IsRising cmp list → insert_sorted cmp same x list ≡ Some new → IsPlaced x list new
     unfolding insert_sorted
     is_placed x [] new g h r e =
-        subst (IsPlaced x []) (same_Some _ _ e) (record { rising = (tt, tt); fresh = inl refl; old = λ z k. absurd k; known = λ z k. alone_known x z k; apart = λ z k. absurd k })
+        subst (IsPlaced x []) (same_Some _ _ e) (record { rising = (tt, tt); fresh = inl refl; old = λ z k. absurd k; known = λ z k. k; apart = λ z k. absurd k; few = omega arith })
     is_placed x (y ∷ ys) new g h r e =
         placed_case (cmp x y) (same x y) x y ys new refl refl g (h y (inl refl)) r (λ more k. is_placed x ys more g (λ z m. h z (inr m)) r.1 k) e
 
@@ -192,55 +172,29 @@ module _ {A : Type 0} (cmp : A → A → Ordering) (total : IsTotalOrder cmp) wh
       known : (z : A) → IsIn z new → IsIn z list ⊎ IsIn z xs
       apart : ¬ HasClash cmp Differ xs
       between : (y z : A) → IsIn y list → IsIn z xs → cmp y z ≡ Equal → ¬ (Differ y z)
-
-    some_then : (o : Option (List A)) (f : List A → Option (List A)) (new : List A) → option_and_then f o ≡ Some new → (more : List A) × (o ≡ Some more) × (f more ≡ Some new)
-    some_then None f new e = absurd cc
-    some_then (Some more) f new e = (more, refl, e)
-
-    grow_added : (x : A) (xs new : List A) → IsIn x new → ((z : A) → IsIn z xs → IsIn z new) → (z : A) → IsIn z (x ∷ xs) → IsIn z new
-    grow_added x xs new h f z (inl same) = subst (λ w. IsIn w new) (sym same) h
-    grow_added x xs new h f z (inr k) = f z k
-
-    regroup : (x z : A) (list xs : List A) → (z ≡ x) ⊎ IsIn z list → IsIn z list ⊎ IsIn z (x ∷ xs)
-    regroup x z list xs (inl same) = inr (inl same)
-    regroup x z list xs (inr k) = inl k
-
-    grow_known : (x : A) (list xs more : List A) → ((z : A) → IsIn z more → (z ≡ x) ⊎ IsIn z list) → (z : A) → IsIn z more ⊎ IsIn z xs → IsIn z list ⊎ IsIn z (x ∷ xs)
-    grow_known x list xs more f z (inl k) = regroup x z list xs (f z k)
-    grow_known x list xs more f z (inr k) = inr (inr k)
-
-    grow_apart : (x : A) (xs more : List A) → IsIn x more → ((y z : A) → IsIn y more → IsIn z xs → cmp y z ≡ Equal → ¬ (Differ y z)) → ¬ HasClash cmp Differ xs → ¬ HasClash cmp Differ (x ∷ xs)
-    grow_apart x xs more h f k (inl one) = let r = one_such (λ y. Clashes x y) xs one in f x r.0 h r.1 r.2.0 r.2.1
-    grow_apart x xs more h f k (inr clash) = k clash
-
-    grow_between : (x : A) (list xs more : List A) → ((z : A) → IsIn z list → cmp z x ≡ Equal → ¬ (Differ z x)) → ((y z : A) → IsIn y list → IsIn z xs → cmp y z ≡ Equal → ¬ (Differ y z))
-        → (y z : A) → IsIn y list → IsIn z (x ∷ xs) → cmp y z ≡ Equal → ¬ (Differ y z)
-    grow_between x list xs more f g y z h (inl same) e d = f y h (subst (λ w. cmp y w ≡ Equal) same e) (subst (λ w. Differ y w) same d)
-    grow_between x list xs more f g y z h (inr k) e d = g y z h k e d
+      few : length new ≤ length list + length xs
 
     grown : (x : A) (list xs more new : List A) → IsPlaced x list more → AreAllPlaced more xs new → AreAllPlaced list (x ∷ xs) new
     grown x list xs more new p a = record {
       rising = a.rising;
       old = λ z h. a.old z (p.old z h);
-      added = grow_added x xs new (a.old x p.fresh) a.added;
-      known = λ z h. grow_known x list xs more p.known z (a.known z h);
-      apart = grow_apart x xs more p.fresh a.between a.apart;
-      between = grow_between x list xs more p.apart (λ y z h. a.between y z (p.old y h));
+      added = λ z. ⊎_elim (λ first. subst (λ w. IsIn w new) (sym first) (a.old x p.fresh)) (a.added z);
+      known = λ z h. ⊎_elim (λ k. ⊎_elim (λ first. inr (inl first)) inl (p.known z k)) (λ k. inr (inr k)) (a.known z h);
+      apart = ⊎_elim (λ one. let r = one_such (λ y. Clashes x y) xs one in a.between x r.0 p.fresh r.1 r.2.0 r.2.1) a.apart;
+      between = λ y z h k e. ⊎_elim (λ first d. p.apart y h (subst (λ w. cmp y w ≡ Equal) first e) (subst (λ w. Differ y w) first d)) (λ m. a.between y z (p.old y h) m e) k;
+      few = omega (arith, a.few, p.few);
     }
 
     still_good : (x : A) (list more : List A) → Good x → ((z : A) → IsIn z list → Good z) → ((z : A) → IsIn z more → (z ≡ x) ⊎ IsIn z list) → (z : A) → IsIn z more → Good z
-    still_good x list more g h f z k = by_case (f z k) where
-      by_case : (z ≡ x) ⊎ IsIn z list → Good z
-      by_case (inl same) = subst Good (sym same) g
-      by_case (inr m) = h z m
+    still_good x list more g h f z k = ⊎_elim (λ first. subst Good (sym first) g) (h z) (f z k)
 
     all_placed : (list xs new : List A) → ((z : A) → IsIn z list → Good z) → ((z : A) → IsIn z xs → Good z) → IsRising cmp list → insert_all_sorted cmp same list xs ≡ Some new → AreAllPlaced list xs new
     unfolding insert_all_sorted
     all_placed list [] new g h r e =
         subst (AreAllPlaced list []) (same_Some _ _ e)
-        (record { rising = r; old = λ z k. k; added = λ z k. absurd k; known = λ z k. inl k; apart = λ k. k; between = λ y z k m. absurd m })
+        (record { rising = r; old = λ z k. k; added = λ z k. absurd k; known = λ z k. inl k; apart = λ k. k; between = λ y z k m. absurd m; few = omega arith })
     all_placed list (x ∷ xs) new g h r e =
-        let m = some_then (insert_sorted cmp same x list) (λ more. insert_all_sorted cmp same more xs) new e in
+        let m = then_some (λ more. insert_all_sorted cmp same more xs) (insert_sorted cmp same x list) new e in
         let p = is_placed x list m.0 (h x (inl refl)) g r m.1 in
         grown x list xs m.0 new p (all_placed m.0 xs new (still_good x list m.0 (h x (inl refl)) g p.known) (λ z k. h z (inr k)) p.rising m.2)
 
@@ -249,11 +203,9 @@ module _ {A : Type 0} (cmp : A → A → Ordering) (total : IsTotalOrder cmp) wh
     ClashesWith list xs = HasClash cmp Differ xs ⊎ ((y : A) × IsIn y list × OneOf (λ z. Clashes y z) xs)
 
     clash_more : (x : A) (list xs more : List A) → ((z : A) → IsIn z more → (z ≡ x) ⊎ IsIn z list) → ClashesWith more xs → ClashesWith list (x ∷ xs)
-    clash_more x list xs more f (inl clash) = inl (inr clash)
-    clash_more x list xs more f (inr one) = by_case (f one.0 one.1) where
-      by_case : (one.0 ≡ x) ⊎ IsIn one.0 list → ClashesWith list (x ∷ xs)
-      by_case (inl same) = inl (inl (subst (λ w. OneOf (λ z. Clashes w z) xs) same one.2))
-      by_case (inr k) = inr (one.0, k, inr one.2)
+    clash_more x list xs more f =
+        ⊎_elim (λ clash. inl (inr clash))
+        (λ one. ⊎_elim (λ first. inl (inl (subst (λ w. OneOf (λ z. Clashes w z) xs) first one.2))) (λ k. inr (one.0, k, inr one.2)) (f one.0 one.1))
 
     clash_first : (x : A) (list xs : List A) → OneOf (λ z. Clashes z x) list → ClashesWith list (x ∷ xs)
     clash_first x list xs one = let r = one_such (λ z. Clashes z x) list one in inr (r.0, r.1, inl r.2)
@@ -271,18 +223,13 @@ module _ {A : Type 0} (cmp : A → A → Ordering) (total : IsTotalOrder cmp) wh
 
     -- ---- from nothing
 
-    known_found : (z : A) (xs : List A) → IsIn z [] ⊎ IsIn z xs → IsIn z xs
-    known_found z xs (inl h) = absurd h
-    known_found z xs (inr h) = h
-
     pub set_of : (found list : List A) → ((z : A) → IsIn z found → Good z) → insert_all_sorted cmp same [] found ≡ Some list → (¬ HasClash cmp Differ found) × IsSetInOrder cmp found list
     set_of found list h e =
         let p = all_placed [] found list (λ z k. absurd k) h tt e in
-        (p.apart, record { rising = p.rising; kept = p.added; known = λ z k. known_found z found (p.known z k) })
+        (p.apart, record { rising = p.rising; kept = p.added; known = λ z k. ⊎_elim (λ none. absurd none) (λ m. m) (p.known z k) })
 
-    clash_found : (xs : List A) → ClashesWith [] xs → HasClash cmp Differ xs
-    clash_found xs (inl clash) = clash
-    clash_found xs (inr one) = absurd one.1
+    pub set_few : (found list : List A) → ((z : A) → IsIn z found → Good z) → insert_all_sorted cmp same [] found ≡ Some list → length list ≤ length found
+    set_few found list h e = let p = all_placed [] found list (λ z k. absurd k) h tt e in omega (arith, p.few)
 
     pub clash_of : (found : List A) → ((z : A) → IsIn z found → Good z) → insert_all_sorted cmp same [] found ≡ None → HasClash cmp Differ found
-    clash_of found h e = clash_found found (all_refused [] found (λ z k. absurd k) h tt e)
+    clash_of found h e = ⊎_elim (λ clash. clash) (λ one. absurd one.1) (all_refused [] found (λ z k. absurd k) h tt e)

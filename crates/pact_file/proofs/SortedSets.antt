@@ -1,16 +1,11 @@
 -- What is left of a list that was sorted: a set in order where each key is below the next one, and a clash elsewhere.
-use Rattle.std.proofs.Common.{◌≡◌, inl, inr, ℕ, suc, zero, ◌+◌, ◌≤◌, ◌<◌, List, [], ◌∷◌, true, false, true≢false, Ordering, Less, Equal, Greater, get_or, length, refl, sym, ap, ◌∙◌, subst, arith}
-use Rattle.std.specs.Prelude.{⊤}
-use Rattle.std.specs.List.{AllAdjacentBelow, Contains, sum_by}
-use Rattle.std.specs.List.Sorted.{IsPermutation, IsSorted}
+use Rattle.std.specs.{Cmp.{IsTotalOrder}, Prelude.{⊤}, List.{AllAdjacentBelow, Contains, sum_by}, List.Sorted.{IsPermutation, IsSorted}}
 use Rattle.std.specs.Ordering.{is_lt, ordering_reverse}
-use Rattle.std.specs.Cmp.{IsTotalOrder}
-use Rattle.std.proofs.lemmas.Cmp.{tied_itself}
+use Rattle.std.proofs.Common.{◌≡◌, inl, inr, ℕ, suc, zero, ◌+◌, ◌≤◌, ◌<◌, List, [], ◌∷◌, true, false, true≢false, Ordering, Less, Equal, Greater, get_or, length, refl, sym, ap, ◌∙◌, subst, arith}
+use Rattle.std.proofs.{lemmas.List.Sums.{sum_by-cons}, lemmas.Cmp.{tied_itself}}
 use Rattle.std.proofs.lemmas.List.Sorted.{IsPermutation-sym, Contains-permutation, sum_by-IsPermutation}
-use Rattle.std.proofs.lemmas.List.Sums.{sum_by-cons}
 use Rattle.pact_rules.specs.Lists.{OneOf, IsIn}
-use Rattle.pact_file.specs.Sets.{IsRising, IsSetInOrder, HasClash}
-use Rattle.pact_file.proofs.SetLemmas.{one_such, each_such, lower}
+use Rattle.pact_file.{specs.Sets.{IsRising, IsSetInOrder, HasClash}, proofs.SetLemmas.{rising_apart, lower}}
 
 -- ---- the members
 
@@ -99,13 +94,6 @@ module _ {A : Type 0} (cmp : A → A → Ordering) (total : IsTotalOrder cmp) wh
       let first : cmp x y ≡ Less = less_is (cmp x y) (h 0 x (omega arith)) in
       ((first, lower cmp total x y ys first more.0), more)
 
-  alone : (xs : List A) → IsRising cmp xs → ¬ HasTwins xs
-  alone [] r h = h
-  alone (x ∷ xs) r (inl h) =
-      let t = one_such (IsTwin x) xs h in
-      let e : Less ≡ Equal = sym (each_such (λ y. cmp x y ≡ Less) xs t.0 r.0 t.1) ∙ t.2.0 in cc
-  alone (x ∷ xs) r (inr h) = alone xs r.1 h
-
   equal_is : (o p : Ordering) → o ≡ ordering_reverse p → false ≡ is_lt o → is_lt p ≡ false → o ≡ Equal
   equal_is Less p r e f = absurd (true≢false (sym e))
   equal_is Equal p r e f = refl
@@ -125,7 +113,7 @@ module _ {A : Type 0} (cmp : A → A → Ordering) (total : IsTotalOrder cmp) wh
       → (¬ HasTwins found) × IsSetInOrder cmp found list
   sorted_set found list p h =
       let r = rises list h in
-      (λ twins. alone list r (twins_moved found list p twins), record { rising = r; kept = moved found list p; known = moved list found (IsPermutation-sym found list p) })
+      (λ twins. rising_apart cmp total (λ x y. ⊤) list r (twins_moved found list p twins), record { rising = r; kept = moved found list p; known = moved list found (IsPermutation-sym found list p) })
 
   pub sorted_twins : (found list : List A) → IsPermutation found list → IsSorted cmp list → (k : ℕ) → k + 1 < length list
       → ((d : A) → false ≡ is_lt (cmp (get_or list k d) (get_or list (k + 1) d))) → HasTwins found

@@ -1,15 +1,12 @@
 -- Sound data: what makes it so, and what follows.
-use Rattle.std.proofs.Common.{◌≡◌, ℕ, zero, suc, ◌≤◌, ◌<◌, ◌^◌, pos, negsuc, [], ◌∷◌, Bool, true, false, ◌||◌, refl, ap, ◌∙◌, arith}
-use Rattle.std.proofs.lemmas.Bool.{or_parts}
-use Rattle.std.proofs.lemmas.Fmt.{IsAscii-decimal}
-use Rattle.std.proofs.lemmas.Str.{IsUtf8-append, IsUtf8-from_ascii}
-use Rattle.std.specs.Fmt.{signed_decimal}
-use Rattle.std.specs.Str.{IsUtf8}
 use Rattle.json.proofs.Printed.Utf8.{IsUtf8-are_ascii, IsUtf8-quoted, IsUtf8-boolean}
 use Rattle.serde_json.specs.Data.{Num, unsigned, negative, float, Data, null, boolean, number, string, array, object, Items, no_items, item, Members, no_members, member, depth, items_depth, members_depth}
 use Rattle.serde_json.specs.Written.{has_float, items_have_float, members_have_float, comma_if, compact_text, items_text, members_text, number_text}
 use Rattle.pact_file.specs.Sound.{IsWhole, IsSound, AreSound, MembersAreSound}
 use Rattle.pact_rules.specs.Kept.{IsNumber, IsKept, AreKept, MembersAreKept}
+use Rattle.std.specs.{Fmt.{signed_decimal}, Str.{IsUtf8}}
+use Rattle.std.proofs.{Common.{◌≡◌, ℕ, zero, suc, ◌≤◌, ◌<◌, ◌^◌, pos, negsuc, [], ◌∷◌, Bool, true, false, ◌||◌, refl, ap, ◌∙◌, arith}, lemmas.Bool.{or_parts}}
+use Rattle.std.proofs.{lemmas.Fmt.{IsAscii-decimal}, lemmas.Str.{IsUtf8-append, IsUtf8-from_ascii}}
 
 mutual
   pub sound : (n : ℕ) (d : Data) → IsKept d → has_float d ≡ false → depth d ≤ n → IsSound n d
@@ -36,83 +33,55 @@ mutual
       let p = or_parts (has_float d) _ w in
       (k.0, sound n d k.1 p.0 (omega arith), sound_members n ms k.2 p.1 (omega arith), k.3)
 
-number_kept : (m : Num) → IsWhole m → IsNumber m
-number_kept (unsigned m) h = h
-number_kept (negative z) h = h
-number_kept (float x) h = tt
+-- sound data is kept data without fractions, and nests no deeper
+number_facts : (n : ℕ) (m : Num) → IsWhole m → IsNumber m × (has_float (number m) ≡ false) × (depth (number m) ≤ n)
+number_facts n (unsigned m) h = (h, refl, omega arith)
+number_facts n (negative z) h = (h, refl, omega arith)
+number_facts n (float x) h = absurd h
 
 mutual
-  pub kept : (n : ℕ) (d : Data) → IsSound n d → IsKept d
-  kept n null h = tt
-  kept n (boolean b) h = tt
-  kept n (number m) h = number_kept m h
-  kept n (string s) h = h
-  kept zero (array ds) h = absurd h
-  kept (suc n) (array ds) h = items_kept n ds h
-  kept zero (object ms) h = absurd h
-  kept (suc n) (object ms) h = members_kept n ms h
+  facts : (n : ℕ) (d : Data) → IsSound n d → IsKept d × (has_float d ≡ false) × (depth d ≤ n)
+  facts n null h = (tt, refl, omega arith)
+  facts n (boolean b) h = (tt, refl, omega arith)
+  facts n (number m) h = number_facts n m h
+  facts n (string s) h = (h, refl, omega arith)
+  facts zero (array ds) h = absurd h
+  facts (suc n) (array ds) h = let f = items_facts n ds h in (f.0, f.1, omega (arith, f.2))
+  facts zero (object ms) h = absurd h
+  facts (suc n) (object ms) h = let f = members_facts n ms h in (f.0, f.1, omega (arith, f.2))
 
-  items_kept : (n : ℕ) (ds : Items) → AreSound n ds → AreKept ds
-  items_kept n no_items h = tt
-  items_kept n (item d ds) h = (kept n d h.0, items_kept n ds h.1)
+  items_facts : (n : ℕ) (ds : Items) → AreSound n ds → AreKept ds × (items_have_float ds ≡ false) × (items_depth ds ≤ n)
+  items_facts n no_items h = (tt, refl, omega arith)
+  items_facts n (item d ds) h =
+      let f = facts n d h.0 in
+      let g = items_facts n ds h.1 in
+      ((f.0, g.0), ap (λ b. b || items_have_float ds) f.1 ∙ g.1, omega (arith, f.2, g.2))
 
-  members_kept : (n : ℕ) (ms : Members) → MembersAreSound n ms → MembersAreKept ms
-  members_kept n no_members h = tt
-  members_kept n (member k d ms) h = (h.0, kept n d h.1, members_kept n ms h.2, h.3)
+  members_facts : (n : ℕ) (ms : Members) → MembersAreSound n ms → MembersAreKept ms × (members_have_float ms ≡ false) × (members_depth ms ≤ n)
+  members_facts n no_members h = (tt, refl, omega arith)
+  members_facts n (member k d ms) h =
+      let f = facts n d h.1 in
+      let g = members_facts n ms h.2 in
+      ((h.0, f.0, g.0, h.3), ap (λ b. b || members_have_float ms) f.1 ∙ g.1, omega (arith, f.2, g.2))
 
-number_whole : (m : Num) → IsWhole m → has_float (number m) ≡ false
-number_whole (unsigned m) h = refl
-number_whole (negative z) h = refl
-number_whole (float x) h = absurd h
+pub kept : (n : ℕ) (d : Data) → IsSound n d → IsKept d
+kept n d h = (facts n d h).0
 
-mutual
-  -- sound data has no fractions, at any depth
-  pub whole : (n : ℕ) (d : Data) → IsSound n d → has_float d ≡ false
-  whole n null h = refl
-  whole n (boolean b) h = refl
-  whole n (number m) h = number_whole m h
-  whole n (string s) h = refl
-  whole zero (array ds) h = absurd h
-  whole (suc n) (array ds) h = items_whole n ds h
-  whole zero (object ms) h = absurd h
-  whole (suc n) (object ms) h = members_whole n ms h
+-- sound data has no fractions, at any depth
+pub whole : (n : ℕ) (d : Data) → IsSound n d → has_float d ≡ false
+whole n d h = (facts n d h).1
 
-  items_whole : (n : ℕ) (ds : Items) → AreSound n ds → items_have_float ds ≡ false
-  items_whole n no_items h = refl
-  items_whole n (item d ds) h = ap (λ b. b || items_have_float ds) (whole n d h.0) ∙ items_whole n ds h.1
-
-  members_whole : (n : ℕ) (ms : Members) → MembersAreSound n ms → members_have_float ms ≡ false
-  members_whole n no_members h = refl
-  members_whole n (member k d ms) h = ap (λ b. b || members_have_float ms) (whole n d h.1) ∙ members_whole n ms h.2
-
-mutual
-  pub shallow : (n : ℕ) (d : Data) → IsSound n d → depth d ≤ n
-  shallow n null h = omega arith
-  shallow n (boolean b) h = omega arith
-  shallow n (number m) h = omega arith
-  shallow n (string s) h = omega arith
-  shallow zero (array ds) h = absurd h
-  shallow (suc n) (array ds) h = omega (arith, items_shallow n ds h)
-  shallow zero (object ms) h = absurd h
-  shallow (suc n) (object ms) h = omega (arith, members_shallow n ms h)
-
-  items_shallow : (n : ℕ) (ds : Items) → AreSound n ds → items_depth ds ≤ n
-  items_shallow n no_items h = omega arith
-  items_shallow n (item d ds) h = omega (arith, shallow n d h.0, items_shallow n ds h.1)
-
-  members_shallow : (n : ℕ) (ms : Members) → MembersAreSound n ms → members_depth ms ≤ n
-  members_shallow n no_members h = omega arith
-  members_shallow n (member k d ms) h = omega (arith, shallow n d h.1, members_shallow n ms h.2)
+pub shallow : (n : ℕ) (d : Data) → IsSound n d → depth d ≤ n
+shallow n d h = (facts n d h).2
 
 -- ---- the text is UTF-8
-
-negative_text : (n : ℕ) → n < 2 ^ 63 → IsUtf8 (signed_decimal (negsuc n))
-negative_text n h = IsUtf8-append (45 ∷ []) _ (IsUtf8-are_ascii (45 ∷ []) refl) (IsUtf8-from_ascii _ (IsAscii-decimal (suc n) (omega arith)))
 
 whole_text : (m : Num) → IsWhole m → IsUtf8 (number_text m)
 whole_text (unsigned m) h = IsUtf8-from_ascii _ (IsAscii-decimal m h)
 whole_text (negative (pos m)) h = absurd h
-whole_text (negative (negsuc m)) h = negative_text m h
+whole_text (negative (negsuc m)) h =
+    let low : m < 2 ^ 63 = h in
+    IsUtf8-append (45 ∷ []) _ (IsUtf8-are_ascii (45 ∷ []) refl) (IsUtf8-from_ascii _ (IsAscii-decimal (suc m) (omega arith)))
 whole_text (float x) h = absurd h
 
 comma_text : (b : Bool) → IsUtf8 (comma_if b)

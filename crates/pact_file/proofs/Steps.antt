@@ -1,7 +1,6 @@
 -- What a read that succeeds went through.
+use Rattle.std.specs.{Prelude.{⊤}, Option.{ok_or}}
 use Rattle.std.proofs.Common.{◌≡◌, Bool, true, false, Option, Some, None, option_map, option_and_then, Result, Ok, Err, refl, sym, ap, ◌∙◌}
-use Rattle.std.specs.Prelude.{⊤}
-use Rattle.std.specs.Option.{ok_or}
 use Rattle.std.proofs.lemmas.Option.{same_Some}
 use Rattle.pact_rules.specs.Outcome.{◌>>=◌, guard}
 

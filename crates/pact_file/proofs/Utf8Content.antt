@@ -1,44 +1,26 @@
 -- The strings of a JSON text that is UTF-8 are UTF-8.
-use Rattle.std.proofs.Common.{◌≡◌, ℕ, zero, suc, ◌+◌, ◌*◌, ◌<◌, ◌&&◌, ◌==◌, nat_lt, List, [], ◌∷◌, ◌++◌, length, take, drop, get_or, Bool, true, false, cond, Some, None, option_and_then, refl, sym, ap, ◌∙◌, subst, arith, append_assoc, append-nil, add-one}
-use Rattle.std.proofs.lemmas.Bool.Decides.{nat_tests}
+use Rattle.std.specs.{Char.{digit_value, is_digit, encode_utf8, IsScalar}, Str.{IsUtf8}}
+use Rattle.std.proofs.Common.{◌≡◌, ℕ, zero, suc, ◌+◌, ◌*◌, ◌<◌, ◌&&◌, ◌==◌, nat_lt, List, [], ◌∷◌, ◌++◌, length, get_or, Bool, true, false, cond, Some, None, option_and_then, refl, sym, subst, arith, append_assoc, append-nil, take_at}
 use Rattle.std.proofs.lemmas.Str.{IsUtf8-append, IsUtf8-take, IsUtf8-drop, IsUtf8-encode, IsUtf8-from_ascii, IsCharBoundary-before_ascii, IsCharBoundary-after_ascii}
-use Rattle.std.proofs.lemmas.List.{length-append}
-use Rattle.std.specs.Char.{digit_value, is_digit, encode_utf8, IsScalar}
-use Rattle.std.specs.Str.{IsUtf8}
+use Rattle.std.proofs.{lemmas.Bool.{and_parts, eqb-true}, lemmas.Bool.Decides.{nat_tests}, Math.Seq.{get_or-append_seam, drop-append-add}}
+use Rattle.std.proofs.{lemmas.List.{length-append}, lemmas.Option.{same_Some, cond_some}}
 use Rattle.json.specs.Text.{code_unit, short_escape, is_high_surrogate, is_low_surrogate, surrogate_pair, plain, after_backslash, after_u, after_high, prepend, content}
-use Rattle.std.proofs.lemmas.Option.{same_Some}
 use Rattle.pact_file.proofs.Steps.{map_some, then_some}
 
 -- ---- beside an ASCII byte
-
-at_seam : (front : List ℕ) (x : ℕ) (xs : List ℕ) → get_or (front ++ x ∷ xs) (length front) 0 ≡ x
-at_seam [] x xs = refl
-at_seam (y ∷ front) x xs = at_seam front x xs
-
-front_of : (front rest : List ℕ) → take (length front) (front ++ rest) ≡ front
-front_of [] [] = refl
-front_of [] (x ∷ rest) = refl
-front_of (y ∷ front) rest = ap (λ l. y ∷ l) (front_of front rest)
-
-rest_suc : (front : List ℕ) (x : ℕ) (xs : List ℕ) → drop (suc (length front)) (front ++ x ∷ xs) ≡ xs
-rest_suc [] x xs = refl
-rest_suc (y ∷ front) x xs = rest_suc front x xs
-
-rest_of : (front : List ℕ) (x : ℕ) (xs : List ℕ) → drop (length front + 1) (front ++ x ∷ xs) ≡ xs
-rest_of front x xs = ap (λ n. drop n (front ++ x ∷ xs)) (add-one (length front)) ∙ rest_suc front x xs
 
 shorter : (front : List ℕ) (x : ℕ) (xs : List ℕ) → length front < length (front ++ x ∷ xs)
 shorter front x xs = omega (arith, length-append front (x ∷ xs))
 
 pub before_ascii : (front : List ℕ) (x : ℕ) (xs : List ℕ) → IsUtf8 (front ++ x ∷ xs) → x < 128 → IsUtf8 front
 before_ascii front x xs u h =
-    let low : get_or (front ++ x ∷ xs) (length front) 0 < 128 = omega (arith, at_seam front x xs) in
-    subst IsUtf8 (front_of front (x ∷ xs)) (IsUtf8-take (front ++ x ∷ xs) (length front) u (IsCharBoundary-before_ascii (front ++ x ∷ xs) (length front) (shorter front x xs) low))
+    let low : get_or (front ++ x ∷ xs) (length front) 0 < 128 = omega (arith, get_or-append_seam front x xs 0) in
+    subst IsUtf8 (take_at front (x ∷ xs) (length front) refl) (IsUtf8-take (front ++ x ∷ xs) (length front) u (IsCharBoundary-before_ascii (front ++ x ∷ xs) (length front) (shorter front x xs) low))
 
 pub behind_ascii : (front : List ℕ) (x : ℕ) (xs : List ℕ) → IsUtf8 (front ++ x ∷ xs) → x < 128 → IsUtf8 xs
 behind_ascii front x xs u h =
-    let low : get_or (front ++ x ∷ xs) (length front) 0 < 128 = omega (arith, at_seam front x xs) in
-    subst IsUtf8 (rest_of front x xs) (IsUtf8-drop (front ++ x ∷ xs) (length front + 1) u (IsCharBoundary-after_ascii (front ++ x ∷ xs) (length front) u (shorter front x xs) low))
+    let low : get_or (front ++ x ∷ xs) (length front) 0 < 128 = omega (arith, get_or-append_seam front x xs 0) in
+    subst IsUtf8 (drop-append-add front (x ∷ xs) 1) (IsUtf8-drop (front ++ x ∷ xs) (length front + 1) u (IsCharBoundary-after_ascii (front ++ x ∷ xs) (length front) u (shorter front x xs) low))
 
 -- ---- the tests
 
@@ -52,14 +34,6 @@ short_low : (x c : ℕ) → short_escape x ≡ Some c → (x < 128) × (c < 128)
 unfolding short_escape
 short_low x c h = (grind (arith, nat_tests), grind (arith, nat_tests))
 
-both_true : (a b : Bool) → (a && b) ≡ true → (a ≡ true) × (b ≡ true)
-both_true true b h = (refl, h)
-both_true false b h = absurd cc
-
-cond_some : {A : Type 0} (b : Bool) (x y : A) → cond b (Some x) None ≡ Some y → (b ≡ true) × (x ≡ y)
-cond_some true x y h = (refl, cc)
-cond_some false x y h = absurd cc
-
 record IsUnit (a b c d u : ℕ) : Type 0 where
   low_a : a < 128
   low_b : b < 128
@@ -71,9 +45,9 @@ is_unit : (a b c d u : ℕ) → code_unit a b c d ≡ Some u → IsUnit a b c d 
 unfolding code_unit
 is_unit a b c d u h =
     let t = cond_some (is_digit a 16 && is_digit b 16 && is_digit c 16 && is_digit d 16) (digit_value a * 4096 + digit_value b * 256 + digit_value c * 16 + digit_value d) u h in
-    let abc = both_true (is_digit a 16 && is_digit b 16 && is_digit c 16) (is_digit d 16) t.0 in
-    let ab = both_true (is_digit a 16 && is_digit b 16) (is_digit c 16) abc.0 in
-    let p = both_true (is_digit a 16) (is_digit b 16) ab.0 in
+    let abc = and_parts (is_digit a 16 && is_digit b 16 && is_digit c 16) (is_digit d 16) t.0 in
+    let ab = and_parts (is_digit a 16 && is_digit b 16) (is_digit c 16) abc.0 in
+    let p = and_parts (is_digit a 16) (is_digit b 16) ab.0 in
     record {
       low_a = digit_low a p.0;
       low_b = digit_low b p.1;
@@ -96,18 +70,15 @@ one_byte x h = IsUtf8-from_ascii (x ∷ []) (λ i. first_low i) where
   first_low zero = h
   first_low (suc i) = omega arith
 
-no_low : (a b : ℕ) → (a == b) ≡ true → a ≡ b
-no_low a b h = grind (arith, nat_tests)
-
 plain_case : (q b c : Bool) (front : List ℕ) (x : ℕ) (xs s : List ℕ) → (x == 34) ≡ q → (x == 92) ≡ b → IsUtf8 (front ++ x ∷ xs)
     → ((t : List ℕ) → content plain xs ≡ Some t → IsUtf8 (front ++ x ∷ t)) → ((t : List ℕ) → IsUtf8 xs → content after_backslash xs ≡ Some t → IsUtf8 t)
     → cond q (Some []) (cond b (content after_backslash xs) (cond c None (prepend (x ∷ []) (content plain xs)))) ≡ Some s → IsUtf8 (front ++ s)
 plain_case true b c front x xs s is eq u more escape e =
-    let low : x < 128 = omega (arith, no_low x 34 is) in
+    let low : x < 128 = omega (arith, eqb-true x 34 is) in
     let none : [] ≡ s = same_Some _ _ e in
     subst (λ t. IsUtf8 (front ++ t)) none (subst IsUtf8 (sym (append-nil front)) (before_ascii front x xs u low))
 plain_case false true c front x xs s is eq u more escape e =
-    let low : x < 128 = omega (arith, no_low x 92 eq) in
+    let low : x < 128 = omega (arith, eqb-true x 92 eq) in
     IsUtf8-append front s (before_ascii front x xs u low) (escape s (behind_ascii front x xs u low) e)
 plain_case false false true front x xs s is eq u more escape e = absurd cc
 plain_case false false false front x xs s is eq u more escape e =
@@ -118,7 +89,7 @@ escape_case : (b : Bool) (x : ℕ) (xs s : List ℕ) → (x == 117) ≡ b → Is
     → ((t : List ℕ) → IsUtf8 xs → content plain xs ≡ Some t → IsUtf8 t) → ((t : List ℕ) → IsUtf8 xs → content after_u xs ≡ Some t → IsUtf8 t)
     → cond b (content after_u xs) (option_and_then (λ c. prepend (c ∷ []) (content plain xs)) (short_escape x)) ≡ Some s → IsUtf8 s
 escape_case true x xs s is u more unicode e =
-    let low : x < 128 = omega (arith, no_low x 117 is) in
+    let low : x < 128 = omega (arith, eqb-true x 117 is) in
     unicode s (behind_ascii [] x xs u low) e
 escape_case false x xs s is u more unicode e =
     let c = then_some (λ c. prepend (c ∷ []) (content plain xs)) (short_escape x) s e in
@@ -151,9 +122,9 @@ pair_case : (b : Bool) (h s u a b' c d : ℕ) (xs r : List ℕ) → ((s == 92) &
     → cond b (option_and_then (λ l. cond (is_low_surrogate l) (prepend (encode_utf8 (surrogate_pair h l)) (content plain xs)) None) (code_unit a b' c d)) None ≡ Some r → IsUtf8 r
 pair_case false h s u a b' c d xs r is high text more e = absurd cc
 pair_case true h s u a b' c d xs r is high text more e =
-    let two = both_true (s == 92) (u == 117) is in
-    let low_s : s < 128 = omega (arith, no_low s 92 two.0) in
-    let low_u : u < 128 = omega (arith, no_low u 117 two.1) in
+    let two = and_parts (s == 92) (u == 117) is in
+    let low_s : s < 128 = omega (arith, eqb-true s 92 two.0) in
+    let low_u : u < 128 = omega (arith, eqb-true u 117 two.1) in
     let l = then_some (λ l. cond (is_low_surrogate l) (prepend (encode_utf8 (surrogate_pair h l)) (content plain xs)) None) (code_unit a b' c d) r e in
     let k = is_unit a b' c d l.0 l.1 in
     let rest : IsUtf8 xs = past_four a b' c d xs (behind_ascii [] u (a ∷ b' ∷ c ∷ d ∷ xs) (behind_ascii [] s (u ∷ a ∷ b' ∷ c ∷ d ∷ xs) text low_s) low_u) k.low_a k.low_b k.low_c k.low_d in

@@ -1,15 +1,13 @@
 -- The strings among the tokens of a text that is UTF-8 are UTF-8, and so are those of the value that it is.
+use Rattle.std.specs.{Prelude.{⊤}, Str.{IsUtf8}}
 use Rattle.std.proofs.Common.{◌≡◌, ℕ, zero, suc, ◌<◌, List, [], ◌∷◌, ◌++◌, length, Bool, true, false, cond, ◌==◌, Option, Some, None, option_and_then, refl, sym, subst, arith, append_assoc}
 use Rattle.std.proofs.lemmas.Bool.Decides.{nat_tests}
-use Rattle.std.specs.Prelude.{⊤}
-use Rattle.std.specs.Str.{IsUtf8}
 use Rattle.json.specs.Token.{Token, begin_object, end_object, begin_array, end_array, key, string, number, boolean, null, bad}
-use Rattle.json.specs.Word.{is_operator, is_space, word, number_before, ends_word, literal, after_number, head}
-use Rattle.json.specs.Text.{content, plain}
 use Rattle.json.specs.Lex.{Lexeme, token, comma, colon, Class, quote, backslash, operator, space, other, class, operator_lexeme, string_token, Mode, between, in_word, in_string, in_escape, lex_byte, lex, Place, fresh, after_value, after_comma, after_key, begins_colon, may_begin, may_close, if_allowed, place_token, punctuate, tokens}
+use Rattle.json.specs.{Word.{is_operator, is_space, word, number_before, ends_word, literal, after_number, head}, Text.{content, plain}}
+use Rattle.pact_file.proofs.Utf8Content.{behind_ascii, in_plain}
 use Rattle.json.specs.Ascii as ascii
 use Rattle.json.specs.Json as json
-use Rattle.pact_file.proofs.Utf8Content.{behind_ascii, in_plain}
 
 abbrev pub TokenIsText : Token → Type 0
 TokenIsText begin_object = ⊤
@@ -38,31 +36,27 @@ LexemesAreTexts (l ∷ ls) = LexemeIsText l × LexemesAreTexts ls
 
 -- ---- lexemes
 
-either_lexeme : (b : Bool) (l m : Lexeme) → LexemeIsText l → LexemeIsText m → LexemeIsText (cond b l m)
-either_lexeme true l m h k = h
-either_lexeme false l m h k = k
-
-either_token : (b : Bool) (t u : Token) → TokenIsText t → TokenIsText u → TokenIsText (cond b t u)
-either_token true t u h k = h
-either_token false t u h k = k
+either : {A : Type 0} (P : A → Type 0) (b : Bool) (x y : A) → P x → P y → P (cond b x y)
+either P true x y h k = h
+either P false x y h k = k
 
 operator_text : (x : ℕ) → LexemeIsText (operator_lexeme x)
 operator_text x =
-    either_lexeme (x == 123) (token begin_object) _ tt (either_lexeme (x == 125) (token end_object) _ tt (either_lexeme (x == 91) (token begin_array) _ tt
-    (either_lexeme (x == 93) (token end_array) _ tt (either_lexeme (x == 44) comma colon tt tt))))
+    either LexemeIsText (x == 123) (token begin_object) _ tt (either LexemeIsText (x == 125) (token end_object) _ tt (either LexemeIsText (x == 91) (token begin_array) _ tt
+    (either LexemeIsText (x == 93) (token end_array) _ tt (either LexemeIsText (x == 44) comma colon tt tt))))
 
 number_text : (t : List ℕ) (o : Option (List ℕ)) → TokenIsText (number_before t o)
 number_text t None = tt
-number_text t (Some rest) = either_token (ends_word rest) _ bad tt tt
+number_text t (Some rest) = either TokenIsText (ends_word rest) _ bad tt tt
 
 literal_text : (name : List ℕ) (t : Token) (s : List ℕ) → TokenIsText t → TokenIsText (literal name t s)
-literal_text name t s h = either_token _ t bad h tt
+literal_text name t s h = either TokenIsText _ t bad h tt
 
 word_text : (t : List ℕ) → TokenIsText (word t)
 unfolding word
 word_text t =
-    either_token (head t == 116) _ _ (literal_text ascii.true_text (boolean true) t tt) (either_token (head t == 102) _ _ (literal_text ascii.false_text (boolean false) t tt)
-    (either_token (head t == 110) _ _ (literal_text ascii.null_text null t tt) (number_text t (after_number t))))
+    either TokenIsText (head t == 116) _ _ (literal_text ascii.true_text (boolean true) t tt) (either TokenIsText (head t == 102) _ _ (literal_text ascii.false_text (boolean false) t tt)
+    (either TokenIsText (head t == 110) _ _ (literal_text ascii.null_text null t tt) (number_text t (after_number t))))
 
 string_text : (o : Option (List ℕ)) → ((s : List ℕ) → o ≡ Some s → IsUtf8 s) → TokenIsText (string_token o)
 string_text None h = tt

@@ -1,12 +1,7 @@
 -- Paths and weights worked out: each line is the definitions, computed.
-use Rattle.std.proofs.Common.{◌≡◌, [], ◌∷◌, ◌++◌, Ok, Err, codes, replicate, refl, inl, inr}
-use Rattle.std.specs.List.{concat}
-use Rattle.std.specs.Fmt.{digits}
-use Rattle.pact_paths.specs.Paths.{named, indexed, any, key, item, Location}
-use Rattle.pact_paths.specs.Weights.{weight}
-use Rattle.pact_paths.specs.Spelling.{IsSpelled, path_text}
-use Rattle.pact_paths.specs.PathReading.{path_in, tokens_in}
-use Rattle.pact_paths.specs.declared.path_reader.PathFault.TheVariants.{NoRoot, BadToken, TooManyTokens}
+use Rattle.std.{specs.{List.{concat}, Fmt.{digits}}, proofs.Common.{◌≡◌, [], ◌∷◌, ◌++◌, Ok, Err, codes, replicate, refl, inl, inr}}
+use Rattle.pact_paths.specs.{Paths.{named, indexed, any, key, item, Location}, Weights.{weight}, Spelling.{IsSpelled, path_text}}
+use Rattle.pact_paths.specs.{PathReading.{path_in, tokens_in}, declared.path_reader.PathFault.TheVariants.{NoRoot, BadToken, TooManyTokens}}
 
 -- ---- weights at `$.item1.level[1].id`
 

@@ -1,15 +1,9 @@
 -- Reading paths, token by token.
+use Rattle.std.specs.{List.{list_all, position_or_len, before_first, after_first}, Char.{is_ascii_digit}, Str.{all_ascii_digits}}
 use Rattle.std.proofs.Common.{◌≡◌, ◌≢◌, ℕ, zero, suc, ◌-◌, ◌<◌, eqb, List, [], ◌∷◌, ◌++◌, length, Option, Some, None, option_map, Result, Ok, Err, MatchOption, Bor, eq-eqb, ne_eqb, refl, sym, ap, ◌∙◌, arith, le-ltb, lt-ltb, append_assoc, Bool, true, false, not, ◌&&◌, cond, ltb, ltb-false, ◌≤◌, unwrap_or}
-use Rattle.std.specs.List.{list_all, position_or_len, before_first, after_first}
-use Rattle.std.specs.Char.{is_ascii_digit}
-use Rattle.std.specs.Str.{all_ascii_digits}
-use Rattle.std.proofs.lemmas.List.Sums.{prefix_len-le-length}
-use Rattle.std.proofs.lemmas.List.{append-nil}
-use Rattle.pact_paths.specs.Paths.{Token}
-use Rattle.pact_paths.specs.Outcome.{checked}
-use Rattle.pact_paths.specs.PathReading.{behind, cut, token_in, tokens_in, first_of_more, with_front, with_all}
-use Rattle.pact_paths.specs.declared.path_reader.PathFault.{PathFault}
-use Rattle.pact_paths.specs.declared.path_reader.PathFault.TheVariants.{BadToken, TooManyTokens}
+use Rattle.std.proofs.{lemmas.List.Sums.{prefix_len-le-length}, lemmas.List.{append-nil}}
+use Rattle.pact_paths.specs.{Paths.{Token}, Outcome.{checked}, PathReading.{behind, cut, token_in, tokens_in, first_of_more, with_front, with_all}}
+use Rattle.pact_paths.specs.{declared.path_reader.PathFault.{PathFault}, declared.path_reader.PathFault.TheVariants.{BadToken, TooManyTokens}}
 
 pub behind_is : (c : ℕ) (bs : List ℕ) (r : Option (Bor (List ℕ))) → MatchOption r ((rest : List ℕ) → bs ≢ c ∷ rest) (λ x. bs ≡ c ∷ x.now) → option_map (λ (x : Bor (List ℕ)). x.now) r ≡ behind c bs
 behind_is c bs (Some x) h = sym (ap (behind c) h ∙ rw (eq-eqb c c refl) refl)

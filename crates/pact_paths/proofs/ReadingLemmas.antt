@@ -1,18 +1,13 @@
 -- Each text has one reading, and `path_in` computes it.
-use Rattle.std.proofs.Common.{◌≡◌, ◌≢◌, ◌⊎◌, inl, inr, ℕ, zero, suc, ◌+◌, ◌-◌, ◌<◌, ◌≤◌, Bool, true, false, List, [], ◌∷◌, ◌++◌, length, take, Option, Some, None, Result, Ok, Err, refl, sym, ap, ap₂, ◌∙◌, subst, arith, true≢false, length-append, append_assoc, append-nil, ne_eqb, take_at, IfOk}
 use Rattle.std.specs.List.{flat_map}
-use Rattle.std.proofs.lemmas.Option.{none-some, some_pair_parts}
-use Rattle.std.proofs.lemmas.List.{nil_from_length}
-use Rattle.pact_paths.specs.Paths.{Token}
-use Rattle.pact_paths.specs.Spelling.{IsSpelled, AreSpelled, IsPath, token_text, path_text}
-use Rattle.pact_paths.specs.PathReading.{Read, behind, token_in, tokens_in, first_of_more, with_front, with_all, from_root, path_in}
-use Rattle.pact_paths.specs.Outcome.{Gives, GivesChecked, checked}
-use Rattle.pact_paths.specs.Readings.{IsFront, IsLongestFront, IsReading, IsTheReading}
-use Rattle.pact_paths.specs.declared.path_reader.PathFault.{PathFault}
+use Rattle.std.proofs.Common.{◌≡◌, ◌≢◌, ◌⊎◌, inl, inr, ℕ, zero, suc, ◌+◌, ◌-◌, ◌<◌, ◌≤◌, Bool, true, false, List, [], ◌∷◌, ◌++◌, length, take, Option, Some, None, Result, Ok, Err, refl, sym, ap, ap₂, ◌∙◌, subst, arith, true≢false, length-append, append_assoc, append-nil, ne_eqb, take_at, IfOk}
+use Rattle.std.proofs.{lemmas.Option.{none-some, some_pair_parts}, lemmas.List.{nil_from_length}}
+use Rattle.pact_paths.specs.{PathReading.{Read, behind, token_in, tokens_in, first_of_more, with_front, with_all, from_root, path_in}, Paths.{Token}}
+use Rattle.pact_paths.specs.{Spelling.{IsSpelled, AreSpelled, IsPath, token_text, path_text}, Outcome.{Gives, GivesChecked, checked}}
+use Rattle.pact_paths.specs.{Readings.{IsFront, IsLongestFront, StopsAt, IsReading, IsTheReading}, declared.path_reader.PathFault.{PathFault}}
 use Rattle.pact_paths.specs.declared.path_reader.PathFault.TheVariants.{NoRoot, BadToken, TooManyTokens, Memory}
-use Rattle.pact_paths.proofs.Checked.{fault_of, no_fault}
-use Rattle.pact_paths.proofs.PathLemmas.{tokens_end, tokens_more, with_no_front}
 use Rattle.pact_paths.proofs.Spellings.{ends_names, spelled_reads, next_ends, are_spelled_end, behind_some, found_takes, spelled_are_tokens, canonical_are_spelled}
+use Rattle.pact_paths.proofs.{Checked.{fault_of, no_fault}, PathLemmas.{tokens_end, tokens_more, with_no_front}}
 
 found_some : (t : List ℕ) (x : Token × List ℕ) → token_in t ≡ Some x → 0 < length t
 found_some [] x e = absurd (none-some x e)
@@ -36,16 +31,6 @@ zero_front : (t other behind : List ℕ) (others : List Token) → IsFront 0 t o
 zero_front t other behind [] h = omega (arith, ap length h.spelled)
 zero_front t other behind (u ∷ us) h = absurd (omega (arith, h.few))
 
-zero_longest : (t : List ℕ) → IsLongestFront 0 t [] t []
-zero_longest t = record {
-  is_front = record {
-    split = refl;
-    spelled = refl;
-    few = omega arith;
-  };
-  longest = zero_front t;
-}
-
 none_front : (limit : ℕ) (t : List ℕ) → token_in t ≡ None → (other behind : List ℕ) (others : List Token) → IsFront limit t other behind others → length other ≤ 0
 none_front limit t e other behind [] h = omega (arith, ap length h.spelled)
 none_front limit t e other behind (u ∷ us) h =
@@ -54,16 +39,6 @@ none_front limit t e other behind (u ∷ us) h =
     let r = spelled_reads p.0 u w p.3 in
     let split : t ≡ p.0 ++ w = h.split ∙ ap (λ b. b ++ behind) p.2 ∙ append_assoc p.0 p.1 behind in
     absurd (none-some (r.token, r.rest) (sym e ∙ ap token_in split ∙ r.found))
-
-none_longest : (limit : ℕ) (t : List ℕ) → token_in t ≡ None → IsLongestFront limit t [] t []
-none_longest limit t e = record {
-  is_front = record {
-    split = refl;
-    spelled = refl;
-    few = omega arith;
-  };
-  longest = none_front limit t e;
-}
 
 -- the first token of another front is the one that is read, or a name that is cut short and then the whole front
 no_longer : (limit : ℕ) (t f rest front left : List ℕ) (x : Token) (ts : List Token) → token_in t ≡ Some (x, rest) → t ≡ f ++ rest → IsLongestFront limit rest front left ts
@@ -116,6 +91,23 @@ record Stuck (limit : ℕ) (t : List ℕ) (ts : List Token) : Type 0 where
   is_longest : IsLongestFront limit t front rest ts
   is_left : rest ≢ []
 
+-- before the first token, where no front but the empty one is spelled
+abbrev at_first : (limit : ℕ) (t : List ℕ) → ((other behind : List ℕ) (others : List Token) → IsFront limit t other behind others → length other ≤ 0) → t ≢ []
+    → Stuck limit t []
+at_first limit t none some = record {
+  front = [];
+  rest = t;
+  is_longest = record {
+    is_front = record {
+      split = refl;
+      spelled = refl;
+      few = omega arith;
+    };
+    longest = none;
+  };
+  is_left = some;
+}
+
 abbrev IsRead : ℕ → ℕ → List ℕ → Result (List Token) PathFault → Type 0
 IsRead total limit t (Ok ts) = AreSpelled t ts × (length ts ≤ limit)
 IsRead total limit t (Err NoRoot) = ⊥
@@ -140,17 +132,7 @@ front_read total limit t f rest x found split s (Err Memory) h = h
 
 first_read : (total limit : ℕ) (t : List ℕ) → ((s : List ℕ) → IsRead total limit s (tokens_in total limit s)) → t ≢ [] → (r : Read) → token_in t ≡ r
     → IsRead total (suc limit) t (first_of_more (tokens_in total limit) (BadToken (total - length t)) r)
-first_read total limit t more some None e = (
-  [],
-  record {
-    front = [];
-    rest = t;
-    is_longest = none_longest (suc limit) t e;
-    is_left = some;
-  },
-  omega arith,
-  refl,
-)
+first_read total limit t more some None e = ([], at_first (suc limit) t (none_front (suc limit) t e) some, omega arith, refl)
 first_read total limit t more some (Some x) e =
     let takes = found_takes t x.0 x.1 e in
     front_read total limit t takes.0 x.1 x.0 e takes.1 takes.2 (tokens_in total limit x.1) (more x.1)
@@ -163,16 +145,7 @@ is_some b t e =
 tokens_read : (total limit : ℕ) (t : List ℕ) → IsRead total limit t (tokens_in total limit t)
 unfolding tokens_in
 tokens_read total zero [] = (refl, omega arith)
-tokens_read total zero (b ∷ t) = (
-  [],
-  record {
-    front = [];
-    rest = b ∷ t;
-    is_longest = zero_longest (b ∷ t);
-    is_left = is_some b t;
-  },
-  refl,
-)
+tokens_read total zero (b ∷ t) = ([], at_first 0 (b ∷ t) (zero_front (b ∷ t)) (is_some b t), refl)
 tokens_read total (suc limit) [] = (refl, omega arith)
 tokens_read total (suc limit) (b ∷ t) = first_read total limit (b ∷ t) (tokens_read total limit) (is_some b t) (token_in (b ∷ t)) refl
 
@@ -184,36 +157,25 @@ tokens_are_path total t ts e =
 
 -- ---- the reading of a text
 
+stops_at : (text body : List ℕ) (ts : List Token) (offset : ℕ) → text ≡ 36 ∷ body → (s : Stuck 60 body ts) → offset ≡ 1 + length s.front
+    → StopsAt text ts offset
+stops_at text body ts offset root s is = record {
+  body = body;
+  front = s.front;
+  rest = s.rest;
+  is_behind_root = root;
+  is_longest = s.is_longest;
+  is_left = s.is_left;
+  is_offset = is;
+}
+
 from_read : (text body : List ℕ) → text ≡ 36 ∷ body → (r : Result (List Token) PathFault) → IsRead (length text) 60 body r → IsReading text r
 from_read text body root (Ok ts) h = (body, root, h.0, h.1)
 from_read text body root (Err NoRoot) h = absurd h
-from_read text body root (Err (BadToken offset)) h = (
-  h.0,
-  h.2,
-  record {
-    body = body;
-    front = h.1.front;
-    rest = h.1.rest;
-    is_behind_root = root;
-    is_longest = h.1.is_longest;
-    is_left = h.1.is_left;
-    is_offset = omega (arith, h.3, ap length root, ap length h.1.is_longest.is_front.split, length-append h.1.front h.1.rest);
-  },
-)
-from_read text body root (Err TooManyTokens) h = (
-  h.0,
-  1 + length h.1.front,
-  h.2,
-  record {
-    body = body;
-    front = h.1.front;
-    rest = h.1.rest;
-    is_behind_root = root;
-    is_longest = h.1.is_longest;
-    is_left = h.1.is_left;
-    is_offset = refl;
-  },
-)
+from_read text body root (Err (BadToken offset)) h =
+    let there : offset ≡ 1 + length h.1.front = omega (arith, h.3, ap length root, ap length h.1.is_longest.is_front.split, length-append h.1.front h.1.rest) in
+    (h.0, h.2, stops_at text body h.0 offset root h.1 there)
+from_read text body root (Err TooManyTokens) h = (h.0, 1 + length h.1.front, h.2, stops_at text body h.0 (1 + length h.1.front) root h.1 refl)
 from_read text body root (Err Memory) h = h
 
 root_read : (text : List ℕ) (o : Option (List ℕ)) → behind 36 text ≡ o → IsReading text (from_root (length text) o)

@@ -1,17 +1,11 @@
 -- The spellings of tokens, and the token that is read at the front of a text.
+use Rattle.std.specs.{Option.{option_or}, List.{list_all, position_or_len, before_first, after_first, AllByRecursion, flat_map}, Char.{is_ascii_digit}}
+use Rattle.std.specs.{Str.{all_ascii_digits}, Str.Parse.{digits_value}}
 use Rattle.std.proofs.Common.{◌≡◌, ◌≢◌, inl, inr, ℕ, suc, ◌+◌, ◌<◌, ◌≤◌, ◌^◌, Bool, true, false, not, ◌&&◌, cond, eqb, ltb, leb, List, [], ◌∷◌, ◌++◌, length, take, drop, Option, Some, None, option_map, option_and_then, refl, sym, ap, ◌∙◌, subst, arith, true≢false, zero-add, length-append, append_assoc, append-nil, eq-eqb, ne_eqb, eqb-true, lt-ltb, ltb-true, le-leb, leb-true, decimal, le_refl, one-add, take-append-drop, length-take-le, lit<}
-use Rattle.std.proofs.Math.Dec.{eqb-suc-suc}
-use Rattle.std.proofs.Math.Seq.{take-append-add, drop-append-add, take-append_seam}
-use Rattle.std.specs.Option.{option_or}
-use Rattle.std.specs.List.{list_all, position_or_len, before_first, after_first, AllByRecursion, flat_map}
-use Rattle.std.specs.Char.{is_ascii_digit}
-use Rattle.std.specs.Str.{all_ascii_digits}
-use Rattle.std.specs.Str.Parse.{digits_value}
-use Rattle.std.proofs.lemmas.Bool.{and_parts, and_from, not-true, not_from_false}
-use Rattle.std.proofs.lemmas.Option.{cond_some, option_and_then_some}
-use Rattle.std.proofs.lemmas.List.Sums.{prefix_len-le-length}
+use Rattle.std.proofs.{lemmas.Str.Parse.{numerals_by_value, tells_all_ascii_digits, digits_value_short, IsNumeralModel}, Math.Dec.{eqb-suc-suc}}
+use Rattle.std.proofs.{Math.Seq.{take-append-add, drop-append-add, take-append_seam}, lemmas.Bool.{and_parts, and_from, not-true, not_from_false}}
+use Rattle.std.proofs.{lemmas.Option.{cond_some, option_and_then_some}, lemmas.List.Sums.{prefix_len-le-length}}
 use Rattle.std.proofs.lemmas.Fmt.{digits_decimal, digits_value-decimal, length-decimal-le, decimal_is_IsNumeral}
-use Rattle.std.proofs.lemmas.Str.Parse.{numerals_by_value, tells_all_ascii_digits, digits_value_short, IsNumeralModel}
 use Rattle.pact_paths.specs.Paths.{Token, named, indexed, any}
 use Rattle.pact_paths.specs.Spelling.{is_special, is_plain, is_index, IsQuotable, IsSpelled, AreSpelled, IsToken, token_text}
 use Rattle.pact_paths.specs.PathReading.{Read, star, plain, quoted, index, closed_star, dotted, bracketed, behind, cut, token_in}

@@ -1,14 +1,10 @@
 -- Weights of a path while a location grows by one step at its end.
 use Rattle.std.proofs.Common.{◌≡◌, ◌⊎◌, inl, inr, ℕ, zero, suc, ◌+◌, ◌*◌, ◌^◌, ◌<◌, ◌≤◌, Bool, true, false, ◌&&◌, cond, eqb, ltb, leb, List, [], ◌∷◌, ◌++◌, map, length, filter, slice_get, zip, Some, None, option_and_then, get_or, option_map, ⊎_elim, refl, sym, ap, ◌∙◌, arith, mul-one, one-mul, mul-zero, zero-mul, mul_assoc, mul_comm, pow-suc, length-append, lt-ltb, le-leb, ltb-false, bytes_eq, true≢false, mul-pos, eq-zero-or-pos}
-use Rattle.std.proofs.lemmas.Bool.{and_right, cases_lt, eqb-true}
-use Rattle.std.proofs.lemmas.List.{length-map}
-use Rattle.std.proofs.lemmas.List.Elements.{filter-append}
-use Rattle.std.proofs.lemmas.Slice.Zip.{length-zip}
+use Rattle.std.proofs.{lemmas.Slice.Eq.{bytes_eq-Decides}, lemmas.Bool.{and_parts, and_right, cases_lt, eqb-true}, lemmas.List.{length-map}}
+use Rattle.std.proofs.{lemmas.List.Elements.{filter-append}, lemmas.List.Sums.{length-filter, count_by-le-length}, lemmas.Slice.Zip.{length-zip}}
 use Rattle.std.proofs.lemmas.Option.{none-some, same_Some, slice_get-get_or, slice_get-map, slice_get_past}
-use Rattle.std.proofs.lemmas.Slice.Eq.{bytes_eq-Decides}
-use Rattle.pact_paths.specs.Asked.{only_step, asked}
+use Rattle.pact_paths.specs.{Weights.{token_weight, token_weights, product, product_over, weight, is_alive, exact_tokens}, Asked.{only_step, asked}}
 use Rattle.pact_paths.specs.Paths.{Token, named, indexed, any, Step, key, item, Location}
-use Rattle.pact_paths.specs.Weights.{token_weight, token_weights, product, product_over, weight, is_alive, exact_tokens}
 
 -- ---- no step
 
@@ -77,16 +73,12 @@ exact_step ts at s w h e =
     ∙ length-append (filter (λ v. eqb v 2) (token_weights ts at)) (filter (λ v. eqb v 2) (w ∷ []))
     ∙ ap (λ n. exact_tokens ts at + n) (counted w (eqb w 2))
 
-filtered_few : (p : ℕ → Bool) (ws : List ℕ) → length (filter p ws) ≤ length ws
-filtered_few p [] = omega arith
-filtered_few p (w ∷ ws) = one_more (filtered_few p ws) (p w) where
-  one_more : length (filter p ws) ≤ length ws → (b : Bool) → length (cond b (w ∷ filter p ws) (filter p ws)) ≤ suc (length ws)
-  one_more h true = omega (arith, h)
-  one_more h false = omega (arith, h)
-
 -- a path has at most as many exact tokens as it has tokens
 pub exact_few : (ts : List Token) (at : Location) → exact_tokens ts at ≤ length ts
-exact_few ts at = omega (arith, filtered_few (λ w. eqb w 2) (token_weights ts at), length-map (zip ts at) (λ (p : Token × Step). token_weight p.0 p.1), length-zip ts at)
+exact_few ts at =
+    let ws = token_weights ts at in
+    let test = λ (w : ℕ). eqb w 2 in
+    omega (arith, length-filter test ws, count_by-le-length test ws, length-map (zip ts at) (λ (p : Token × Step). token_weight p.0 p.1), length-zip ts at)
 
 -- ---- the weight is a power of two, by the tokens that are exact
 
@@ -158,10 +150,6 @@ token_asks (indexed i) (key k) h = absurd (true≢false (sym h))
 token_asks (indexed i) (item j) h = let same : i ≡ j = eqb-true i j (if_equal (eqb i j) h) in inr (ap (λ m. Some (item m)) same)
 token_asks any s h = inl refl
 
-and_second : (a b : Bool) → (a && b) ≡ true → b ≡ true
-and_second true b h = h
-and_second false b h = absurd (true≢false (sym h))
-
 -- a path asks nothing from its end on
 pub asks_nothing_past : (ts : List Token) (n : ℕ) → length ts ≤ n → asked ts n ≡ None
 asks_nothing_past ts n h = ap (option_and_then only_step) (slice_get_past ts n h)
@@ -173,7 +161,7 @@ alive_asks ts at s h =
     let t = get_or ts (length at) any in
     let there : slice_get ts (length at) ≡ Some t = slice_get-get_or ts (length at) any more in
     let counts : slice_get (map (λ t. token_weight t s) ts) (length at) ≡ Some (token_weight t s) = slice_get-map (λ t. token_weight t s) ts (length at) ∙ ap (option_map (λ t. token_weight t s)) there in
-    let lives = and_second (is_alive ts at) (ltb 0 (token_weight t s)) (sym (alive_step ts at s (token_weight t s) more counts) ∙ h) in
+    let lives = (and_parts (is_alive ts at) (ltb 0 (token_weight t s)) (sym (alive_step ts at s (token_weight t s) more counts) ∙ h)).1 in
     let here : asked ts (length at) ≡ only_step t = ap (option_and_then only_step) there in
     ⊎_elim (λ none. inl (here ∙ none)) (λ this. inr (here ∙ this)) (token_asks t s lives))
     (λ past. inl (asks_nothing_past ts (length at) past)) (cases_lt (length at) (length ts))

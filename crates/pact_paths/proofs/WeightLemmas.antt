@@ -1,15 +1,9 @@
 -- The product of a weight, token by token.
 use Rattle.std.proofs.Common.{◌≡◌, ℕ, suc, ◌+◌, ◌*◌, ◌^◌, ◌<◌, ◌≤◌, List, ◌∷◌, map, length, get_or, slice_get, option_map, Some, drop, add-one, lit<, refl, sym, ap, ◌∙◌, arith}
-use Rattle.std.proofs.Math.Nat.{mul-le-mul_left, pow-le-pow_right}
-use Rattle.std.proofs.Math.Seq.{drop-cons}
+use Rattle.std.proofs.{lemmas.Option.{slice_get-map, slice_get_read}, Math.Nat.{mul-le-mul_left, pow-le-pow_right}, Math.Seq.{drop-cons}}
 use Rattle.std.proofs.lemmas.List.{length-map}
-use Rattle.std.proofs.lemmas.Option.{slice_get-map, slice_get_read}
-use Rattle.pact_paths.specs.Paths.{Token as PathToken, Step as PathStep}
-use Rattle.pact_paths.specs.Weights.{token_weight, product_over}
-use Rattle.pact_paths.specs.Locations.{step_view}
-use Rattle.pact_paths.specs.TokenView.{token_view}
-use Rattle.pact_paths.specs.declared.path.Step.{Step}
-use Rattle.pact_paths.specs.declared.path.Token.{Token}
+use Rattle.pact_paths.specs.{Paths.{Token as PathToken, Step as PathStep}, Weights.{token_weight, product_over}, Locations.{step_view}, TokenView.{token_view}}
+use Rattle.pact_paths.specs.{declared.path.Step.{Step}, declared.path.Token.{Token}}
 
 abbrev pub of_parts : List Token → List Step → ℕ
 of_parts ts ls = product_over (map token_view ts) (map step_view ls)

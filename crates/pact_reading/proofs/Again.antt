@@ -1,36 +1,19 @@
 -- A normal text reads as its pact, and what is read is one, a pattern's refusal aside.
-use Rattle.std.proofs.Common.{◌≡◌, ◌⊎◌, ◌↔◌, ◌<◌, inl, inr, ⊎_elim, ℕ, ◌+◌, List, [], ◌∷◌, Option, Some, None, Result, Ok, Err, refl, sym, ap, ◌∙◌, subst, arith}
 use Rattle.std.specs.List.{AllByRecursion}
+use Rattle.std.proofs.Common.{◌≡◌, ◌⊎◌, ◌↔◌, ◌<◌, inl, inr, ⊎_elim, ℕ, ◌+◌, List, [], ◌∷◌, Option, Some, None, Result, Ok, Err, refl, sym, ap, ◌∙◌, subst, arith}
 use Rattle.serde_json.specs.Data.{Data}
-use Rattle.pact_rules.specs.Lists.{IsIn}
-use Rattle.pact_rules.specs.Reading.{just, Follows, ◌>>=◌, EachRead}
-use Rattle.pact_rules.specs.declared.rule_fault.RuleFault.TheVariants.{Pattern}
-use Rattle.pact_file.specs.Headers.{HeadersRead}
-use Rattle.pact_file.specs.Normal.{Normal, IsRefusal}
-use Rattle.pact_file.specs.Pact.{Interaction, Pact, normal_text}
-use Rattle.pact_file.specs.Words.{number_text}
-use Rattle.pact_file.specs.declared.fault.PactFault.{PactFault}
-use Rattle.pact_file.specs.declared.fault.PactFault.TheVariants.{Rules}
-use Rattle.pact_file.specs.declared.fault.Part.TheVariants.{Headers}
-use Rattle.pact_file.proofs.Again.{read_again, one_read}
-use Rattle.pact_file.proofs.Agreement.{one_answer}
-use Rattle.pact_file.proofs.HeaderSets.{one_list}
-use Rattle.reply_check.specs.Recorded.{Reply}
-use Rattle.reply_check.specs.ReplyParts.{file_of, items_of, at, parts_at}
-use Rattle.reply_check.specs.Replies.{ReplyRead, Apart, RepliesRead}
-use Rattle.reply_check.specs.Verdicts.{IsAscending, AreFailing}
-use Rattle.reply_check.specs.declared.fault.RepliesFault.{RepliesFault}
-use Rattle.broker_core.specs.Text.{Text}
-use Rattle.broker_core.specs.Contents.{ReadsAgain}
-use Rattle.broker_core.specs.Laws.{ReadsRefusal}
-use Rattle.broker_core.specs.Machine.{Reading}
-use Rattle.broker_core.specs.Machine.Reading.{IsPact, IsRefused}
 use Rattle.broker_core.specs.declared.command.Command.TheVariants.{PutTeam, PutPacticipant, PutEnvironment, PutGrant, DeleteGrant, PutVersion, PutPact, GetPact, GetBranchPact, PostResult, PostReplies, Deploy, Undeploy, Release, EndSupport, GetEnvironment, CanIDeploy, GetMatrix, Malformed}
-use Rattle.broker_core.specs.declared.command.FormFault.{FormFault}
-use Rattle.broker_core.specs.declared.command.FormFault.TheVariants as fault
-use Rattle.pact_reading.specs.Laws.{AreReadOnce}
+use Rattle.broker_core.specs.{declared.command.FormFault.{FormFault}, Text.{Text}, Contents.{ReadsAgain}, Laws.{ReadsRefusal}, Machine.{Reading}}
+use Rattle.broker_core.specs.Machine.Reading.{IsPact, IsRefused}
+use Rattle.pact_reading.specs.{Readings.{reading_of, Reads, is_refusal, replies_fault, ReadsReplies, Compares, Fails}, Laws.{AreReadOnce}}
 use Rattle.pact_reading.specs.Primitives.{broker_primitives}
-use Rattle.pact_reading.specs.Readings.{reading_of, Reads, is_refusal, replies_fault, ReadsReplies, Compares, Fails}
+use Rattle.pact_rules.specs.{Lists.{IsIn}, Reading.{just, Follows, ◌>>=◌, EachRead}, declared.rule_fault.RuleFault.TheVariants.{Pattern}}
+use Rattle.pact_file.specs.{Headers.{HeadersRead}, Normal.{Normal, IsRefusal}, Pact.{Interaction, Pact, normal_text}, Words.{number_text}}
+use Rattle.pact_file.specs.{declared.fault.PactFault.{PactFault}, declared.fault.PactFault.TheVariants.{Rules}, declared.fault.Part.TheVariants.{Headers}}
+use Rattle.pact_file.proofs.{Again.{read_again, one_read}, Agreement.{one_answer}, HeaderSets.{one_list}, SetLemmas.{each_such}, Steps.{ok_same}}
+use Rattle.reply_check.specs.{Recorded.{Reply}, ReplyParts.{file_of, items_of, at, parts_at}, Replies.{ReplyRead, Apart, RepliesRead}}
+use Rattle.reply_check.specs.{Verdicts.{IsAscending, AreFailing}, declared.fault.RepliesFault.{RepliesFault}}
+use Rattle.broker_core.specs.declared.command.FormFault.TheVariants as fault
 
 -- ---- a normal text reads again
 
@@ -111,17 +94,13 @@ body_once body a b h k = h.2 ∙ ap replies_fault (replies_one body h.0 k.0 h.1 
 
 -- ---- the places are one list
 
-all_at : {A : Type 0} (P : A → Type 0) (xs : List A) (x : A) → AllByRecursion P xs → IsIn x xs → P x
-all_at P [] x all i = absurd i
-all_at P (y ∷ xs) x all (inl e) = subst P (sym e) all.0
-all_at P (y ∷ xs) x all (inr i) = all_at P xs x all.1 i
-
 abbrev AreSame : List ℕ → List ℕ → Type 0
 AreSame xs ys = (i : ℕ) → IsIn i xs ↔ IsIn i ys
 
 tail_in : (x y : ℕ) (xs ys : List ℕ) → x ≡ y → AllByRecursion (λ j. x < j) xs → AreSame (x ∷ xs) (y ∷ ys) → (i : ℕ) → IsIn i xs → IsIn i ys
 tail_in x y xs ys e above same i h =
-    ⊎_elim (λ (is : i ≡ y). let low : x < i = all_at (λ j. x < j) xs i above h in absurd (let equal : i ≡ x = is ∙ sym e in omega (arith, low, equal))) (λ later. later) ((same i).0 (inr h))
+    ⊎_elim (λ (is : i ≡ y). let low : x < i = each_such (λ j. x < j) xs i above h in absurd (let equal : i ≡ x = is ∙ sym e in omega (arith, low, equal)))
+    (λ later. later) ((same i).0 (inr h))
 
 one_ascending : (xs ys : List ℕ) → IsAscending xs → IsAscending ys → AreSame xs ys → xs ≡ ys
 one_ascending [] [] h k same = refl
@@ -129,8 +108,8 @@ one_ascending [] (y ∷ ys) h k same = absurd ((same y).1 (inl refl))
 one_ascending (x ∷ xs) [] h k same = absurd ((same x).0 (inl refl))
 one_ascending (x ∷ xs) (y ∷ ys) h k same =
     let first : x ≡ y = ⊎_elim (λ e. e) (λ (later : IsIn x ys). ⊎_elim (λ (e : y ≡ x). sym e) (λ (further : IsIn y xs).
-    let low : y < x = all_at (λ j. y < j) ys x k.0 later in
-    let high : x < y = all_at (λ j. x < j) xs y h.0 further in
+    let low : y < x = each_such (λ j. y < j) ys x k.0 later in
+    let high : x < y = each_such (λ j. x < j) xs y h.0 further in
     absurd (omega (arith, low, high))) ((same y).1 (inl refl))) ((same x).0 (inl refl)) in
     let rest : xs ≡ ys = one_ascending xs ys h.1 k.1 (λ i. (tail_in x y xs ys first h.0 same i, tail_in y x ys xs (sym first) k.0 (λ j. ((same j).1, (same j).0)) i)) in
     ap (λ z. z ∷ xs) first ∙ ap (λ zs. y ∷ zs) rest
@@ -145,12 +124,9 @@ compared_one interactions replies None (Some ys) h k = absurd (h k.0)
 compared_one interactions replies (Some xs) None h k = absurd (k h.0)
 compared_one interactions replies (Some xs) (Some ys) h k = ap Some (failing_one interactions replies xs ys h.1 k.1)
 
-same_Ok : {A F : Type 0} {x y : A} → ◌≡◌ {A = Result A F} (Ok x) (Ok y) → x ≡ y
-same_Ok e = cc
-
 fails_once : (body text : Text) (a b : Option (List ℕ)) → Fails text body a → Fails text body b → a ≡ b
 fails_once body text a b (rs, read_rs, (p, normal_p, h)) (qs, read_qs, (q, normal_q, k)) =
-    let replies : qs ≡ rs = same_Ok (replies_one body (Ok qs) (Ok rs) read_qs read_rs) in
+    let replies : qs ≡ rs = ok_same _ _ (replies_one body (Ok qs) (Ok rs) read_qs read_rs) in
     let pact : q ≡ p = one_read text q p normal_q normal_p in
     compared_one p.interactions rs a b h (subst (λ (z : Pact). Compares z.interactions rs b) pact (subst (λ zs. Compares q.interactions zs b) replies k))
 

@@ -1,7 +1,5 @@
 -- worked examples of the digests of tokens, computed from the definition (FIPS 180-4)
-use Rattle.std.proofs.Common.{◌≡◌, ◌≢◌, ◌∙◌, refl, sym}
-use Rattle.std.specs.Prelude.{codes}
-use Rattle.std.specs.Cmp.Lexicographic.{other_text}
+use Rattle.std.{specs.{Prelude.{codes}, Cmp.Lexicographic.{other_text}}, proofs.Common.{◌≡◌, ◌≢◌, ◌∙◌, refl, sym}}
 use Rattle.hex.proofs.OnLiterals.{hex_on_literals}
 use Rattle.sha2.specs.Sha256.{first_words, schedule, rounds, compress, hash_after, digest_bytes, sha256}
 use Rattle.pact_reading.specs.Primitives.{broker_primitives}

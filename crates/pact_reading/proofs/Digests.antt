@@ -1,12 +1,9 @@
 -- a token's digest is 64 hexadecimal digits
-use Rattle.std.proofs.Common.{◌≡◌, ◌+◌, ◌*◌, ◌/◌, ◌%◌, ◌<◌, ◌≤◌, ◌++◌, ℕ, zero, suc, List, [], ◌∷◌, length, slice_index, inl, inr, All, refl, arith}
-use Rattle.std.specs.Int.{w32, byte_at, to_be_bytes}
+use Rattle.std.{specs.Int.{w32, byte_at, to_be_bytes}, proofs.Common.{◌/◌, ◌%◌, ◌<◌, ℕ, zero, suc, List, [], ◌∷◌, slice_index, inl, inr, All, arith}}
 use Rattle.std.proofs.lemmas.List.Elements.{All-nil, All-cons, All-head, All-tail, All-append}
-use Rattle.hex.specs.Hex.{encode_with, encode_lower, lower_digits}
-use Rattle.hex.proofs.HexLemmas.{length-encode_with}
-use Rattle.sha2.specs.Sha256.{digest_bytes, sha256}
-use Rattle.sha2.proofs.Facts256.{length-sha256}
-use Rattle.broker_core.specs.SoundNames.{IsHexDigit, IsDigest, GivesDigests}
+use Rattle.hex.{specs.Hex.{encode_with, lower_digits}, proofs.HexLemmas.{length-encode_with}}
+use Rattle.sha2.{specs.Sha256.{digest_bytes, sha256}, proofs.Facts256.{length-sha256}}
+use Rattle.broker_core.specs.SoundNames.{IsHexDigit, GivesDigests}
 use Rattle.pact_reading.specs.Primitives.{broker_primitives}
 
 abbrev IsByte : ℕ → Type 0

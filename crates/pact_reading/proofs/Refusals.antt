@@ -2,32 +2,15 @@
 use Rattle.std.proofs.Common.{◌≡◌, ◌⊎◌, inl, inr, ⊎_elim, ℕ, zero, suc, ◌+◌, slice_get, IfOk, List, [], ◌∷◌, codes, Bool, true, false, cond, nat_le, length, Option, Some, None, Result, Ok, Err, refl, sym, ap, ◌∙◌, subst}
 use Rattle.std.proofs.lemmas.Option.{same_Some}
 use Rattle.serde_json.specs.Data.{Data}
-use Rattle.pact_rules.specs.Lists.{OneOf, IsIn}
-use Rattle.pact_rules.specs.Rules.{Rules as Table, has_regex}
-use Rattle.pact_rules.specs.RuleReading.{IsReading}
-use Rattle.pact_rules.specs.declared.rule_fault.RuleFault.{RuleFault}
-use Rattle.pact_rules.specs.declared.rule_fault.RuleFault.TheVariants.{Pattern}
-use Rattle.pact_rules.specs.Reading.{just, Follows, ◌>>=◌, EachRead}
-use Rattle.pact_file.specs.File.{most_bytes, file_of, sides_of, items_of}
-use Rattle.pact_file.specs.Interactions.{at, parts_at}
-use Rattle.pact_file.specs.Headers.{HeadersRead}
-use Rattle.pact_file.specs.Normal.{InteractionRead, InteractionsRead, InOrder, Normal, IsRefusal, if_short}
-use Rattle.pact_file.specs.Pact.{Header, Interaction, Pact, normal_text}
-use Rattle.pact_file.specs.Parts.{optional_at}
-use Rattle.pact_file.specs.Rules.{TableRead, rules_or_fault, RulesRead, IsRulesOf}
-use Rattle.pact_file.specs.declared.fault.PactFault.{PactFault}
-use Rattle.pact_file.specs.declared.fault.PactFault.TheVariants.{Rules, TooLong}
-use Rattle.pact_file.specs.declared.fault.Part.TheVariants.{Headers}
-use Rattle.pact_file.proofs.Agreement.{one_answer}
-use Rattle.pact_file.proofs.Again.{one_read}
-use Rattle.reply_check.specs.Recorded.{Reply}
-use Rattle.reply_check.specs.Verdicts.{IsKnown, AreKnown, IsFirstUnknown, UsesPattern}
-use Rattle.reply_check.specs.Meeting.{HasPattern}
-use Rattle.pact_reading.specs.Readings.{TellsRefusal, HasPatternIfPact, IsNoPact, IsPatternAsked}
-use Rattle.pact_reading.proofs.Patterns.{refused_regex}
-
-same_Ok : {A F : Type 0} {x y : A} → ◌≡◌ {A = Result A F} (Ok x) (Ok y) → x ≡ y
-same_Ok e = cc
+use Rattle.pact_file.specs.{declared.fault.PactFault.TheVariants.{Rules, TooLong}, declared.fault.Part.TheVariants.{Headers}}
+use Rattle.pact_file.specs.{File.{most_bytes, file_of, sides_of, items_of}, Interactions.{at, parts_at}, Headers.{HeadersRead}}
+use Rattle.pact_file.specs.{Normal.{InteractionRead, InteractionsRead, InOrder, Normal, IsRefusal, if_short}, Pact.{Header, Interaction, Pact, normal_text}}
+use Rattle.pact_file.specs.{Parts.{optional_at}, Rules.{TableRead, rules_or_fault, RulesRead, IsRulesOf}, declared.fault.PactFault.{PactFault}}
+use Rattle.pact_file.proofs.{Agreement.{one_answer}, Again.{one_read}, SetLemmas.{one_such}, Steps.{ok_same, ok_err, err_same}}
+use Rattle.pact_reading.{specs.Readings.{TellsRefusal, HasPatternIfPact, IsNoPact, IsPatternAsked}, proofs.Patterns.{refused_regex}}
+use Rattle.pact_rules.specs.{Lists.{OneOf, IsIn}, Rules.{Rules as Table, has_regex}, RuleReading.{IsReading}, declared.rule_fault.RuleFault.{RuleFault}}
+use Rattle.pact_rules.specs.{declared.rule_fault.RuleFault.TheVariants.{Pattern}, Reading.{just, Follows, ◌>>=◌, EachRead}}
+use Rattle.reply_check.specs.{Recorded.{Reply}, Verdicts.{IsKnown, AreKnown, IsFirstUnknown, UsesPattern}, Meeting.{HasPattern}}
 
 -- what may be read as x where the same reading may be refused has P
 abbrev Tells : {A : Type 0} → (A → Type 0) → (Result A PactFault → Type 0) → Type 0
@@ -44,9 +27,7 @@ module _ {A B : Type 0} (P : B → Type 0) (first : Result A PactFault → Type 
 
   refused_at : (r : Result A PactFault) (s : Result B PactFault) → IsRefusal s → Follows r next s → IsRefusal r ⊎ ((x : A) × (r ≡ Ok x) × next x s)
   refused_at (Ok x) s is h = inr (x, refl, h)
-  refused_at (Err e) s (i, is) h = inl (i, ap Err (err_same e (Rules i Pattern) (sym h ∙ is))) where
-    err_same : (x y : PactFault) → ◌≡◌ {A = Result B PactFault} (Err x) (Err y) → x ≡ y
-    err_same x y k = cc
+  refused_at (Err e) s (i, is) h = inl (i, ap Err (err_same e (Rules i Pattern) (sym h ∙ is)))
 
   -- the first has one value, or tells it; and what follows tells it
   bind_tells : ((x : A) (y : B) (r : Result A PactFault) → IsRefusal r → first r → first (Ok x) → next x (Ok y) → P y)
@@ -64,7 +45,7 @@ just_then : {A B : Type 0} (P : B → Type 0) (read : Result A PactFault) (next 
 just_then {A} P read next tells =
     bind_tells P (just read) next
     (λ x y r is h k more. absurd (just_tells (λ (z : A). ⊥) read r x is h k))
-    (λ x z y s h k is more last. tells z k s y is (subst (λ w. next w s) (same_Ok (sym h ∙ k)) more) last)
+    (λ x z y s h k is more last. tells z k s y is (subst (λ w. next w s) (ok_same _ _ (sym h ∙ k)) more) last)
 
 -- ---- an interaction
 
@@ -81,7 +62,7 @@ table_refused i (Err e) s (j, is) h = ap Err (same_fault e (h ∙ is)) where
   same_fault e k = cc
 
 table_ok : (i : ℕ) (r : Result Table RuleFault) (t : Table) → rules_or_fault i r ≡ Ok t → r ≡ Ok t
-table_ok i (Ok u) t h = ap Ok (same_Ok h)
+table_ok i (Ok u) t h = ap Ok (ok_same _ _ h)
 table_ok i (Err e) t h = absurd cc
 
 abbrev HasRegexIn : Data → Table → Type 0
@@ -101,7 +82,7 @@ interaction_tells i d =
     (λ headers y r is h k more. no_twins x y r headers is h k)
     (λ headers others y s h k is more last.
     bind_tells HasPattern (RulesRead i x.response) _
-    (λ t y r is h k more. let told = rules_tell i x.response r t is h k in subst HasPattern (same_Ok more) (t, told.0, told.1))
+    (λ t y r is h k more. let told = rules_tell i x.response r t is h k in subst HasPattern (ok_same _ _ more) (t, told.0, told.1))
     (λ t u y s h k is more last. just_tells HasPattern (Ok x) s y is more last)
     s y is more last)) where
       no_twins : (x y : Interaction) (r : Result (List Header) PactFault) (headers : List Header) → IsRefusal r → HeadersRead (at i Headers) x.response r → HeadersRead (at i Headers) x.response (Ok headers) → HasPattern y
@@ -114,7 +95,7 @@ Behind x i ds = EachRead InteractionRead (i + 1) ds >>= (λ others. just (Ok (x 
 behind_ok : (x : Interaction) (i : ℕ) (ds : List Data) (ys : List Interaction) → Behind x i ds (Ok ys) → (others : List Interaction) × EachRead InteractionRead (i + 1) ds (Ok others) × (x ∷ others ≡ ys)
 behind_ok x i ds ys h =
     let went = went_on (OneOf HasPattern) (EachRead InteractionRead (i + 1) ds) (λ others. just (Ok (x ∷ others))) h.0 ys h.2 in
-    (went.0, subst (EachRead InteractionRead (i + 1) ds) went.1 h.1, same_Ok went.2)
+    (went.0, subst (EachRead InteractionRead (i + 1) ds) went.1 h.1, ok_same _ _ went.2)
 
 behind_refused : (x : Interaction) (i : ℕ) (ds : List Data) (s : Result (List Interaction) PactFault) → IsRefusal s → Behind x i ds s → (r : Result (List Interaction) PactFault) × IsRefusal r × EachRead InteractionRead (i + 1) ds r
 behind_refused x i ds s is h =
@@ -136,12 +117,7 @@ each_tells i (d ∷ ds) =
 -- ---- a file
 
 one_kept : {A : Type 0} (P : A → Type 0) (found list : List A) → ((x : A) → IsIn x found → IsIn x list) → OneOf P found → OneOf P list
-one_kept P found list kept h = let one = one_of P found h in of_one P list one.0 (kept one.0 one.1) one.2 where
-  one_of : {A : Type 0} (P : A → Type 0) (xs : List A) → OneOf P xs → (x : A) × IsIn x xs × P x
-  one_of P [] h = absurd h
-  one_of P (x ∷ xs) (inl h) = (x, inl refl, h)
-  one_of P (x ∷ xs) (inr h) = let found = one_of P xs h in (found.0, inr found.1, found.2)
-
+one_kept P found list kept h = let one = one_such P found h in of_one P list one.0 (kept one.0 one.1) one.2 where
   of_one : {A : Type 0} (P : A → Type 0) (xs : List A) (x : A) → IsIn x xs → P x → OneOf P xs
   of_one P [] x i h = absurd i
   of_one P (y ∷ xs) x (inl e) h = inl (subst P e h)
@@ -170,7 +146,7 @@ refused_pattern bytes answer p is h k =
     (λ xs ys p s h k is more last. absurd (short_refused _ s is more))))
     answer p is h k where
       cond_same : (b : Bool) (p q : Pact) → ◌≡◌ {A = Result Pact PactFault} (cond b (Ok p) (Err TooLong)) (Ok q) → p ≡ q
-      cond_same true p q h = same_Ok h
+      cond_same true p q h = ok_same _ _ h
       cond_same false p q h = absurd cc
 
       short_same : (p q : Pact) → if_short p ≡ Ok q → p ≡ q
@@ -187,12 +163,7 @@ refused_pattern bytes answer p is h k =
 
 pub no_pact : (text : List ℕ) (e : PactFault) → ¬ (TellsRefusal e) → Normal text (Err e) → IsNoPact text
 no_pact text e other h p k =
-    ⊎_elim (λ same. by_clash same) (λ refused. ⊎_elim (λ r. other (r.0, err_same e (Rules r.0 Pattern) r.1)) (λ r. by_clash (sym r.1)) refused) (one_answer text (Err e) (Ok p) h k) where
-      by_clash : {f : PactFault} {q : Pact} → ◌≡◌ {A = Result Pact PactFault} (Err f) (Ok q) → ⊥
-      by_clash same = absurd cc
-
-      err_same : (x y : PactFault) → ◌≡◌ {A = Result Pact PactFault} (Err x) (Err y) → x ≡ y
-      err_same x y k = cc
+    ⊎_elim (λ same. ok_err p e (sym same)) (⊎_elim (λ r. other (r.0, err_same e (Rules r.0 Pattern) r.1)) (λ r. ok_err p (Rules r.0 Pattern) r.1)) (one_answer text (Err e) (Ok p) h k)
 
 has_refused : (text : List ℕ) (e : PactFault) → TellsRefusal e → Normal text (Err e) → HasPatternIfPact text
 has_refused text e (i, is) h p k = refused_pattern text (Err e) p (i, ap Err is) h k

@@ -1,169 +1,109 @@
 -- A value that was read and its tree are each other's.
-use Rattle.std.proofs.Common.{◌≡◌, ◌↔◌, ◌<◌, nat_le, cond, arith, pos, negsuc, List, ℕ, Bool, true, false, true≢false, ◌||◌, Option, Some, None, option_map, Result, Ok, Err, IfOk, refl, sym, ap, ◌∙◌, subst}
-use Rattle.std.proofs.lemmas.Option.{same_Some}
-use Rattle.std.proofs.lemmas.Bool.{or_parts, lt-leb}
-use Rattle.std.proofs.lemmas.Bool.Decides.{nat_tests}
-use Rattle.serde_json.specs.Data as json
-use Rattle.serde_json.specs.Find.{is_float}
+use Rattle.std.proofs.Common.{◌≡◌, ◌↔◌, ◌<◌, nat_le, cond, arith, pos, negsuc, List, ℕ, Bool, true, false, true≢false, Option, Some, None, option_map, option_and_then, Result, Ok, Err, IfOk, refl, sym, ap, ◌∙◌, subst}
+use Rattle.std.proofs.{lemmas.Bool.{lt-leb}, lemmas.Bool.Decides.{nat_tests}}
 use Rattle.serde_json.specs.Written.{has_float, items_have_float, members_have_float}
-use Rattle.pact_rules.specs.Kept as kept
 use Rattle.pact_paths.proofs.Checked.{same_Err, fault_of, no_fault}
 use Rattle.pact_rules.specs.Outcome.{Gives, GivesChecked, checked}
-use Rattle.pact_rules.specs.Trees.{Node, null, truth, whole, text, list, object, Nodes, no_nodes, node, Fields, no_fields, field, IsTree, AreTrees, IsMap, IsBelowFields}
+use Rattle.pact_rules.specs.Trees.{Node, null, list, object, Nodes, node, Fields, field, IsTree, AreTrees, IsMap, IsBelowFields}
 use Rattle.pact_rules.specs.TreeReading.{whole_number, whole_tree, whole_items, whole_members, whole_or, tree_in, data_of, items_data, members_data}
-use Rattle.pact_rules.specs.TreeView.{tree_view}
-use Rattle.pact_rules.specs.declared.tree.Tree.{Tree}
-use Rattle.pact_rules.specs.declared.tree.TreeFault.{TreeFault}
-use Rattle.pact_rules.specs.declared.tree.TreeFault.TheVariants.{Memory, NotWhole, TooDeep}
-use Rattle.pact_rules.proofs.TreeLemmas.{both_some, both_make, whole_of}
+use Rattle.pact_rules.specs.{declared.tree.TreeFault.TheVariants.{Memory, NotWhole, TooDeep}, TreeView.{tree_view}, declared.tree.Tree.{Tree}}
+use Rattle.pact_rules.{specs.declared.tree.TreeFault.{TreeFault}, proofs.TreeLemmas.{whole_of}}
+use Rattle.serde_json.specs.Data as json
+use Rattle.pact_rules.specs.Kept as kept
 
-map_some : {A B : Type 0} (f : A → B) (o : Option A) (y : B) → option_map f o ≡ Some y → (x : A) × (o ≡ Some x) × (f x ≡ y)
-map_some f None y e = cc
-map_some f (Some x) y e = (x, refl, same_Some _ _ e)
+-- ---- what a value and its tree tell of each other
 
--- ---- from a value that was read to its tree and back
+-- a value without a tree has a fraction; one with a tree has none, and its tree has its parts in its order
+abbrev Tells : json.Data → Option Node → Type 0
+Tells d None = has_float d ≡ true
+Tells d (Some t) = (has_float d ≡ false) × (kept.IsKept d → IsTree t × (data_of t ≡ d))
 
-number_back : (n : json.Num) (t : Node) → kept.IsNumber n → whole_number n ≡ Some t → data_of t ≡ json.number n
-number_back (json.unsigned n) t h e = ap data_of (sym (same_Some _ _ e))
-number_back (json.negative (pos n)) t h e = absurd h
-number_back (json.negative (negsuc n)) t h e = ap data_of (sym (same_Some _ _ e))
-number_back (json.float x) t h e = cc
+abbrev ItemsTell : json.Items → Option Nodes → Type 0
+ItemsTell ds None = items_have_float ds ≡ true
+ItemsTell ds (Some ts) = (items_have_float ds ≡ false) × (kept.AreKept ds → AreTrees ts × (items_data ts ≡ ds))
 
-mutual
-  pub data_of_whole : (d : json.Data) (t : Node) → kept.IsKept d → whole_tree d ≡ Some t → data_of t ≡ d
-  data_of_whole json.null t h e = ap data_of (sym (same_Some _ _ e))
-  data_of_whole (json.boolean b) t h e = ap data_of (sym (same_Some _ _ e))
-  data_of_whole (json.number n) t h e = number_back n t h e
-  data_of_whole (json.string s) t h e = ap data_of (sym (same_Some _ _ e))
-  data_of_whole (json.array ds) t h e =
-      let p = map_some list (whole_items ds) t e in
-      ap data_of (sym p.2) ∙ ap json.array (data_of_whole_items ds p.0 h p.1)
-  data_of_whole (json.object ms) t h e =
-      let p = map_some object (whole_members ms) t e in
-      ap data_of (sym p.2) ∙ ap json.object (data_of_whole_members ms p.0 h p.1)
+abbrev MembersTell : json.Members → Option Fields → Type 0
+MembersTell ms None = members_have_float ms ≡ true
+MembersTell ms (Some fs) =
+    (members_have_float ms ≡ false) × (kept.MembersAreKept ms → IsMap fs × (members_data fs ≡ ms)) × ((k : List ℕ) → kept.IsBelow k ms → IsBelowFields k fs)
 
-  pub data_of_whole_items : (ds : json.Items) (ts : Nodes) → kept.AreKept ds → whole_items ds ≡ Some ts → items_data ts ≡ ds
-  data_of_whole_items json.no_items ts h e = ap items_data (sym (same_Some _ _ e))
-  data_of_whole_items (json.item d ds) ts h e =
-      let p = both_some (whole_tree d) (whole_items ds) node ts e in
-      ap items_data (sym p.4) ∙ ap (λ x. json.item x (items_data p.1)) (data_of_whole d p.0 h.0 p.2) ∙ ap (json.item d) (data_of_whole_items ds p.1 h.1 p.3)
+number_tells : (n : json.Num) → Tells (json.number n) (whole_number n)
+number_tells (json.unsigned n) = (refl, λ k. (tt, refl))
+number_tells (json.negative (pos n)) = (refl, λ k. absurd k)
+number_tells (json.negative (negsuc n)) = (refl, λ k. (tt, refl))
+number_tells (json.float x) = refl
 
-  pub data_of_whole_members : (ms : json.Members) (fs : Fields) → kept.MembersAreKept ms → whole_members ms ≡ Some fs → members_data fs ≡ ms
-  data_of_whole_members json.no_members fs h e = ap members_data (sym (same_Some _ _ e))
-  data_of_whole_members (json.member k d ms) fs h e =
-      let p = both_some (whole_tree d) (whole_members ms) (field k) fs e in
-      ap members_data (sym p.4) ∙ ap (λ x. json.member k x (members_data p.1)) (data_of_whole d p.0 h.1 p.2) ∙ ap (json.member k d) (data_of_whole_members ms p.1 h.2 p.3)
+array_tells : (ds : json.Items) (o : Option Nodes) → ItemsTell ds o → Tells (json.array ds) (option_map list o)
+array_tells ds None h = h
+array_tells ds (Some ts) h = (h.0, λ k. let x = h.1 k in (x.0, ap json.array x.1))
 
--- ---- a value without fractions has a tree, and one with a tree has no fractions
+object_tells : (ms : json.Members) (o : Option Fields) → MembersTell ms o → Tells (json.object ms) (option_map object o)
+object_tells ms None h = h
+object_tells ms (Some fs) h = (h.0, λ k. let x = h.1 k in (x.0, ap json.object x.1))
 
-number_float : (n : json.Num) (t : Node) → whole_number n ≡ Some t → is_float n ≡ false
-number_float (json.unsigned n) t e = refl
-number_float (json.negative z) t e = refl
-number_float (json.float x) t e = cc
+item_tells : (d : json.Data) (ds : json.Items) (o : Option Node) (p : Option Nodes) → Tells d o → ItemsTell ds p
+    → ItemsTell (json.item d ds) (option_and_then (λ t. option_map (node t) p) o)
+item_tells d ds None p h more = rw h refl
+item_tells d ds (Some t) None h more = rw (h.0, more) refl
+item_tells d ds (Some t) (Some ts) h more = (
+  rw (h.0, more.0) refl,
+  λ k. let x = h.1 k.0 in let y = more.1 k.1 in ((x.0, y.0), ap (λ v. json.item v (items_data ts)) x.1 ∙ ap (json.item d) y.1),
+)
 
-mutual
-  -- a value that has a tree has no fractions
-  pub no_float : (d : json.Data) (t : Node) → whole_tree d ≡ Some t → has_float d ≡ false
-  no_float json.null t e = refl
-  no_float (json.boolean b) t e = refl
-  no_float (json.number n) t e = number_float n t e
-  no_float (json.string s) t e = refl
-  no_float (json.array ds) t e = let p = map_some list (whole_items ds) t e in no_float_items ds p.0 p.1
-  no_float (json.object ms) t e = let p = map_some object (whole_members ms) t e in no_float_members ms p.0 p.1
-
-  pub no_float_items : (ds : json.Items) (ts : Nodes) → whole_items ds ≡ Some ts → items_have_float ds ≡ false
-  no_float_items json.no_items ts e = refl
-  no_float_items (json.item d ds) ts e =
-      let p = both_some (whole_tree d) (whole_items ds) node ts e in
-      ap (λ b. b || items_have_float ds) (no_float d p.0 p.2) ∙ no_float_items ds p.1 p.3
-
-  pub no_float_members : (ms : json.Members) (fs : Fields) → whole_members ms ≡ Some fs → members_have_float ms ≡ false
-  no_float_members json.no_members fs e = refl
-  no_float_members (json.member k d ms) fs e =
-      let p = both_some (whole_tree d) (whole_members ms) (field k) fs e in
-      ap (λ b. b || members_have_float ms) (no_float d p.0 p.2) ∙ no_float_members ms p.1 p.3
-
-number_has_tree : (n : json.Num) → is_float n ≡ false → (t : Node) × (whole_number n ≡ Some t)
-number_has_tree (json.unsigned n) h = (whole (pos n), refl)
-number_has_tree (json.negative z) h = (whole z, refl)
-number_has_tree (json.float x) h = absurd cc
+member_tells : (l : List ℕ) (d : json.Data) (ms : json.Members) (o : Option Node) (p : Option Fields) → Tells d o → MembersTell ms p
+    → MembersTell (json.member l d ms) (option_and_then (λ t. option_map (field l t) p) o)
+member_tells l d ms None p h more = rw h refl
+member_tells l d ms (Some t) None h more = rw (h.0, more) refl
+member_tells l d ms (Some t) (Some fs) h more = (
+  rw (h.0, more.0) refl,
+  λ k. let x = h.1 k.1 in let y = more.1 k.2 in ((more.2 l k.0, x.0, y.0), ap (λ v. json.member l v (members_data fs)) x.1 ∙ ap (json.member l d) y.1),
+  λ k below. (below.0, more.2 k below.1),
+)
 
 mutual
-  -- a value without fractions has a tree
-  pub has_tree : (d : json.Data) → has_float d ≡ false → (t : Node) × (whole_tree d ≡ Some t)
-  has_tree json.null h = (null, refl)
-  has_tree (json.boolean b) h = (truth b, refl)
-  has_tree (json.number n) h = number_has_tree n h
-  has_tree (json.string s) h = (text s, refl)
-  has_tree (json.array ds) h = let p = items_have_trees ds h in (list p.0, ap (option_map list) p.1)
-  has_tree (json.object ms) h = let p = members_have_trees ms h in (object p.0, ap (option_map object) p.1)
+  tells : (d : json.Data) → Tells d (whole_tree d)
+  tells json.null = (refl, λ k. (tt, refl))
+  tells (json.boolean b) = (refl, λ k. (tt, refl))
+  tells (json.number n) = number_tells n
+  tells (json.string s) = (refl, λ k. (tt, refl))
+  tells (json.array ds) = array_tells ds (whole_items ds) (items_tell ds)
+  tells (json.object ms) = object_tells ms (whole_members ms) (members_tell ms)
 
-  pub items_have_trees : (ds : json.Items) → items_have_float ds ≡ false → (ts : Nodes) × (whole_items ds ≡ Some ts)
-  items_have_trees json.no_items h = (no_nodes, refl)
-  items_have_trees (json.item d ds) h =
-      let p = or_parts (has_float d) _ h in let a = has_tree d p.0 in let b = items_have_trees ds p.1 in
-      (node a.0 b.0, both_make (whole_tree d) (whole_items ds) node a.0 b.0 a.1 b.1)
+  items_tell : (ds : json.Items) → ItemsTell ds (whole_items ds)
+  items_tell json.no_items = (refl, λ k. (tt, refl))
+  items_tell (json.item d ds) = item_tells d ds (whole_tree d) (whole_items ds) (tells d) (items_tell ds)
 
-  pub members_have_trees : (ms : json.Members) → members_have_float ms ≡ false → (fs : Fields) × (whole_members ms ≡ Some fs)
-  members_have_trees json.no_members h = (no_fields, refl)
-  members_have_trees (json.member k d ms) h =
-      let p = or_parts (has_float d) _ h in let a = has_tree d p.0 in let b = members_have_trees ms p.1 in
-      (field k a.0 b.0, both_make (whole_tree d) (whole_members ms) (field k) a.0 b.0 a.1 b.1)
+  members_tell : (ms : json.Members) → MembersTell ms (whole_members ms)
+  members_tell json.no_members = (refl, λ k. (tt, refl), λ k below. tt)
+  members_tell (json.member l d ms) = member_tells l d ms (whole_tree d) (whole_members ms) (tells d) (members_tell ms)
 
--- ---- whether it has one, told without making it
+tells_of : (d : json.Data) (t : Node) → whole_tree d ≡ Some t → Tells d (Some t)
+tells_of d t e = subst (Tells d) e (tells d)
 
-no_tree : (o : Option Node) → (b : Bool) → ((t : Node) → o ≡ Some t → b ≡ false) → b ≡ true → checked (whole_or o) ≡ Err NotWhole
-no_tree None b f h = refl
-no_tree (Some t) b f h = absurd (true≢false (sym h ∙ f t refl))
+-- a value that has a tree has no fractions
+pub no_float : (d : json.Data) (t : Node) → whole_tree d ≡ Some t → has_float d ≡ false
+no_float d t e = (tells_of d t e).0
+
+-- a value without fractions has a tree
+pub has_tree : (d : json.Data) → has_float d ≡ false → (t : Node) × (whole_tree d ≡ Some t)
+has_tree d h = by (whole_tree d) refl (tells d) where
+  by : (o : Option Node) → whole_tree d ≡ o → Tells d o → (t : Node) × (whole_tree d ≡ Some t)
+  by None is f = absurd (true≢false (sym f ∙ h))
+  by (Some t) is f = (t, is)
 
 -- a value with a fraction is refused for it
 pub is_no_tree : (d : json.Data) → has_float d ≡ true → checked (whole_or (whole_tree d)) ≡ Err NotWhole
-is_no_tree d h = no_tree (whole_tree d) (has_float d) (no_float d) h
+is_no_tree d h = by (whole_tree d) (tells d) where
+  by : (o : Option Node) → Tells d o → checked (whole_or o) ≡ Err NotWhole
+  by None f = refl
+  by (Some t) f = absurd (true≢false (sym h ∙ f.0))
 
 -- and one without is a tree
 pub is_whole_tree : (d : json.Data) → has_float d ≡ false → checked (whole_or (whole_tree d)) ≡ Ok tt
 is_whole_tree d h = ap (λ o. checked (whole_or o)) (has_tree d h).1
 
--- ---- the keys stay in order
-
-below : (k : List ℕ) (ms : json.Members) (fs : Fields) → kept.IsBelow k ms → whole_members ms ≡ Some fs → IsBelowFields k fs
-below k json.no_members fs h e = subst (IsBelowFields k) (same_Some _ _ e) tt
-below k (json.member l d ms) fs h e =
-    let p = both_some (whole_tree d) (whole_members ms) (field l) fs e in
-    subst (IsBelowFields k) p.4 (h.0, below k ms p.1 h.1 p.3)
-
-number_tree : (n : json.Num) (t : Node) → whole_number n ≡ Some t → IsTree t
-number_tree (json.unsigned n) t e = subst IsTree (same_Some _ _ e) tt
-number_tree (json.negative z) t e = subst IsTree (same_Some _ _ e) tt
-number_tree (json.float x) t e = cc
-
-mutual
-  pub is_tree : (d : json.Data) (t : Node) → kept.IsKept d → whole_tree d ≡ Some t → IsTree t
-  is_tree json.null t h e = subst IsTree (same_Some _ _ e) tt
-  is_tree (json.boolean b) t h e = subst IsTree (same_Some _ _ e) tt
-  is_tree (json.number n) t h e = number_tree n t e
-  is_tree (json.string s) t h e = subst IsTree (same_Some _ _ e) tt
-  is_tree (json.array ds) t h e = let p = map_some list (whole_items ds) t e in subst IsTree p.2 (are_trees ds p.0 h p.1)
-  is_tree (json.object ms) t h e = let p = map_some object (whole_members ms) t e in subst IsTree p.2 (is_map ms p.0 h p.1)
-
-  pub are_trees : (ds : json.Items) (ts : Nodes) → kept.AreKept ds → whole_items ds ≡ Some ts → AreTrees ts
-  are_trees json.no_items ts h e = subst AreTrees (same_Some _ _ e) tt
-  are_trees (json.item d ds) ts h e =
-      let p = both_some (whole_tree d) (whole_items ds) node ts e in
-      subst AreTrees p.4 (is_tree d p.0 h.0 p.2, are_trees ds p.1 h.1 p.3)
-
-  pub is_map : (ms : json.Members) (fs : Fields) → kept.MembersAreKept ms → whole_members ms ≡ Some fs → IsMap fs
-  is_map json.no_members fs h e = subst IsMap (same_Some _ _ e) tt
-  is_map (json.member k d ms) fs h e =
-      let p = both_some (whole_tree d) (whole_members ms) (field k) fs e in
-      subst IsMap p.4 (below k ms p.1 h.0 p.3, is_tree d p.0 h.1 p.2, is_map ms p.1 h.2 p.3)
-
--- ---- what a reader of trees gives
-
 pub kept_tree : (d : json.Data) (r : Result Tree TreeFault) → Gives Memory tree_view r (whole_or (whole_tree d)) → kept.IsKept d → IfOk r (λ t. IsTree (tree_view t) × (data_of (tree_view t) ≡ d))
-kept_tree d (Ok t) h k =
-    let is = whole_of (whole_tree d) (tree_view t) h in
-    (is_tree d (tree_view t) k is, data_of_whole d (tree_view t) k is)
+kept_tree d (Ok t) h k = (tells_of d (tree_view t) (whole_of (whole_tree d) (tree_view t) h)).1 k
 kept_tree d (Err e) h k = tt
 
 -- ---- a value that is checked before its tree is made

@@ -1,13 +1,8 @@
 -- The patterns that were built are read by the grammar.
-use Rattle.std.proofs.Common.{◌≡◌, ℕ, List, [], ◌∷◌, Bool, true, false, ◌||◌, Ordering, Less, Equal, Greater, nat_cmp, String, Global, string_bytes, string_cmp, refl, sym, ap, ◌∙◌, true≢false}
-use Rattle.std.proofs.lemmas.Map.Text.{is_eq-slice_cmp}
-use Rattle.std.proofs.lemmas.Slice.Eq.{bytes_eq-Decides}
-use Rattle.std.specs.BTreeMap.{is_at}
-use Rattle.std.specs.BTreeSet.{insert_key}
-use Rattle.std.specs.Cmp.Lexicographic.{slice_cmp}
-use Rattle.std.specs.List.{AllByRecursion, list_any}
-use Rattle.std.specs.Ordering.{match_ordering}
-use Rattle.pact_rules.specs.Matching.{is_pattern}
+use Rattle.std.specs.{BTreeMap.{is_at}, BTreeSet.{insert_key}, Cmp.Lexicographic.{slice_cmp}, List.{AllByRecursion, list_any}}
+use Rattle.std.proofs.Common.{◌≡◌, ℕ, List, [], ◌∷◌, Bool, true, false, ◌||◌, nat_cmp, String, Global, string_bytes, string_cmp, refl, sym, ap, ◌∙◌, true≢false}
+use Rattle.std.proofs.{lemmas.Map.Text.{is_eq-slice_cmp}, lemmas.Slice.Eq.{bytes_eq-Decides}}
+use Rattle.pact_rules.{specs.Matching.{is_pattern}, proofs.OrderLemmas.{match_any}}
 
 abbrev pub AreBuilt : List (String Global) → Type 0
 AreBuilt ks = AllByRecursion (λ (k : String Global). is_pattern (string_bytes k) ≡ true) ks
@@ -24,12 +19,9 @@ pub built : (source : List ℕ) (ks : List (String Global)) → AreBuilt ks → 
 built source [] all h = absurd (true≢false (sym h))
 built source (k ∷ ks) all h = found source k (IsKey source k) _ refl all.0 (λ t. built source ks all.1 t) h
 
-placed : (o : Ordering) (k x : String Global) (xs more : List (String Global)) → is_pattern (string_bytes k) ≡ true → AreBuilt (x ∷ xs) → AreBuilt more → AreBuilt (match_ordering o (k ∷ x ∷ xs) (x ∷ xs) (x ∷ more))
-placed Less k x xs more p all rest = (p, all)
-placed Equal k x xs more p all rest = all
-placed Greater k x xs more p all rest = (all.0, rest)
-
 -- and one more may be kept
 pub one_more : (k : String Global) (ks : List (String Global)) → is_pattern (string_bytes k) ≡ true → AreBuilt ks → AreBuilt (insert_key string_cmp ks k)
 one_more k [] p all = (p, tt)
-one_more k (x ∷ xs) p all = placed (string_cmp k x) k x xs (insert_key string_cmp xs k) p all (one_more k xs p all.1)
+one_more k (x ∷ xs) p all =
+    match_any (string_cmp k x) (k ∷ x ∷ xs) (x ∷ xs) (x ∷ insert_key string_cmp xs k) AreBuilt (λ less. (p, all)) (λ equal. all)
+    (λ greater. (all.0, one_more k xs p all.1))

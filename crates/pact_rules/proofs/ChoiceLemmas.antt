@@ -1,22 +1,12 @@
 -- The best rule, and how a loop from the last index finds it.
+use Rattle.std.specs.{Ordering.{is_lt}, Cmp.Lexicographic.{slice_cmp}, List.{AllByRecursion}}
 use Rattle.std.proofs.Common.{◌≡◌, ◌≢◌, ◌⊎◌, ℕ, zero, suc, ◌+◌, ◌<◌, ◌≤◌, Bool, true, false, cond, ◌||◌, ◌&&◌, eqb, ltb, List, [], ◌∷◌, map, length, get_or, drop, Option, Some, None, option_map, Ordering, Less, Equal, Greater, nat_cmp, add-one, refl, sym, ap, ◌∙◌, subst, inl, inr, ⊎_elim, true≢false, arith, ltb-true, ltb-false, MatchOption, IfSome, slice_get}
-use Rattle.std.proofs.lemmas.Bool.{cases_eq}
-use Rattle.std.proofs.lemmas.Bool.Decides.{nat_tests}
-use Rattle.std.proofs.lemmas.Cmp.{nat_list_cmp_total}
-use Rattle.std.proofs.lemmas.Option.{same_Some, slice_get-map, slice_get-get_or}
-use Rattle.std.proofs.lemmas.List.{drop-map, drop_more}
-use Rattle.pact_rules.specs.RuleViews.{rule_view}
+use Rattle.std.proofs.{lemmas.Bool.{cases_eq}, lemmas.Bool.Decides.{nat_tests}, lemmas.Cmp.{nat_list_cmp_total}}
+use Rattle.std.proofs.{lemmas.Option.{same_Some, slice_get-map, slice_get-get_or, slice_get_within}, lemmas.List.{drop-map, drop_more, length-map}}
+use Rattle.pact_rules.specs.{declared.table.Candidate.{Candidate}, RuleViews.{rule_view}, Rules.{BodyRule, IsBefore, IsInOrder}}
+use Rattle.pact_rules.specs.{Choice.{Beats, IsChosen, IsChoice, outranks, beats, pick, best, chosen}, Candidates.{better_of}}
+use Rattle.pact_paths.specs.{Paths.{Location}, Spelling.{path_text}, Weights.{weight}}
 use Rattle.pact_rules.specs.declared.table.BodyRule as code
-use Rattle.std.specs.Ordering.{is_lt}
-use Rattle.std.specs.Cmp.Lexicographic.{slice_cmp}
-use Rattle.std.specs.List.{AllByRecursion}
-use Rattle.pact_paths.specs.Paths.{Location}
-use Rattle.pact_paths.specs.Spelling.{path_text}
-use Rattle.pact_paths.specs.Weights.{weight}
-use Rattle.pact_rules.specs.Rules.{BodyRule, IsBefore, IsInOrder}
-use Rattle.pact_rules.specs.Choice.{Beats, IsChosen, IsChoice, outranks, beats, pick, best, chosen}
-use Rattle.pact_rules.specs.Candidates.{better_of}
-use Rattle.pact_rules.specs.declared.table.Candidate.{Candidate}
 
 -- ---- texts in order
 
@@ -92,7 +82,7 @@ IsBest rules at o =
     (λ b. (slice_get rules b.0 ≡ Some b.1) × (0 < weight b.1.path at)
     × ((j : ℕ) (s : BodyRule) → slice_get rules j ≡ Some s → j ≢ b.0 → 0 < weight s.path at → Beats at b.1 s))
 
-get_member : {A : Type 0} (P : A → Type 0) (xs : List A) (i : ℕ) (x : A) → AllByRecursion P xs → slice_get xs i ≡ Some x → P x
+pub get_member : {A : Type 0} (P : A → Type 0) (xs : List A) (i : ℕ) (x : A) → AllByRecursion P xs → slice_get xs i ≡ Some x → P x
 get_member P [] i x h e = cc
 get_member P (y ∷ xs) zero x h e = subst P (same_Some _ _ e) h.0
 get_member P (y ∷ xs) (suc i) x h e = get_member P xs i x h.1 e
@@ -216,14 +206,13 @@ rule_at xs k x lt is =
 pub got : {A B : Type 0} (f : A → B) (xs : List A) (i : ℕ) (x : A) → i < length xs → x ≡ get_or xs i x → slice_get (map f xs) i ≡ Some (f x)
 got f xs i x lt is = slice_get-map f xs i ∙ ap (option_map f) (slice_get-get_or xs i x lt ∙ ap (λ y. Some y) (sym is))
 
-pub map-map : {A B C : Type 0} (g : B → C) (f : A → B) (xs : List A) → map g (map f xs) ≡ map (λ x. g (f x)) xs
-map-map g f [] = refl
-map-map g f (x ∷ xs) = ap (λ ys. g (f x) ∷ ys) (map-map g f xs)
-
-pub slice_get_within : {A : Type 0} (xs : List A) (i : ℕ) (x : A) → slice_get xs i ≡ Some x → i < length xs
-slice_get_within [] i x e = absurd cc
-slice_get_within (y ∷ xs) zero x e = omega arith
-slice_get_within (y ∷ xs) (suc i) x e = let h = slice_get_within xs i x e in omega (arith, h)
+-- a field of the rule at an index of a table
+pub field_at : {B : Type 0} (field : BodyRule → B) (xs : List code.BodyRule) (body : List BodyRule) (i : ℕ) (x : code.BodyRule) → map rule_view xs ≡ body
+    → i < length body → x ≡ get_or xs i x
+    → slice_get (map field body) i ≡ Some (field (rule_view x))
+field_at field xs body i x same within is =
+    let inside : i < length xs = omega (arith, ap length same, length-map xs rule_view) in
+    ap (λ rs. slice_get (map field rs) i) (sym same) ∙ slice_get-map field (map rule_view xs) i ∙ ap (option_map field) (got rule_view xs i x inside is)
 
 -- a index that is chosen is one of the table
 pub choice_within : (rules : List BodyRule) (at : Location) (o : Option ℕ) → IsChoice rules at o → IfSome o (λ i. i < length rules)

@@ -1,15 +1,10 @@
 -- Worked examples, computed from the definitions.
 use Rattle.std.proofs.Common.{◌≡◌, ℕ, pos, negsuc, true, false, List, [], ◌∷◌, Some, None, Ok, Err, codes, refl}
-use Rattle.pact_paths.specs.Paths.{Token, named, indexed, any, key, item, Location}
-use Rattle.pact_paths.specs.PathReading.{tokens_in}
 use Rattle.pact_rules.specs.Trees.{Node, null, truth, whole, text, list, object, Nodes, no_nodes, node, Fields, no_fields, field}
-use Rattle.pact_rules.specs.Rules.{equality, same_type, regex, include, integer, is_null, Entry, BodyRule, HeaderRule, has_regex}
-use Rattle.pact_rules.specs.Choice.{chosen}
-use Rattle.pact_rules.specs.Matching.{holds, entry_holds}
-use Rattle.pact_rules.specs.Tables.{header_entry}
-use Rattle.pact_rules.specs.RuleReading.{found_in, no_pattern}
-use Rattle.pact_rules.specs.Walks.{own_place}
 use Rattle.pact_rules.specs.declared.rule_fault.RuleFault.TheVariants.{OldRules, BadPath, SamePathTwice, Unsupported, BadBound, Pattern, BadCombine}
+use Rattle.pact_rules.specs.{Rules.{equality, same_type, regex, include, integer, is_null, Entry, BodyRule, HeaderRule, has_regex}, Choice.{chosen}}
+use Rattle.pact_rules.specs.{Matching.{holds, entry_holds}, Tables.{header_entry}, RuleReading.{found_in, no_pattern}, Walks.{own_place}}
+use Rattle.pact_paths.specs.{Paths.{Token, named, indexed, any, key, item, Location}, PathReading.{tokens_in}}
 
 -- ---- the choice
 

@@ -1,30 +1,15 @@
 -- Looking into trees, and finding patterns.
-use Rattle.std.proofs.Common.{rules, eqb, vec_len, Vec, BTreeMap, MatchBool, ◌&&◌, ◌≡◌, ◌↔◌, ◌≤◌, ◌||◌, suc, take, drop, length, ◌++◌, ⊎_elim, ℕ, ◌<◌, Bool, true, false, cond, List, [], ◌∷◌, get_or, Option, Some, None, option_map, is_some, IsSomeAnd, String, Global, string_bytes, nat_cmp, refl, sym, ap, ◌∙◌, arith, chars}
-use Rattle.std.proofs.lemmas.Map.Text.{is_eq-slice_cmp}
-use Rattle.std.specs.Cmp.Lexicographic.{slice_cmp}
-use Rattle.std.specs.Map.{lookup}
-use Rattle.std.specs.BTreeMap.{is_at}
-use Rattle.regex.specs.Patterns.{Re, find_str, default_config, Reads, SameCaptures}
-use Rattle.regex.specs.Strings.{regex_pattern, regex_source, regex_config, IsReadFromSource}
-use Rattle.regex.specs.declared.string.regex.Regex.{Regex}
-use Rattle.regex.proofs.ForCallers.{is_match_alike}
-use Rattle.regex_syntax.specs.Grammar.{Names, group_count, read}
-use Rattle.regex_syntax.specs.Brackets.{Nested}
-use Rattle.regex.specs.Names.{names_of}
-use Rattle.std.specs.Str.Iter.{HasSubslice}
-use Rattle.std.proofs.lemmas.Slice.Eq.{bytes_eq-Decides}
-use Rattle.std.proofs.lemmas.Bool.{or_cases}
-use Rattle.std.proofs.lemmas.Bool.Decides.{same_from_decides}
-use Rattle.std.proofs.lemmas.List.{take_at, take-append-drop}
-use Rattle.pact_rules.specs.Trees.{Node, list, object}
-use Rattle.pact_rules.specs.TreeView.{tree_view, object_view, list_view}
+use Rattle.std.specs.{Cmp.Lexicographic.{slice_cmp}, Map.{lookup}, BTreeMap.{is_at}, Str.Iter.{HasSubslice}, Str.Pattern.{HasMatch, FindsText}}
+use Rattle.std.proofs.Common.{rules, eqb, vec_len, Vec, BTreeMap, MatchBool, ◌&&◌, ◌≡◌, ◌↔◌, ◌≤◌, suc, take, drop, length, ◌++◌, ⊎_elim, ℕ, ◌<◌, Bool, true, false, cond, List, [], ◌∷◌, get_or, Option, Some, None, option_map, is_some, IsSomeAnd, String, Global, string_bytes, nat_cmp, refl, sym, ap, ◌∙◌, arith, chars}
+use Rattle.std.proofs.{lemmas.Map.Text.{is_eq-slice_cmp}, lemmas.Slice.Eq.{bytes_eq-Decides}, lemmas.Bool.{or_cases, or_right}}
+use Rattle.std.proofs.{lemmas.Bool.Decides.{same_from_decides}, lemmas.List.{take_at, take-append-drop}, lemmas.Str.Pattern.{contains_text}}
+use Rattle.regex.specs.{declared.string.regex.Regex.{Regex}, Names.{names_of}, Patterns.{Re, find_str, default_config, Reads, SameCaptures}}
+use Rattle.regex.{specs.Strings.{regex_pattern, regex_source, regex_config, IsReadFromSource}, proofs.ForCallers.{is_match_alike}}
 use Rattle.pact_rules.specs.Matching.{get_field, pattern_of, is_found, nodes_len, begins, contains, equal_here, within, at_least, at_most, holds, passes, text_form}
-use Rattle.pact_rules.specs.RuleViews.{matcher_view}
+use Rattle.pact_rules.specs.{declared.tree.Tree.{Tree, List as ListOf, Object, the_lemmas}, Trees.{Node, list, object}}
+use Rattle.pact_rules.specs.{TreeView.{tree_view, object_view, list_view}, RuleViews.{matcher_view}, declared.table.Matcher.TheVariants.{Include}}
+use Rattle.regex_syntax.specs.{Grammar.{Names, group_count, read}, Brackets.{Nested}}
 use Rattle.pact_rules.specs.declared.table.Matcher as code
-use Rattle.pact_rules.specs.declared.table.Matcher.TheVariants.{Include}
-use Rattle.std.proofs.lemmas.Str.Pattern.{contains_text}
-use Rattle.std.specs.Str.Pattern.{HasMatch, FindsText}
-use Rattle.pact_rules.specs.declared.tree.Tree.{Tree, List as ListOf, Object, the_lemmas}
 
 -- a member of an object as the code keeps it: its key and its tree
 abbrev pub Entry : Type 0
@@ -63,10 +48,6 @@ nodes_len_view (t ∷ ts) = ap suc (nodes_len_view ts)
 
 -- ---- a text in a text
 
-or_true : (b : Bool) → (b || true) ≡ true
-or_true true = refl
-or_true false = refl
-
 begins_here : (part bs : List ℕ) → begins part bs ≡ true → HasSubslice bs part
 begins_here part bs h = ([], drop (length part) bs, sym (ap (λ xs. xs ++ drop (length part) bs) ((bytes_eq-Decides part (take (length part) bs)).0 h) ∙ take-append-drop (length part) bs))
 
@@ -81,7 +62,7 @@ contains_front part (b ∷ bs) h = rw h refl
 
 contains_complete : (part a b : List ℕ) → contains part (a ++ (part ++ b)) ≡ true
 contains_complete part [] b = contains_front part (part ++ b) ((bytes_eq-Decides part (take (length part) (part ++ b))).1 (sym (take_at part b (length part) refl)))
-contains_complete part (x ∷ a) b = rw (contains_complete part a b) (or_true (begins part (x ∷ (a ++ (part ++ b)))))
+contains_complete part (x ∷ a) b = or_right (begins part (x ∷ (a ++ (part ++ b)))) (contains part (a ++ (part ++ b))) (contains_complete part a b)
 
 pub contains_decides : (r : Bool) (part bs : List ℕ) → (r ≡ true) ↔ HasSubslice bs part → r ≡ contains part bs
 contains_decides r part bs h =

@@ -1,21 +1,12 @@
 -- The entry of a header by a search among names in lower case.
-use Rattle.std.proofs.Common.{◌≡◌, ℕ, zero, suc, ◌+◌, ◌≤◌, ◌<◌, List, [], ◌∷◌, Bool, true, false, cond, nat_lt, Ordering, Less, Equal, Greater, nat_cmp, Option, Some, None, option_map, map, get_or, length, bytes_eq, refl, sym, ap, ◌∙◌, subst, true≢false, arith}
-use Rattle.std.proofs.lemmas.Bool.Decides.{nat_tests}
-use Rattle.std.proofs.lemmas.Cmp.{nat_list_cmp_total}
-use Rattle.std.proofs.lemmas.List.Sorted.{searchable_from_sorted}
-use Rattle.std.proofs.lemmas.Map.Text.{is_eq-slice_cmp}
-use Rattle.std.proofs.lemmas.Slice.Eq.{bytes_eq-Decides}
-use Rattle.std.specs.Char.{to_ascii_lowercase}
-use Rattle.std.specs.Cmp.Lexicographic.{slice_cmp}
-use Rattle.std.specs.List.{AllByRecursion, find}
-use Rattle.std.specs.List.Sorted.{IsSortedBy, IsNonDecreasingBy, IsPartitionPoint}
-use Rattle.std.specs.Ordering.{is_lt, is_eq, is_ne, ordering_index, ordering_reverse, ordering_then}
+use Rattle.std.specs.{List.Sorted.{IsSortedBy, IsNonDecreasingBy, IsPartitionPoint}, Char.{to_ascii_lowercase}, Cmp.Lexicographic.{slice_cmp}}
+use Rattle.std.specs.{List.{AllByRecursion, find}, Ordering.{is_lt, is_eq, is_ne, ordering_index, ordering_reverse, ordering_then}}
 use Rattle.std.specs.Str.{str_to_ascii_lowercase, str_eq_ignore_ascii_case}
+use Rattle.std.proofs.Common.{◌≡◌, ℕ, zero, suc, ◌+◌, ◌<◌, List, [], ◌∷◌, Bool, true, false, cond, Ordering, Less, Equal, Greater, nat_cmp, Option, Some, None, option_map, map, get_or, length, bytes_eq, refl, sym, ap, ◌∙◌, subst, ⊎_elim, true≢false, arith}
+use Rattle.std.proofs.{lemmas.Map.Text.{is_eq-slice_cmp}, lemmas.Bool.{cases_lt}, lemmas.Cmp.{nat_list_cmp_total}, lemmas.List.Sorted.{searchable_from_sorted}}
+use Rattle.pact_rules.specs.{declared.table.HeaderRule.{HeaderRule}, Rules.{IsBefore, IsOrderedBy, name_key}, RuleViews.{header_view, entry_view}}
+use Rattle.pact_rules.{specs.Tables.{header_entry}, proofs.OrderLemmas.{equal_texts}}
 use Rattle.pact_rules.specs.Rules as rules
-use Rattle.pact_rules.specs.Rules.{IsBefore, IsOrderedBy, name_key}
-use Rattle.pact_rules.specs.RuleViews.{header_view, entry_view}
-use Rattle.pact_rules.specs.Tables.{header_entry}
-use Rattle.pact_rules.specs.declared.table.HeaderRule.{HeaderRule}
 
 -- ---- texts in lower case, byte by byte
 
@@ -84,9 +75,6 @@ sorted xs o k d low below =
 
 -- ---- the entry of a name
 
-equal_texts : (a b : List ℕ) → slice_cmp nat_cmp a b ≡ Equal → a ≡ b
-equal_texts a b e = (bytes_eq-Decides a b).0 (sym (is_eq-slice_cmp a b) ∙ ap is_eq e)
-
 tested : (a b : List ℕ) (o : Ordering) → slice_cmp nat_cmp a b ≡ o → bytes_eq a b ≡ is_eq o
 tested a b o e = sym (is_eq-slice_cmp a b) ∙ ap is_eq e
 
@@ -108,20 +96,9 @@ none_of [] name f = refl
 none_of (x ∷ xs) name f =
     ap (first_or name x xs) (sym (is_eq-slice_cmp (key x) (str_to_ascii_lowercase name)) ∙ f 0 x (omega arith)) ∙ none_of xs name (λ k d h. f (suc k) d (omega (arith, h)))
 
-by_test : {B : Type 0} (b : Bool) → (b ≡ true → B) → (b ≡ false → B) → B
-by_test true is isnt = is refl
-by_test false is isnt = isnt refl
-
-below : (k i : ℕ) → nat_lt k i ≡ true → k < i
-below k i h = grind (arith, nat_tests)
-
-not_under : (k i : ℕ) → nat_lt k i ≡ false → i ≤ k
-not_under k i h = grind (arith, nat_tests)
-
 pub has_none : (xs : List HeaderRule) (name : List ℕ) (i : ℕ) → AreOrdered xs
     → (IsNonDecreasingBy (λ h. ordering_index (by_name name h)) xs → IsPartitionPoint (λ h. by_name name h ≡ Less) (λ h. by_name name h ≡ Greater) xs i)
     → header_entry (map header_view xs) name ≡ None
 has_none xs name i o split =
     let p = split (searchable_from_sorted nat_list_cmp_total key xs (str_to_ascii_lowercase name) (sorted xs o)) in
-    none_of xs name (λ k d h.
-    by_test (nat_lt k i) (λ t. ap is_eq (p.0 k d (omega arith) (below k i t))) (λ t. ap is_eq (p.1 k d (not_under k i t) h)))
+    none_of xs name (λ k d h. ⊎_elim (λ lt. ap is_eq (p.0 k d (omega arith) lt)) (λ le. ap is_eq (p.1 k d le h)) (cases_lt k i))

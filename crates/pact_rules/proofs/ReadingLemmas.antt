@@ -1,33 +1,17 @@
 -- What reading gives: the rules kept in order are those that are found, and two readings of one tree agree.
-use Rattle.std.proofs.Common.{◌≡◌, ◌⊎◌, ◌↔◌, ℕ, Bool, true, false, cond, not, ◌&&◌, ◌||◌, is_some, List, [], ◌∷◌, ◌++◌, Option, Some, None, Result, Ok, Err, IfOk, Ordering, Less, Equal, Greater, nat_cmp, bytes_eq, codes, refl, sym, ap, ◌∙◌, subst, inl, inr, ⊎_elim, true≢false}
-use Rattle.std.proofs.lemmas.Bool.{cases_Bool, or_parts}
-use Rattle.std.proofs.lemmas.Bool.Decides.{same_from_decides}
-use Rattle.std.proofs.lemmas.Map.Text.{is_eq-slice_cmp}
-use Rattle.std.specs.Ordering.{is_eq, match_ordering}
-use Rattle.std.specs.Cmp.Lexicographic.{slice_cmp}
-use Rattle.std.specs.List.{AllByRecursion, list_any, filter}
+use Rattle.std.specs.{Str.{str_eq_ignore_ascii_case}, Ordering.{is_eq, match_ordering}, Cmp.Lexicographic.{slice_cmp}, List.{AllByRecursion, list_any, filter}}
 use Rattle.std.specs.Option.{ok_or}
-use Rattle.std.specs.Str.{str_eq_ignore_ascii_case}
-use Rattle.pact_paths.specs.Spelling.{path_text}
-use Rattle.pact_rules.specs.Matching.{is_pattern}
-use Rattle.pact_rules.specs.Trees.{Node, Nodes, no_nodes, node, Fields, no_fields, field}
-use Rattle.pact_rules.specs.declared.rule_fault.RuleFault.{RuleFault}
+use Rattle.std.proofs.Common.{◌≡◌, ◌⊎◌, ◌↔◌, ℕ, Bool, true, false, cond, not, ◌||◌, List, [], ◌∷◌, ◌++◌, Result, Ok, Err, nat_cmp, bytes_eq, codes, refl, sym, ap, ◌∙◌, subst, inl, inr, ⊎_elim, true≢false}
+use Rattle.std.proofs.{lemmas.Bool.{cases_Bool, or_parts, or_right, not-true}, lemmas.Bool.Decides.{same_from_decides}, lemmas.Map.Text.{is_eq-slice_cmp}}
+use Rattle.pact_paths.{specs.Spelling.{path_text}, proofs.Checked.{same_Err}}
 use Rattle.pact_rules.specs.declared.rule_fault.RuleFault.TheVariants.{Form, OldRules, BadPath, SamePathTwice, Unsupported, BadBound, Pattern, BadCombine, Memory}
-use Rattle.pact_rules.specs.Lists.{IsIn}
-use Rattle.pact_rules.specs.Rules.{Entry, BodyRule, HeaderRule, Rules, no_rules, IsBefore, IsOrderedBy, rule_text, name_key, has_effect}
-use Rattle.pact_rules.specs.Tables.{IsTable, IsTableOf, IsEffective, HasValidPattern}
-use Rattle.pact_rules.specs.Outcome.{◌>>=◌, guard}
-use Rattle.pact_rules.specs.RuleReading.{as_text, as_list, optional_at, bound, in_order as bounds_in_order, pattern_at, same_type_at, named_matcher, matcher_by, matcher_at, matchers_at, combine_of, FailsAs, as_object, is_null_node, has_old_key, path_at, entry_at, body_rule_at, body_at, header_rule_at, headers_at, body_in, headers_in, category_at, categories_at, found_in, no_pattern, IsReading}
+use Rattle.pact_rules.specs.RuleReading.{FailsAs, as_object, is_null_node, has_old_key, path_at, entry_at, body_rule_at, body_at, header_rule_at, headers_at, body_in, headers_in, category_at, categories_at, found_in, no_pattern, IsReading}
 use Rattle.pact_rules.specs.OrderedReading.{put, ordered_body, ordered_headers, ordered_body_in, ordered_headers_in, ordered_category, ordered_categories, ordered_found}
-use Rattle.pact_rules.proofs.ChoiceLemmas.{never_both}
-use Rattle.pact_rules.proofs.OrderLemmas.{all_kept, all_pass, in_kept, kept_in}
-use Rattle.pact_rules.proofs.PatternLemmas.{bind_ok}
-
-same_Ok : {A F : Type 0} {x y : A} → ◌≡◌ {A = Result A F} (Ok x) (Ok y) → x ≡ y
-same_Ok e = cc
-
-same_Err : {A F : Type 0} {x y : F} → ◌≡◌ {A = Result A F} (Err x) (Err y) → x ≡ y
-same_Err e = cc
+use Rattle.pact_rules.specs.{Matching.{is_pattern}, Trees.{Node, Nodes, no_nodes, node, Fields, no_fields, field}, declared.rule_fault.RuleFault.{RuleFault}}
+use Rattle.pact_rules.specs.{Lists.{IsIn}, Rules.{Entry, BodyRule, HeaderRule, Rules, no_rules, IsBefore, IsOrderedBy, rule_text, name_key, has_effect}}
+use Rattle.pact_rules.{specs.{Tables.{IsTable, IsTableOf, IsEffective, HasValidPattern}, Outcome.{◌>>=◌, guard}}, proofs.ChoiceLemmas.{never_both}}
+use Rattle.pact_rules.proofs.OrderLemmas.{match_any, all_kept, all_pass, in_kept, kept_in}
+use Rattle.pact_rules.proofs.PatternLemmas.{same_Ok, bind_ok, HasValidPatterns, RulesHeld, found_held}
 
 -- ---- two lists with the same members
 
@@ -42,10 +26,6 @@ append_in : {A : Type 0} (x y : A) (xs : List A) → (x ≡ y) ⊎ IsIn x xs →
 append_in x y [] h = ⊎_elim inl (λ none. absurd none) h
 append_in x y (z ∷ xs) h = ⊎_elim (λ e. inr (append_in x y xs (inl e))) (λ i. ⊎_elim inl (λ later. inr (append_in x y xs (inr later))) i) h
 
-or_true : (b : Bool) → (b || true) ≡ true
-or_true true = refl
-or_true false = refl
-
 any_of : {A : Type 0} (p : A → Bool) (xs : List A) → list_any p xs ≡ true → (x : A) × IsIn x xs × (p x ≡ true)
 any_of p [] h = cc
 any_of p (x ∷ xs) h =
@@ -54,10 +34,7 @@ any_of p (x ∷ xs) h =
 any_in : {A : Type 0} (p : A → Bool) (x : A) (xs : List A) → IsIn x xs → p x ≡ true → list_any p xs ≡ true
 any_in p x [] h t = absurd h
 any_in p x (y ∷ xs) h t =
-    ⊎_elim (λ e. ap (λ b. b || list_any p xs) (ap p (sym e) ∙ t)) (λ later. rw (any_in p x xs later t) (or_true (p y))) h where
-      or_true : (b : Bool) → (b || true) ≡ true
-      or_true true = refl
-      or_true false = refl
+    ⊎_elim (λ e. ap (λ b. b || list_any p xs) (ap p (sym e) ∙ t)) (λ later. or_right (p y) (list_any p xs) (any_in p x xs later t)) h
 
 pub same_any : {A : Type 0} (p : A → Bool) (xs ys : List A) → AreSame xs ys → list_any p xs ≡ list_any p ys
 same_any p xs ys same =
@@ -72,38 +49,23 @@ all_at P x (y ∷ xs) all h = ⊎_elim (λ e. subst P (sym e) all.0) (λ later. 
 -- ---- one more in its place
 
 module _ {A : Type 0} (text : A → List ℕ) where
-  in_put_by : (o : Ordering) (z x y : A) (ys more : List A) → (IsIn z more → (z ≡ x) ⊎ IsIn z ys) → IsIn z (match_ordering o (x ∷ y ∷ ys) (x ∷ ys) (y ∷ more)) → (z ≡ x) ⊎ IsIn z (y ∷ ys)
-  in_put_by Less z x y ys more ih h = h
-  in_put_by Equal z x y ys more ih h = ⊎_elim inl (λ later. inr (inr later)) h
-  in_put_by Greater z x y ys more ih h = ⊎_elim (λ e. inr (inl e)) (λ later. ⊎_elim inl (λ i. inr (inr i)) (ih later)) h
-
   in_put : (z x : A) (ys : List A) → IsIn z (put text x ys) → (z ≡ x) ⊎ IsIn z ys
   in_put z x [] h = h
-  in_put z x (y ∷ ys) h = in_put_by (slice_cmp nat_cmp (text x) (text y)) z x y ys (put text x ys) (in_put z x ys) h
-
-  put_in_by : (o : Ordering) (z x y : A) (ys more : List A) → is_eq o ≡ false → ((z ≡ x) ⊎ IsIn z ys → IsIn z more) → (z ≡ x) ⊎ IsIn z (y ∷ ys) → IsIn z (match_ordering o (x ∷ y ∷ ys) (x ∷ ys) (y ∷ more))
-  put_in_by Less z x y ys more free ih h = h
-  put_in_by Equal z x y ys more free ih h = absurd (true≢false free)
-  put_in_by Greater z x y ys more free ih h = ⊎_elim (λ e. inr (ih (inl e))) (λ i. ⊎_elim inl (λ later. inr (ih (inr later))) i) h
+  in_put z x (y ∷ ys) h =
+      match_any (slice_cmp nat_cmp (text x) (text y)) (x ∷ y ∷ ys) (x ∷ ys) (y ∷ put text x ys) (λ zs. IsIn z zs → (z ≡ x) ⊎ IsIn z (y ∷ ys)) (λ less i. i) (λ equal. ⊎_elim inl (λ i. inr (inr i)))
+      (λ greater. ⊎_elim (λ e. inr (inl e)) (λ later. ⊎_elim inl (λ i. inr (inr i)) (in_put z x ys later))) h
 
   put_in : (z x : A) (ys : List A) → list_any (λ y. bytes_eq (text x) (text y)) ys ≡ false → (z ≡ x) ⊎ IsIn z ys → IsIn z (put text x ys)
   put_in z x [] free h = h
   put_in z x (y ∷ ys) free h =
       let p = or_parts (bytes_eq (text x) (text y)) _ free in
-      put_in_by (slice_cmp nat_cmp (text x) (text y)) z x y ys (put text x ys) (is_eq-slice_cmp (text x) (text y) ∙ p.0) (put_in z x ys p.1) h
+      match_any (slice_cmp nat_cmp (text x) (text y)) (x ∷ y ∷ ys) (x ∷ ys) (y ∷ put text x ys) (IsIn z) (λ less. h)
+      (λ equal. absurd (true≢false (sym (ap is_eq equal) ∙ is_eq-slice_cmp (text x) (text y) ∙ p.0)))
+      (λ greater. ⊎_elim (λ e. inr (put_in z x ys p.1 (inl e))) (λ i. ⊎_elim inl (λ later. inr (put_in z x ys p.1 (inr later))) i) h)
 
   same_put : (x : A) (xs ys : List A) → AreSame xs ys → list_any (λ y. bytes_eq (text x) (text y)) ys ≡ false → AreSame (xs ++ x ∷ []) (put text x ys)
   same_put x xs ys same free z =
       (λ h. put_in z x ys free (⊎_elim inl (λ i. inr ((same z).0 i)) (in_append z x xs h)), λ h. append_in z x xs (⊎_elim inl (λ i. inr ((same z).1 i)) (in_put z x ys h)))
-
-  all_put_by : (P : A → Type 0) (o : Ordering) (x y : A) (ys more : List A) → P x → AllByRecursion P (y ∷ ys) → AllByRecursion P more → AllByRecursion P (match_ordering o (x ∷ y ∷ ys) (x ∷ ys) (y ∷ more))
-  all_put_by P Less x y ys more h all later = (h, all)
-  all_put_by P Equal x y ys more h all later = (h, all.1)
-  all_put_by P Greater x y ys more h all later = (all.0, later)
-
-  pub all_put : (P : A → Type 0) (x : A) (ys : List A) → P x → AllByRecursion P ys → AllByRecursion P (put text x ys)
-  all_put P x [] h all = (h, tt)
-  all_put P x (y ∷ ys) h all = all_put_by P (slice_cmp nat_cmp (text x) (text y)) x y ys (put text x ys) h all (all_put P x ys h all.1)
 
   -- lists in order with the same members are equal
   first_same : (x y : A) (xs ys : List A) → IsOrderedBy text (x ∷ xs) → IsOrderedBy text (y ∷ ys) → IsIn x (y ∷ ys) → IsIn y (x ∷ xs) → x ≡ y
@@ -170,10 +132,6 @@ guard_true : (b : Bool) (e : RuleFault) (u : Unit {0}) → guard b e ≡ Ok u �
 guard_true true e u h = refl
 guard_true false e u h = cc
 
-not_true : (b : Bool) → not b ≡ true → b ≡ false
-not_true true h = cc
-not_true false h = refl
-
 abbrev pub SameRules : Rules → Rules → Type 0
 SameRules found table = AreSame found.body table.body × AreSame found.headers table.headers
 
@@ -188,7 +146,7 @@ module _ (accepts : List ℕ → Bool) where
       let p = bind_ok (path_at k) _ r e in
       let q = bind_ok (guard (not (list_any (λ s. bytes_eq (path_text p.0) (rule_text s)) before)) SamePathTwice) _ r p.2 in
       let s = bind_ok (entry_at accepts false n) _ r q.2 in
-      ap (λ (x : BodyRule). list_any (λ s. bytes_eq (rule_text x) (rule_text s)) before) (sym (same_Ok s.2)) ∙ not_true _ (guard_true _ SamePathTwice q.0 q.1)
+      ap (λ (x : BodyRule). list_any (λ s. bytes_eq (rule_text x) (rule_text s)) before) (sym (same_Ok s.2)) ∙ not-true _ (guard_true _ SamePathTwice q.0 q.1)
 
   same_body : (a b : List BodyRule) (fs : Fields) → AreSame a b → Alike AreSame (body_at accepts a fs) (ordered_body accepts b fs)
   same_body a b no_fields same = same
@@ -205,7 +163,7 @@ module _ (accepts : List ℕ → Bool) where
   free_header_rule before k n h e =
       let q = bind_ok (guard (not (list_any (λ s. str_eq_ignore_ascii_case k s.name) before)) SamePathTwice) _ h e in
       let s = bind_ok (entry_at accepts true n) _ h q.2 in
-      ap (λ (x : HeaderRule). list_any (λ s. bytes_eq (name_key x) (name_key s)) before) (sym (same_Ok s.2)) ∙ not_true _ (guard_true _ SamePathTwice q.0 q.1)
+      ap (λ (x : HeaderRule). list_any (λ s. bytes_eq (name_key x) (name_key s)) before) (sym (same_Ok s.2)) ∙ not-true _ (guard_true _ SamePathTwice q.0 q.1)
 
   same_headers : (a b : List HeaderRule) (fs : Fields) → AreSame a b → Alike AreSame (headers_at accepts a fs) (ordered_headers accepts b fs)
   same_headers a b no_fields same = same
@@ -239,119 +197,6 @@ module _ (accepts : List ℕ → Bool) where
       alike_from SameRules (ok_or (as_object tree) Form) _ _ (λ fs e.
       alike_from SameRules (guard (not (has_old_key fs)) OldRules) _ _ (λ u k. same_categories no_rules no_rules fs (λ x. (λ h. h, λ h. h), λ x. (λ h. h, λ h. h))))
 
--- ---- what was read can be held
-
-abbrev pub HasValidPatterns : Entry → Type 0
-HasValidPatterns e = AllByRecursion HasValidPattern e.matchers
-
-ok_bind : {A B : Type 0} (P : B → Type 0) (r : Result A RuleFault) (f : A → Result B RuleFault) → ((x : A) → r ≡ Ok x → IfOk (f x) P) → IfOk (r >>= f) P
-ok_bind P (Ok x) f h = h x refl
-ok_bind P (Err e) f h = tt
-
-ok_if : {A : Type 0} (P : A → Type 0) (b : Bool) (r s : Result A RuleFault) → IfOk r P → IfOk s P → IfOk (cond b r s) P
-ok_if P true r s h k = h
-ok_if P false r s h k = k
-
-if_ok_at : {A : Type 0} (P : A → Type 0) (r : Result A RuleFault) (x : A) → IfOk r P → r ≡ Ok x → P x
-if_ok_at P (Ok y) x h e = subst P (same_Ok e) h
-if_ok_at P (Err f) x h e = cc
-
-pattern_held : (fs : Fields) → IfOk (pattern_at is_pattern fs) HasValidPattern
-pattern_held fs =
-    ok_bind HasValidPattern (ok_or (as_text (optional_at fs (codes "regex"))) Pattern) _ (λ source e.
-    ok_bind HasValidPattern (guard (is_pattern source) Pattern) _ (λ u k. guard_true (is_pattern source) Pattern u k))
-
-same_type_held : (fs : Fields) → IfOk (same_type_at is_pattern fs) HasValidPattern
-same_type_held fs =
-    ok_bind HasValidPattern (bound (optional_at fs (codes "min"))) _ (λ min e.
-    ok_bind HasValidPattern (bound (optional_at fs (codes "max"))) _ (λ max e.
-    ok_bind HasValidPattern (guard (bounds_in_order min max) BadBound) _ (λ u k. tt)))
-
-named_held : (in_header : Bool) (fs : Fields) (name : List ℕ) → IfOk (named_matcher is_pattern in_header fs name) HasValidPattern
-named_held in_header fs name =
-    ok_if HasValidPattern (bytes_eq name (codes "equality")) _ _ tt
-    (ok_if HasValidPattern (bytes_eq name (codes "type")) _ _ (same_type_held fs)
-    (ok_if HasValidPattern (bytes_eq name (codes "regex")) _ _ (pattern_held fs)
-    (ok_if HasValidPattern (bytes_eq name (codes "include")) _ _ (ok_bind HasValidPattern (ok_or (as_text (optional_at fs (codes "value"))) Form) _ (λ part e. tt))
-    (ok_if HasValidPattern (not in_header && (bytes_eq name (codes "integer") || bytes_eq name (codes "number"))) _ _ tt
-    (ok_if HasValidPattern (not in_header && bytes_eq name (codes "null")) _ _ tt tt)))))
-
-matcher_by_held : (in_header : Bool) (fs : Fields) (n : Option Node) → IfOk (matcher_by is_pattern in_header fs n) HasValidPattern
-matcher_by_held in_header fs None =
-    ok_if HasValidPattern (is_some (optional_at fs (codes "regex"))) _ _ (pattern_held fs)
-    (ok_if HasValidPattern (is_some (optional_at fs (codes "min")) || is_some (optional_at fs (codes "max"))) _ _ (same_type_held fs) tt)
-matcher_by_held in_header fs (Some n) = ok_bind HasValidPattern (ok_or (as_text (Some n)) Form) _ (λ name e. named_held in_header fs name)
-
-matchers_held : (in_header : Bool) (ns : Nodes) → IfOk (matchers_at is_pattern in_header ns) (AllByRecursion HasValidPattern)
-matchers_held in_header no_nodes = tt
-matchers_held in_header (node n ns) =
-    ok_bind (AllByRecursion HasValidPattern) (matcher_at is_pattern in_header n) _ (λ m e.
-    ok_bind (AllByRecursion HasValidPattern) (matchers_at is_pattern in_header ns) _ (λ ms k. (
-      if_ok_at HasValidPattern (matcher_at is_pattern in_header n) m
-          (ok_bind HasValidPattern (ok_or (as_object n) Form) _ (λ fs d. matcher_by_held in_header fs (optional_at fs (codes "match")))) e,
-      if_ok_at (AllByRecursion HasValidPattern) (matchers_at is_pattern in_header ns) ms (matchers_held in_header ns) k,
-    )))
-
-entry_held : (in_header : Bool) (n : Node) → IfOk (entry_at is_pattern in_header n) HasValidPatterns
-entry_held in_header n =
-    ok_bind HasValidPatterns (ok_or (as_object n) Form) _ (λ fs a.
-    ok_bind HasValidPatterns (ok_or (as_list (optional_at fs (codes "matchers"))) Form) _ (λ ns b.
-    ok_bind HasValidPatterns (combine_of is_pattern (optional_at fs (codes "combine"))) _ (λ any c.
-    ok_bind HasValidPatterns (matchers_at is_pattern in_header ns) _ (λ ms d. if_ok_at (AllByRecursion HasValidPattern) (matchers_at is_pattern in_header ns) ms (matchers_held in_header ns) d))))
-
-body_rule_held : (before : List BodyRule) (k : List ℕ) (n : Node) → IfOk (body_rule_at is_pattern before k n) (λ r. HasValidPatterns r.entry)
-body_rule_held before k n =
-    ok_bind (λ (r : BodyRule). HasValidPatterns r.entry) (path_at k) _ (λ path a.
-    ok_bind (λ (r : BodyRule). HasValidPatterns r.entry) (guard (not (list_any (λ s. bytes_eq (path_text path) (rule_text s)) before)) SamePathTwice) _ (λ u b.
-    ok_bind (λ (r : BodyRule). HasValidPatterns r.entry) (entry_at is_pattern false n) _ (λ e c. if_ok_at HasValidPatterns (entry_at is_pattern false n) e (entry_held false n) c)))
-
-header_rule_held : (before : List HeaderRule) (k : List ℕ) (n : Node) → IfOk (header_rule_at is_pattern before k n) (λ h. HasValidPatterns h.entry)
-header_rule_held before k n =
-    ok_bind (λ (h : HeaderRule). HasValidPatterns h.entry) (guard (not (list_any (λ s. str_eq_ignore_ascii_case k s.name) before)) SamePathTwice) _ (λ u b.
-    ok_bind (λ (h : HeaderRule). HasValidPatterns h.entry) (entry_at is_pattern true n) _ (λ e c. if_ok_at HasValidPatterns (entry_at is_pattern true n) e (entry_held true n) c))
-
-abbrev pub BodyHeld : List BodyRule → Type 0
-BodyHeld rs = AllByRecursion (λ r. HasValidPatterns r.entry) rs
-
-abbrev pub HeadersHeld : List HeaderRule → Type 0
-HeadersHeld hs = AllByRecursion (λ h. HasValidPatterns h.entry) hs
-
-body_held : (before : List BodyRule) (fs : Fields) → BodyHeld before → IfOk (ordered_body is_pattern before fs) BodyHeld
-body_held before no_fields all = all
-body_held before (field k n fs) all =
-    ok_bind BodyHeld (body_rule_at is_pattern before k n) _ (λ r e.
-    body_held (put rule_text r before) fs (all_put rule_text (λ r. HasValidPatterns r.entry) r before (if_ok_at (λ (r : BodyRule). HasValidPatterns r.entry) (body_rule_at is_pattern before k n) r (body_rule_held before k n) e) all))
-
-headers_held : (before : List HeaderRule) (fs : Fields) → HeadersHeld before → IfOk (ordered_headers is_pattern before fs) HeadersHeld
-headers_held before no_fields all = all
-headers_held before (field k n fs) all =
-    ok_bind HeadersHeld (header_rule_at is_pattern before k n) _ (λ h e.
-    headers_held (put name_key h before) fs (all_put name_key (λ h. HasValidPatterns h.entry) h before (if_ok_at (λ (h : HeaderRule). HasValidPatterns h.entry) (header_rule_at is_pattern before k n) h (header_rule_held before k n) e) all))
-
-abbrev pub RulesHeld : Rules → Type 0
-RulesHeld rules = BodyHeld rules.body × HeadersHeld rules.headers
-
-category_held : (before : Rules) (k : List ℕ) (n : Node) → RulesHeld before → IfOk (ordered_category is_pattern before k n) RulesHeld
-category_held before k n all =
-    ok_if RulesHeld (bytes_eq k (codes "body")) _ _ (ok_if RulesHeld (is_null_node n) _ _ all
-    (ok_bind RulesHeld (ok_or (as_object n) Form) _ (λ fs a.
-    ok_bind RulesHeld (ordered_body is_pattern before.body fs) _ (λ b e. (if_ok_at BodyHeld (ordered_body is_pattern before.body fs) b (body_held before.body fs all.0) e, all.1)))))
-    (ok_if RulesHeld (bytes_eq k (codes "header")) _ _ (ok_if RulesHeld (is_null_node n) _ _ all
-    (ok_bind RulesHeld (ok_or (as_object n) Form) _ (λ fs a.
-    ok_bind RulesHeld (ordered_headers is_pattern before.headers fs) _ (λ h e. (all.0, if_ok_at HeadersHeld (ordered_headers is_pattern before.headers fs) h (headers_held before.headers fs all.1) e)))))
-    (ok_if RulesHeld (bytes_eq k (codes "path") || bytes_eq k (codes "query")) _ _ all tt))
-
-categories_held : (before : Rules) (fs : Fields) → RulesHeld before → IfOk (ordered_categories is_pattern before fs) RulesHeld
-categories_held before no_fields all = all
-categories_held before (field k n fs) all =
-    ok_bind RulesHeld (ordered_category is_pattern before k n) _ (λ f e.
-    categories_held f fs (if_ok_at RulesHeld (ordered_category is_pattern before k n) f (category_held before k n all) e))
-
-found_held : (tree : Node) → IfOk (ordered_found is_pattern tree) RulesHeld
-found_held tree =
-    ok_bind RulesHeld (ok_or (as_object tree) Form) _ (λ fs a.
-    ok_bind RulesHeld (guard (not (has_old_key fs)) OldRules) _ (λ u b. categories_held no_rules fs (tt, tt)))
-
 -- ---- the table
 
 all_both : {A : Type 0} (P Q : A → Type 0) (xs : List A) → AllByRecursion P xs → AllByRecursion Q xs → AllByRecursion (λ x. P x × Q x) xs
@@ -366,7 +211,7 @@ headers_kept f = filter (λ h. has_effect h.entry) f.headers
 
 pub is_table : (tree : Node) (f t : Rules) → ordered_found is_pattern tree ≡ Ok f → IsOrderedBy rule_text t.body → IsOrderedBy name_key t.headers → t.body ≡ body_kept f → t.headers ≡ headers_kept f → IsTable t
 is_table tree f t e body headers eb eh =
-    let held : RulesHeld f = if_ok_at RulesHeld (ordered_found is_pattern tree) f (found_held tree) e in record {
+    let held : RulesHeld f = found_held tree f e in record {
       order = body;
       names = headers;
       body = subst (λ rs. AllByRecursion (λ (r : BodyRule). IsEffective r.entry) rs) (sym eb)

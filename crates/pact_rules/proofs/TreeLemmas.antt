@@ -1,22 +1,13 @@
 -- Making a tree of a value, as the loops do.
+use Rattle.std.specs.{Cmp.Lexicographic.{slice_cmp}, List.{AllByRecursion}, List.Sorted.{IsStrictlySortedBy}, Map.{keys_of}}
+use Rattle.std.specs.{Ordering.{match_ordering, ordering_reverse}, BTreeMap.{insert_entry}}
 use Rattle.std.proofs.Common.{◌≡◌, ℕ, zero, suc, ◌<◌, List, [], ◌∷◌, ◌++◌, length, get_or, Option, Some, None, option_map, option_and_then, Result, Ok, Err, String, Global, Ordering, Less, Equal, Greater, string_bytes, string_cmp, nat_cmp, refl, sym, ap, ◌∙◌, arith}
-use Rattle.std.proofs.lemmas.Cmp.{nat_list_cmp_total}
-use Rattle.std.proofs.lemmas.Option.{same_Some}
-use Rattle.std.specs.Cmp.Lexicographic.{slice_cmp}
-use Rattle.std.specs.List.{AllByRecursion}
-use Rattle.std.specs.List.Sorted.{IsStrictlySortedBy}
-use Rattle.std.specs.Map.{keys_of}
-use Rattle.std.specs.Ordering.{match_ordering, ordering_reverse}
-use Rattle.std.specs.BTreeMap.{insert_entry}
-use Rattle.serde_json.specs.View.{view, items_view, members_view}
-use Rattle.serde_json.specs.declared.value.Value.{Value}
+use Rattle.std.proofs.{lemmas.Cmp.{nat_list_cmp_total}, lemmas.Option.{same_Some}}
+use Rattle.pact_rules.specs.{declared.tree.TreeFault.TheVariants.{NotWhole, TooDeep, Memory}, Trees.{Node, no_nodes, node, Fields, no_fields, field}}
+use Rattle.pact_rules.specs.{TreeView.{tree_view, list_view, object_view}, TreeReading.{whole_or, whole_tree, whole_items, whole_members}}
+use Rattle.pact_rules.specs.{declared.tree.Tree.{Tree}, declared.tree.TreeFault.{TreeFault}}
+use Rattle.serde_json.specs.{View.{view, items_view, members_view}, declared.value.Value.{Value}}
 use Rattle.serde_json.proofs.Views as values
-use Rattle.pact_rules.specs.Trees.{Node, no_nodes, node, Fields, no_fields, field}
-use Rattle.pact_rules.specs.TreeView.{tree_view, list_view, object_view}
-use Rattle.pact_rules.specs.TreeReading.{whole_or, whole_tree, whole_items, whole_members}
-use Rattle.pact_rules.specs.declared.tree.Tree.{Tree}
-use Rattle.pact_rules.specs.declared.tree.TreeFault.{TreeFault}
-use Rattle.pact_rules.specs.declared.tree.TreeFault.TheVariants.{NotWhole, TooDeep, Memory}
 
 abbrev pub Entry : Type 0
 Entry = String Global × Tree

@@ -1,39 +1,22 @@
 -- The rules that are alive, step by step, and the best of them.
+use Rattle.std.specs.{Ordering.{is_lt, is_le, ordering_index, ordering_reverse}, List.{AllByRecursion, Contains}}
+use Rattle.std.specs.{List.Sorted.{IsPermutation, IsSortedBy, IsSortedByKey, IsPartitionedBy, IsPartitionPoint}, Cmp.{IsTotalOrder}}
 use Rattle.std.proofs.Common.{◌≡◌, ◌≢◌, ◌⊎◌, inl, inr, ℕ, zero, suc, ◌+◌, ◌-◌, ◌^◌, ◌<◌, ◌≤◌, Bool, true, false, cond, ltb, leb, List, [], ◌∷◌, ◌++◌, map, length, length-append, get_or, min, Option, None, Some, option_map, option_and_then, MatchOption, slice_get, refl, sym, ap, ◌∙◌, subst, ⊎_elim, arith, add-one, true≢false, ltb-true, ltb-false, eqb, ne_eqb, IsTrue, ◌↔◌, Ordering, Less, Equal, Greater, eq-zero-or-pos}
-use Rattle.std.proofs.lemmas.Bool.{cases_lt, cases_eq}
-use Rattle.std.proofs.lemmas.Bool.Decides.{nat_tests}
-use Rattle.std.proofs.Math.Nat.{min-le_left, min-eq_left, min-eq_right}
-use Rattle.std.proofs.lemmas.Cmp.{nat_list_cmp_total, on_total}
-use Rattle.std.proofs.lemmas.List.{length-map, map_push, get_or-map, map-append}
 use Rattle.std.proofs.lemmas.List.Elements.{Contains-append_left, Contains-append_right, Contains-append_cases, Contains-push}
 use Rattle.std.proofs.lemmas.List.Sorted.{Contains-permutation, IsPermutation-map, IsPermutation-sym, searchable_from_sorted, IsPartitionedBy-ltb, IsPartitionedBy-leb}
-use Rattle.std.proofs.lemmas.Option.{same_Some, slice_get-get_or, slice_get-map, get_or_from_slice_get}
-use Rattle.std.specs.Ordering.{is_lt, is_le, ordering_index, ordering_reverse}
-use Rattle.std.specs.List.{AllByRecursion, Contains}
-use Rattle.std.specs.List.Sorted.{IsPermutation, IsSortedBy, IsSortedByKey, IsPartitionedBy, IsPartitionPoint}
-use Rattle.std.specs.Cmp.{IsTotalOrder}
-use Rattle.pact_paths.specs.Paths.{Token, Step, Location}
-use Rattle.pact_paths.specs.Asked.{asked, asked_cmp, sort_key}
+use Rattle.std.proofs.lemmas.Option.{same_Some, slice_get-get_or, slice_get-map, slice_get_cases, slice_get_within, get_or_from_slice_get}
+use Rattle.std.proofs.{lemmas.Bool.{cases_Bool, cases_lt, cases_eq}, lemmas.Bool.Decides.{nat_tests}, Math.Nat.{min-le_left, min-eq_left, min-eq_right}}
+use Rattle.std.proofs.{lemmas.Cmp.{nat_list_cmp_total, on_total}, lemmas.List.{length-map, map_push, get_or-map, map-append}}
+use Rattle.pact_paths.specs.{Weights.{token_weight, weight, is_alive, exact_tokens}, Paths.{Token, Step, Location}, Asked.{asked, asked_cmp, sort_key}}
 use Rattle.pact_paths.specs.Spelling.{path_text}
-use Rattle.pact_paths.specs.Weights.{token_weight, weight, is_alive, exact_tokens}
 use Rattle.pact_paths.proofs.WalkLemmas.{alive_at_root, exact_at_root, alive_past, exact_past, alive_step, exact_step, exact_few, weight_dead, alive_asks}
-use Rattle.pact_rules.specs.Rules.{BodyRule, IsInOrder, IsBefore}
-use Rattle.pact_rules.specs.Choice.{best, pick, beats, outranks, chosen, IsChoice, IsOwnPlace}
-use Rattle.pact_rules.specs.Walks.{Walk, IsWalkTo, IsAlive, rule_asks, step_count, survivor, own_place, own_place_of}
-use Rattle.pact_rules.specs.Survivors.{survivor_view, StaysOf}
-use Rattle.pact_rules.specs.RuleViews.{rule_view}
+use Rattle.pact_rules.specs.{Rules.{BodyRule, IsInOrder, IsBefore}, Choice.{best, pick, beats, outranks, chosen, IsChoice, IsOwnPlace}}
+use Rattle.pact_rules.specs.{Walks.{Walk, IsWalkTo, IsAlive, rule_asks, step_count, survivor, own_place, own_place_of}, Survivors.{survivor_view, StaysOf}}
+use Rattle.pact_rules.specs.{RuleViews.{rule_view}, declared.table.Candidate.{Candidate}, declared.walk.Survivor.{Survivor}, Candidates.{preferred, outdoes}}
+use Rattle.pact_rules.proofs.ChoiceLemmas.{get_member, choice_only}
 use Rattle.pact_rules.specs.declared.table.BodyRule as code
-use Rattle.pact_rules.specs.declared.table.Candidate.{Candidate}
-use Rattle.pact_rules.specs.declared.walk.Survivor.{Survivor}
-use Rattle.pact_rules.specs.Candidates.{preferred, outdoes}
-use Rattle.pact_rules.proofs.ChoiceLemmas.{slice_get_within, choice_only}
 
 -- ---- elements of a list
-
-pub got_some : {A : Type 0} (xs : List A) (k : ℕ) → k < length xs → (x : A) × (slice_get xs k ≡ Some x)
-got_some [] k lt = absurd (omega (arith, lt))
-got_some (x ∷ xs) zero lt = (x, refl)
-got_some (x ∷ xs) (suc k) lt = got_some xs k (omega (arith, lt))
 
 -- what stands in a list stands at a place
 pub place_of : {A : Type 0} (xs : List A) (x : A) → Contains xs x → (k : ℕ) × (k < length xs) × (slice_get xs k ≡ Some x)
@@ -75,7 +58,7 @@ sorted_map f lt d xs up = λ k e low high.
 
 pub alive_at_start : (rules : List BodyRule) (e : ℕ × ℕ) → ((e.0 < length rules) × (e.1 ≡ 0)) ↔ IsAlive rules [] e
 alive_at_start rules e = (
-  λ h. let r = got_some rules e.0 h.0 in (r.0, r.1, alive_at_root r.0.path, h.1 ∙ sym (exact_at_root r.0.path)),
+  λ h. ⊎_elim (λ here. let r = here.0 in (r, here.2, alive_at_root r.path, h.1 ∙ sym (exact_at_root r.path))) (λ past. absurd (omega (arith, h.0, past.0))) (slice_get_cases rules e.0).1,
   λ h. (slice_get_within rules e.0 h.0 h.1, h.3 ∙ exact_at_root h.0.path),
 )
 
@@ -104,10 +87,7 @@ dead_stays ts at s dead =
     (λ past. alive_past ts at s past ∙ dead) (cases_lt (length at) (length ts))
 
 pub alive_before : (ts : List Token) (at : Location) (s : Step) → is_alive ts (at ++ s ∷ []) ≡ true → is_alive ts at ≡ true
-alive_before ts at s h = by (is_alive ts at) refl where
-  by : (b : Bool) → is_alive ts at ≡ b → is_alive ts at ≡ true
-  by true is = is
-  by false is = absurd (true≢false (sym h ∙ dead_stays ts at s is))
+alive_before ts at s h = ⊎_elim (λ is. is) (λ is. absurd (true≢false (sym h ∙ dead_stays ts at s is))) (cases_Bool (is_alive ts at))
 
 -- an entry's rule lives on by the step: it asks nothing of it, or this very step
 pub asks_or_not : (rules : List BodyRule) (at : Location) (s : Step) (e : ℕ × ℕ) → IsAlive rules (at ++ s ∷ []) e → (n : ℕ)
@@ -305,7 +285,7 @@ start_alive bs xs h e =
 pub within : (n steps : ℕ) (at : Location) → steps ≡ step_count at → n ≤ steps → n ≤ length at
 within n steps at is le = let lower : step_count at ≤ length at = min-le_left (length at) (2 ^ 64 - 1) in omega (arith, is, lower, le)
 
-pub beyond : (n steps : ℕ) (at : Location) → steps ≡ step_count at → steps < n → n ≤ 60 → steps ≡ length at
+beyond : (n steps : ℕ) (at : Location) → steps ≡ step_count at → steps < n → n ≤ 60 → steps ≡ length at
 beyond n steps at is lt few =
     ⊎_elim (λ more. let full : step_count at ≡ 2 ^ 64 - 1 = min-eq_right (omega (arith, more)) in absurd (omega (arith, is, full, lt, few)))
     (λ less. is ∙ min-eq_left less) (cases_lt (2 ^ 64 - 1) (length at))
@@ -314,9 +294,13 @@ pub survive_past : (k e : ℕ) (path : List Token) (at : Location) (s : Step) �
 survive_past k e path at s past alive exact =
     sym (rw (alive_past path at s past, alive) (ap (λ n. Some (k, n)) (exact_past path at s past ∙ sym exact)))
 
-pub survive_step : (k e w : ℕ) (path : List Token) (at : Location) (s : Step) → length at < length path → slice_get (map (λ t. token_weight t s) path) (length at) ≡ Some w → is_alive path at ≡ true → e ≡ exact_tokens path at
-    → cond (ltb 0 w) (Some (k, e + cond (eqb w 2) 1 0)) None ≡ survivor k path (at ++ s ∷ [])
-survive_step k e w path at s more is alive exact =
+pub survive_step : (k e w steps : ℕ) (path : List Token) (at : Location) (s : Step) → steps < length path → length path ≤ 60
+    → slice_get (map (λ t. token_weight t s) path) steps ≡ Some w
+    → steps ≡ step_count at → is_alive path at ≡ true → e ≡ exact_tokens path at → cond (ltb 0 w) (Some (k, e + cond (eqb w 2) 1 0)) None ≡ survivor k path (at ++ s ∷ [])
+survive_step k e w steps path at s lt few weighs count alive exact =
+    let here : steps ≡ length at = beyond (length path) steps at count lt few in
+    let more : length at < length path = omega (arith, here, lt) in
+    let is = ap (slice_get (map (λ t. token_weight t s) path)) (sym here) ∙ weighs in
     sym (ap (λ b. cond b (Some (k, exact_tokens path (at ++ s ∷ []))) None) (alive_step path at s w more is ∙ rw alive refl)
     ∙ ap (λ n. cond (ltb 0 w) (Some (k, n)) None) (exact_step path at s w more is ∙ ap (λ n. n + cond (eqb w 2) 1 0) (sym exact)))
 
@@ -420,26 +404,20 @@ pub best_more : (rules : List BodyRule) (at : Location) (xs : List (ℕ × ℕ))
 best_more rules at xs n c None x r index heavy tokens there has h = first_best (ltb 0 c.weight) rules at xs n c x r refl index heavy tokens there has h
 best_more rules at xs n c (Some f) x r index heavy tokens there has h = next_best (outdoes c f) rules at xs n c f x r refl index heavy tokens there has h
 
-get_all : {A : Type 0} (P : A → Type 0) (xs : List A) (i : ℕ) (x : A) → AllByRecursion P xs → slice_get xs i ≡ Some x → P x
-get_all P [] i x h e = absurd cc
-get_all P (y ∷ xs) zero x h e = subst P (same_Some y x e) h.0
-get_all P (y ∷ xs) (suc i) x h e = get_all P xs i x h.1 e
-
 -- of two rules the one of the lower index has the lower text
 texts_rise : (rules : List BodyRule) → IsInOrder rules → (i j : ℕ) (r s : BodyRule) → slice_get rules i ≡ Some r → slice_get rules j ≡ Some s → i < j → IsBefore (path_text r.path) (path_text s.path)
 texts_rise [] order i j r s a b lt = absurd cc
 texts_rise (q ∷ rules) order zero zero r s a b lt = absurd (omega (arith, lt))
-texts_rise (q ∷ rules) order zero (suc j) r s a b lt = get_all (λ (x : BodyRule). IsBefore (path_text r.path) (path_text x.path)) rules j s (subst (λ (q : BodyRule). AllByRecursion (λ (x : BodyRule). IsBefore (path_text q.path) (path_text x.path)) rules) (same_Some q r a) order.0) b
+texts_rise (q ∷ rules) order zero (suc j) r s a b lt = get_member (λ (x : BodyRule). IsBefore (path_text r.path) (path_text x.path)) rules j s (subst (λ (q : BodyRule). AllByRecursion (λ (x : BodyRule). IsBefore (path_text q.path) (path_text x.path)) rules) (same_Some q r a) order.0) b
 texts_rise (q ∷ rules) order (suc i) zero r s a b lt = absurd (omega (arith, lt))
 texts_rise (q ∷ rules) order (suc i) (suc j) r s a b lt = texts_rise rules order.1 i j r s a b (omega (arith, lt))
 
 -- a rule of positive weight is one of the entries
 entry_of : (rules : List BodyRule) (w : Walk) (at : Location) → IsWalkTo rules w at → (j : ℕ) (s : BodyRule) → slice_get rules j ≡ Some s → 0 < weight s.path at
     → (k : ℕ) × (k < length w.alive) × (slice_get w.alive k ≡ Some (j, exact_tokens s.path at))
-entry_of rules w at h j s gets pos = place_of w.alive (j, exact_tokens s.path at) ((h.alive (j, exact_tokens s.path at)).1 (s, gets, by (is_alive s.path at) refl, refl)) where
-  by : (b : Bool) → is_alive s.path at ≡ b → is_alive s.path at ≡ true
-  by true is = is
-  by false is = absurd (omega (arith, pos, weight_dead s.path at is))
+entry_of rules w at h j s gets pos =
+    let alive : is_alive s.path at ≡ true = ⊎_elim (λ is. is) (λ dead. absurd (omega (arith, pos, weight_dead s.path at dead))) (cases_Bool (is_alive s.path at)) in
+    place_of w.alive (j, exact_tokens s.path at) ((h.alive (j, exact_tokens s.path at)).1 (s, gets, alive, refl))
 
 -- the best of all entries is the choice
 pub best_is_choice : (rules : List BodyRule) (w : Walk) (at : Location) (n : ℕ) (found : Option Candidate) → IsInOrder rules → IsWalkTo rules w at → length w.alive ≤ n

@@ -1,10 +1,8 @@
 -- Bodies that meet the expected one.
 use Rattle.std.proofs.Common.{◌≡◌, ◌↔◌, ℕ, Bool, true, false, List, [], Option, Some, None, IsTrue, refl, sym, ap, ◌∙◌, true≢false}
 use Rattle.std.proofs.lemmas.Slice.Eq.{bytes_eq-Decides}
-use Rattle.pact_rules.specs.Trees.{Node, null, truth, whole, text, list, object}
-use Rattle.pact_rules.specs.Rules.{Rules}
-use Rattle.reply_check.specs.Fitting.{Fits, are_alike}
-use Rattle.reply_check.specs.Bodies.{is_empty, MeetsBody}
+use Rattle.pact_rules.specs.{Trees.{Node, null, truth, whole, text, list, object}, Rules.{Rules}}
+use Rattle.reply_check.specs.{Fitting.{Fits, are_alike}, Bodies.{is_empty, MeetsBody}}
 
 never : {A : Type 0} → false ≡ true → A
 never h = absurd (true≢false (sym h))
@@ -25,21 +23,13 @@ alike_text s (text t) h = ap text (sym ((bytes_eq-Decides s t).0 h))
 alike_text s (list ts) h = never h
 alike_text s (object fs) h = never h
 
-alike_empty : (x y : Node) → is_empty x ≡ true → are_alike x y ≡ true → y ≡ x
-alike_empty null y e h = alike_null y h
-alike_empty (truth b) y e h = never e
-alike_empty (whole n) y e h = never e
-alike_empty (text s) y e h = alike_text s y h
-alike_empty (list ts) y e h = never e
-alike_empty (object fs) y e h = never e
-
-empty_alike : (x : Node) → is_empty x ≡ true → are_alike x x ≡ true
-empty_alike null e = refl
-empty_alike (truth b) e = never e
-empty_alike (whole n) e = never e
-empty_alike (text s) e = (bytes_eq-Decides s s).1 refl
-empty_alike (list ts) e = never e
-empty_alike (object fs) e = never e
+alike_empty : (x y : Node) → is_empty x ≡ true → (are_alike x y ≡ true) ↔ (y ≡ x)
+alike_empty null y e = (alike_null y, λ same. ap (are_alike null) same)
+alike_empty (truth b) y e = never e
+alike_empty (whole n) y e = never e
+alike_empty (text s) y e = (alike_text s y, λ same. ap (are_alike (text s)) same ∙ (bytes_eq-Decides s s).1 refl)
+alike_empty (list ts) y e = never e
+alike_empty (object fs) y e = never e
 
 -- nothing is expected
 pub meets_any : (rules : Rules) (actual : Option Node) → IsTrue true ↔ MeetsBody rules None actual
@@ -53,8 +43,8 @@ meets_none b rules x is = (λ h. sym is ∙ h, λ s. is ∙ s)
 pub meets_empty : (b e : Bool) (rules : Rules) (x y : Node) → e ≡ is_empty x → e ≡ true → b ≡ are_alike x y → IsTrue b ↔ MeetsBody rules (Some x) (Some y)
 meets_empty b e rules x y is so same =
     let empty : is_empty x ≡ true = sym is ∙ so in (
-      λ h. (λ _. alike_empty x y empty (sym same ∙ h), λ full. never (sym full ∙ empty)),
-      λ s. same ∙ ap (are_alike x) (s.0 empty) ∙ empty_alike x empty,
+      λ h. (λ _. (alike_empty x y empty).0 (sym same ∙ h), λ full. never (sym full ∙ empty)),
+      λ s. same ∙ (alike_empty x y empty).1 (s.0 empty),
     )
 
 -- any other

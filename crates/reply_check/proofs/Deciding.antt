@@ -1,7 +1,7 @@
 -- Deciding by going through a list.
-use Rattle.std.proofs.Common.{◌≡◌, ◌⊎◌, inl, inr, ◌↔◌, ℕ, ◌+◌, ◌<◌, ◌≤◌, Bool, true, false, List, [], ◌∷◌, length, drop, get_or, IsTrue, refl, sym, ap, ◌∙◌, subst, true≢false}
-use Rattle.std.proofs.lemmas.List.{drop_more, drop_all}
 use Rattle.std.specs.List.{AllByRecursion}
+use Rattle.std.proofs.Common.{◌≡◌, ◌⊎◌, inl, inr, ◌↔◌, ℕ, ◌+◌, ◌<◌, ◌≤◌, Bool, true, false, List, [], ◌∷◌, ◌++◌, length, drop, get_or, IsTrue, refl, sym, ap, ◌∙◌, subst, true≢false}
+use Rattle.std.proofs.lemmas.List.{drop_more, drop_all}
 use Rattle.pact_rules.specs.Lists.{OneOf, IsIn}
 
 pub by_test : {B : Type 0} (b : Bool) → (b ≡ true → B) → (b ≡ false → B) → B
@@ -61,6 +61,10 @@ module _ {A : Type 0} (P : A → Type 0) where
 
   pub all_done : (all left : List A) → left ≡ [] → AllByRecursion P all ↔ AllByRecursion P left → AllByRecursion P all
   all_done all left is h = h.1 (subst (AllByRecursion P) (sym is) tt)
+
+  pub all_and_last : (front : List A) (x : A) → AllByRecursion P front → P x → AllByRecursion P (front ++ x ∷ [])
+  all_and_last [] x a p = (p, tt)
+  all_and_last (y ∷ ys) x a p = (a.0, all_and_last ys x a.1 p)
 
   pub all_in : (xs : List A) → AllByRecursion P xs → (x : A) → IsIn x xs → P x
   all_in [] a x i = absurd i

@@ -1,19 +1,11 @@
 -- Fitting, item by item and member by member.
+use Rattle.std.specs.{Slice.{IsItemAt}, Option.{option_or, option_copied}, Cmp.Lexicographic.{slice_cmp}, Map.{lookup}, BTreeMap.{is_at}}
 use Rattle.std.proofs.Common.{◌≡◌, ℕ, zero, suc, Bool, true, ◌&&◌, List, [], ◌∷◌, ◌++◌, length, Option, Some, None, option_map, slice_get, String, Global, Vec, BTreeMap, string_bytes, nat_cmp, Bor, refl, sym, ap, ◌∙◌, rules, ◌+◌, ◌<◌, get_or, drop, add-one}
-use Rattle.std.proofs.lemmas.List.{drop_more}
-use Rattle.std.specs.Slice.{IsItemAt}
-use Rattle.std.proofs.lemmas.Option.{slice_get_past, slice_get_read}
-use Rattle.std.specs.Option.{option_or, option_copied}
-use Rattle.pact_rules.specs.Trees.{Node, list, object, Nodes, no_nodes, node, Fields, no_fields, field}
-use Rattle.pact_paths.specs.Paths.{Location, key, item}
-use Rattle.pact_rules.specs.Rules.{Rules}
-use Rattle.pact_rules.specs.TreeView.{tree_view, list_view, optional_view, object_view}
-use Rattle.pact_rules.specs.declared.tree.Tree.{Tree, List as ListOf, Object}
+use Rattle.std.proofs.{lemmas.Bool.{and_from}, lemmas.List.{drop_more}, lemmas.Option.{slice_get_past, slice_get_read}}
+use Rattle.pact_rules.specs.{Matching.{get_field, has_keys_of}, Trees.{Node, list, object, Nodes, no_nodes, node, Fields, no_fields, field}, Rules.{Rules}}
+use Rattle.pact_rules.specs.{TreeView.{tree_view, list_view, optional_view, object_view}, declared.tree.Tree.{Tree, List as ListOf, Object}}
 use Rattle.pact_rules.proofs.MatchingLemmas.{Entry, view-List, view-Object, view-lookup}
-use Rattle.pact_rules.specs.Matching.{get_field, has_keys_of}
-use Rattle.std.specs.Cmp.Lexicographic.{slice_cmp}
-use Rattle.std.specs.Map.{lookup}
-use Rattle.std.specs.BTreeMap.{is_at}
+use Rattle.pact_paths.specs.Paths.{Location, key, item}
 use Rattle.reply_check.specs.Computed.{meets_here, expected_items, expected_fields, first_or, example, if_there, fits, items_fit, members_fit}
 use Rattle.reply_check.specs.Fitting.{get_node}
 
@@ -26,9 +18,6 @@ pub no_members_expected : (rules : Rules) (at : Location) (gs : Fields) → memb
 no_members_expected rules at no_fields = refl
 no_members_expected rules at (field k y gs) = no_members_expected rules at gs
 
-both_true : {a b : Bool} → a ≡ true → b ≡ true → (a && b) ≡ true
-both_true ea eb = rw (ea, eb) refl
-
 pub get_node_view : (ts : List Tree) (i : ℕ) → get_node (list_view ts) i ≡ option_map tree_view (slice_get ts i)
 get_node_view [] i = refl
 get_node_view (t ∷ ts) zero = refl
@@ -39,18 +28,18 @@ pub list_without_example : (rules : Rules) (at : Location) (x : Node) (actual : 
 list_without_example rules at x actual v is m none =
     let seen : tree_view actual ≡ list (list_view v.items) = ap tree_view is ∙ view-List v in
     let met : meets_here rules at x (list (list_view v.items)) ≡ true = ap (meets_here rules at x) (sym seen) ∙ m in
-    sym (ap (fits rules at x) seen ∙ both_true met (ap (λ xs. items_fit rules at xs 0 (list_view v.items)) none ∙ no_items_expected rules at 0 (list_view v.items)))
+    sym (ap (fits rules at x) seen ∙ and_from _ _ met (ap (λ xs. items_fit rules at xs 0 (list_view v.items)) none ∙ no_items_expected rules at 0 (list_view v.items)))
 
 pub object_without_example : (rules : Rules) (at : Location) (x : Node) (actual : Tree) (m : BTreeMap (String Global) Tree) → actual ≡ Object m → meets_here rules at x (tree_view actual) ≡ true → expected_fields x ≡ no_fields
     → true ≡ fits rules at x (tree_view actual)
 object_without_example rules at x actual m is h none =
     let seen : tree_view actual ≡ object (object_view m.entries) = ap tree_view is ∙ view-Object m in
     let met : meets_here rules at x (object (object_view m.entries)) ≡ true = ap (meets_here rules at x) (sym seen) ∙ h in
-    sym (ap (fits rules at x) seen ∙ both_true met (ap (λ fs. has_keys_of fs (object_view m.entries) && members_fit rules at fs (object_view m.entries)) none ∙ no_members_expected rules at (object_view m.entries)))
+    sym (ap (fits rules at x) seen ∙ and_from _ _ met (ap (λ fs. has_keys_of fs (object_view m.entries) && members_fit rules at fs (object_view m.entries)) none ∙ no_members_expected rules at (object_view m.entries)))
 
 -- ---- members
 
-none_of : {A : Type 0} (o : Option A) → ((x : A) → o ≡ Some x → ⊥) → o ≡ None
+pub none_of : {A : Type 0} (o : Option A) → ((x : A) → o ≡ Some x → ⊥) → o ≡ None
 none_of None h = refl
 none_of (Some x) h = absurd (h x refl)
 

@@ -1,16 +1,13 @@
 -- The computed form says just what the relation says.
 use Rattle.std.proofs.Common.{option_and_then, slice_get, ◌≡◌, ◌⊎◌, inl, inr, ◌↔◌, ℕ, zero, suc, ◌+◌, Bool, true, false, ◌&&◌, List, [], ◌∷◌, ◌++◌, Option, Some, None, is_some, IsTrue, refl, sym, ap, ◌∙◌, subst, arith, bytes_eq}
-use Rattle.std.proofs.lemmas.Bool.{and_from, and_parts, false≢true}
-use Rattle.std.proofs.lemmas.Slice.Eq.{bytes_eq-Decides}
-use Rattle.std.proofs.lemmas.Option.{none-some}
+use Rattle.std.proofs.{lemmas.Bool.{and_from, and_parts, false≢true}, lemmas.Slice.Eq.{bytes_eq-Decides}, lemmas.Option.{none-some}}
 use Rattle.pact_paths.specs.Paths.{Location, key, item}
 use Rattle.pact_rules.specs.Trees.{Node, null, truth, whole, text, list, object, Nodes, no_nodes, node, Fields, no_fields, field}
-use Rattle.pact_rules.specs.Rules.{Rules, BodyRule, IsInOrder}
-use Rattle.pact_rules.specs.Choice.{chosen}
+use Rattle.pact_rules.specs.{Rules.{Rules, BodyRule, IsInOrder}, Choice.{chosen}, Matching.{get_field, has_keys_of}}
 use Rattle.pact_rules.proofs.ChoiceLemmas.{chosen_is_choice, choice_unique}
-use Rattle.pact_rules.specs.Matching.{get_field, has_keys_of}
 use Rattle.reply_check.specs.Fitting.{IsRuleFor, get_node, HasItem, HasField, HasMember, Expects, IsObject, IsExample, MeetsRule, MeetsHere, Fits, fitting}
 use Rattle.reply_check.specs.Computed.{rule_for, meets_rule, meets_here, first_or, example, expected_items, expected_fields, if_there, fits, items_fit, members_fit}
+use Rattle.reply_check.proofs.{Deciding.{by_test}, FitLemmas.{none_of}}
 
 -- ---- at a location itself
 
@@ -21,20 +18,16 @@ rule_alone : (rules : Rules) (order : IsInOrder rules.body) (at : Location) (rul
 rule_alone rules order at rule h =
     h.2 ∙ ap (option_and_then (slice_get rules.body)) (choice_unique rules.body at h.0 (chosen rules.body at) h.1 (chosen_is_choice rules.body at order))
 
-rule_met : (rule : Option BodyRule) (at : Location) (x y : Node) → meets_rule rule at x y ≡ true → MeetsRule rule at x y
-rule_met None at x y h = h
-rule_met (Some rule) at x y h = h
-
-met_rule : (rule : Option BodyRule) (at : Location) (x y : Node) → MeetsRule rule at x y → meets_rule rule at x y ≡ true
-met_rule None at x y h = h
-met_rule (Some rule) at x y h = h
+rule_met : (rule : Option BodyRule) (at : Location) (x y : Node) → (meets_rule rule at x y ≡ true) ↔ MeetsRule rule at x y
+rule_met None at x y = (λ h. h, λ h. h)
+rule_met (Some rule) at x y = (λ h. h, λ h. h)
 
 -- the computed choice is the one choice
 meets_so : (rules : Rules) (order : IsInOrder rules.body) (at : Location) (x y : Node) → meets_here rules at x y ≡ true → MeetsHere rules at x y
-meets_so rules order at x y h = (rule_for rules at, rule_is rules order at, rule_met (rule_for rules at) at x y h)
+meets_so rules order at x y h = (rule_for rules at, rule_is rules order at, (rule_met (rule_for rules at) at x y).0 h)
 
 so_meets : (rules : Rules) (order : IsInOrder rules.body) (at : Location) (x y : Node) → MeetsHere rules at x y → meets_here rules at x y ≡ true
-so_meets rules order at x y h = met_rule (rule_for rules at) at x y (subst (λ rule. MeetsRule rule at x y) (rule_alone rules order at h.0 h.1) h.2)
+so_meets rules order at x y h = (rule_met (rule_for rules at) at x y).1 (subst (λ rule. MeetsRule rule at x y) (rule_alone rules order at h.0 h.1) h.2)
 
 -- ---- members
 
@@ -51,10 +44,6 @@ value_or d (Some t) = t
 some_alike : (u t : Node) → Some u ≡ Some t → u ≡ t
 unfolding value_or
 some_alike u t h = ap (value_or u) h
-
-by_test : {B : Type 0} (b : Bool) → (b ≡ true → B) → (b ≡ false → B) → B
-by_test true is isnt = is refl
-by_test false is isnt = isnt refl
 
 here : (k l : List ℕ) (u : Node) (fs : Fields) → bytes_eq k l ≡ true → get_field k (field l u fs) ≡ Some u
 here k l u fs is = rw is refl
@@ -96,17 +85,13 @@ so_keys all (field l u fs) gs members keys =
 
 -- ---- items
 
-expects_so : (x : Node) (k : List ℕ) (e : Node) → Expects x k e → get_field k (expected_fields x) ≡ Some e
-expects_so (object fs) k e h = h
-expects_so null k e h = absurd h
-expects_so (truth b) k e h = absurd h
-expects_so (whole n) k e h = absurd h
-expects_so (text s) k e h = absurd h
-expects_so (list ts) k e h = absurd h
-
-none_of : (o : Option Node) → ((t : Node) → ¬ (o ≡ Some t)) → o ≡ None
-none_of None h = refl
-none_of (Some t) h = absurd (h t refl)
+expects_is : (x : Node) (k : List ℕ) (e : Node) → Expects x k e ↔ (get_field k (expected_fields x) ≡ Some e)
+expects_is (object fs) k e = (λ h. h, λ h. h)
+expects_is null k e = (λ h. absurd h, λ h. none-some e h)
+expects_is (truth b) k e = (λ h. absurd h, λ h. none-some e h)
+expects_is (whole n) k e = (λ h. absurd h, λ h. none-some e h)
+expects_is (text s) k e = (λ h. absurd h, λ h. none-some e h)
+expects_is (list ts) k e = (λ h. absurd h, λ h. none-some e h)
 
 no_example : {A : Type 0} → ⊥ ⊎ (A × ⊥) → ⊥
 no_example (inl h) = h
@@ -124,42 +109,41 @@ in_example xs i e = go (get_node xs i) refl
     go (Some t) at h = inl (at ∙ h)
     go None at h = inr (λ t found. none-some t (sym at ∙ found), h)
 
-example_so : (x : Node) (i : ℕ) (e : Node) → IsExample x i e → example (expected_items x) i ≡ Some e
-example_so (list xs) i e h = example_in xs i e h
-example_so null i e h = absurd (no_example h)
-example_so (truth b) i e h = absurd (no_example h)
-example_so (whole n) i e h = absurd (no_example h)
-example_so (text s) i e h = absurd (no_example h)
-example_so (object fs) i e h = absurd (no_example h)
-
-so_example : (x : Node) (i : ℕ) (e : Node) → example (expected_items x) i ≡ Some e → IsExample x i e
-so_example (list xs) i e h = in_example xs i e h
-so_example null i e h = absurd (none-some e h)
-so_example (truth b) i e h = absurd (none-some e h)
-so_example (whole n) i e h = absurd (none-some e h)
-so_example (text s) i e h = absurd (none-some e h)
-so_example (object fs) i e h = absurd (none-some e h)
+example_is : (x : Node) (i : ℕ) (e : Node) → IsExample x i e ↔ (example (expected_items x) i ≡ Some e)
+example_is (list xs) i e = (example_in xs i e, in_example xs i e)
+example_is null i e = (λ h. absurd (no_example h), λ h. absurd (none-some e h))
+example_is (truth b) i e = (λ h. absurd (no_example h), λ h. absurd (none-some e h))
+example_is (whole n) i e = (λ h. absurd (no_example h), λ h. absurd (none-some e h))
+example_is (text s) i e = (λ h. absurd (no_example h), λ h. absurd (none-some e h))
+example_is (object fs) i e = (λ h. absurd (no_example h), λ h. absurd (none-some e h))
 
 -- ---- the whole
 
+-- of a node that has no parts nothing more is asked
+flat_so : (rules : Rules) (order : IsInOrder rules.body) (at : Location) (x y : Node) → meets_here rules at x y ≡ true
+    → ((i : ℕ) (t : Node) → ¬ HasItem y i t) → ¬ IsObject y → ((k : List ℕ) (t : Node) → ¬ HasMember y k t)
+    → Fits rules at x y
+flat_so rules order at x y h no_item no_object no_member =
+    fitting at x y (meets_so rules order at x y h) (λ i e t is found. absurd (no_item i t found)) (λ k e is found. absurd (no_object found)) (λ k e t is found. absurd (no_member k t found))
+
 mutual
   pub fits_so : (rules : Rules) (order : IsInOrder rules.body) (at : Location) (x y : Node) → fits rules at x y ≡ true → Fits rules at x y
-  fits_so rules order at x null h = fitting at x null (meets_so rules order at x null h) (λ i e t is found. absurd found) (λ k e is found. absurd found) (λ k e t is found. absurd found)
-  fits_so rules order at x (truth b) h = fitting at x (truth b) (meets_so rules order at x (truth b) h) (λ i e t is found. absurd found) (λ k e is found. absurd found) (λ k e t is found. absurd found)
-  fits_so rules order at x (whole n) h = fitting at x (whole n) (meets_so rules order at x (whole n) h) (λ i e t is found. absurd found) (λ k e is found. absurd found) (λ k e t is found. absurd found)
-  fits_so rules order at x (text s) h = fitting at x (text s) (meets_so rules order at x (text s) h) (λ i e t is found. absurd found) (λ k e is found. absurd found) (λ k e t is found. absurd found)
+  fits_so rules order at x null h = flat_so rules order at x null h (λ i t found. found) (λ is. is) (λ k t found. found)
+  fits_so rules order at x (truth b) h = flat_so rules order at x (truth b) h (λ i t found. found) (λ is. is) (λ k t found. found)
+  fits_so rules order at x (whole n) h = flat_so rules order at x (whole n) h (λ i t found. found) (λ is. is) (λ k t found. found)
+  fits_so rules order at x (text s) h = flat_so rules order at x (text s) h (λ i t found. found) (λ is. is) (λ k t found. found)
   fits_so rules order at x (list ys) h =
       let both = and_parts (meets_here rules at x (list ys)) (items_fit rules at (expected_items x) 0 ys) h in
       fitting at x (list ys) (meets_so rules order at x (list ys) both.0)
-      (λ i e t is found. items_so rules order at (expected_items x) 0 ys both.1 i i e t (omega arith) (example_so x i e is) found)
+      (λ i e t is found. items_so rules order at (expected_items x) 0 ys both.1 i i e t (omega arith) ((example_is x i e).0 is) found)
       (λ k e is found. absurd found) (λ k e t is found. absurd found)
   fits_so rules order at x (object gs) h =
       let both = and_parts (meets_here rules at x (object gs)) (has_keys_of (expected_fields x) gs && members_fit rules at (expected_fields x) gs) h in
       let members = and_parts (has_keys_of (expected_fields x) gs) (members_fit rules at (expected_fields x) gs) both.1 in
       fitting at x (object gs) (meets_so rules order at x (object gs) both.0)
       (λ i e t is found. absurd found)
-      (λ k e is found. let t = value_of (get_field k gs) (keys_so (expected_fields x) gs members.0 k e (expects_so x k e is)) in (t.0, found_member k gs t.0 t.1))
-      (λ k e t is found. members_so rules order at (expected_fields x) gs members.1 k e t (expects_so x k e is) found)
+      (λ k e is found. let t = value_of (get_field k gs) (keys_so (expected_fields x) gs members.0 k e ((expects_is x k e).0 is)) in (t.0, found_member k gs t.0 t.1))
+      (λ k e t is found. members_so rules order at (expected_fields x) gs members.1 k e t ((expects_is x k e).0 is) found)
 
   items_so : (rules : Rules) (order : IsInOrder rules.body) (at : Location) (xs : Nodes) (i : ℕ) (ys : Nodes) → items_fit rules at xs i ys ≡ true
       → (j p : ℕ) (e t : Node) → p ≡ i + j → example xs p ≡ Some e → get_node ys j ≡ Some t → Fits rules (at ++ item p ∷ []) e t
@@ -196,14 +180,6 @@ record Parts (rules : Rules) (at : Location) (x y : Node) : Type 0 where
 parts_of : (rules : Rules) (at : Location) (x y : Node) → Fits rules at x y → Parts rules at x y
 parts_of rules _ _ _ (fitting at x y m i k f) = record { meeting = m; items = i; keys = k; members = f }
 
-so_expects : (x : Node) (k : List ℕ) (e : Node) → get_field k (expected_fields x) ≡ Some e → Expects x k e
-so_expects (object fs) k e h = h
-so_expects null k e h = none-some e h
-so_expects (truth b) k e h = none-some e h
-so_expects (whole n) k e h = none-some e h
-so_expects (text s) k e h = none-some e h
-so_expects (list ts) k e h = none-some e h
-
 there_so : (o : Option Node) (test : Node → Bool) → ((e : Node) → o ≡ Some e → test e ≡ true) → if_there o test ≡ true
 there_so None test h = refl
 there_so (Some e) test h = h e refl
@@ -218,14 +194,14 @@ mutual
       let p = parts_of rules at x (list ys) h in
       and_from (meets_here rules at x (list ys)) (items_fit rules at (expected_items x) 0 ys) (so_meets rules order at x (list ys) p.meeting)
       (so_items rules order at (expected_items x) 0 ys (λ j q e t sum is found. let same : j ≡ q = omega arith in
-      p.items q e t (so_example x q e is) (subst (λ n. get_node ys n ≡ Some t) same found)))
+      p.items q e t ((example_is x q e).1 is) (subst (λ n. get_node ys n ≡ Some t) same found)))
   so_fits rules order at x (object gs) h =
       let p = parts_of rules at x (object gs) h in
       and_from (meets_here rules at x (object gs)) (has_keys_of (expected_fields x) gs && members_fit rules at (expected_fields x) gs) (so_meets rules order at x (object gs) p.meeting)
       (and_from (has_keys_of (expected_fields x) gs) (members_fit rules at (expected_fields x) gs)
       (so_keys (expected_fields x) (expected_fields x) gs (λ k t found. member_found k (expected_fields x) t found)
-      (λ k e is. let t = p.keys k e (so_expects x k e is) tt in member_found k gs t.0 t.1))
-      (so_members rules order at (expected_fields x) gs (λ k e t is found. p.members k e t (so_expects x k e is) found)))
+      (λ k e is. let t = p.keys k e ((expects_is x k e).1 is) tt in member_found k gs t.0 t.1))
+      (so_members rules order at (expected_fields x) gs (λ k e t is found. p.members k e t ((expects_is x k e).1 is) found)))
 
   so_items : (rules : Rules) (order : IsInOrder rules.body) (at : Location) (xs : Nodes) (i : ℕ) (ys : Nodes)
       → ((j p : ℕ) (e t : Node) → p ≡ i + j → example xs p ≡ Some e → get_node ys j ≡ Some t → Fits rules (at ++ item p ∷ []) e t) → items_fit rules at xs i ys ≡ true

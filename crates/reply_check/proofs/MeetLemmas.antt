@@ -1,59 +1,29 @@
 -- Replies that meet an interaction.
-use Rattle.std.proofs.Common.{◌≡◌, ◌⊎◌, inl, inr, ◌↔◌, ℕ, Bool, true, false, ◌||◌, List, [], ◌∷◌, IsTrue, IfOk, codes, option_map, Option, Some, None, Result, Ok, Err, refl, sym, ap, ◌∙◌, subst}
-use Rattle.std.proofs.lemmas.Option.{same_Some}
+use Rattle.std.specs.{List.{list_any, find}, Str.{str_eq_ignore_ascii_case}}
+use Rattle.std.proofs.Common.{◌≡◌, ◌⊎◌, ◌↔◌, ℕ, Bool, true, false, List, [], ◌∷◌, IsTrue, IfOk, codes, option_map, Option, Some, None, Result, Ok, Err, refl, sym, ap, ◌∙◌, subst, ⊎_elim}
+use Rattle.std.proofs.{lemmas.Bool.{or_left, or_right}, lemmas.Option.{same_Some}}
 use Rattle.serde_json.specs.Data.{Data}
-use Rattle.pact_rules.specs.Trees.{Node}
-use Rattle.std.specs.List.{list_any, find}
-use Rattle.std.specs.Str.{str_eq_ignore_ascii_case}
-use Rattle.pact_rules.specs.Rules.{Rules, Entry, BodyRule, HeaderRule, is_regex, has_regex}
-use Rattle.pact_rules.specs.Tables.{header_entry}
-use Rattle.pact_rules.specs.RuleReading.{IsReading}
-use Rattle.pact_rules.specs.declared.rule_fault.RuleFault.{RuleFault}
-use Rattle.pact_rules.specs.declared.rule_fault.RuleFault.TheVariants.{Pattern}
+use Rattle.pact_rules.specs.{Trees.{Node}, Rules.{Rules, Entry, BodyRule, HeaderRule, is_regex, has_regex}, Tables.{header_entry}, RuleReading.{IsReading}}
+use Rattle.pact_rules.specs.{declared.rule_fault.RuleFault.{RuleFault}, declared.rule_fault.RuleFault.TheVariants.{Pattern}, Lists.{IsIn}}
 use Rattle.pact_rules.proofs.ReadingLemmas.{reading_agrees}
-use Rattle.pact_file.specs.Headers.{HasHeaders}
-use Rattle.pact_file.specs.Pact.{Header, Interaction}
-use Rattle.pact_file.specs.Parts.{optional_at, status_in, body_in}
-use Rattle.pact_file.specs.Rules.{TableRead, IsRulesOf}
-use Rattle.pact_rules.specs.Lists.{IsIn}
-use Rattle.reply_check.specs.Bodies.{MeetsBody}
-use Rattle.reply_check.specs.Meeting.{HasHeader, FitsHeader, Meets}
-use Rattle.reply_check.specs.Recorded.{Reply, status_sent}
-use Rattle.reply_check.specs.Sent.{IsFit, WasSent, WereSent}
+use Rattle.pact_file.specs.{Headers.{HasHeaders}, Pact.{Header, Interaction}, Parts.{optional_at, status_in, body_in}, Rules.{TableRead, IsRulesOf}}
+use Rattle.pact_file.proofs.Steps.{ok_same, ok_err}
+use Rattle.reply_check.specs.{Bodies.{MeetsBody}, Meeting.{HasHeader, FitsHeader, Meets}, Recorded.{Reply, status_sent}, Sent.{IsFit, WasSent, WereSent}}
 use Rattle.reply_check.proofs.Deciding.{by_test, in_one, one_in, all_in, in_all}
 
 -- ---- a response has one table of rules
 
-same_ok : (a b : Rules) → Path (Result Rules RuleFault) (Ok a) (Ok b) → a ≡ b
-same_ok a b h = cc
-
-no_fault : {P : Type 0} (a : Rules) → Path (Result Rules RuleFault) (Ok a) (Err Pattern) → P
-no_fault a h = absurd cc
-
-agreed : (a b : Rules) → (Path (Result Rules RuleFault) (Ok a) (Ok b)) ⊎ ((Path (Result Rules RuleFault) (Ok a) (Err Pattern)) ⊎ (Path (Result Rules RuleFault) (Ok b) (Err Pattern))) → a ≡ b
-agreed a b (inl same) = same_ok a b same
-agreed a b (inr (inl clash)) = no_fault a clash
-agreed a b (inr (inr clash)) = no_fault b clash
-
 one_table : (o : Option Data) (a b : Rules) → TableRead o (Ok a) → TableRead o (Ok b) → a ≡ b
-one_table None a b h k = same_ok a b (h ∙ sym k)
+one_table None a b h k = ok_same a b (h ∙ sym k)
 one_table (Some d) a b h k =
     let same : k.0 ≡ h.0 = same_Some _ _ (sym k.1 ∙ h.1) in
-    agreed a b (reading_agrees h.0 (Ok a) (Ok b) h.2 (subst (λ n. IsReading n (Ok b)) same k.2))
+    ⊎_elim (ok_same a b) (⊎_elim (ok_err a Pattern) (ok_err b Pattern)) (reading_agrees h.0 (Ok a) (Ok b) h.2 (subst (λ n. IsReading n (Ok b)) same k.2))
 
 one_rules : (response : Data) (a b : Rules) → IsRulesOf response a → IsRulesOf response b → a ≡ b
 unfolding IsRulesOf
 one_rules response a b h k = one_table (optional_at (codes "matchingRules") response) a b h k
 
 -- ---- patterns
-
-or_left : (a b : Bool) → a ≡ true → (a || b) ≡ true
-or_left true b h = refl
-or_left false b h = absurd cc
-
-or_right : (a b : Bool) → b ≡ true → (a || b) ≡ true
-or_right true b h = refl
-or_right false b h = h
 
 find_here : (p : HeaderRule → Bool) (x : HeaderRule) (xs : List HeaderRule) → p x ≡ true → find p (x ∷ xs) ≡ Some x
 find_here p x xs is = rw is refl

@@ -1,27 +1,15 @@
 -- What a reading of replies that succeeds went through, and that what is read is sound.
-use Rattle.std.proofs.Common.{◌≡◌, ℕ, List, codes, is_some, option_and_then, Result, Ok, Err, refl, sym, ap, ◌∙◌, subst}
-use Rattle.std.specs.Option.{ok_or}
-use Rattle.serde_json.specs.Data.{Data}
-use Rattle.serde_json.specs.Find.{get, as_array, as_object}
-use Rattle.pact_rules.specs.Outcome.{guard}
-use Rattle.pact_rules.specs.Reading.{GivesOne}
-use Rattle.pact_file.specs.Pact.{states_data}
-use Rattle.pact_file.specs.Parts.{text_at, object_at, states_in}
-use Rattle.pact_file.specs.Sound.{IsSound}
-use Rattle.pact_file.specs.Objects.{IsSomeText, json_of, object_of}
-use Rattle.pact_file.specs.declared.object.FileFault.{FileFault}
+use Rattle.std.{specs.Option.{ok_or}, proofs.Common.{◌≡◌, ℕ, List, codes, is_some, option_and_then, Result, Ok, Err, refl, sym, ap, ◌∙◌, subst}}
+use Rattle.serde_json.specs.{Data.{Data}, Find.{get, as_array, as_object}}
+use Rattle.pact_rules.specs.{Outcome.{guard}, Reading.{GivesOne}}
+use Rattle.pact_file.specs.{Pact.{states_data}, Parts.{text_at, object_at, states_in}, Sound.{IsSound}, Objects.{IsSomeText, json_of, object_of}}
+use Rattle.pact_file.specs.{declared.object.FileFault.{FileFault}, declared.fault.Part.TheVariants.{Whole, Description, States, Response, Status}}
+use Rattle.pact_file.proofs.{Objects.{object_ok, object_sound, json_text}, ReadLemmas.{AllSound, listed_sound}}
+use Rattle.pact_file.proofs.{SoundParts.{of_get, of_object_at, of_array, of_states}, Steps.{bind_ok, found_ok, ok_same, err_same, then_some}}
+use Rattle.reply_check.specs.{Recorded.{Reply as Recorded, status_sent}, ReplyParts.{as_file_fault, file_of, items_of, at, parts_at}}
+use Rattle.reply_check.specs.{Replies.{FileRead, RepliesRead}, declared.fault.RepliesFault.{RepliesFault}}
+use Rattle.reply_check.specs.{declared.fault.RepliesFault.TheVariants.{Shape, Memory}, declared.fault.Place.TheVariants.{Replies}}
 use Rattle.pact_file.specs.declared.object.FileFault.TheVariants as file_fault
-use Rattle.pact_file.proofs.Objects.{object_ok, object_sound, json_text}
-use Rattle.pact_file.proofs.ReadLemmas.{AllSound, listed_sound}
-use Rattle.pact_file.proofs.SoundParts.{of_get, of_object_at, of_array, of_states}
-use Rattle.pact_file.proofs.Steps.{bind_ok, found_ok, ok_same, err_same, then_some}
-use Rattle.reply_check.specs.Recorded.{Reply as Recorded, status_sent}
-use Rattle.reply_check.specs.ReplyParts.{as_file_fault, file_of, items_of, at, parts_at}
-use Rattle.reply_check.specs.Replies.{FileRead, RepliesRead}
-use Rattle.reply_check.specs.declared.fault.RepliesFault.{RepliesFault}
-use Rattle.reply_check.specs.declared.fault.RepliesFault.TheVariants.{Shape, Memory}
-use Rattle.reply_check.specs.declared.fault.Place.TheVariants.{Replies}
-use Rattle.pact_file.specs.declared.fault.Part.TheVariants.{Whole, Description, States, Response, Status}
 
 -- ---- soundness
 

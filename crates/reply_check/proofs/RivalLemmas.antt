@@ -1,25 +1,13 @@
 -- Replies for one interaction, found by their keys: the description, and the text of the states.
-use Rattle.std.proofs.Common.{◌≡◌, ◌⊎◌, inl, inr, ◌↔◌, ℕ, ◌+◌, ◌<◌, ◌≤◌, Bool, true, false, ◌&&◌, ◌||◌, cond, not, List, [], ◌∷◌, ◌++◌, length, take, drop, get_or, take-append-drop, IsTrue, Bor, bytes_eq, nat_cmp, refl, sym, ap, ap₂, ◌∙◌, subst, arith, true≢false}
-use Rattle.std.proofs.lemmas.Bool.{and_from, and_parts}
-use Rattle.std.proofs.lemmas.List.{take_more, take_all}
-use Rattle.std.proofs.lemmas.List.Folds.{list_any-append}
-use Rattle.std.proofs.lemmas.Map.Text.{is_eq-slice_cmp}
-use Rattle.std.proofs.lemmas.Slice.Eq.{bytes_eq-Decides}
-use Rattle.std.specs.BTreeMap.{is_at}
-use Rattle.std.specs.BTreeSet.{BTreeSet, contains, IsEmpty, Updates}
-use Rattle.std.specs.Cmp.Lexicographic.{slice_cmp}
-use Rattle.std.specs.List.{AllByRecursion, list_any}
-use Rattle.std.specs.Ordering.{is_eq, ordering_then}
-use Rattle.std.specs.declared.cmp.Ordering.{Ordering}
-use Rattle.std.specs.declared.cmp.Ordering.TheVariants.{Less, Equal, Greater}
+use Rattle.std.specs.{BTreeMap.{is_at}, BTreeSet.{BTreeSet, contains, IsEmpty, Updates}, Cmp.Lexicographic.{slice_cmp}, List.{AllByRecursion, list_any}}
+use Rattle.std.specs.{Ordering.{is_eq, ordering_then}, declared.cmp.Ordering.{Ordering}, declared.cmp.Ordering.TheVariants.{Less, Equal, Greater}}
+use Rattle.std.proofs.Common.{◌≡◌, ◌⊎◌, inl, inr, ◌↔◌, ℕ, ◌+◌, ◌<◌, ◌≤◌, Bool, true, false, ◌&&◌, ◌||◌, cond, not, List, [], ◌∷◌, ◌++◌, length, take, drop, get_or, take-append-drop, IsTrue, Bor, bytes_eq, nat_cmp, refl, sym, ap, ap₂, ◌∙◌, subst, ⊎_elim, arith, true≢false}
+use Rattle.std.proofs.{lemmas.Bool.{and_from, and_parts, or_parts, not-true, not-false}, lemmas.List.{take_more, take_all}, lemmas.List.Folds.{list_any-append}}
+use Rattle.std.proofs.{lemmas.Map.Text.{is_eq-slice_cmp}, lemmas.Slice.Eq.{bytes_eq-Decides}}
 use Rattle.serde_json.specs.Written.{compact_text}
-use Rattle.pact_file.specs.Pact.{State, states_data}
+use Rattle.pact_file.{specs.{Pact.{State, states_data}, Sound.{IsSound}}, proofs.OrderedSets.{one_states}}
 use Rattle.pact_rules.specs.Lists.{OneOf}
-use Rattle.pact_file.specs.Sound.{IsSound}
-use Rattle.pact_file.proofs.OrderedSets.{one_states}
-use Rattle.reply_check.specs.Recorded.{Reply}
-use Rattle.reply_check.specs.Replies.{AreRivals, HasRivals}
-use Rattle.reply_check.proofs.Deciding.{by_test, drop_at}
+use Rattle.reply_check.{specs.{Recorded.{Reply}, Replies.{AreRivals, HasRivals}}, proofs.Deciding.{by_test, drop_at, all_and_last}}
 
 -- the descriptions are equal, and so are the states where their texts are
 pub same_key : (d b t e : List ℕ) (ss ts : List State) (r : Bool) → r ≡ (bytes_eq d b && bytes_eq (compact_text (states_data ss)) t) → b ≡ e → t ≡ compact_text (states_data ts)
@@ -68,14 +56,6 @@ key_at r k q h =
 
 -- ---- one of them, or the last
 
-or_later : (a b : Bool) → a ≡ false → (a || b) ≡ true → b ≡ true
-or_later true b n h = absurd (true≢false n)
-or_later false b n h = h
-
-or_parts : (a b : Bool) → (a || b) ≡ false → (a ≡ false) × (b ≡ false)
-or_parts true b h = absurd (true≢false h)
-or_parts false b h = (refl, h)
-
 last_or : (a b : Bool) → cond a true b ≡ (b || (a || false))
 last_or true true = refl
 last_or true false = refl
@@ -91,14 +71,7 @@ module _ {A : Type 0} (P : A → Type 0) where
   one_or_last [] x (inl p) = inr p
   one_or_last [] x (inr o) = absurd o
   one_or_last (y ∷ ys) x (inl p) = inl (inl p)
-  one_or_last (y ∷ ys) x (inr o) = behind (one_or_last ys x o) where
-    behind : OneOf P ys ⊎ P x → OneOf P (y ∷ ys) ⊎ P x
-    behind (inl p) = inl (inr p)
-    behind (inr p) = inr p
-
-  all_and_last : (front : List A) (x : A) → AllByRecursion P front → P x → AllByRecursion P (front ++ x ∷ [])
-  all_and_last [] x a p = (p, tt)
-  all_and_last (y ∷ ys) x a p = (a.0, all_and_last ys x a.1 p)
+  one_or_last (y ∷ ys) x (inr o) = ⊎_elim (λ p. inl (inr p)) inr (one_or_last ys x o)
 
 -- ---- the keys seen so far
 
@@ -114,37 +87,27 @@ rival_behind : (front more : List Reply) (r : Reply) (k : Key) → AllByRecursio
 rival_behind [] more r k g h is = absurd (true≢false (sym is))
 rival_behind (s ∷ ss) more r k g h is = by_test (is_key k s)
     (λ here. inl (one_between (λ t. AreRivals s t) ss more r ((is_rival s r k g.0 h).0 here)))
-    (λ isnt. inr (rival_behind ss more r k g.1 h (or_later (is_key k s) (list_any (is_key k) ss) isnt is)))
+    (λ isnt. inr (rival_behind ss more r k g.1 h (sym (ap (λ b. b || list_any (is_key k) ss) isnt) ∙ is)))
 
 still_apart : (front : List Reply) (r : Reply) (k : Key) → AllByRecursion IsSoundReply front → IsKeyOf r k → list_any (is_key k) front ≡ false → ¬ HasRivals front → ¬ HasRivals (front ++ r ∷ [])
 still_apart [] r k g h isnt apart (inl o) = o
 still_apart [] r k g h isnt apart (inr o) = o
-still_apart (s ∷ ss) r k g h isnt apart (inl o) = by_place (one_or_last (λ t. AreRivals s t) ss r o) where
-  by_place : OneOf (λ t. AreRivals s t) ss ⊎ AreRivals s r → ⊥
-  by_place (inl p) = apart (inl p)
-  by_place (inr p) = true≢false (sym ((is_rival s r k g.0 h).1 p) ∙ (or_parts (is_key k s) (list_any (is_key k) ss) isnt).0)
+still_apart (s ∷ ss) r k g h isnt apart (inl o) =
+    ⊎_elim (λ p. apart (inl p)) (λ p. true≢false (sym ((is_rival s r k g.0 h).1 p) ∙ (or_parts (is_key k s) (list_any (is_key k) ss) isnt).0)) (one_or_last (λ t. AreRivals s t) ss r o)
 still_apart (s ∷ ss) r k g h isnt apart (inr o) = still_apart ss r k g.1 h (or_parts (is_key k s) (list_any (is_key k) ss) isnt).1 (λ p. apart (inr p)) o
-
-was_there : (added there : Bool) → added ≡ not there → added ≡ false → there ≡ true
-was_there added true is isnt = refl
-was_there added false is isnt = absurd (true≢false (sym is ∙ isnt))
-
-was_absent : (added there : Bool) → added ≡ not there → added ≡ true → there ≡ false
-was_absent added true is new = absurd (true≢false (sym new ∙ is))
-was_absent added false is new = refl
 
 module _ (xs : List Reply) (i : ℕ) (r : Reply) (k : Key) (old : BTreeSet Key) (added : Bool) (within : i < length xs) (stands : r ≡ get_or xs i r) (h : IsKeyOf r k) (added_is : added ≡ not (contains key_cmp old k))
     (s : AreSeen old (take i xs)) where
   pub rival_found : added ≡ false → HasRivals xs
   rival_found isnt =
       subst HasRivals (ap (λ ys. take i xs ++ ys) (sym (drop_at xs i r within stands)) ∙ take-append-drop i xs)
-      (rival_behind (take i xs) (drop (i + 1) xs) r k s.sound h (sym (s.known k) ∙ was_there added (contains key_cmp old k) added_is isnt))
+      (rival_behind (take i xs) (drop (i + 1) xs) r k s.sound h (sym (s.known k) ∙ not-false (contains key_cmp old k) (sym added_is ∙ isnt)))
 
   pub one_seen : (new : BTreeSet Key) → added ≡ true → Updates key_cmp old new k true → AreSeen new (take (i + 1) xs)
   one_seen new is updates =
       subst (AreSeen new) (sym (take_more xs i r within ∙ ap (λ y. take i xs ++ y ∷ []) (sym stands))) (record {
         sound = all_and_last IsSoundReply (take i xs) r s.sound h.sound;
-        apart = still_apart (take i xs) r k s.sound h (sym (s.known k) ∙ was_absent added (contains key_cmp old k) added_is is) s.apart;
+        apart = still_apart (take i xs) r k s.sound h (sym (s.known k) ∙ not-true (contains key_cmp old k) (sym added_is ∙ is)) s.apart;
         known = λ q.
             updates.0 q ∙ ap₂ (λ a b. cond a true b) (key_at r k q h) (s.known q) ∙ last_or (is_key q r) (list_any (is_key q) (take i xs))
             ∙ sym (list_any-append (is_key q) (take i xs) (r ∷ []));

@@ -1,25 +1,13 @@
 -- The header that was sent under a name, among headers in the order of their names.
-use Rattle.std.proofs.Common.{◌≡◌, inl, inr, ◌↔◌, ℕ, ◌≤◌, ◌<◌, List, [], ◌∷◌, Bool, true, false, nat_lt, Less, Equal, Greater, Ordering, get_or, length, IsTrue, sym, ap, ◌∙◌, subst, arith}
-use Rattle.std.proofs.lemmas.Bool.Decides.{nat_tests}
-use Rattle.std.proofs.lemmas.Cmp.{nat_list_cmp_total, tied_itself}
-use Rattle.std.proofs.lemmas.List.Sorted.{searchable_from_sorted}
-use Rattle.std.proofs.lemmas.Map.Text.{is_eq-slice_cmp}
-use Rattle.std.proofs.lemmas.Slice.Eq.{bytes_eq-Decides}
-use Rattle.std.specs.Cmp.Lexicographic.{slice_cmp}
-use Rattle.std.specs.List.{HoldsAt}
+use Rattle.std.specs.{Ordering.{nat_cmp, is_eq, ordering_index}, Cmp.Lexicographic.{slice_cmp}, List.{HoldsAt}}
 use Rattle.std.specs.List.Sorted.{IsNonDecreasingBy, IsPartitionPoint}
-use Rattle.std.specs.Ordering.{nat_cmp, is_eq, ordering_index}
-use Rattle.pact_rules.specs.Rules.{Rules}
-use Rattle.pact_rules.specs.Lists.{OneOf, IsIn}
-use Rattle.pact_file.specs.Pact.{Header, name_cmp}
-use Rattle.pact_file.specs.Sets.{IsRising}
-use Rattle.pact_file.proofs.HeaderSets.{name_total}
-use Rattle.pact_file.proofs.Searching.{in_order}
-use Rattle.pact_file.proofs.SetLemmas.{each_such}
+use Rattle.std.proofs.Common.{◌≡◌, inl, inr, ◌↔◌, ℕ, ◌<◌, List, [], ◌∷◌, Bool, Less, Equal, Greater, Ordering, get_or, length, IsTrue, sym, ap, ◌∙◌, subst, ⊎_elim, arith}
+use Rattle.std.proofs.{lemmas.Bool.{cases_lt}, lemmas.Cmp.{nat_list_cmp_total, tied_itself}, lemmas.List.Sorted.{searchable_from_sorted}}
+use Rattle.std.proofs.{lemmas.Map.Text.{is_eq-slice_cmp}, lemmas.Slice.Eq.{bytes_eq-Decides}}
+use Rattle.pact_file.{specs.{Pact.{Header, name_cmp}, Sets.{IsRising}}, proofs.{HeaderSets.{name_total}, Searching.{in_order}, SetLemmas.{each_such}}}
 use Rattle.pact_file.proofs.SortedSets.{contains, is_in}
-use Rattle.reply_check.specs.Meeting.{FitsHeader}
-use Rattle.reply_check.specs.Sent.{IsFit, WasSent}
-use Rattle.reply_check.proofs.Deciding.{by_test, in_one, one_in}
+use Rattle.reply_check.{specs.{Meeting.{FitsHeader}, Sent.{IsFit, WasSent}}, proofs.Deciding.{in_one, one_in}}
+use Rattle.pact_rules.specs.{Rules.{Rules}, Lists.{OneOf, IsIn}}
 
 abbrev pub by_name : List ℕ → Header → Ordering
 by_name name g = slice_cmp nat_cmp g.name name
@@ -49,12 +37,6 @@ pub found : (sent : List Header) (name : List ℕ) (place : ℕ) (h : Header) �
 found sent name place h lt is holds =
     (is_in h sent place lt (sym is), equal_name h.name name (subst (λ g. by_name name g ≡ Equal) (sym is) (holds h)))
 
-below : (k i : ℕ) → nat_lt k i ≡ true → k < i
-below k i h = grind (arith, nat_tests)
-
-not_under : (k i : ℕ) → nat_lt k i ≡ false → i ≤ k
-not_under k i h = grind (arith, nat_tests)
-
 pub missing : (sent : List Header) (name : List ℕ) (i : ℕ) → IsRising name_cmp sent
     → (IsNonDecreasingBy (λ g. ordering_index (by_name name g)) sent → IsPartitionPoint (λ g. by_name name g ≡ Less) (λ g. by_name name g ≡ Greater) sent i)
     → ¬ OneOf (λ g. g.name ≡ name) sent
@@ -64,9 +46,8 @@ missing sent name i r split one =
     let g : Header = o.0 in
     let c = contains g sent o.1 in
     let same : by_name name g ≡ Equal = same_name g.name name o.2 in
-    by_test (nat_lt c.0 i)
-    (λ t. let e : Less ≡ Equal = sym (p.0 c.0 g (omega arith) (below c.0 i t)) ∙ ap (by_name name) c.2 ∙ same in absurd cc)
-    (λ t. let e : Greater ≡ Equal = sym (p.1 c.0 g (not_under c.0 i t) c.1) ∙ ap (by_name name) c.2 ∙ same in absurd cc)
+    ⊎_elim (λ lt. let e : Less ≡ Equal = sym (p.0 c.0 g (omega arith) lt) ∙ ap (by_name name) c.2 ∙ same in absurd cc)
+    (λ le. let e : Greater ≡ Equal = sym (p.1 c.0 g le c.1) ∙ ap (by_name name) c.2 ∙ same in absurd cc) (cases_lt c.0 i)
 
 -- ---- whether it fits
 

@@ -1,9 +1,7 @@
 -- What counts of a header's value, byte by byte.
 use Rattle.std.proofs.Common.{◌≡◌, ◌↔◌, ℕ, Bool, true, false, ◌&&◌, ◌==◌, cond, List, [], ◌∷◌, ◌++◌, map, IsTrue, bytes_eq, refl, sym, ap, ap₂, ◌∙◌, arith}
-use Rattle.std.proofs.lemmas.Slice.Eq.{bytes_eq-Decides}
-use Rattle.std.proofs.lemmas.Bool.Decides.{nat_tests}
-use Rattle.reply_check.specs.HeaderValues.{is_blank, without_front, without_end, in_front, parts_between, counting_parts}
-use Rattle.reply_check.proofs.Deciding.{by_test}
+use Rattle.std.proofs.{lemmas.Slice.Eq.{bytes_eq-Decides}, lemmas.Bool.{eqb-true}, lemmas.Bool.Decides.{nat_tests}}
+use Rattle.reply_check.{specs.HeaderValues.{is_blank, without_front, without_end, in_front, parts_between, counting_parts}, proofs.Deciding.{by_test}}
 
 -- ---- the bytes that are kept, where the first says whether a part begins
 
@@ -79,13 +77,10 @@ joined_front b (p ∷ ps) = refl
 joined_comma : (bs : List ℕ) → joined ([] ∷ parts_between bs) ≡ 44 ∷ joined (parts_between bs)
 joined_comma bs = let found = has_part bs in rw found.2 refl
 
-is_comma : (b : ℕ) → (b == 44) ≡ true → b ≡ 44
-is_comma b h = grind (arith, nat_tests)
-
 joined_parts : (bs : List ℕ) → joined (parts_between bs) ≡ bs
 joined_parts [] = refl
 joined_parts (b ∷ bs) = by_test (b == 44)
-    (λ comma. rw comma (joined_comma bs ∙ ap (λ s. 44 ∷ s) (joined_parts bs) ∙ ap (λ c. c ∷ bs) (sym (is_comma b comma))))
+    (λ comma. rw comma (joined_comma bs ∙ ap (λ s. 44 ∷ s) (joined_parts bs) ∙ ap (λ c. c ∷ bs) (sym (eqb-true b 44 comma))))
     (λ other. rw other (joined_front b (parts_between bs) ∙ ap (λ s. b ∷ s) (joined_parts bs)))
 
 pub same_bytes : (v w : List ℕ) → parts_between v ≡ parts_between w → v ≡ w

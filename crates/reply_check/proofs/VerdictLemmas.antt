@@ -1,14 +1,11 @@
 -- The failing interactions so far.
-use Rattle.std.proofs.Common.{◌≡◌, ◌⊎◌, inl, inr, ◌↔◌, ℕ, zero, suc, ◌+◌, ◌<◌, ◌≤◌, List, [], ◌∷◌, ◌++◌, length, get_or, nat_lt, Some, None, slice_get, refl, sym, ap, ◌∙◌, subst, arith}
-use Rattle.std.proofs.lemmas.Option.{same_Some, slice_get_past, slice_get_read}
-use Rattle.std.proofs.lemmas.Bool.Decides.{nat_tests}
 use Rattle.std.specs.List.{AllByRecursion}
+use Rattle.std.proofs.Common.{◌≡◌, ◌⊎◌, inl, inr, ◌↔◌, ℕ, zero, suc, ◌+◌, ◌<◌, List, [], ◌∷◌, ◌++◌, length, get_or, Some, slice_get, refl, sym, ap, ◌∙◌, subst, ⊎_elim, arith}
+use Rattle.std.proofs.{lemmas.Option.{same_Some, slice_get_within, slice_get_read}, lemmas.Bool.{cases_lt}}
 use Rattle.pact_file.specs.Pact.{Interaction}
 use Rattle.pact_rules.specs.Lists.{OneOf, IsIn}
-use Rattle.reply_check.specs.Meeting.{HasPattern}
-use Rattle.reply_check.specs.Recorded.{Reply}
 use Rattle.reply_check.specs.Verdicts.{BelongsTo, IsKnown, AreKnown, IsFirstUnknown, Passes, InteractionFails, IsAscending, AreFailing, UsesPattern}
-use Rattle.reply_check.proofs.Deciding.{by_test}
+use Rattle.reply_check.{specs.{Meeting.{HasPattern}, Recorded.{Reply}}, proofs.Deciding.{all_and_last}}
 
 -- ---- indices
 
@@ -16,17 +13,9 @@ all_weaker : (n : ℕ) (is : List ℕ) → AllByRecursion (λ i. i < n) is → A
 all_weaker n [] h = tt
 all_weaker n (i ∷ is) h = let l : i < n = h.0 in (omega arith, all_weaker n is h.1)
 
-all_push : (n : ℕ) (is : List ℕ) → AllByRecursion (λ i. i < n) is → AllByRecursion (λ i. i < n + 1) (is ++ n ∷ [])
-all_push n [] h = (omega arith, tt)
-all_push n (i ∷ is) h = let l : i < n = h.0 in (omega arith, all_push n is h.1)
-
-above_push : (k n : ℕ) (is : List ℕ) → k < n → AllByRecursion (λ j. k < j) is → AllByRecursion (λ j. k < j) (is ++ n ∷ [])
-above_push k n [] l h = (l, tt)
-above_push k n (i ∷ is) l h = (h.0, above_push k n is l h.1)
-
 ascending_push : (n : ℕ) (is : List ℕ) → AllByRecursion (λ i. i < n) is → IsAscending is → IsAscending (is ++ n ∷ [])
 ascending_push n [] h a = (tt, tt)
-ascending_push n (i ∷ is) h a = (above_push i n is h.0 a.0, ascending_push n is h.1 a.1)
+ascending_push n (i ∷ is) h a = (all_and_last (λ j. i < j) is n a.0 h.0, ascending_push n is h.1 a.1)
 
 below : (n : ℕ) (is : List ℕ) (i : ℕ) → AllByRecursion (λ i. i < n) is → IsIn i is → i < n
 below n [] i h m = absurd m
@@ -46,20 +35,10 @@ of_push : (n : ℕ) (is : List ℕ) (i : ℕ) → IsIn i (is ++ n ∷ []) → Is
 of_push n [] i (inl same) = inr same
 of_push n [] i (inr m) = absurd m
 of_push n (j ∷ js) i (inl same) = inl (inl same)
-of_push n (j ∷ js) i (inr m) = later (of_push n js i m) where
-  later : IsIn i js ⊎ (i ≡ n) → IsIn i (j ∷ js) ⊎ (i ≡ n)
-  later (inl k) = inl (inr k)
-  later (inr same) = inr same
+of_push n (j ∷ js) i (inr m) = ⊎_elim (λ k. inl (inr k)) inr (of_push n js i m)
 
 up_to : (n i : ℕ) → i < n + 1 → (i < n) ⊎ (i ≡ n)
-up_to n i l = by_test (nat_lt i n) (λ is. inl (grind (arith, nat_tests))) (λ isnt. inr (grind (arith, nat_tests)))
-
-either : (i n : ℕ) → (i < n) ⊎ (n ≤ i)
-either i n = by_test (nat_lt i n) (λ is. inl (grind (arith, nat_tests))) (λ isnt. inr (grind (arith, nat_tests)))
-
-within : {A : Type 0} (xs : List A) (i : ℕ) (x : A) → slice_get xs i ≡ Some x → (i < length xs) ⊎ (length xs ≤ i) → i < length xs
-within xs i x is (inl l) = l
-within xs i x is (inr past) = let none : None ≡ Some x = sym (slice_get_past xs i past) ∙ is in absurd cc
+up_to n i l = ⊎_elim inl (λ le. inr (omega (arith, l, le))) (cases_lt i n)
 
 -- ---- so far
 
@@ -81,21 +60,19 @@ module _ (interactions : List Interaction) (replies : List Reply) where
     one_passes p = record { ascending = h.ascending; below_all = all_weaker n indices h.below_all; failing = λ i l. passing i p (up_to n i l) }
 
     failing_one : (i : ℕ) → ¬ Passes replies x → (i < n) ⊎ (i ≡ n) → IsIn i (indices ++ n ∷ []) ↔ InteractionFails interactions replies i
-    failing_one i f (inl l) = (λ m. (h.failing i l).0 (earlier (of_push n indices i m)), λ k. in_push n indices i ((h.failing i l).1 k)) where
-      earlier : IsIn i indices ⊎ (i ≡ n) → IsIn i indices
-      earlier (inl m) = m
-      earlier (inr same) = absurd (omega arith)
+    failing_one i f (inl l) =
+        (λ m. (h.failing i l).0 (⊎_elim (λ k. k) (λ same. absurd (omega (arith, l, same))) (of_push n indices i m)), λ k. in_push n indices i ((h.failing i l).1 k))
     failing_one i f (inr same) = (λ m. (x, ap (slice_get interactions) same ∙ stands, f), λ k. subst (λ j. IsIn j (indices ++ n ∷ [])) (sym same) (last_in n indices))
 
     pub one_fails : ¬ Passes replies x → IsSoFar (n + 1) (indices ++ n ∷ [])
-    one_fails f = record { ascending = ascending_push n indices h.below_all h.ascending; below_all = all_push n indices h.below_all; failing = λ i l. failing_one i f (up_to n i l) }
+    one_fails f = record { ascending = ascending_push n indices h.below_all h.ascending; below_all = all_and_last (λ i. i < n + 1) indices n (all_weaker n indices h.below_all) (omega arith); failing = λ i l. failing_one i f (up_to n i l) }
 
   pub all_seen : (n : ℕ) (indices : List ℕ) → n ≡ length interactions → IsSoFar n indices → AreFailing interactions replies indices
   all_seen n indices all h = record {
     ascending = h.ascending;
     failing = λ i. (
       λ m. (h.failing i (below n indices i h.below_all m)).0 m,
-      λ f. let l : i < length interactions = within interactions i f.0 f.1 (either i (length interactions)) in (h.failing i (omega arith)).1 f,
+      λ f. let l : i < length interactions = slice_get_within interactions i f.0 f.1 in (h.failing i (omega arith)).1 f,
     );
   }
 
@@ -103,28 +80,24 @@ module _ (interactions : List Interaction) (replies : List Reply) where
 
 pub known_one : (interactions : List Interaction) (replies : List Reply) (n : ℕ) (x : Reply) → slice_get replies n ≡ Some x → IsKnown interactions x
     → ((j : ℕ) (r : Reply) → j < n → slice_get replies j ≡ Some r → IsKnown interactions r) → (j : ℕ) (r : Reply) → j < n + 1 → slice_get replies j ≡ Some r → IsKnown interactions r
-known_one interactions replies n x stands known before j r l is = by_index (up_to n j l) where
-  by_index : (j < n) ⊎ (j ≡ n) → IsKnown interactions r
-  by_index (inl k) = before j r k is
-  by_index (inr same) = subst (IsKnown interactions) (same_Some x r (sym stands ∙ ap (slice_get replies) (sym same) ∙ is)) known
+known_one interactions replies n x stands known before j r l is =
+    ⊎_elim (λ k. before j r k is) (λ same. subst (IsKnown interactions) (same_Some x r (sym stands ∙ ap (slice_get replies) (sym same) ∙ is)) known) (up_to n j l)
 
 known_all : (interactions : List Interaction) (replies : List Reply) → ((j : ℕ) (r : Reply) → slice_get replies j ≡ Some r → IsKnown interactions r) → AreKnown interactions replies
 known_all interactions [] h = tt
 known_all interactions (r ∷ rs) h = (h 0 r refl, known_all interactions rs (λ j s is. h (suc j) s is))
 
 pub all_known : (interactions : List Interaction) (replies : List Reply) (n : ℕ) → n ≡ length replies → ((j : ℕ) (r : Reply) → j < n → slice_get replies j ≡ Some r → IsKnown interactions r) → AreKnown interactions replies
-all_known interactions replies n all before = known_all interactions replies (λ j r is. before j r (subst (λ k. j < k) (sym all) (within replies j r is (either j (length replies)))) is)
+all_known interactions replies n all before = known_all interactions replies (λ j r is. before j r (subst (λ k. j < k) (sym all) (slice_get_within replies j r is)) is)
 
 -- ---- the first that is unknown
 
 module _ (interactions : List Interaction) (replies : List Reply) where
   -- there is one first
   pub only_first : (i j : ℕ) → IsFirstUnknown interactions replies i → IsFirstUnknown interactions replies j → i ≡ j
-  only_first i j h k = by_order (either i j) (either j i) where
-    by_order : (i < j) ⊎ (j ≤ i) → (j < i) ⊎ (i ≤ j) → i ≡ j
-    by_order (inl l) o = absurd (h.unknown (k.first i h.reply l h.stands))
-    by_order (inr p) (inl l) = absurd (k.unknown (h.first j k.reply l k.stands))
-    by_order (inr p) (inr q) = omega arith
+  only_first i j h k =
+      ⊎_elim (λ l. absurd (h.unknown (k.first i h.reply l h.stands)))
+      (λ le. ⊎_elim (λ l. absurd (k.unknown (h.first j k.reply l k.stands))) (λ ge. omega (arith, le, ge)) (cases_lt j i)) (cases_lt i j)
 
 known_at : (interactions : List Interaction) (replies : List Reply) (i : ℕ) (r : Reply) → AreKnown interactions replies → slice_get replies i ≡ Some r → IsKnown interactions r
 known_at interactions [] i r all h = absurd cc

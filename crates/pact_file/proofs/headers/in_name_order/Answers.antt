@@ -1,6 +1,4 @@
-use Rattle.pact_file.specs.Pact.{name_cmp}
-use Rattle.pact_file.proofs.HeaderSets.{name_total}
-use Rattle.pact_file.proofs.SortedSets.{sorted_set, sorted_twins}
+use Rattle.pact_file.{specs.Pact.{name_cmp}, proofs.{HeaderSets.{name_total}, SortedSets.{sorted_set, sorted_twins}}}
 use Rattle.pact_file.proofs.headers.in_name_order.Goals as goal
 
 pub returns-then-names_rise : goal.returns-then-names_rise

@@ -1,6 +1,4 @@
-use Rattle.std.proofs.Common.{rules}
-use Rattle.std.proofs.lemmas.List.Sorted.{answers_always}
-use Rattle.std.specs.Ordering.{is_lt}
+use Rattle.std.{specs.Ordering.{is_lt}, proofs.{Common.{rules}, lemmas.List.Sorted.{answers_always}}}
 use Rattle.pact_file.specs.Pact.{name_cmp}
 use Rattle.pact_file.proofs.headers.names_rise.Goals as goal
 

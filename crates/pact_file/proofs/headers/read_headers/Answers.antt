@@ -1,7 +1,6 @@
 use Rattle.std.proofs.Common.{◌≡◌, Some, option_map, sym, ap, ◌∙◌}
 use Rattle.serde_json.specs.View.{view}
-use Rattle.pact_file.specs.Parts.{headers_found}
-use Rattle.pact_file.proofs.HeaderSets.{either}
+use Rattle.pact_file.{specs.Parts.{headers_found}, proofs.HeaderSets.{either}}
 use Rattle.pact_file.proofs.headers.read_headers.Goals as goal
 
 pub returns-in-Some : goal.returns-in-Some

@@ -1,8 +1,6 @@
-use Rattle.std.proofs.Common.{◌≡◌, ◌+◌, ◌∷◌, [], map, drop, string_bytes, ap, sym, ◌∙◌, arith}
-use Rattle.std.proofs.lemmas.List.{drop_more, drop_all}
-use Rattle.serde_json.specs.Find.{as_str}
-use Rattle.serde_json.specs.View.{view}
 use Rattle.pact_file.proofs.Joined.{joins, joins_none, joins_end}
+use Rattle.std.proofs.{Common.{◌≡◌, ◌+◌, ◌∷◌, [], map, drop, string_bytes, ap, sym, ◌∙◌, arith}, lemmas.List.{drop_more, drop_all}}
+use Rattle.serde_json.specs.{Find.{as_str}, View.{view}}
 use Rattle.pact_file.proofs.headers.read_joined.Goals as goal
 
 pub returns-in-None : goal.returns-in-None

@@ -1,8 +1,6 @@
 use Rattle.std.proofs.Common.{◌≡◌, map, drop, option_map, string_bytes, ◌++◌}
-use Rattle.serde_json.specs.Find.{as_str}
-use Rattle.serde_json.specs.View.{view}
-use Rattle.pact_file.specs.Parts.{all_of, joined}
-use Rattle.pact_file.proofs.Joined.{still}
+use Rattle.pact_file.{specs.Parts.{all_of, joined}, proofs.Joined.{still}}
+use Rattle.serde_json.specs.{Find.{as_str}, View.{view}}
 use Rattle.pact_file.proofs.headers.read_joined.Given as goal
 
 abbrev pub invariant-loop-index : goal.invariant-loop-index

@@ -1,7 +1,6 @@
 use Rattle.std.proofs.Common.{string_bytes, sym, ap, ◌∙◌}
 use Rattle.serde_json.specs.View.{view, members_view}
-use Rattle.pact_file.specs.Parts.{header_in, members_listed}
-use Rattle.pact_file.proofs.Lists.{goes_on, ends, is_done}
+use Rattle.pact_file.{specs.Parts.{header_in, members_listed}, proofs.Lists.{goes_on, ends, is_done}}
 use Rattle.pact_file.proofs.headers.read_members.Goals as goal
 
 pub loop-key-preserved : goal.loop-key-preserved

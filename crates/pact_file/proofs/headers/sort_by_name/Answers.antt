@@ -1,8 +1,5 @@
-use Rattle.std.proofs.Common.{rules}
-use Rattle.std.proofs.lemmas.List.Sorted.{ranks_by, answers_always}
-use Rattle.std.specs.Ordering.{is_lt}
-use Rattle.pact_file.specs.Pact.{name_cmp}
-use Rattle.pact_file.proofs.HeaderSets.{name_total}
+use Rattle.std.{specs.Ordering.{is_lt}, proofs.{Common.{rules}, lemmas.List.Sorted.{ranks_by, answers_always}}}
+use Rattle.pact_file.{specs.Pact.{name_cmp}, proofs.HeaderSets.{name_total}}
 use Rattle.pact_file.proofs.headers.sort_by_name.Goals as goal
 
 pub returns-clause-sorted : goal.returns-clause-sorted

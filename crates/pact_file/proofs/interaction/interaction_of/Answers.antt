@@ -1,12 +1,8 @@
 use Rattle.std.proofs.Common.{◌≡◌, string_bytes, option_map, sym, ap, ◌∙◌, subst}
-use Rattle.serde_json.specs.View.{view}
-use Rattle.serde_json.specs.Written.{compact_text}
 use Rattle.pact_rules.specs.TreeView.{tree_view}
-use Rattle.pact_file.specs.Filled.{IsFilled}
-use Rattle.pact_file.specs.Pact.{states_data, interaction_data}
-use Rattle.pact_file.specs.PartsView.{parts_view}
-use Rattle.pact_file.proofs.NormalTexts.{text_is, is_said}
+use Rattle.pact_file.{specs.{Filled.{IsFilled}, Pact.{states_data, interaction_data}, PartsView.{parts_view}}, proofs.NormalTexts.{text_is, is_said}}
 use Rattle.pact_file.proofs.SoundData.{whole}
+use Rattle.serde_json.specs.{View.{view}, Written.{compact_text}}
 use Rattle.pact_file.proofs.interaction.interaction_of.Goals as goal
 
 pub states_text-requires : goal.states_text-requires

@@ -1,11 +1,7 @@
-use Rattle.std.proofs.Common.{Ok, Err, refl, sym, ap}
-use Rattle.std.proofs.lemmas.Result.{err_from_is_err_and}
 use Rattle.serde_json.specs.View.{view}
-use Rattle.pact_file.specs.Interactions.{at}
-use Rattle.pact_file.specs.Normal.{InteractionRead}
-use Rattle.pact_file.specs.PartsView.{parts_view}
-use Rattle.pact_file.specs.declared.fault.Part.TheVariants.{Headers}
+use Rattle.pact_file.specs.{Interactions.{at}, Normal.{InteractionRead}, PartsView.{parts_view}, declared.fault.Part.TheVariants.{Headers}}
 use Rattle.pact_file.proofs.ReadLemmas.{parts_sound}
+use Rattle.std.proofs.{Common.{Ok, Err, refl, sym, ap}, lemmas.Result.{err_from_is_err_and}}
 use Rattle.pact_file.proofs.interaction.read_interaction.Goals as goal
 
 pub returns-in_err-parts : goal.returns-in_err-parts

@@ -1,9 +1,7 @@
 use Rattle.std.proofs.Common.{Ok, Err, codes, sym, ◌∙◌, subst}
 use Rattle.serde_json.specs.View.{view}
 use Rattle.pact_rules.specs.TreeView.{tree_view}
-use Rattle.pact_file.specs.Rules.{RulesRead}
-use Rattle.pact_file.proofs.ReadLemmas.{rules_none, no_rules_of, rules_some, rules_of, pact_fault_apart}
-use Rattle.pact_file.proofs.SoundParts.{of_optional}
+use Rattle.pact_file.{specs.Rules.{RulesRead}, proofs.{ReadLemmas.{rules_none, no_rules_of, rules_some, rules_of, pact_fault_apart}, SoundParts.{of_optional}}}
 use Rattle.pact_file.proofs.interaction.read_rules.Goals as goal
 
 pub returns-in-None-clause-read : goal.returns-in-None-clause-read

@@ -1,5 +1,4 @@
-use Rattle.pact_file.proofs.Again.{normal_again, one_pact}
-use Rattle.pact_file.proofs.Agreement.{one_answer}
+use Rattle.pact_file.proofs.{Again.{normal_again, one_pact}, Agreement.{one_answer}}
 use Rattle.pact_file.proofs.laws.normal_again.Goals as goal
 
 pub returns-clause-again : goal.returns-clause-again

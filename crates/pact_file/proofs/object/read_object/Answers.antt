@@ -1,8 +1,6 @@
-use Rattle.std.proofs.Common.{Err, sym, ap, ◌∙◌}
-use Rattle.std.proofs.lemmas.Result.{err_from_is_err_and}
 use Rattle.serde_json.specs.View.{view}
-use Rattle.pact_file.proofs.Objects.{tree_apart}
-use Rattle.pact_file.proofs.Steps.{err_same}
+use Rattle.std.proofs.{Common.{Err, sym, ap, ◌∙◌}, lemmas.Result.{err_from_is_err_and}}
+use Rattle.pact_file.proofs.{Objects.{tree_apart}, Steps.{err_same}}
 use Rattle.pact_file.proofs.object.read_object.Goals as goal
 
 pub returns-in_err-value-clause-memory : goal.returns-in_err-value-clause-memory

@@ -1,13 +1,7 @@
-use Rattle.std.proofs.Common.{Err, sym, ap, ◌∙◌}
-use Rattle.std.specs.Option.{ok_or}
-use Rattle.std.proofs.lemmas.Result.{err_from_is_err_and}
-use Rattle.pact_file.specs.Pact.{key_cmp}
-use Rattle.pact_file.specs.declared.fault.PactFault.TheVariants.{SameInteraction}
-use Rattle.pact_file.specs.Sorting.{insert_sorted, same_text}
-use Rattle.pact_file.proofs.OrderedSets.{key_total}
-use Rattle.pact_file.proofs.Searching.{still_rising}
+use Rattle.std.{specs.Option.{ok_or}, proofs.{Common.{Err, sym, ap, ◌∙◌}, lemmas.Result.{err_from_is_err_and}}}
+use Rattle.pact_file.specs.{Pact.{key_cmp}, declared.fault.PactFault.TheVariants.{SameInteraction}, Sorting.{insert_sorted, same_text}}
+use Rattle.pact_file.proofs.{Steps.{found_ok, lacks_err}, OrderedSets.{key_total}, Searching.{still_rising}}
 use Rattle.pact_file.proofs.SortingSteps.{order_goes, order_ends, order_done, none_left}
-use Rattle.pact_file.proofs.Steps.{found_ok, lacks_err}
 use Rattle.pact_file.proofs.order.in_key_order.Goals as goal
 
 pub insert_interaction-requires : goal.insert_interaction-requires

@@ -1,7 +1,5 @@
 use Rattle.std.proofs.Common.{◌≡◌, []}
-use Rattle.pact_file.specs.Pact.{key_cmp}
-use Rattle.pact_file.specs.Sets.{IsRising}
-use Rattle.pact_file.specs.Sorting.{insert_all_sorted, same_text}
+use Rattle.pact_file.specs.{Pact.{key_cmp}, Sets.{IsRising}, Sorting.{insert_all_sorted, same_text}}
 use Rattle.pact_file.proofs.order.in_key_order.Given as goal
 
 abbrev pub invariant-loop-new : goal.invariant-loop-new

@@ -1,9 +1,5 @@
-use Rattle.std.proofs.Common.{◌≡◌, Some, None, true, false, cond, refl, sym, ap, ◌∙◌, rules, arith}
-use Rattle.std.proofs.lemmas.Fn.{always_returns_same}
-use Rattle.pact_file.specs.Pact.{Interaction, key_cmp}
-use Rattle.pact_file.specs.Sorting.{same_text}
-use Rattle.pact_file.proofs.OrderedSets.{key_total}
-use Rattle.pact_file.proofs.Searching.{searchable, goes_between, meets}
+use Rattle.pact_file.{specs.{Pact.{Interaction, key_cmp}, Sorting.{same_text}}, proofs.{OrderedSets.{key_total}, Searching.{searchable, goes_between, meets}}}
+use Rattle.std.proofs.{Common.{◌≡◌, Some, None, true, false, cond, refl, sym, ap, ◌∙◌, rules, arith}, lemmas.Fn.{always_returns_same}}
 use Rattle.pact_file.proofs.order.index_of.Goals as goal
 
 pub returns-then-is_same-clause-ok : goal.returns-then-is_same-clause-ok

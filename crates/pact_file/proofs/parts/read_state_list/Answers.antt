@@ -1,8 +1,6 @@
-use Rattle.std.proofs.Common.{◌≡◌, ◌+◌, ◌∷◌, [], map, drop, ap, sym, ◌∙◌, arith}
-use Rattle.std.proofs.lemmas.List.{drop_more, drop_all}
 use Rattle.serde_json.specs.View.{view}
-use Rattle.pact_file.specs.Parts.{state_in, all_of}
-use Rattle.pact_file.proofs.Lists.{goes_on, ends, is_done}
+use Rattle.pact_file.{specs.Parts.{state_in, all_of}, proofs.Lists.{goes_on, ends, is_done}}
+use Rattle.std.proofs.{Common.{◌≡◌, ◌+◌, ◌∷◌, [], map, drop, ap, sym, ◌∙◌, arith}, lemmas.List.{drop_more, drop_all}}
 use Rattle.pact_file.proofs.parts.read_state_list.Goals as goal
 
 pub returns-in-None : goal.returns-in-None

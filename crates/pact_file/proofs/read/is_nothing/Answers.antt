@@ -1,6 +1,5 @@
 use Rattle.std.proofs.Common.{nat_eq, sym, ap, ◌∙◌}
-use Rattle.serde_json.specs.View.{view}
-use Rattle.serde_json.proofs.Views.{view-Array, items_len-items_view}
+use Rattle.serde_json.{specs.View.{view}, proofs.Views.{view-Array, items_len-items_view}}
 use Rattle.pact_file.specs.File.{holds_nothing}
 use Rattle.pact_file.proofs.read.is_nothing.Goals as goal
 

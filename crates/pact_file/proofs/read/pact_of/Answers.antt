@@ -1,10 +1,6 @@
-use Rattle.std.proofs.Common.{ℕ, List, Ok, Err, refl, ap, ◌∙◌}
-use Rattle.std.proofs.lemmas.Result.{err_from_is_err_and}
 use Rattle.serde_json.specs.View.{view}
-use Rattle.pact_file.specs.Normal.{if_short}
-use Rattle.pact_file.specs.Pact.{pact_with}
-use Rattle.pact_file.proofs.ReadLemmas.{from_gives, seen_sides, seen_items, all_seen}
-use Rattle.pact_file.proofs.Steps.{err_same}
+use Rattle.pact_file.{specs.{Normal.{if_short}, Pact.{pact_with}}, proofs.{ReadLemmas.{from_gives, seen_sides, seen_items, all_seen}, Steps.{err_same}}}
+use Rattle.std.proofs.{Common.{ℕ, List, Ok, Err, refl, ap, ◌∙◌}, lemmas.Result.{err_from_is_err_and}}
 use Rattle.pact_file.proofs.read.pact_of.Goals as goal
 
 pub returns-in_err-consumer-clause-reading : goal.returns-in_err-consumer-clause-reading

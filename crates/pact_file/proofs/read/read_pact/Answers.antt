@@ -1,12 +1,7 @@
-use Rattle.std.proofs.Common.{◌≡◌, ◌<◌, false, Err, length, nat_le, refl, sym, ap, ◌∙◌}
-use Rattle.std.proofs.lemmas.Bool.{lt-leb}
-use Rattle.std.proofs.lemmas.Result.{err_from_is_err_and}
 use Rattle.serde_json.specs.View.{view}
-use Rattle.pact_file.specs.File.{most_bytes, file_of}
-use Rattle.pact_file.specs.Normal.{Normal}
-use Rattle.pact_file.specs.declared.fault.PactFault.TheVariants.{TooLong}
-use Rattle.pact_file.proofs.ReadLemmas.{file_sound, file_text, of_file}
-use Rattle.pact_file.proofs.Steps.{err_same}
+use Rattle.std.proofs.{Common.{◌≡◌, ◌<◌, false, Err, length, nat_le, refl, sym, ap, ◌∙◌}, lemmas.Bool.{lt-leb}, lemmas.Result.{err_from_is_err_and}}
+use Rattle.pact_file.specs.{File.{most_bytes, file_of}, Normal.{Normal}, declared.fault.PactFault.TheVariants.{TooLong}}
+use Rattle.pact_file.proofs.{ReadLemmas.{file_sound, file_text, of_file}, Steps.{err_same}}
 use Rattle.pact_file.proofs.read.read_pact.Goals as goal
 
 pub returns-then-bytes-gt-MOST_BYTES-clause-reading : goal.returns-then-bytes-gt-MOST_BYTES-clause-reading

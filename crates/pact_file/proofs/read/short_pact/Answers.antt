@@ -1,7 +1,5 @@
 use Rattle.std.proofs.Common.{◌≡◌, nat_le, length, Ok, sym, ap, ◌∙◌, subst}
-use Rattle.pact_file.specs.File.{most_bytes}
-use Rattle.pact_file.specs.Pact.{pact_with, normal_text}
-use Rattle.pact_file.proofs.ReadLemmas.{too_long, short_enough, same_pact}
+use Rattle.pact_file.{specs.{File.{most_bytes}, Pact.{pact_with, normal_text}}, proofs.ReadLemmas.{too_long, short_enough, same_pact}}
 use Rattle.pact_file.proofs.read.short_pact.Goals as goal
 
 pub returns-then-not-has_room : goal.returns-then-not-has_room

@@ -1,8 +1,6 @@
 use Rattle.std.proofs.Common.{◌≡◌, ◌++◌, map, drop, false, string_bytes}
-use Rattle.serde_json.specs.View.{items_of}
-use Rattle.serde_json.specs.Written.{items_text}
-use Rattle.pact_file.specs.Pact.{interaction_data}
-use Rattle.pact_file.proofs.NormalTexts.{left}
+use Rattle.pact_file.{specs.Pact.{interaction_data}, proofs.NormalTexts.{left}}
+use Rattle.serde_json.specs.{View.{items_of}, Written.{items_text}}
 use Rattle.pact_file.proofs.texts.joined_texts.Given as goal
 
 abbrev pub invariant-loop-index : goal.invariant-loop-index

@@ -1,7 +1,6 @@
-use Rattle.std.proofs.Common.{◌≡◌, string_bytes, refl, ◌∙◌}
-use Rattle.std.proofs.lemmas.Result.{IfOk-weaker}
 use Rattle.serde_json.specs.View.{view}
 use Rattle.pact_file.specs.Texts.{text_of_parts}
+use Rattle.std.proofs.{Common.{◌≡◌, string_bytes, refl, ◌∙◌}, lemmas.Result.{IfOk-weaker}}
 use Rattle.pact_file.proofs.texts.parts_text.Goals as goal
 
 pub returns : goal.returns

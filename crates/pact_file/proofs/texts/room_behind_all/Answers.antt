@@ -1,9 +1,6 @@
-use Rattle.std.proofs.Common.{◌≡◌, ◌+◌, [], ◌∷◌, drop, sym, ap, ◌∙◌, arith}
-use Rattle.std.proofs.lemmas.List.{drop_more, drop_all}
 use Rattle.serde_json.specs.Written.{compact_text}
-use Rattle.pact_file.specs.Pact.{interaction_data}
-use Rattle.pact_file.specs.Texts.{item_length}
-use Rattle.pact_file.proofs.NormalTexts.{adds, adds_end, some_bytes}
+use Rattle.pact_file.{specs.{Pact.{interaction_data}, Texts.{item_length}}, proofs.NormalTexts.{adds, adds_end, some_bytes}}
+use Rattle.std.proofs.{Common.{◌≡◌, ◌+◌, [], ◌∷◌, drop, sym, ap, ◌∙◌, arith}, lemmas.List.{drop_more, drop_all}}
 use Rattle.pact_file.proofs.texts.room_behind_all.Goals as goal
 
 pub returns-in-None : goal.returns-in-None

@@ -1,6 +1,5 @@
 use Rattle.std.proofs.Common.{◌≡◌, ◌+◌, drop, length}
-use Rattle.pact_file.specs.Texts.{interactions_text}
-use Rattle.pact_file.proofs.NormalTexts.{left}
+use Rattle.pact_file.{specs.Texts.{interactions_text}, proofs.NormalTexts.{left}}
 use Rattle.pact_file.proofs.texts.room_behind_all.Given as goal
 
 -- what is taken of the room is what the texts before the place add

@@ -1,8 +1,5 @@
 use Rattle.std.proofs.Common.{ℕ, List, ◌<◌, ◌≤◌, Option, MatchOption, sym, subst, arith}
-use Rattle.pact_file.specs.File.{most_bytes}
-use Rattle.pact_file.specs.Pact.{Interaction}
-use Rattle.pact_file.specs.Texts.{pact_length}
-use Rattle.pact_file.proofs.NormalTexts.{some_bytes, room_for_all}
+use Rattle.pact_file.{specs.{File.{most_bytes}, Pact.{Interaction}, Texts.{pact_length}}, proofs.NormalTexts.{some_bytes, room_for_all}}
 use Rattle.pact_file.proofs.texts.room_left.Goals as goal
 
 abbrev Tells : List ℕ → List ℕ → List Interaction → Option ℕ → Type 0

@@ -1,7 +1,5 @@
-use Rattle.std.proofs.Common.{◌≡◌, string_bytes, refl, ap, ◌∙◌}
-use Rattle.std.proofs.lemmas.Result.{IfOk-weaker}
-use Rattle.pact_file.specs.Pact.{normal_text}
-use Rattle.pact_file.proofs.NormalTexts.{pact_text}
+use Rattle.pact_file.{specs.Pact.{normal_text}, proofs.NormalTexts.{pact_text}}
+use Rattle.std.proofs.{Common.{◌≡◌, string_bytes, refl, ap, ◌∙◌}, lemmas.Result.{IfOk-weaker}}
 use Rattle.pact_file.proofs.texts.text_of_pact.Goals as goal
 
 pub returns : goal.returns

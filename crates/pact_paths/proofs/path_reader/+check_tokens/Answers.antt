@@ -1,6 +1,5 @@
 use Rattle.std.proofs.Common.{◌≡◌, ◌<◌, ◌∙◌, length, None, sym, ap, arith}
-use Rattle.pact_paths.specs.Outcome.{checked}
-use Rattle.pact_paths.specs.PathReading.{token_in, tokens_in}
+use Rattle.pact_paths.specs.{Outcome.{checked}, PathReading.{token_in, tokens_in}}
 use Rattle.pact_paths.proofs.PathLemmas.{tokens_end, tokens_too_many, tokens_bad, tokens_more, checked-with_front}
 use Rattle.pact_paths.proofs.path_reader.+check_tokens.Goals as goal
 

@@ -1,10 +1,7 @@
-use Rattle.std.proofs.Common.{◌≡◌, ◌<◌, ◌∙◌, ◌-◌, ◌++◌, ◌∷◌, [], map, length, Some, None, sym, ap, subst, arith}
-use Rattle.std.proofs.lemmas.List.{map_push}
-use Rattle.pact_paths.specs.TokenView.{token_view, seen_view}
-use Rattle.pact_paths.specs.PathReading.{token_in, tokens_in, with_all}
-use Rattle.pact_paths.specs.Outcome.{Gives}
-use Rattle.pact_paths.specs.declared.path_reader.PathFault.TheVariants.{Memory}
+use Rattle.pact_paths.specs.{declared.path_reader.PathFault.TheVariants.{Memory}, TokenView.{token_view, seen_view}}
+use Rattle.pact_paths.specs.{PathReading.{token_in, tokens_in, with_all}, Outcome.{Gives}}
 use Rattle.pact_paths.proofs.PathLemmas.{tokens_end, tokens_too_many, tokens_bad, tokens_more, with_all-front, with_all-none}
+use Rattle.std.proofs.{Common.{◌≡◌, ◌<◌, ◌∙◌, ◌-◌, ◌++◌, ◌∷◌, [], map, length, Some, None, sym, ap, subst, arith}, lemmas.List.{map_push}}
 use Rattle.pact_paths.proofs.path_reader.+tokens_of.Goals as goal
 
 pub returns-then-is_empty : goal.returns-then-is_empty

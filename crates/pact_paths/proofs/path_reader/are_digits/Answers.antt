@@ -1,6 +1,4 @@
-use Rattle.std.proofs.Common.{◌∙◌, rules, tests}
-use Rattle.std.specs.Char.{is_ascii_digit}
-use Rattle.std.proofs.lemmas.Iterator.{YieldsList-from_slice}
+use Rattle.std.{specs.Char.{is_ascii_digit}, proofs.{Common.{◌∙◌, rules, tests}, lemmas.Iterator.{YieldsList-from_slice}}}
 use Rattle.std.proofs.lemmas.Iterator.Search.{all_from_yields_List}
 use Rattle.pact_paths.proofs.PathLemmas.{digits_all}
 use Rattle.pact_paths.proofs.path_reader.are_digits.Goals as goal

@@ -1,8 +1,6 @@
+use Rattle.std.specs.{Result.{result_ok}, Str.{all_ascii_digits}, Str.Parse.{digits_value}}
 use Rattle.std.proofs.Common.{◌≡◌, ◌<◌, ◌≤◌, ◌^◌, ◌∙◌, true, cond, length, None, Some, refl, sym, ap, arith, lt-ltb, le-leb}
-use Rattle.std.specs.Result.{result_ok}
 use Rattle.std.proofs.lemmas.Str.Parse.{numerals_by_value, tells_all_ascii_digits, parse_gives, digits_value_short, IsNumeralModel}
-use Rattle.std.specs.Str.{all_ascii_digits}
-use Rattle.std.specs.Str.Parse.{digits_value}
 use Rattle.pact_paths.specs.Spelling.{is_index}
 use Rattle.pact_paths.proofs.path_reader.number.Goals as goal
 

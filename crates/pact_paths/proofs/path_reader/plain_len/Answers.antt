@@ -1,8 +1,6 @@
-use Rattle.std.proofs.Common.{◌∙◌, ap, rules, tests, length, unwrap_or, Option, ℕ}
+use Rattle.std.proofs.{lemmas.Iterator.Search.{position_from_yields_List}, Common.{◌∙◌, ap, rules, tests, length, unwrap_or, Option, ℕ}}
 use Rattle.std.proofs.lemmas.Iterator.{YieldsList-from_slice}
-use Rattle.std.proofs.lemmas.Iterator.Search.{position_from_yields_List}
-use Rattle.pact_paths.specs.Spelling.{is_special}
-use Rattle.pact_paths.proofs.PathLemmas.{position_or_end}
+use Rattle.pact_paths.{specs.Spelling.{is_special}, proofs.PathLemmas.{position_or_end}}
 use Rattle.pact_paths.proofs.path_reader.plain_len.Goals as goal
 
 pub returns-clause-value : goal.returns-clause-value

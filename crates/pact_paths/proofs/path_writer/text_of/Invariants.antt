@@ -1,7 +1,5 @@
-use Rattle.std.proofs.Common.{◌≡◌, ◌++◌, map, drop, string_bytes}
-use Rattle.std.specs.List.{flat_map}
-use Rattle.pact_paths.specs.TokenView.{token_view}
-use Rattle.pact_paths.specs.Spelling.{path_text, token_text}
+use Rattle.std.{specs.List.{flat_map}, proofs.Common.{◌≡◌, ◌++◌, map, drop, string_bytes}}
+use Rattle.pact_paths.specs.{TokenView.{token_view}, Spelling.{path_text, token_text}}
 use Rattle.pact_paths.proofs.path_writer.text_of.Given as goal
 
 abbrev pub invariant-loop-token : goal.invariant-loop-token

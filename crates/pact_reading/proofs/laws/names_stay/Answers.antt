@@ -1,6 +1,5 @@
+use Rattle.pact_reading.{specs.Primitives.{broker_primitives}, proofs.Digests.{gives_digests}}
 use Rattle.broker_core.proofs.SoundNames as lemma
-use Rattle.pact_reading.specs.Primitives.{broker_primitives}
-use Rattle.pact_reading.proofs.Digests.{gives_digests}
 use Rattle.pact_reading.proofs.laws.names_stay.Goals as goal
 
 pub returns-clause-digests : goal.returns-clause-digests

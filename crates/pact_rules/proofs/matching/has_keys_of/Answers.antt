@@ -1,10 +1,6 @@
+use Rattle.std.specs.{Cmp.Lexicographic.{slice_cmp}, Map.{lookup}, BTreeMap.{is_at}}
 use Rattle.std.proofs.Common.{◌≡◌, ◌∙◌, ℕ, List, Bool, true, false, is_some, string_bytes, nat_cmp, refl, sym, ap}
-use Rattle.std.specs.Cmp.Lexicographic.{slice_cmp}
-use Rattle.std.specs.Map.{lookup}
-use Rattle.std.specs.BTreeMap.{is_at}
-use Rattle.pact_rules.specs.Matching.{get_field, has_keys_of}
-use Rattle.pact_rules.specs.TreeView.{object_view}
-use Rattle.pact_rules.proofs.MatchingLemmas.{Entry, view-lookup, is_some-view}
+use Rattle.pact_rules.{specs.{Matching.{get_field, has_keys_of}, TreeView.{object_view}}, proofs.MatchingLemmas.{Entry, view-lookup, is_some-view}}
 use Rattle.pact_rules.proofs.matching.has_keys_of.Goals as goal
 
 has_key : (name key : List ℕ) (es : List Entry) (r : Bool) → name ≡ key → r ≡ is_some (lookup (is_at (λ k. slice_cmp nat_cmp name (string_bytes k))) es) → is_some (get_field key (object_view es)) ≡ r

@@ -1,6 +1,5 @@
 use Rattle.std.proofs.Common.{◌≡◌}
-use Rattle.pact_rules.specs.TreeView.{object_view}
-use Rattle.pact_rules.specs.Matching.{has_keys_of}
+use Rattle.pact_rules.specs.{TreeView.{object_view}, Matching.{has_keys_of}}
 use Rattle.pact_rules.proofs.matching.has_keys_of.Given as goal
 
 -- all keys are there just where those that are left are

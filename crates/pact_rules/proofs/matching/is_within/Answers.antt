@@ -1,6 +1,5 @@
 use Rattle.std.proofs.Common.{◌≡◌, ◌∙◌, ◌&&◌, true, false, sym, ap}
-use Rattle.pact_rules.specs.Matching.{at_least, at_most}
-use Rattle.pact_rules.proofs.MatchingLemmas.{within_lists}
+use Rattle.pact_rules.{specs.Matching.{at_least, at_most}, proofs.MatchingLemmas.{within_lists}}
 use Rattle.pact_rules.proofs.matching.is_within.Goals as goal
 
 pub returns-then-is_at_least : goal.returns-then-is_at_least

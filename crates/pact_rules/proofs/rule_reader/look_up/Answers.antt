@@ -1,8 +1,5 @@
-use Rattle.std.proofs.Common.{◌≡◌, ◌∙◌, Option, None, Some, Bor, option_map, refl, ap}
-use Rattle.std.specs.Option.{option_copied}
-use Rattle.pact_rules.specs.TreeView.{tree_view}
-use Rattle.pact_rules.specs.declared.tree.Tree.{Tree}
-use Rattle.pact_rules.proofs.MatchingLemmas.{view-lookup}
+use Rattle.std.{specs.Option.{option_copied}, proofs.Common.{◌≡◌, ◌∙◌, Option, None, Some, Bor, option_map, refl, ap}}
+use Rattle.pact_rules.{specs.{TreeView.{tree_view}, declared.tree.Tree.{Tree}}, proofs.MatchingLemmas.{view-lookup}}
 use Rattle.pact_rules.proofs.rule_reader.look_up.Goals as goal
 
 seen : (o : Option (Bor Tree)) → option_map (λ t. tree_view t.now) o ≡ option_map tree_view (option_copied o)

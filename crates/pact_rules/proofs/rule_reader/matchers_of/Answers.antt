@@ -1,11 +1,6 @@
-use Rattle.std.proofs.Common.{◌≡◌, ◌∙◌, ◌++◌, ◌∷◌, [], ◌+◌, map, drop, sym, ap, arith}
-use Rattle.std.proofs.lemmas.List.{map_push, drop_more}
-use Rattle.pact_rules.specs.RuleViews.{matcher_view}
-use Rattle.pact_rules.specs.Trees.{node}
-use Rattle.pact_rules.specs.TreeView.{tree_view, list_view}
-use Rattle.pact_rules.specs.RuleReading.{no_pattern, matchers_at}
-use Rattle.pact_rules.specs.Matching.{is_pattern}
-use Rattle.pact_rules.proofs.PatternLemmas.{with_front, front_more, none_more}
+use Rattle.pact_rules.specs.{Matching.{is_pattern}, RuleViews.{matcher_view}, Trees.{node}, TreeView.{tree_view, list_view}}
+use Rattle.pact_rules.{specs.RuleReading.{no_pattern, matchers_at}, proofs.PatternLemmas.{with_front, front_more, none_more}}
+use Rattle.std.proofs.{Common.{◌≡◌, ◌∙◌, ◌++◌, ◌∷◌, [], ◌+◌, map, drop, sym, ap, arith}, lemmas.List.{map_push, drop_more}}
 use Rattle.pact_rules.proofs.rule_reader.matchers_of.Goals as goal
 
 pub loop-item-preserved : goal.loop-item-preserved

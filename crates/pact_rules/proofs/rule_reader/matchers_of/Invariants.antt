@@ -1,10 +1,6 @@
 use Rattle.std.proofs.Common.{◌≡◌, Err, map, drop}
-use Rattle.pact_rules.specs.RuleViews.{matcher_view}
-use Rattle.pact_rules.specs.TreeView.{list_view}
-use Rattle.pact_rules.specs.RuleReading.{no_pattern, matchers_at}
-use Rattle.pact_rules.specs.Matching.{is_pattern}
-use Rattle.pact_rules.specs.declared.rule_fault.RuleFault.TheVariants.{Pattern}
-use Rattle.pact_rules.proofs.PatternLemmas.{with_front}
+use Rattle.pact_rules.specs.{declared.rule_fault.RuleFault.TheVariants.{Pattern}, RuleViews.{matcher_view}, TreeView.{list_view}}
+use Rattle.pact_rules.{specs.{RuleReading.{no_pattern, matchers_at}, Matching.{is_pattern}}, proofs.PatternLemmas.{with_front}}
 use Rattle.pact_rules.proofs.rule_reader.matchers_of.Given as goal
 
 -- what is read, with what is left, is the whole; and a pattern that is met in what is left is met in the whole

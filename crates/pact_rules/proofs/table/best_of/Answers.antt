@@ -1,9 +1,6 @@
 use Rattle.std.proofs.Common.{◌≡◌, ◌+◌, ◌-◌, ◌∙◌, map, drop, length, sym, ap, arith}
-use Rattle.pact_rules.specs.Choice.{best}
-use Rattle.pact_paths.specs.Weights.{weight}
-use Rattle.pact_paths.specs.Locations.{step_view}
-use Rattle.pact_rules.specs.RuleViews.{rule_view}
-use Rattle.pact_rules.proofs.ChoiceLemmas.{loop_step, rule_at, as_candidate}
+use Rattle.pact_rules.{specs.{Choice.{best}, RuleViews.{rule_view}}, proofs.ChoiceLemmas.{loop_step, rule_at, as_candidate}}
+use Rattle.pact_paths.specs.{Weights.{weight}, Locations.{step_view}}
 use Rattle.pact_rules.proofs.table.best_of.Goals as goal
 
 pub loop-index-preserved : goal.loop-index-preserved

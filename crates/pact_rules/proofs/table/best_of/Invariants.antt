@@ -1,8 +1,6 @@
 use Rattle.std.proofs.Common.{◌≡◌, drop, map}
-use Rattle.pact_rules.specs.Choice.{best}
+use Rattle.pact_rules.{specs.{Choice.{best}, RuleViews.{rule_view}}, proofs.ChoiceLemmas.{as_candidate}}
 use Rattle.pact_paths.specs.Locations.{step_view}
-use Rattle.pact_rules.specs.RuleViews.{rule_view}
-use Rattle.pact_rules.proofs.ChoiceLemmas.{as_candidate}
 use Rattle.pact_rules.proofs.table.best_of.Given as goal
 
 -- the best of the rules from the index on

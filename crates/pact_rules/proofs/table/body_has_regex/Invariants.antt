@@ -1,7 +1,5 @@
-use Rattle.std.proofs.Common.{◌≡◌, drop, map}
-use Rattle.std.specs.List.{list_any}
-use Rattle.pact_rules.specs.Rules.{is_regex}
-use Rattle.pact_rules.specs.RuleViews.{rule_view}
+use Rattle.std.{specs.List.{list_any}, proofs.Common.{◌≡◌, drop, map}}
+use Rattle.pact_rules.specs.{Rules.{is_regex}, RuleViews.{rule_view}}
 use Rattle.pact_rules.proofs.table.body_has_regex.Given as goal
 
 -- there is one just where there is one among those that are left

@@ -1,6 +1,5 @@
-use Rattle.std.proofs.Common.{sym, rules}
-use Rattle.std.proofs.lemmas.Fn.{always_returns_same}
 use Rattle.pact_rules.proofs.NameLemmas.{by_name, has_entry, has_none}
+use Rattle.std.proofs.{Common.{sym, rules}, lemmas.Fn.{always_returns_same}}
 use Rattle.pact_rules.proofs.table.entry_named.Goals as goal
 
 pub returns-in-Ok : goal.returns-in-Ok

@@ -1,6 +1,4 @@
-use Rattle.std.proofs.Common.{◌≡◌, ◌+◌, drop, get_or, nat_cmp, rules, sym, ◌∙◌, arith}
-use Rattle.std.proofs.lemmas.List.{drop_more, drop_all}
-use Rattle.std.specs.Char.{to_ascii_lowercase}
+use Rattle.std.{specs.Char.{to_ascii_lowercase}, proofs.{Common.{◌≡◌, ◌+◌, drop, get_or, nat_cmp, rules, sym, ◌∙◌, arith}, lemmas.List.{drop_more, drop_all}}}
 use Rattle.pact_rules.proofs.NameLemmas.{longer, shorter, differs, goes_on}
 use Rattle.pact_rules.proofs.table.lower_order.Goals as goal
 

@@ -1,10 +1,5 @@
-use Rattle.std.proofs.Common.{◌≡◌, ◌∙◌, ℕ, List, Bool, true, false, bytes_eq, sym, ap}
-use Rattle.std.proofs.lemmas.Result.{err_from_is_err_and}
-use Rattle.std.specs.List.{list_any}
-use Rattle.pact_rules.specs.Rules.{BodyRule, rule_text}
-use Rattle.pact_rules.specs.RuleViews.{body_rules}
-use Rattle.pact_rules.specs.RuleReading.{entry_at}
-use Rattle.pact_rules.specs.TreeView.{tree_view}
+use Rattle.std.{specs.List.{list_any}, proofs.{Common.{◌≡◌, ◌∙◌, ℕ, List, Bool, true, false, bytes_eq, sym, ap}, lemmas.Result.{err_from_is_err_and}}}
+use Rattle.pact_rules.specs.{Rules.{BodyRule, rule_text}, RuleViews.{body_rules}, RuleReading.{entry_at}, TreeView.{tree_view}}
 use Rattle.pact_rules.proofs.PatternLemmas.{fails_on, taken_path, free_path}
 use Rattle.pact_rules.proofs.table_reader.body_rule.Goals as goal
 

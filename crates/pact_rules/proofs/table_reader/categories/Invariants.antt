@@ -1,10 +1,6 @@
 use Rattle.std.proofs.Common.{◌≡◌, Err}
-use Rattle.pact_rules.specs.Matching.{is_pattern}
-use Rattle.pact_rules.specs.Rules.{no_rules}
-use Rattle.pact_rules.specs.RuleReading.{no_pattern}
-use Rattle.pact_rules.specs.OrderedReading.{ordered_categories}
-use Rattle.pact_rules.specs.TreeView.{object_view}
-use Rattle.pact_rules.specs.declared.rule_fault.RuleFault.TheVariants.{Pattern}
+use Rattle.pact_rules.specs.{declared.rule_fault.RuleFault.TheVariants.{Pattern}, Matching.{is_pattern}, Rules.{no_rules}, RuleReading.{no_pattern}}
+use Rattle.pact_rules.specs.{OrderedReading.{ordered_categories}, TreeView.{object_view}}
 use Rattle.pact_rules.proofs.table_reader.categories.Given as goal
 
 -- what is read, with what is left, is the whole; and a pattern that is met in what is left is met in the whole

@@ -1,7 +1,5 @@
-use Rattle.std.proofs.Common.{◌≡◌, ◌∙◌, ◌++◌, map, sym, ap, subst, append-nil}
-use Rattle.std.specs.List.{filter}
-use Rattle.pact_rules.specs.Rules.{BodyRule, IsOrderedBy, rule_text, has_effect}
-use Rattle.pact_rules.specs.RuleViews.{rule_view, body_rules}
+use Rattle.std.{specs.List.{filter}, proofs.Common.{◌≡◌, ◌∙◌, ◌++◌, map, sym, ap, subst, append-nil}}
+use Rattle.pact_rules.specs.{Rules.{BodyRule, IsOrderedBy, rule_text, has_effect}, RuleViews.{rule_view, body_rules}}
 use Rattle.pact_rules.proofs.OrderLemmas.{in_order, order_kept}
 use Rattle.pact_rules.proofs.table_reader.effective_body.Goals as goal
 

@@ -1,7 +1,5 @@
-use Rattle.std.proofs.Common.{◌≡◌, ◌++◌, map}
-use Rattle.std.specs.List.{filter}
-use Rattle.pact_rules.specs.Rules.{has_effect}
-use Rattle.pact_rules.specs.RuleViews.{rule_view, body_rules}
+use Rattle.std.{specs.List.{filter}, proofs.Common.{◌≡◌, ◌++◌, map}}
+use Rattle.pact_rules.specs.{Rules.{has_effect}, RuleViews.{rule_view, body_rules}}
 use Rattle.pact_rules.proofs.table_reader.effective_body.Given as goal
 
 -- those that are kept, with those of what is left

@@ -1,7 +1,5 @@
-use Rattle.std.proofs.Common.{◌≡◌, ◌∙◌, ◌++◌, map, sym, ap, subst, append-nil}
-use Rattle.std.specs.List.{filter}
-use Rattle.pact_rules.specs.Rules.{HeaderRule, IsOrderedBy, name_key, has_effect}
-use Rattle.pact_rules.specs.RuleViews.{header_view, header_rules}
+use Rattle.std.{specs.List.{filter}, proofs.Common.{◌≡◌, ◌∙◌, ◌++◌, map, sym, ap, subst, append-nil}}
+use Rattle.pact_rules.specs.{Rules.{HeaderRule, IsOrderedBy, name_key, has_effect}, RuleViews.{header_view, header_rules}}
 use Rattle.pact_rules.proofs.OrderLemmas.{in_order, order_kept}
 use Rattle.pact_rules.proofs.table_reader.effective_headers.Goals as goal
 

@@ -1,6 +1,5 @@
 use Rattle.std.proofs.Common.{◌≡◌}
-use Rattle.pact_rules.specs.RuleReading.{has_old_key}
-use Rattle.pact_rules.specs.TreeView.{object_view}
+use Rattle.pact_rules.specs.{RuleReading.{has_old_key}, TreeView.{object_view}}
 use Rattle.pact_rules.proofs.table_reader.has_old_key.Given as goal
 
 -- there is one just where there is one among those that are left

@@ -1,11 +1,6 @@
-use Rattle.std.proofs.Common.{◌≡◌, ◌∙◌, ℕ, List, Bool, true, false, bytes_eq, sym, ap}
+use Rattle.std.{specs.{List.{list_any}, Str.{str_to_ascii_lowercase}}, proofs.Common.{◌≡◌, ◌∙◌, ℕ, List, Bool, true, false, bytes_eq, sym, ap}}
 use Rattle.std.proofs.lemmas.Result.{err_from_is_err_and}
-use Rattle.std.specs.List.{list_any}
-use Rattle.std.specs.Str.{str_to_ascii_lowercase}
-use Rattle.pact_rules.specs.Rules.{HeaderRule, name_key}
-use Rattle.pact_rules.specs.RuleViews.{header_rules}
-use Rattle.pact_rules.specs.RuleReading.{entry_at}
-use Rattle.pact_rules.specs.TreeView.{tree_view}
+use Rattle.pact_rules.specs.{Rules.{HeaderRule, name_key}, RuleViews.{header_rules}, RuleReading.{entry_at}, TreeView.{tree_view}}
 use Rattle.pact_rules.proofs.PatternLemmas.{fails_on, free_name}
 use Rattle.pact_rules.proofs.table_reader.header_rule.Goals as goal
 

@@ -1,7 +1,5 @@
 use Rattle.std.proofs.Common.{◌∙◌}
-use Rattle.pact_rules.specs.Rules.{name_key}
-use Rattle.pact_rules.specs.RuleViews.{header_view}
-use Rattle.pact_rules.proofs.OrderLemmas.{has_text}
+use Rattle.pact_rules.{specs.{Rules.{name_key}, RuleViews.{header_view}}, proofs.OrderLemmas.{has_text}}
 use Rattle.pact_rules.proofs.table_reader.is_name_taken.Goals as goal
 
 pub returns : goal.returns

@@ -1,7 +1,5 @@
 use Rattle.std.proofs.Common.{◌∙◌}
-use Rattle.pact_rules.specs.Rules.{rule_text}
-use Rattle.pact_rules.specs.RuleViews.{rule_view}
-use Rattle.pact_rules.proofs.OrderLemmas.{has_text}
+use Rattle.pact_rules.{specs.{Rules.{rule_text}, RuleViews.{rule_view}}, proofs.OrderLemmas.{has_text}}
 use Rattle.pact_rules.proofs.table_reader.is_path_taken.Goals as goal
 
 pub returns : goal.returns

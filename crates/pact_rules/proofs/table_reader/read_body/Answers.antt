@@ -1,13 +1,7 @@
 use Rattle.std.proofs.Common.{◌≡◌, ◌∙◌, string_bytes, sym, ap, subst}
-use Rattle.pact_rules.specs.Matching.{is_pattern}
-use Rattle.pact_rules.specs.TreeView.{tree_view, object_view}
-use Rattle.pact_rules.specs.Rules.{rule_text}
-use Rattle.pact_rules.specs.RuleViews.{rule_view, body_rules}
-use Rattle.pact_rules.specs.Outcome.{◌>>=◌}
-use Rattle.pact_rules.specs.RuleReading.{no_pattern, body_rule_at}
-use Rattle.pact_rules.specs.OrderedReading.{IsKeyedBy, put, ordered_body}
-use Rattle.pact_rules.proofs.OrderLemmas.{put_in_map, still_keyed}
-use Rattle.pact_rules.proofs.PatternLemmas.{stops_on, body_rule_goes}
+use Rattle.pact_rules.specs.{Matching.{is_pattern}, TreeView.{tree_view, object_view}, Rules.{rule_text}, RuleViews.{rule_view, body_rules}, Outcome.{◌>>=◌}}
+use Rattle.pact_rules.specs.{RuleReading.{no_pattern, body_rule_at}, OrderedReading.{IsKeyedBy, put, ordered_body}}
+use Rattle.pact_rules.proofs.{OrderLemmas.{put_in_map, still_keyed}, PatternLemmas.{BodyHeld, stops_on, body_rule_goes}}
 use Rattle.pact_rules.proofs.table_reader.read_body.Goals as goal
 
 pub loop-key-preserved : goal.loop-key-preserved
@@ -28,6 +22,6 @@ loop-key-preserved c =
           ∙ sym (ap (λ x. x >>= (λ r. ordered_body is_pattern (put rule_text r (body_rules es)) left)) read)
           ∙ sym (ap (ordered_body is_pattern (body_rules es)) step) ∙ h.value;
       stops = λ stop. h.stops (ap (ordered_body no_pattern (body_rules es)) step
-          ∙ stops_on (body_rule_at is_pattern (body_rules es) k n) (body_rule_at no_pattern (body_rules es) k n) (λ r. ordered_body no_pattern (put rule_text r (body_rules es)) left) r (body_rule_goes (body_rules es) k n) read
+          ∙ stops_on BodyHeld (body_rule_at is_pattern (body_rules es) k n) (body_rule_at no_pattern (body_rules es) k n) (λ r. ordered_body no_pattern (put rule_text r (body_rules es)) left) r (body_rule_goes (body_rules es) k n) read
           (ap (λ b. ordered_body no_pattern b left) (sym next) ∙ stop));
     }

@@ -1,11 +1,6 @@
 use Rattle.std.proofs.Common.{◌≡◌, Err}
-use Rattle.pact_rules.specs.Matching.{is_pattern}
-use Rattle.pact_rules.specs.Rules.{rule_text}
-use Rattle.pact_rules.specs.RuleViews.{rule_view, body_rules}
-use Rattle.pact_rules.specs.RuleReading.{no_pattern}
-use Rattle.pact_rules.specs.OrderedReading.{IsKeyedBy, ordered_body}
-use Rattle.pact_rules.specs.TreeView.{object_view}
-use Rattle.pact_rules.specs.declared.rule_fault.RuleFault.TheVariants.{Pattern}
+use Rattle.pact_rules.specs.{Matching.{is_pattern}, Rules.{rule_text}, RuleViews.{rule_view, body_rules}, RuleReading.{no_pattern}}
+use Rattle.pact_rules.specs.{OrderedReading.{IsKeyedBy, ordered_body}, TreeView.{object_view}, declared.rule_fault.RuleFault.TheVariants.{Pattern}}
 use Rattle.pact_rules.proofs.table_reader.read_body.Given as goal
 
 -- what is read, with what is left, is the whole; and a pattern that is met in what is left is met in the whole

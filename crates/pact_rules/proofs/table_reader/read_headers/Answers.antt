@@ -1,13 +1,7 @@
 use Rattle.std.proofs.Common.{◌≡◌, ◌∙◌, string_bytes, sym, ap, subst}
-use Rattle.pact_rules.specs.Matching.{is_pattern}
-use Rattle.pact_rules.specs.TreeView.{tree_view, object_view}
-use Rattle.pact_rules.specs.Rules.{name_key}
-use Rattle.pact_rules.specs.RuleViews.{header_view, header_rules}
-use Rattle.pact_rules.specs.Outcome.{◌>>=◌}
-use Rattle.pact_rules.specs.RuleReading.{no_pattern, header_rule_at}
-use Rattle.pact_rules.specs.OrderedReading.{IsKeyedBy, put, ordered_headers}
-use Rattle.pact_rules.proofs.OrderLemmas.{put_in_map, still_keyed}
-use Rattle.pact_rules.proofs.PatternLemmas.{stops_on, header_rule_goes}
+use Rattle.pact_rules.specs.{Matching.{is_pattern}, TreeView.{tree_view, object_view}, Rules.{name_key}, RuleViews.{header_view, header_rules}, Outcome.{◌>>=◌}}
+use Rattle.pact_rules.specs.{RuleReading.{no_pattern, header_rule_at}, OrderedReading.{IsKeyedBy, put, ordered_headers}}
+use Rattle.pact_rules.proofs.{OrderLemmas.{put_in_map, still_keyed}, PatternLemmas.{HeaderHeld, stops_on, header_rule_goes}}
 use Rattle.pact_rules.proofs.table_reader.read_headers.Goals as goal
 
 pub loop-key-preserved : goal.loop-key-preserved
@@ -28,6 +22,6 @@ loop-key-preserved c =
           ∙ sym (ap (λ x. x >>= (λ r. ordered_headers is_pattern (put name_key r (header_rules es)) left)) read)
           ∙ sym (ap (ordered_headers is_pattern (header_rules es)) step) ∙ h.value;
       stops = λ stop. h.stops (ap (ordered_headers no_pattern (header_rules es)) step
-          ∙ stops_on (header_rule_at is_pattern (header_rules es) k n) (header_rule_at no_pattern (header_rules es) k n) (λ r. ordered_headers no_pattern (put name_key r (header_rules es)) left) r (header_rule_goes (header_rules es) k n) read
+          ∙ stops_on HeaderHeld (header_rule_at is_pattern (header_rules es) k n) (header_rule_at no_pattern (header_rules es) k n) (λ r. ordered_headers no_pattern (put name_key r (header_rules es)) left) r (header_rule_goes (header_rules es) k n) read
           (ap (λ b. ordered_headers no_pattern b left) (sym next) ∙ stop));
     }

@@ -1,11 +1,6 @@
 use Rattle.std.proofs.Common.{◌≡◌, Err}
-use Rattle.pact_rules.specs.Matching.{is_pattern}
-use Rattle.pact_rules.specs.Rules.{name_key}
-use Rattle.pact_rules.specs.RuleViews.{header_view, header_rules}
-use Rattle.pact_rules.specs.RuleReading.{no_pattern}
-use Rattle.pact_rules.specs.OrderedReading.{IsKeyedBy, ordered_headers}
-use Rattle.pact_rules.specs.TreeView.{object_view}
-use Rattle.pact_rules.specs.declared.rule_fault.RuleFault.TheVariants.{Pattern}
+use Rattle.pact_rules.specs.{Matching.{is_pattern}, Rules.{name_key}, RuleViews.{header_view, header_rules}, RuleReading.{no_pattern}}
+use Rattle.pact_rules.specs.{OrderedReading.{IsKeyedBy, ordered_headers}, TreeView.{object_view}, declared.rule_fault.RuleFault.TheVariants.{Pattern}}
 use Rattle.pact_rules.proofs.table_reader.read_headers.Given as goal
 
 -- what is read, with what is left, is the whole; and a pattern that is met in what is left is met in the whole

@@ -1,12 +1,8 @@
+use Rattle.std.specs.{List.Sorted.{IsStrictlySortedBy}, Map.{keys_of}}
 use Rattle.std.proofs.Common.{◌≡◌, Some, [], ◌∷◌, ◌++◌, ◌+◌, take, string_bytes, string_cmp, sym, arith, ap, ◌∙◌, subst, append_assoc}
-use Rattle.std.proofs.lemmas.List.{take_more}
-use Rattle.std.proofs.lemmas.Result.{err_from_is_err_and}
-use Rattle.std.specs.List.Sorted.{IsStrictlySortedBy}
-use Rattle.std.specs.Map.{keys_of}
-use Rattle.serde_json.specs.View.{view, items_view, members_view}
-use Rattle.serde_json.proofs.Views.{Entry}
-use Rattle.pact_rules.specs.TreeView.{tree_view, object_view}
-use Rattle.pact_rules.specs.TreeReading.{whole_tree, whole_items, whole_members}
+use Rattle.std.proofs.{lemmas.List.{take_more}, lemmas.Result.{err_from_is_err_and}}
+use Rattle.serde_json.{specs.View.{view, items_view, members_view}, proofs.Views.{Entry}}
+use Rattle.pact_rules.specs.{TreeView.{tree_view, object_view}, TreeReading.{whole_tree, whole_items, whole_members}}
 use Rattle.pact_rules.proofs.TreeLemmas.{part_refused, item_refused, member_refused, item_more, member_more, object_view-insert_entry, put_field, whole_of}
 use Rattle.pact_rules.proofs.tree.+convert.Goals as goal
 

@@ -1,6 +1,5 @@
 use Rattle.std.proofs.Common.{◌≡◌, drop}
-use Rattle.serde_json.specs.Written.{items_have_float, members_have_float}
-use Rattle.serde_json.specs.View.{items_view, members_view}
+use Rattle.serde_json.specs.{Written.{items_have_float, members_have_float}, View.{items_view, members_view}}
 use Rattle.pact_rules.proofs.tree.+fractions.Given as goal
 
 -- one of them has a fraction just where one of those that are left has

@@ -1,7 +1,6 @@
-use Rattle.std.proofs.Common.{◌∙◌, Err, ap}
-use Rattle.std.proofs.lemmas.Result.{err_from_is_err_and}
 use Rattle.serde_json.specs.View.{view}
 use Rattle.pact_rules.proofs.Bridge.{is_deep, gives_fault, gives_tree, is_not_deep}
+use Rattle.std.proofs.{Common.{◌∙◌, Err, ap}, lemmas.Result.{err_from_is_err_and}}
 use Rattle.pact_rules.proofs.tree.tree_of.Goals as goal
 
 pub returns-in_err-check_tree-clause-tree : goal.returns-in_err-check_tree-clause-tree

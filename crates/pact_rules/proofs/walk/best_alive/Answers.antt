@@ -1,13 +1,8 @@
-use Rattle.std.proofs.Common.{rules as all_rules, ◌≡◌, ◌∙◌, ◌+◌, List, map, length, option_map, sym, ap, subst, arith}
-use Rattle.std.proofs.lemmas.List.{length-map}
-use Rattle.pact_paths.specs.Paths.{Token}
-use Rattle.pact_paths.specs.Weights.{is_alive, exact_tokens, weight}
-use Rattle.pact_rules.specs.Choice.{IsChoice}
-use Rattle.pact_rules.specs.RuleViews.{rule_view}
-use Rattle.pact_rules.specs.Survivors.{survivor_view}
-use Rattle.pact_rules.specs.declared.table.Candidate.{Candidate}
-use Rattle.pact_rules.proofs.ChoiceLemmas.{slice_get_within}
+use Rattle.pact_rules.specs.{Choice.{IsChoice}, RuleViews.{rule_view}, Survivors.{survivor_view}, declared.table.Candidate.{Candidate}}
 use Rattle.pact_rules.proofs.WalkLemmas.{entry_at, exact_within, IsBestOf, best_more, best_is_choice}
+use Rattle.std.proofs.{Common.{rules as all_rules, ◌≡◌, ◌∙◌, ◌+◌, List, map, length, option_map, sym, ap, subst, arith}, lemmas.List.{length-map}}
+use Rattle.std.proofs.lemmas.Option.{slice_get_within}
+use Rattle.pact_paths.specs.{Paths.{Token}, Weights.{is_alive, exact_tokens, weight}}
 use Rattle.pact_rules.proofs.walk.best_alive.Goals as goal
 
 pub path_at-path-requires : goal.path_at-path-requires

@@ -1,8 +1,6 @@
 use Rattle.std.proofs.Common.{map}
 use Rattle.pact_paths.specs.Paths.{Location}
-use Rattle.pact_rules.specs.RuleViews.{rule_view}
-use Rattle.pact_rules.specs.Survivors.{survivor_view, AreLeftAt}
-use Rattle.pact_rules.proofs.WalkLemmas.{IsBestOf}
+use Rattle.pact_rules.{specs.{RuleViews.{rule_view}, Survivors.{survivor_view, AreLeftAt}}, proofs.WalkLemmas.{IsBestOf}}
 use Rattle.pact_rules.proofs.walk.best_alive.Given as goal
 
 -- the best of the entries before the index

@@ -1,6 +1,5 @@
 use Rattle.std.proofs.Common.{◌≡◌, ◌∙◌, ◌+◌, ◌^◌, length, sym, ap, arith}
-use Rattle.pact_paths.specs.Weights.{exact_tokens}
-use Rattle.pact_paths.proofs.WalkLemmas.{weight_alive}
+use Rattle.pact_paths.{specs.Weights.{exact_tokens}, proofs.WalkLemmas.{weight_alive}}
 use Rattle.pact_rules.proofs.WalkLemmas.{within}
 use Rattle.pact_rules.proofs.walk.candidate.Goals as goal
 

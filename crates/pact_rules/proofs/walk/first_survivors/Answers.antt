@@ -1,7 +1,5 @@
-use Rattle.std.proofs.Common.{◌≡◌, ◌<◌, ◌↔◌, length, map, subst, arith}
-use Rattle.std.specs.List.{Contains}
-use Rattle.pact_rules.specs.Survivors.{survivor_view}
-use Rattle.pact_rules.proofs.WalkLemmas.{start_push, none_there}
+use Rattle.std.{specs.List.{Contains}, proofs.Common.{◌≡◌, ◌<◌, ◌↔◌, length, map, subst, arith}}
+use Rattle.pact_rules.{specs.Survivors.{survivor_view}, proofs.WalkLemmas.{start_push, none_there}}
 use Rattle.pact_rules.proofs.walk.first_survivors.Goals as goal
 
 pub loop-index-init : goal.loop-index-init

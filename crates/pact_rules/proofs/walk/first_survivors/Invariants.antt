@@ -1,5 +1,4 @@
-use Rattle.std.proofs.Common.{◌≡◌, ◌≤◌, ◌<◌, ◌↔◌, ℕ, length, map}
-use Rattle.std.specs.List.{Contains}
+use Rattle.std.{specs.List.{Contains}, proofs.Common.{◌≡◌, ◌≤◌, ◌<◌, ◌↔◌, ℕ, length, map}}
 use Rattle.pact_rules.specs.Survivors.{survivor_view}
 use Rattle.pact_rules.proofs.walk.first_survivors.Given as goal
 

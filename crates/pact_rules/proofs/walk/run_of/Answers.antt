@@ -1,13 +1,7 @@
-use Rattle.std.proofs.Common.{rules as all_rules, map, length}
-use Rattle.std.specs.Ordering.{is_lt, is_le}
-use Rattle.std.proofs.lemmas.List.Sorted.{IsPartitionPoint-from_clause}
-use Rattle.pact_paths.specs.Asked.{asked_cmp}
-use Rattle.pact_paths.specs.AskedView.{asked_view}
-use Rattle.pact_rules.specs.RuleViews.{rule_view}
-use Rattle.pact_rules.specs.Walks.{rule_asks}
-use Rattle.pact_rules.specs.Survivors.{survivor_view}
-use Rattle.pact_rules.specs.declared.walk.Survivor.{Survivor}
+use Rattle.std.{specs.Ordering.{is_lt, is_le}, proofs.{Common.{rules as all_rules, map, length}, lemmas.List.Sorted.{IsPartitionPoint-from_clause}}}
+use Rattle.pact_rules.specs.{RuleViews.{rule_view}, Walks.{rule_asks}, Survivors.{survivor_view}, declared.walk.Survivor.{Survivor}}
 use Rattle.pact_rules.proofs.WalkLemmas.{below_first, upto_last, in_run}
+use Rattle.pact_paths.specs.{Asked.{asked_cmp}, AskedView.{asked_view}}
 use Rattle.pact_rules.proofs.walk.run_of.Goals as goal
 
 pub returns-clause-run : goal.returns-clause-run

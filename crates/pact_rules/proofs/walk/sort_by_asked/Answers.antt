@@ -1,14 +1,7 @@
-use Rattle.std.proofs.Common.{rules as all_rules, map, length, nat_cmp}
-use Rattle.std.specs.Cmp.Lexicographic.{slice_cmp}
-use Rattle.std.specs.Ordering.{is_lt}
-use Rattle.std.proofs.lemmas.Cmp.{nat_list_cmp_total}
-use Rattle.std.proofs.lemmas.Fn.{always_returns_same}
-use Rattle.std.proofs.lemmas.List.Sorted.{ranks_by}
+use Rattle.std.{specs.{Cmp.Lexicographic.{slice_cmp}, Ordering.{is_lt}}, proofs.Common.{rules as all_rules, map, length, nat_cmp}}
+use Rattle.std.proofs.{lemmas.Cmp.{nat_list_cmp_total}, lemmas.Fn.{always_returns_same}, lemmas.List.Sorted.{ranks_by}}
 use Rattle.pact_paths.specs.Asked.{asked_cmp, sort_key}
-use Rattle.pact_rules.specs.RuleViews.{rule_view}
-use Rattle.pact_rules.specs.Walks.{rule_asks}
-use Rattle.pact_rules.specs.Survivors.{survivor_view}
-use Rattle.pact_rules.specs.declared.walk.Survivor.{Survivor}
+use Rattle.pact_rules.specs.{RuleViews.{rule_view}, Walks.{rule_asks}, Survivors.{survivor_view}, declared.walk.Survivor.{Survivor}}
 use Rattle.pact_rules.proofs.WalkLemmas.{same_elements, sorted_map}
 use Rattle.pact_rules.proofs.walk.sort_by_asked.Goals as goal
 

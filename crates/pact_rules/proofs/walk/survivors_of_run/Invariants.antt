@@ -1,9 +1,6 @@
-use Rattle.std.proofs.Common.{◌≡◌, ◌≤◌, ◌⊎◌, ◌↔◌, ◌++◌, ◌∷◌, [], ℕ, map}
-use Rattle.std.specs.List.{Contains}
-use Rattle.pact_paths.specs.Paths.{Location}
-use Rattle.pact_paths.specs.Locations.{step_view}
-use Rattle.pact_rules.specs.RuleViews.{rule_view}
-use Rattle.pact_rules.specs.Survivors.{survivor_view, AreLeftAt, StaysOf}
+use Rattle.std.{specs.List.{Contains}, proofs.Common.{◌≡◌, ◌≤◌, ◌⊎◌, ◌↔◌, ◌++◌, [], ◌∷◌, ℕ, map}}
+use Rattle.pact_paths.specs.{Paths.{Location}, Locations.{step_view}}
+use Rattle.pact_rules.specs.{RuleViews.{rule_view}, Survivors.{survivor_view, AreLeftAt, StaysOf}}
 use Rattle.pact_rules.proofs.walk.survivors_of_run.Given as goal
 
 -- what the step leaves of those before the index

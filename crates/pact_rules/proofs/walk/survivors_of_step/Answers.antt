@@ -1,8 +1,6 @@
 use Rattle.std.proofs.Common.{◌∙◌, map, sym}
 use Rattle.pact_paths.specs.Locations.{step_view}
-use Rattle.pact_rules.specs.RuleViews.{rule_view}
-use Rattle.pact_rules.specs.Survivors.{survivor_view}
-use Rattle.pact_rules.proofs.WalkLemmas.{both_runs, in_either}
+use Rattle.pact_rules.{specs.{RuleViews.{rule_view}, Survivors.{survivor_view}}, proofs.WalkLemmas.{both_runs, in_either}}
 use Rattle.pact_rules.proofs.walk.survivors_of_step.Goals as goal
 
 pub returns : goal.returns

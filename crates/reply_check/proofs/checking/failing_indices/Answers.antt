@@ -1,10 +1,9 @@
-use Rattle.std.proofs.Common.{rules, ◌≡◌, ◌+◌, ◌++◌, ◌∷◌, [], ℕ, Vec, Global, sym, ap, ◌∙◌, subst, arith}
+use Rattle.std.proofs.Common.{rules, ◌≡◌, ◌+◌, ◌++◌, [], ◌∷◌, ℕ, Vec, Global, sym, ap, ◌∙◌, subst, arith}
 use Rattle.pact_rules.specs.declared.matching.MatchFault.TheVariants.{Pattern}
-use Rattle.reply_check.specs.Verdicts.{UsesPattern}
-use Rattle.reply_check.proofs.Deciding.{decides_not}
+use Rattle.reply_check.{specs.Verdicts.{UsesPattern}, proofs.Deciding.{decides_not}}
 use Rattle.reply_check.proofs.VerdictLemmas.{IsSoFar, one_passes, one_fails, all_seen, read_at, uses_at}
-use Rattle.reply_check.proofs.checking.failing_indices.Goals as goal
 use Rattle.reply_check.proofs.checking.failing_indices.Goals.{then-not-branch+in_ok-push, else-not-branch}
+use Rattle.reply_check.proofs.checking.failing_indices.Goals as goal
 
 pub returns-in_err-passes-clause-pattern : goal.returns-in_err-passes-clause-pattern
 returns-in_err-passes-clause-pattern c =

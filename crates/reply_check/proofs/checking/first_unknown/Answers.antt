@@ -1,6 +1,5 @@
 use Rattle.std.proofs.Common.{arith}
-use Rattle.reply_check.proofs.Deciding.{decides_not}
-use Rattle.reply_check.proofs.VerdictLemmas.{known_one, all_known, read_at}
+use Rattle.reply_check.proofs.{Deciding.{decides_not}, VerdictLemmas.{known_one, all_known, read_at}}
 use Rattle.reply_check.proofs.checking.first_unknown.Goals as goal
 
 pub loop-index-init : goal.loop-index-init

@@ -1,6 +1,5 @@
 use Rattle.std.proofs.Common.{◌≡◌, ℕ, ◌<◌, Some, slice_get}
-use Rattle.reply_check.specs.Recorded.{Reply}
-use Rattle.reply_check.specs.Verdicts.{IsKnown}
+use Rattle.reply_check.specs.{Recorded.{Reply}, Verdicts.{IsKnown}}
 use Rattle.reply_check.proofs.checking.first_unknown.Given as goal
 
 -- each reply before the index is known

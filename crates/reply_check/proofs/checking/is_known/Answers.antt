@@ -1,7 +1,6 @@
 use Rattle.std.proofs.Common.{arith}
 use Rattle.pact_file.specs.Pact.{Interaction}
-use Rattle.reply_check.specs.Verdicts.{BelongsTo}
-use Rattle.reply_check.proofs.Deciding.{decides_true, decides_false, decides_not, one_steps, one_stops, one_ends}
+use Rattle.reply_check.{specs.Verdicts.{BelongsTo}, proofs.Deciding.{decides_true, decides_false, decides_not, one_steps, one_stops, one_ends}}
 use Rattle.reply_check.proofs.checking.is_known.Goals as goal
 
 pub returns-then-belongs : goal.returns-then-belongs

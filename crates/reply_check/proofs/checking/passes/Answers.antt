@@ -1,11 +1,7 @@
 use Rattle.std.proofs.Common.{rules, ◌≡◌, arith}
-use Rattle.pact_rules.specs.Lists.{OneOf}
-use Rattle.pact_rules.specs.declared.matching.MatchFault.TheVariants.{Pattern}
-use Rattle.reply_check.specs.Meeting.{Meets, HasPattern}
-use Rattle.reply_check.specs.Recorded.{Reply}
-use Rattle.reply_check.specs.Verdicts.{BelongsTo}
-use Rattle.reply_check.proofs.Deciding.{decides_true, decides_false, decides_not, one_steps, one_stops, one_ends}
-use Rattle.reply_check.proofs.VerdictLemmas.{belongs_at}
+use Rattle.pact_rules.specs.{Lists.{OneOf}, declared.matching.MatchFault.TheVariants.{Pattern}}
+use Rattle.reply_check.specs.{Meeting.{Meets, HasPattern}, Recorded.{Reply}, Verdicts.{BelongsTo}}
+use Rattle.reply_check.proofs.{Deciding.{decides_true, decides_false, decides_not, one_steps, one_stops, one_ends}, VerdictLemmas.{belongs_at}}
 use Rattle.reply_check.proofs.checking.passes.Goals as goal
 
 pub returns-then-branch-clause-value : goal.returns-then-branch-clause-value

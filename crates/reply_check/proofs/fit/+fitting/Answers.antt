@@ -1,10 +1,9 @@
 use Rattle.std.proofs.Common.{◌∙◌, ◌<◌, true, false, Some, None, length, string_bytes, refl, sym, ap, arith}
-use Rattle.pact_rules.specs.TreeView.{tree_view, list_view, optional_view, object_view}
-use Rattle.pact_rules.proofs.MatchingLemmas.{Entry}
+use Rattle.pact_rules.{specs.TreeView.{tree_view, list_view, optional_view, object_view}, proofs.MatchingLemmas.{Entry}}
 use Rattle.reply_check.specs.Computed.{members_fit}
 use Rattle.reply_check.proofs.FitLemmas.{list_without_example, object_without_example, expected_at, not_expected, member_step, member_fits, item_step, no_view}
-use Rattle.reply_check.proofs.fit.+fitting.Goals as goal
 use Rattle.reply_check.proofs.fit.+fitting.Goals.{items_fit-in-Some+in_ok-fits_below+else-not-branch+in-Key-1, items_fit-in-Some+in_ok-fits_below+else-not-branch+in-Index-1, items_fit-in_default}
+use Rattle.reply_check.proofs.fit.+fitting.Goals as goal
 
 pub fits_here-returns-in-None-clause-value : goal.fits_here-returns-in-None-clause-value
 fits_here-returns-in-None-clause-value t c = λ at h.

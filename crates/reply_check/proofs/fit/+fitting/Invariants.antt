@@ -1,8 +1,7 @@
 use Rattle.std.proofs.Common.{◌≡◌, drop}
 use Rattle.pact_paths.specs.Paths.{Location}
-use Rattle.pact_rules.specs.TreeView.{list_view, object_view}
-use Rattle.pact_rules.specs.Walks.{HasReached}
 use Rattle.reply_check.specs.Computed.{items_fit, members_fit}
+use Rattle.pact_rules.specs.{TreeView.{list_view, object_view}, Walks.{HasReached}}
 use Rattle.reply_check.proofs.fit.+fitting.Given as goal
 
 -- all fit just where those that are left do

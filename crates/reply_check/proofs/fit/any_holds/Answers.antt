@@ -1,9 +1,6 @@
-use Rattle.std.proofs.Common.{rules, ◌≡◌, true, map, arith}
-use Rattle.std.specs.List.{list_any}
-use Rattle.pact_rules.specs.Rules.{is_regex}
-use Rattle.pact_rules.specs.RuleViews.{matcher_view}
-use Rattle.pact_rules.specs.declared.matching.MatchFault.TheVariants.{Pattern}
+use Rattle.std.{specs.List.{list_any}, proofs.Common.{rules, ◌≡◌, true, map, arith}}
 use Rattle.reply_check.proofs.WalkLemmas.{regex_among}
+use Rattle.pact_rules.specs.{Rules.{is_regex}, RuleViews.{matcher_view}, declared.matching.MatchFault.TheVariants.{Pattern}}
 use Rattle.reply_check.proofs.fit.any_holds.Goals as goal
 
 pub returns-in_err-holds-clause-pattern : goal.returns-in_err-holds-clause-pattern

@@ -1,13 +1,8 @@
-use Rattle.std.proofs.Common.{rules, ◌≡◌, ◌∙◌, true, sym}
-use Rattle.std.specs.List.{list_any}
+use Rattle.std.{specs.List.{list_any}, proofs.Common.{rules, ◌≡◌, ◌∙◌, true, sym}}
 use Rattle.pact_paths.specs.Paths.{Location}
-use Rattle.pact_rules.specs.Rules.{Rules, Entry, is_regex, has_regex}
-use Rattle.pact_rules.specs.RuleViews.{entry_view}
-use Rattle.pact_rules.specs.TreeView.{tree_view}
+use Rattle.pact_rules.specs.{Matching.{entry_holds}, Rules.{Rules, Entry, is_regex, has_regex}, RuleViews.{entry_view}, TreeView.{tree_view}}
 use Rattle.pact_rules.specs.Walks.{HasReached}
-use Rattle.pact_rules.specs.Matching.{entry_holds}
-use Rattle.reply_check.specs.Computed.{meets_here}
-use Rattle.reply_check.proofs.WalkLemmas.{met_chosen, regex_chosen}
+use Rattle.reply_check.{specs.Computed.{meets_here}, proofs.WalkLemmas.{met_chosen, regex_chosen}}
 use Rattle.reply_check.proofs.fit.meets_here.Goals as goal
 
 pub returns-in-Some-clause-value : goal.returns-in-Some-clause-value

@@ -1,7 +1,6 @@
 use Rattle.std.proofs.Common.{arith}
 use Rattle.pact_file.specs.Pact.{Header}
-use Rattle.reply_check.specs.Sent.{WasSent}
-use Rattle.reply_check.proofs.Deciding.{decides_true, decides_false, decides_not, all_steps, all_stops, all_ends}
+use Rattle.reply_check.{specs.Sent.{WasSent}, proofs.Deciding.{decides_true, decides_false, decides_not, all_steps, all_stops, all_ends}}
 use Rattle.reply_check.proofs.header.headers_meet.Goals as goal
 
 pub returns-then-not-branch-clause-value : goal.returns-then-not-branch-clause-value

@@ -1,6 +1,5 @@
-use Rattle.std.proofs.Common.{rules}
-use Rattle.std.proofs.lemmas.Fn.{always_returns_same}
 use Rattle.reply_check.proofs.SentLemmas.{by_name, found, missing}
+use Rattle.std.proofs.{Common.{rules}, lemmas.Fn.{always_returns_same}}
 use Rattle.reply_check.proofs.header.sent_as.Goals as goal
 
 pub returns-in-Ok : goal.returns-in-Ok

@@ -1,8 +1,6 @@
-use Rattle.std.proofs.Common.{rules, ◌≡◌, true}
-use Rattle.std.specs.List.{list_any}
-use Rattle.pact_rules.specs.Rules.{is_regex, has_regex}
-use Rattle.pact_rules.specs.RuleViews.{entry_view}
+use Rattle.std.{specs.List.{list_any}, proofs.Common.{rules, ◌≡◌, true}}
 use Rattle.reply_check.proofs.MeetLemmas.{regex_in_header}
+use Rattle.pact_rules.specs.{Rules.{is_regex, has_regex}, RuleViews.{entry_view}}
 use Rattle.reply_check.proofs.header.value_fits.Goals as goal
 
 pub returns-in_ok-from_str-in-Some-2-clause-pattern :

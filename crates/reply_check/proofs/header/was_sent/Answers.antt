@@ -1,8 +1,5 @@
-use Rattle.std.proofs.Common.{IsTrue, ◌↔◌}
-use Rattle.std.proofs.lemmas.Result.{IfOk-weaker}
-use Rattle.reply_check.specs.Sent.{WasSent}
-use Rattle.reply_check.proofs.Deciding.{decides_false}
-use Rattle.reply_check.proofs.SentLemmas.{fits_alone, not_sent}
+use Rattle.reply_check.{specs.Sent.{WasSent}, proofs.{Deciding.{decides_false}, SentLemmas.{fits_alone, not_sent}}}
+use Rattle.std.proofs.{Common.{IsTrue, ◌↔◌}, lemmas.Result.{IfOk-weaker}}
 use Rattle.reply_check.proofs.header.was_sent.Goals as goal
 
 pub returns-in-Some-clause-value : goal.returns-in-Some-clause-value

@@ -1,7 +1,5 @@
-use Rattle.std.proofs.Common.{◌≡◌, ◌++◌, [], true, drop, sym, ap, ◌∙◌, arith, append-nil}
-use Rattle.std.proofs.lemmas.List.{drop_all}
-use Rattle.reply_check.specs.HeaderValues.{parts_between}
-use Rattle.reply_check.proofs.ValueLemmas.{kept, kept_parts}
+use Rattle.reply_check.{specs.HeaderValues.{parts_between}, proofs.ValueLemmas.{kept, kept_parts}}
+use Rattle.std.proofs.{Common.{◌≡◌, ◌++◌, [], true, drop, sym, ap, ◌∙◌, arith, append-nil}, lemmas.List.{drop_all}}
 use Rattle.reply_check.proofs.header_value.counting_bytes.Goals as goal
 
 pub returns : goal.returns

@@ -1,7 +1,6 @@
 use Rattle.std.proofs.Common.{option_map}
 use Rattle.pact_rules.specs.TreeView.{tree_view}
-use Rattle.reply_check.proofs.Deciding.{decides_false, decides_not}
-use Rattle.reply_check.proofs.MeetLemmas.{headers_lack, meets_by_body}
+use Rattle.reply_check.proofs.{Deciding.{decides_false, decides_not}, MeetLemmas.{headers_lack, meets_by_body}}
 use Rattle.reply_check.proofs.meet.meets.Goals as goal
 
 pub returns-then-not-branch-clause-value : goal.returns-then-not-branch-clause-value

@@ -1,11 +1,7 @@
-use Rattle.std.proofs.Common.{Ok, Err, refl, sym, ap}
-use Rattle.std.proofs.lemmas.Result.{err_from_is_err_and}
 use Rattle.serde_json.specs.View.{view}
-use Rattle.reply_check.specs.Replies.{ReplyRead}
-use Rattle.reply_check.specs.ReplyParts.{at}
-use Rattle.reply_check.specs.PartsView.{parts_view}
+use Rattle.reply_check.{specs.{Replies.{ReplyRead}, ReplyParts.{at}, PartsView.{parts_view}}, proofs.ReadLemmas.{parts_sound}}
 use Rattle.pact_file.specs.declared.fault.Part.TheVariants.{Headers}
-use Rattle.reply_check.proofs.ReadLemmas.{parts_sound}
+use Rattle.std.proofs.{Common.{Ok, Err, refl, sym, ap}, lemmas.Result.{err_from_is_err_and}}
 use Rattle.reply_check.proofs.parts.read_reply.Goals as goal
 
 pub returns-in_err-parts : goal.returns-in_err-parts

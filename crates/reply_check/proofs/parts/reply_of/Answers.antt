@@ -1,14 +1,8 @@
 use Rattle.std.proofs.Common.{◌≡◌, ℕ, List, option_map, string_bytes, refl, ap, ◌∙◌, sym, subst, arith}
-use Rattle.serde_json.specs.Data.{Data}
-use Rattle.serde_json.specs.Written.{compact_text}
 use Rattle.pact_rules.specs.TreeView.{tree_view}
-use Rattle.pact_file.specs.Pact.{states_data}
-use Rattle.pact_file.specs.Sound.{IsSound}
-use Rattle.pact_file.proofs.ReadBack.{read-compact_text}
-use Rattle.pact_file.proofs.SoundData.{kept, whole, shallow}
-use Rattle.reply_check.specs.Filled.{IsFilled, said}
-use Rattle.reply_check.specs.PartsView.{parts_view}
-use Rattle.reply_check.specs.Recorded.{reply_with}
+use Rattle.pact_file.{specs.{Pact.{states_data}, Sound.{IsSound}}, proofs.{ReadBack.{read-compact_text}, SoundData.{kept, whole, shallow}}}
+use Rattle.serde_json.specs.{Data.{Data}, Written.{compact_text}}
+use Rattle.reply_check.specs.{Filled.{IsFilled, said}, PartsView.{parts_view}, Recorded.{reply_with}}
 use Rattle.reply_check.proofs.parts.reply_of.Goals as goal
 
 -- a text that was written of a sound value says it

@@ -1,6 +1,5 @@
 use Rattle.std.proofs.Common.{arith}
-use Rattle.reply_check.proofs.Deciding.{decides_true, decides_false}
-use Rattle.reply_check.proofs.RivalLemmas.{IsKeyOf, none_seen, rival_found, one_seen, all_seen}
+use Rattle.reply_check.proofs.{Deciding.{decides_true, decides_false}, RivalLemmas.{IsKeyOf, none_seen, rival_found, one_seen, all_seen}}
 use Rattle.reply_check.proofs.read.have_rivals.Goals as goal
 
 pub loop-reply-init : goal.loop-reply-init

@@ -1,9 +1,7 @@
-use Rattle.std.proofs.Common.{Err, refl, sym, ap, ◌∙◌}
-use Rattle.std.proofs.lemmas.Result.{err_from_is_err_and}
 use Rattle.serde_json.specs.View.{view}
 use Rattle.pact_file.proofs.Steps.{err_same}
-use Rattle.reply_check.specs.Replies.{RepliesRead}
-use Rattle.reply_check.proofs.ReadLemmas.{file_sound, file_text, of_file}
+use Rattle.reply_check.{specs.Replies.{RepliesRead}, proofs.ReadLemmas.{file_sound, file_text, of_file}}
+use Rattle.std.proofs.{Common.{Err, refl, sym, ap, ◌∙◌}, lemmas.Result.{err_from_is_err_and}}
 use Rattle.reply_check.proofs.read.read_replies.Goals as goal
 
 pub returns-in_err-file-clause-reading : goal.returns-in_err-file-clause-reading

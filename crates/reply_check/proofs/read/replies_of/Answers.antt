@@ -1,13 +1,8 @@
-use Rattle.std.proofs.Common.{Ok, Err, map, refl, sym, ap, ◌∙◌, subst}
-use Rattle.std.proofs.lemmas.Result.{err_from_is_err_and}
 use Rattle.serde_json.specs.View.{view, items_view}
-use Rattle.pact_file.proofs.ReadLemmas.{values_sound}
-use Rattle.pact_file.proofs.Steps.{err_same, ok_err}
-use Rattle.pact_file.specs.Sound.{AreSound}
+use Rattle.pact_file.{specs.Sound.{AreSound}, proofs.{ReadLemmas.{values_sound}, Steps.{err_same, ok_err}}}
 use Rattle.pact_rules.specs.Reading.{EachRead}
-use Rattle.reply_check.specs.Replies.{HasRivals, ReplyRead}
-use Rattle.reply_check.proofs.Deciding.{decides_not}
-use Rattle.reply_check.proofs.ReadLemmas.{items_sound}
+use Rattle.reply_check.{specs.Replies.{HasRivals, ReplyRead}, proofs.{Deciding.{decides_not}, ReadLemmas.{items_sound}}}
+use Rattle.std.proofs.{Common.{Ok, Err, map, refl, sym, ap, ◌∙◌, subst}, lemmas.Result.{err_from_is_err_and}}
 use Rattle.reply_check.proofs.read.replies_of.Goals as goal
 
 pub returns-in_err-items-clause-reading : goal.returns-in_err-items-clause-reading

@@ -1,6 +1,5 @@
 use Rattle.std.proofs.Common.{◌≡◌, IfOk, string_bytes, subst, rules}
-use Rattle.pact_paths.specs.Spelling.{IsPath, path_text}
-use Rattle.pact_paths.proofs.ReadingLemmas.{text_reads, text_is_own}
+use Rattle.pact_paths.{specs.Spelling.{IsPath, path_text}, proofs.ReadingLemmas.{text_reads, text_is_own}}
 use Rattle.pact_paths.proofs.path.Path.text.Goals as goal
 
 pub returns-clause-reading : goal.returns-clause-reading

@@ -1,6 +1,5 @@
 use Rattle.std.proofs.Common.{sym}
-use Rattle.pact_paths.specs.Locations.{step_view}
-use Rattle.pact_paths.proofs.WeightLemmas.{weight_there}
+use Rattle.pact_paths.{specs.Locations.{step_view}, proofs.WeightLemmas.{weight_there}}
 use Rattle.pact_paths.proofs.path.Path.weigh_token.Goals as goal
 
 pub returns-clause-value : goal.returns-clause-value

@@ -1,7 +1,5 @@
 use Rattle.std.proofs.Common.{sym, ap, ◌∙◌, subst}
-use Rattle.pact_rules.specs.Matching.{is_pattern}
-use Rattle.pact_rules.proofs.BuiltPatterns.{AreBuilt, built, one_more}
-use Rattle.pact_rules.proofs.MatchingLemmas.{built_is_read}
+use Rattle.pact_rules.{specs.Matching.{is_pattern}, proofs.{BuiltPatterns.{AreBuilt, built, one_more}, MatchingLemmas.{built_is_read}}}
 use Rattle.pact_rules.proofs.patterns.Patterns.build.Goals as goal
 
 pub returns-then-contains-clause-read : goal.returns-then-contains-clause-read

@@ -1,7 +1,5 @@
-use Rattle.std.proofs.Common.{◌≡◌, drop, map}
-use Rattle.std.specs.List.{list_any}
-use Rattle.pact_rules.specs.Rules.{is_regex}
-use Rattle.pact_rules.specs.RuleViews.{matcher_view}
+use Rattle.std.{specs.List.{list_any}, proofs.Common.{◌≡◌, drop, map}}
+use Rattle.pact_rules.specs.{Rules.{is_regex}, RuleViews.{matcher_view}}
 use Rattle.pact_rules.proofs.table.Entry.has_regex.Given as goal
 
 -- there is one just where there is one among those that are left

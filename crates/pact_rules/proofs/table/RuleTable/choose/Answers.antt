@@ -1,9 +1,7 @@
 use Rattle.std.proofs.Common.{◌≡◌, ◌∙◌, map, sym, ap, subst}
-use Rattle.pact_rules.specs.Choice.{IsChoice, chosen}
-use Rattle.pact_rules.specs.Rules.{IsInOrder}
-use Rattle.pact_paths.specs.Locations.{step_view}
-use Rattle.pact_rules.specs.RuleViews.{rule_view}
+use Rattle.pact_rules.specs.{Choice.{IsChoice, chosen}, Rules.{IsInOrder}, RuleViews.{rule_view}}
 use Rattle.pact_rules.proofs.ChoiceLemmas.{chosen_is_choice, choice_only, choice_within}
+use Rattle.pact_paths.specs.Locations.{step_view}
 use Rattle.pact_rules.proofs.table.RuleTable.choose.Goals as goal
 
 pub returns-clause-choice : goal.returns-clause-choice

@@ -1,9 +1,5 @@
-use Rattle.std.proofs.Common.{◌∙◌, map, ap}
-use Rattle.std.proofs.lemmas.Result.{err_from_is_err_and}
-use Rattle.std.specs.List.{filter}
-use Rattle.pact_rules.specs.TreeView.{tree_view}
-use Rattle.pact_rules.specs.Rules.{BodyRule, HeaderRule, Rules, has_effect}
-use Rattle.pact_rules.specs.RuleViews.{rule_view, header_view}
+use Rattle.std.{specs.List.{filter}, proofs.{Common.{◌∙◌, map, ap}, lemmas.Result.{err_from_is_err_and}}}
+use Rattle.pact_rules.specs.{TreeView.{tree_view}, Rules.{BodyRule, HeaderRule, Rules, has_effect}, RuleViews.{rule_view, header_view}}
 use Rattle.pact_rules.proofs.ReadingLemmas.{is_table, is_read, is_fault}
 use Rattle.pact_rules.proofs.table.RuleTable.read_with.Goals as goal
 

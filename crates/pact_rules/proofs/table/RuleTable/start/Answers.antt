@@ -1,8 +1,5 @@
-use Rattle.std.proofs.Common.{List, ◌≡◌, ◌≤◌, ◌-◌, ◌^◌, ◌∙◌, map, [], sym, ap, arith}
-use Rattle.std.proofs.Math.Nat.{min-eq_left}
-use Rattle.pact_rules.specs.Rules.{BodyRule, Rules}
-use Rattle.pact_rules.specs.RuleViews.{rule_view}
-use Rattle.pact_rules.proofs.WalkLemmas.{walk_of, start_alive}
+use Rattle.pact_rules.{specs.{Rules.{BodyRule, Rules}, RuleViews.{rule_view}}, proofs.WalkLemmas.{walk_of, start_alive}}
+use Rattle.std.proofs.{Common.{List, ◌≡◌, ◌≤◌, ◌-◌, ◌^◌, ◌∙◌, map, [], sym, ap, arith}, Math.Nat.{min-eq_left}}
 use Rattle.pact_rules.proofs.table.RuleTable.start.Goals as goal
 
 pub returns-clause-walk : goal.returns-clause-walk

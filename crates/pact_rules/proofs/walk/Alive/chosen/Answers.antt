@@ -1,10 +1,6 @@
 use Rattle.std.proofs.Common.{List, ◌≡◌, ◌∙◌, map, sym, ap, subst}
-use Rattle.pact_rules.specs.Rules.{BodyRule, Rules, IsInOrder}
-use Rattle.pact_rules.specs.Choice.{IsChoice, chosen}
-use Rattle.pact_rules.specs.RuleViews.{rule_view}
-use Rattle.pact_rules.specs.Walks.{Walk, IsWalkTo}
-use Rattle.pact_rules.proofs.ChoiceLemmas.{chosen_is_choice, choice_unique, choice_within}
-use Rattle.pact_rules.specs.Survivors.{survivor_view}
+use Rattle.pact_rules.specs.{Survivors.{survivor_view}, Rules.{BodyRule, Rules, IsInOrder}, Choice.{IsChoice, chosen}, RuleViews.{rule_view}}
+use Rattle.pact_rules.{specs.Walks.{Walk, IsWalkTo}, proofs.ChoiceLemmas.{chosen_is_choice, choice_unique, choice_within}}
 use Rattle.pact_rules.proofs.walk.Alive.chosen.Goals as goal
 
 pub returns-clause-choice : goal.returns-clause-choice

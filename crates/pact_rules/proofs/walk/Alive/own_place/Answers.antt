@@ -1,6 +1,5 @@
 use Rattle.std.proofs.Common.{◌∙◌, sym, ap}
-use Rattle.pact_rules.specs.Walks.{Walk}
-use Rattle.pact_rules.proofs.WalkLemmas.{own_walk, own_none, own_place_is}
+use Rattle.pact_rules.{specs.Walks.{Walk}, proofs.WalkLemmas.{own_walk, own_none, own_place_is}}
 use Rattle.pact_rules.proofs.walk.Alive.own_place.Goals as goal
 
 pub returns-in-Some-clause-computed : goal.returns-in-Some-clause-computed

@@ -1,9 +1,6 @@
-use Rattle.std.proofs.Common.{List, ◌≡◌, ◌∙◌, ◌++◌, ◌∷◌, [], map, sym, ap, subst}
+use Rattle.std.proofs.Common.{List, ◌≡◌, ◌∙◌, ◌++◌, [], ◌∷◌, map, sym, ap, subst}
 use Rattle.pact_paths.specs.Locations.{step_view}
-use Rattle.pact_rules.specs.Rules.{BodyRule, Rules}
-use Rattle.pact_rules.specs.RuleViews.{rule_view}
-use Rattle.pact_rules.specs.Walks.{Walk, IsWalkTo}
-use Rattle.pact_rules.specs.Survivors.{survivor_view}
+use Rattle.pact_rules.specs.{Rules.{BodyRule, Rules}, RuleViews.{rule_view}, Walks.{Walk, IsWalkTo}, Survivors.{survivor_view}}
 use Rattle.pact_rules.proofs.WalkLemmas.{walk_of, next_count}
 use Rattle.pact_rules.proofs.walk.Alive.step.Goals as goal
 
