@@ -1,10 +1,7 @@
 -- a worked example of an answer's body, computed from the definitions
-use Rattle.std.proofs.Common.{◌≡◌, refl}
-use Rattle.std.specs.Prelude.{codes, Some, ◌∷◌, []}
+use Rattle.std.{specs.Prelude.{codes, Some, ◌∷◌, []}, proofs.Common.{◌≡◌, refl}}
 use Rattle.serde_json.proofs.OnLiterals.{serde_json_on_literals}
-use Rattle.broker_core.specs.declared.answer.Answer.{Answer}
-use Rattle.broker_core.specs.declared.answer.Answer.TheVariants.{NotPermitted}
-use Rattle.broker_core.specs.declared.need.Kind.TheVariants.{Claimed}
+use Rattle.broker_core.specs.{declared.answer.Answer.{Answer}, declared.answer.Answer.TheVariants.{NotPermitted}, declared.need.Kind.TheVariants.{Claimed}}
 use Rattle.broker_core.specs.declared.need.PairFault.{PairFault}
 use Rattle.answer_texts.specs.AnswerText.{answer_text}
 

@@ -1,18 +1,11 @@
 -- What a writer got, token by token.
+use Rattle.std.specs.{Borrow.{Bor}, List.{flat_map}}
 use Rattle.std.proofs.Common.{◌≡◌, ℕ, ◌+◌, ◌<◌, ◌≤◌, List, [], ◌∷◌, ◌++◌, Result, Ok, Err, OnOk, length, get_or, map, take, refl, sym, ap, ◌∙◌, subst, append_assoc}
 use Rattle.std.proofs.lemmas.List.{take_more, take_all, flat_map_more}
-use Rattle.std.specs.Borrow.{Bor}
-use Rattle.std.specs.List.{flat_map}
-use Rattle.json.specs.Print.{print}
-use Rattle.json.specs.Token.{Token, begin_object, end_object, begin_array, end_array, key}
-use Rattle.json.specs.Tree.{items_tokens, members_tokens}
+use Rattle.json.specs.{Print.{print}, Token.{Token, begin_object, end_object, begin_array, end_array, key}, Tree.{items_tokens, members_tokens}}
 use Rattle.json.specs.Written.{Written, Writes}
-use Rattle.serde_json.specs.Data.{Data}
-use Rattle.serde_json.specs.View.{items_of}
-use Rattle.serde_json.specs.Written.{items_outline, members_outline, compact_text}
-use Rattle.serde_json.proofs.Texts.{print-outline}
-use Rattle.answer_texts.specs.Data.{members_of, items, object_of}
-use Rattle.answer_texts.specs.Tokens.{tokens_of, Adds}
+use Rattle.serde_json.{specs.{Data.{Data}, View.{items_of}, Written.{items_outline, members_outline, compact_text}}, proofs.Texts.{print-outline}}
+use Rattle.answer_texts.specs.{Data.{members_of, items, object_of}, Tokens.{tokens_of, Adds}}
 use Rattle.broker_core.specs.Text.{Text}
 
 -- one token

@@ -1,15 +1,11 @@
 -- the values of a line, from the matches of its command, and the command that words name
+use Rattle.std.specs.{Prelude.{MatchOption, find, option_map, bytes_eq}, Option.{option_map_or}}
 use Rattle.std.proofs.Common.{◌≡◌, ◌∙◌, List, [], ◌∷◌, Bool, true, false, Option, Some, None, cond, refl, ap, sym, subst, unwrap_or, inl, inr}
-use Rattle.std.specs.Prelude.{MatchOption, find, option_map, bytes_eq}
-use Rattle.std.specs.Option.{option_map_or}
 use Rattle.std.proofs.lemmas.Slice.Eq.{bytes_eq-Decides}
 use Rattle.clap.specs.Words.{App, HasKind, HasMatchesOf, Kinds, Row, Text, fault_of, found_of, is_simple, is_simple_and_free, kind_of, matches_of, rows_of}
-use Rattle.clap.specs.declared.error.Error.{Error}
-use Rattle.clap.specs.declared.error.kind.ErrorKind.TheVariants.{OutOfMemory}
-use Rattle.clap.specs.declared.parser.matches.ArgMatches.{ArgMatches}
+use Rattle.clap.specs.{declared.error.Error.{Error}, declared.error.kind.ErrorKind.TheVariants.{OutOfMemory}, declared.parser.matches.ArgMatches.{ArgMatches}}
 use Rattle.command_line.specs.Lines.{BeginsWithName, HasOptions, HasValues, command_at, command_named, command_of, commands, has_none, is_command, is_line, is_taken}
-use Rattle.command_line.specs.declared.line.Line.{Line}
-use Rattle.command_line.specs.declared.names.CommandName.{CommandName}
+use Rattle.command_line.specs.{declared.line.Line.{Line}, declared.names.CommandName.{CommandName}}
 use Rattle.command_line.specs.declared.names.CommandName.TheVariants as names
 
 pub has_options : (a c : App) (words : List Text) (m : ArgMatches) (line : Line) → c ≡ a → is_simple a ≡ true → HasMatchesOf c words m → fault_of c words ≡ []
@@ -34,22 +30,12 @@ only_memory a c words e is kinds taken = go (fault_of c words) kinds (ap (λ (k 
 -- the commands are of options with values alone
 pub named_is_simple : (name : CommandName) → is_simple (command_named name) ≡ true
 named_is_simple names.Replay = refl
-named_is_simple names.Init = refl
-named_is_simple names.Migrate = refl
-named_is_simple names.Serve = refl
-named_is_simple names.Normalise = refl
-named_is_simple names.Check = refl
-named_is_simple names.CanIDeploy = refl
+named_is_simple _ = refl
 
 -- and nothing in them excludes or requires another
 pub named_is_free : (name : CommandName) → is_simple_and_free (command_named name) ≡ true
 named_is_free names.Replay = refl
-named_is_free names.Init = refl
-named_is_free names.Migrate = refl
-named_is_free names.Serve = refl
-named_is_free names.Normalise = refl
-named_is_free names.Check = refl
-named_is_free names.CanIDeploy = refl
+named_is_free _ = refl
 
 -- what is found passes the test
 found : {X : Type 0} (p : X → Bool) (xs : List X) (x : X) → Some x ≡ find p xs → p x ≡ true

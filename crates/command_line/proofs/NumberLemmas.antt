@@ -1,11 +1,8 @@
 -- the number that `get_one` reads at a type of 32 bits
-use Rattle.std.proofs.Common.{◌≡◌, ◌∙◌, ℕ, List, Option, Some, None, refl, sym}
-use Rattle.std.specs.Prelude.{Result}
-use Rattle.std.specs.declared.num.ParseIntError.{ParseIntError}
+use Rattle.std.specs.{Prelude.{Result}, declared.num.ParseIntError.{ParseIntError}}
 use Rattle.std.specs.Str.Parse.{ParsesUnsigned, ExplainsUnsignedError, HasUnsignedDigitsIfOk, digits_value, without_leading_plus}
-use Rattle.clap.specs.Words.{ReadsOne, Text, one_of, one_text, rows_of}
-use Rattle.clap.specs.declared.parser.matches.Found.{Found}
-use Rattle.clap.proofs.WalkLemmas.{one_text-rows}
+use Rattle.std.proofs.Common.{◌≡◌, ◌∙◌, ℕ, List, Option, Some, None, refl, sym}
+use Rattle.clap.{specs.{Words.{ReadsOne, Text, one_of, one_text, rows_of}, declared.parser.matches.Found.{Found}}, proofs.WalkLemmas.{one_text-rows}}
 
 abbrev Gives : List ℕ → Result ℕ ParseIntError → Type 0
 Gives bs r = ParsesUnsigned 32 10 bs r × ExplainsUnsignedError 10 bs r × HasUnsignedDigitsIfOk bs r

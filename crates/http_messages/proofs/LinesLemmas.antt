@@ -1,9 +1,7 @@
 -- How the lines of a stream go on.
+use Rattle.std.specs.{Option.{option_map}, List.{concat}}
 use Rattle.std.proofs.Common.{◌≡◌, ◌≢◌, ℕ, zero, suc, ◌+◌, ◌<◌, Bool, true, false, List, [], ◌∷◌, ◌++◌, Option, Some, None, length, get_or, take, drop, refl, sym, ap, ◌∙◌, append_assoc, append-nil, arith, cond, eq-eqb, ne_eqb}
-use Rattle.std.proofs.Math.Seq.{take-add}
-use Rattle.std.proofs.lemmas.List.{drop-drop}
-use Rattle.std.specs.Option.{option_map}
-use Rattle.std.specs.List.{concat}
+use Rattle.std.proofs.{Math.Seq.{take-add}, lemmas.List.{drop-drop}}
 use Rattle.http_messages.specs.Lines.{line_feed, lines_of, is_empty_line, through_empty, head_lines, head_text}
 
 -- the first line ends at the first line feed

@@ -1,15 +1,11 @@
 -- A message at the front stays there, and there is no other.
+use Rattle.std.specs.{Option.{option_map}, List.{concat}, Result.{result_unwrap_or}}
 use Rattle.std.proofs.Common.{◌≡◌, ℕ, zero, suc, ◌+◌, ◌<◌, ◌≤◌, Bool, true, false, ◌==◌, List, [], ◌∷◌, ◌++◌, Option, Some, None, MatchOption, length, take, drop, refl, sym, ap, ◌∙◌, subst, append_assoc, length-append, length-take, length-take-le, take-take, length-drop, take-append-drop, arith, cond, inl, inr}
-use Rattle.std.proofs.lemmas.List.{take-append-le, drop-drop}
-use Rattle.std.specs.Option.{option_map}
-use Rattle.std.specs.List.{concat}
+use Rattle.std.proofs.{Math.Seq.{take-append_seam, drop-append_seam}, lemmas.List.{take-append-le, drop-drop}}
 use Rattle.http_messages.specs.Lines.{line_feed, onto_first, lines_of, is_empty_line, through_empty, head_lines, head_text}
-use Rattle.std.specs.Result.{result_unwrap_or}
+use Rattle.http_messages.specs.{Heads.{Judgement, IsJudged, IsBodyLength, judge_head}, Message.{Message}}
+use Rattle.http_messages.specs.{Messages.{IsHeadOf, BeginsWithMessage, HasNoMessage, message_of}, Limits.{head_limit}}
 use Rattle.httparse.proofs.GrammarLemmas.{request_unique}
-use Rattle.http_messages.specs.Heads.{Judgement, IsJudged, IsBodyLength, judge_head}
-use Rattle.http_messages.specs.Message.{Message}
-use Rattle.http_messages.specs.Messages.{IsHeadOf, BeginsWithMessage, HasNoMessage, message_of}
-use Rattle.http_messages.specs.Limits.{head_limit}
 
 onto_first-more : (b : ℕ) (lines more : List (List ℕ)) → (others : List (List ℕ)) × (onto_first b (lines ++ more) ≡ onto_first b lines ++ others)
 onto_first-more b [] more = (onto_first b more, refl)
@@ -27,18 +23,17 @@ pub lines_of-more : (a b : List ℕ) → (more : List (List ℕ)) × (lines_of (
 lines_of-more [] b = (lines_of b, refl)
 lines_of-more (x ∷ a) b = lines_of-byte (x == line_feed) x (lines_of a) (lines_of (a ++ b)) (lines_of-more a b)
 
-line_more : (line : List ℕ) (old new : Option (List (List ℕ))) (t : List (List ℕ))
-    → ((u : List (List ℕ)) → old ≡ Some u → new ≡ Some u)
-    → option_map (λ more. line ∷ more) old ≡ Some t → option_map (λ more. line ∷ more) new ≡ Some t
-line_more line None new t goes p = cc
-line_more line (Some u) new t goes p = rw (goes u refl) p
+map_more : {A B : Type 0} (f : A → B) (old new : Option A) (t : B) → ((u : A) → old ≡ Some u → new ≡ Some u) → option_map f old ≡ Some t
+    → option_map f new ≡ Some t
+map_more f None new t goes p = cc
+map_more f (Some u) new t goes p = rw (goes u refl) p
 
 through_empty-line : (line : List ℕ) (old new : Option (List (List ℕ))) (t : List (List ℕ)) (test : Bool)
     → ((u : List (List ℕ)) → old ≡ Some u → new ≡ Some u)
     → cond test (Some (line ∷ [])) (option_map (λ rest. line ∷ rest) old) ≡ Some t
     → cond test (Some (line ∷ [])) (option_map (λ rest. line ∷ rest) new) ≡ Some t
 through_empty-line line old new t true goes q = q
-through_empty-line line old new t false goes q = line_more line old new t goes q
+through_empty-line line old new t false goes q = map_more (λ rest. line ∷ rest) old new t goes q
 
 through_empty-more : (lines more : List (List ℕ)) (t : List (List ℕ)) → through_empty lines ≡ Some t → through_empty (lines ++ more) ≡ Some t
 through_empty-more [] more t p = cc
@@ -49,8 +44,8 @@ head_lines-line : (line : List ℕ) (blank blank' full full' : Option (List (Lis
     → ((u : List (List ℕ)) → blank ≡ Some u → blank' ≡ Some u) → ((u : List (List ℕ)) → full ≡ Some u → full' ≡ Some u)
     → option_map (λ rest. line ∷ rest) (cond test blank full) ≡ Some t
     → option_map (λ rest. line ∷ rest) (cond test blank' full') ≡ Some t
-head_lines-line line blank blank' full full' t true goes goes' q = line_more line blank blank' t goes q
-head_lines-line line blank blank' full full' t false goes goes' q = line_more line full full' t goes' q
+head_lines-line line blank blank' full full' t true goes goes' q = map_more (λ rest. line ∷ rest) blank blank' t goes q
+head_lines-line line blank blank' full full' t false goes goes' q = map_more (λ rest. line ∷ rest) full full' t goes' q
 
 head_lines-more : (lines more : List (List ℕ)) (t : List (List ℕ)) → head_lines lines ≡ Some t → head_lines (lines ++ more) ≡ Some t
 head_lines-more [] more t p = cc
@@ -58,29 +53,17 @@ head_lines-more (line ∷ lines) more t p =
     head_lines-line line (head_lines lines) (head_lines (lines ++ more)) (through_empty lines) (through_empty (lines ++ more)) t (is_empty_line line)
     (λ u. head_lines-more lines more u) (λ u. through_empty-more lines more u) p
 
-concat_more : (old new : Option (List (List ℕ))) (t : List ℕ) → ((u : List (List ℕ)) → old ≡ Some u → new ≡ Some u)
-    → option_map concat old ≡ Some t → option_map concat new ≡ Some t
-concat_more None new t goes p = cc
-concat_more (Some u) new t goes p = rw (goes u refl) p
-
 -- a head text stays the head text, whatever follows
 pub head_text-more : (a b t : List ℕ) → head_text a ≡ Some t → head_text (a ++ b) ≡ Some t
 head_text-more a b t p =
     let more = lines_of-more a b in
-    concat_more (head_lines (lines_of a)) (head_lines (lines_of (a ++ b))) t
+    map_more concat (head_lines (lines_of a)) (head_lines (lines_of (a ++ b))) t
     (λ u q. ap head_lines more.1 ∙ head_lines-more (lines_of a) more.0 u q) p
 
 -- two fronts of one length are one, and so is what follows
 pub append_same : (a b x y : List ℕ) → length a ≡ length b → a ++ x ≡ b ++ y → (a ≡ b) × (x ≡ y)
-append_same [] [] x y n p = (refl, p)
-append_same [] (k ∷ b) x y n p = absurd (omega (arith, n))
-append_same (h ∷ a) [] x y n p = absurd (omega (arith, n))
-append_same (h ∷ a) (k ∷ b) x y n p =
-    let heads : h ≡ k = cc in
-    let tails : a ++ x ≡ b ++ y = cc in
-    let rest = append_same a b x y (omega (arith, n)) tails in
-    let same : a ≡ b = rest.0 in
-    (cc, rest.1)
+append_same a b x y n p =
+    (sym (take-append_seam a x) ∙ (λ i. take (n i) (p i)) ∙ take-append_seam b y, sym (drop-append_seam a x) ∙ (λ i. drop (n i) (p i)) ∙ drop-append_seam b y)
 
 -- a head is judged in one way
 pub IsJudged-unique : (text : List ℕ) (a b : Judgement) → IsJudged text a → IsJudged text b → a ≡ b
@@ -168,33 +151,18 @@ none_short bytes head body within short is_head is_body m after p =
     let bodies = IsBodyLength-unique (take head bytes) (length m.body) body (subst (λ l. IsBodyLength l (length m.body)) heads p.body) is_body in
     omega (arith, short, bodies, ap length heads, length-take-le head bytes within, ap length p.whole, length-append m.head (m.body ++ after), length-append m.body after)
 
-head_some : (o : Option (List ℕ)) (P : Type 0) (whole a t : List ℕ) → o ≡ Some t → a ≡ t → MatchOption o ((a ≡ whole) × P) (λ t. a ≡ t)
-head_some None P whole a t e p = absurd cc
-head_some (Some u) P whole a t e p = let same : u ≡ t = cc in p ∙ sym same
-
-head_none : (o : Option (List ℕ)) (P : Type 0) (whole a : List ℕ) → o ≡ None → a ≡ whole → P → MatchOption o ((a ≡ whole) × P) (λ t. a ≡ t)
-head_none None P whole a e p q = (p, q)
-head_none (Some u) P whole a e p q = absurd cc
-
-no_head : (o : Option (List ℕ)) (P : Type 0) (whole a : List ℕ) → o ≡ None → (P → ⊥) → MatchOption o ((a ≡ whole) × P) (λ t. a ≡ t) → ⊥
-no_head None P whole a e none p = none p.1
-no_head (Some u) P whole a e none p = cc
-
 module _ (bytes : List ℕ) where
   -- a head text that ends within the limit
   pub IsHeadOf-some : (n : ℕ) → n ≤ length (take head_limit bytes) → head_text (take head_limit bytes) ≡ Some (take n (take head_limit bytes)) → IsHeadOf bytes (take n bytes)
-  IsHeadOf-some n within found =
-      head_some (head_text (take head_limit bytes)) (head_limit ≤ length bytes) (take head_limit bytes) (take n bytes) _ found
-      (sym (take-take n head_limit bytes (omega (arith, within, length-take head_limit bytes))))
+  IsHeadOf-some n within found = rw found (sym (take-take n head_limit bytes (omega (arith, within, length-take head_limit bytes))))
 
   -- a whole limit of bytes with none
   pub IsHeadOf-none : head_text (take head_limit bytes) ≡ None → head_limit ≤ length bytes → IsHeadOf bytes (take head_limit bytes)
-  IsHeadOf-none none long = head_none (head_text (take head_limit bytes)) (head_limit ≤ length bytes) (take head_limit bytes) (take head_limit bytes) none refl long
+  IsHeadOf-none none long = rw none (refl, long)
 
   -- fewer bytes with none
   pub IsHeadOf-short : head_text (take head_limit bytes) ≡ None → length bytes < head_limit → (head : List ℕ) → IsHeadOf bytes head → ⊥
-  IsHeadOf-short none short head p =
-      no_head (head_text (take head_limit bytes)) (head_limit ≤ length bytes) (take head_limit bytes) head none (λ long. omega (arith, short, long)) p
+  IsHeadOf-short none short head p = let whole = rw none at p in omega (arith, short, whole.1)
 
 -- nothing is no message
 pub none_in_nothing : HasNoMessage []

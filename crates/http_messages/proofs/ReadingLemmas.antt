@@ -1,19 +1,11 @@
 -- One read behind another.
-use Rattle.std.proofs.Common.{◌≡◌, ℕ, ◌+◌, ◌<◌, ◌≤◌, List, [], ◌∷◌, ◌++◌, Option, Result, Ok, Err, OnErr, length, take, refl, sym, ap, ◌∙◌, subst, append_assoc, append-nil, length-append, arith, inr}
-use Rattle.std.proofs.KnownBytes.{Consumes-trans}
-use Rattle.std.proofs.lemmas.List.{take-append-le}
-use Rattle.std.specs.Io.KnownBytes.{Consumes}
-use Rattle.std.specs.Result.{result_unwrap_or}
-use Rattle.http_messages.specs.Heads.{IsBodyLength, judge_head}
-use Rattle.http_messages.specs.Messages.{IsHeadOf, HasNoHead, HasNoMessage}
-use Rattle.http_messages.specs.Reading.{Gains, LeavesAtFault, IsOutcome}
-use Rattle.http_messages.specs.Views.{judgement_of, IsHeadRead, announced}
-use Rattle.http_messages.specs.declared.head.Head.{Head}
-use Rattle.http_messages.specs.declared.head.Refused.{Refused}
-use Rattle.http_messages.specs.declared.reading.ReadFault.{ReadFault}
-use Rattle.http_messages.specs.declared.reading.ReadFault.TheVariants.{Reader, Memory}
-use Rattle.http_messages.specs.declared.reading.ReadOutcome.TheVariants.{Message}
-use Rattle.http_messages.proofs.MessagesLemmas.{IsHeadOf-more, BeginsWithMessage-of, none_short}
+use Rattle.std.specs.{Io.KnownBytes.{Consumes}, Result.{result_unwrap_or}}
+use Rattle.std.proofs.Common.{◌≡◌, ℕ, ◌+◌, ◌<◌, ◌≤◌, List, ◌++◌, Option, Result, Ok, Err, OnErr, length, take, refl, sym, ap, ◌∙◌, subst, append_assoc, append-nil, length-append, arith, inr}
+use Rattle.std.proofs.{KnownBytes.{Consumes-trans}, lemmas.List.{take-append-le, nil_from_length}}
+use Rattle.http_messages.specs.{Heads.{IsBodyLength, judge_head}, Messages.{IsHeadOf, HasNoHead, HasNoMessage}, Reading.{Gains, LeavesAtFault, IsOutcome}}
+use Rattle.http_messages.specs.{Views.{judgement_of, IsHeadRead, announced}, declared.head.Head.{Head}, declared.head.Refused.{Refused}}
+use Rattle.http_messages.specs.{declared.reading.ReadFault.{ReadFault}, declared.reading.ReadFault.TheVariants.{Reader, Memory}}
+use Rattle.http_messages.{specs.declared.reading.ReadOutcome.TheVariants.{Message}, proofs.MessagesLemmas.{IsHeadOf-more, BeginsWithMessage-of, none_short}}
 
 -- one read, and then others
 pub Gains-trans : (a b c : Option (List ℕ)) (old mid new : List ℕ) → Gains a b old mid → Gains b c mid new → Gains a c old new
@@ -35,14 +27,19 @@ LeavesAtFault-after a b c old mid new Memory p q = (
   q.4 ∙ ap (λ l. l ++ q.0) p.2 ∙ append_assoc old p.0 q.0,
 )
 
-nil_of_length : (l : List ℕ) → length l ≡ 0 → l ≡ []
-nil_of_length [] e = refl
-nil_of_length (x ∷ l) e = absurd (omega (arith, e))
-
 -- a read that got nothing leaves the buffer
-pub Gains-none : (a b : Option (List ℕ)) (old new : List ℕ) → Gains a b old new → length new ≡ length old → new ≡ old
-Gains-none a b old new p same =
-    p.2 ∙ ap (λ l. old ++ l) (nil_of_length p.0 (omega (arith, same, ap length p.2, length-append old p.0))) ∙ append-nil old
+pub Gains-none : (a b : Option (List ℕ)) (old new : List ℕ) (n : ℕ) → Gains a b old new → length new ≡ length old + n → n ≡ 0 → new ≡ old
+Gains-none a b old new n p longer none =
+    p.2 ∙ ap (λ l. old ++ l) (nil_from_length p.0 (omega (arith, longer, none, ap length p.2, length-append old p.0))) ∙ append-nil old
+
+-- a head in the slice of a buffer is one in its bytes
+pub head_of_slice : (slice bytes : List ℕ) (n : ℕ) → slice ≡ bytes → n ≤ length slice → IsHeadOf slice (take n slice)
+    → (n ≤ length bytes) × IsHeadOf bytes (take n bytes)
+head_of_slice slice bytes n same within found = subst (λ l. (n ≤ length l) × IsHeadOf l (take n l)) same (within, found)
+
+-- with none in the slice there is none in the bytes, nor in the same bytes later
+pub no_head_of_slice : (slice bytes later : List ℕ) → slice ≡ bytes → later ≡ bytes → HasNoHead slice → HasNoHead later
+no_head_of_slice slice bytes later same kept none = subst HasNoHead (same ∙ sym kept) none
 
 -- what is read of a head says how long its body is
 pub announced-length : (text : List ℕ) (read : Result Head Refused) → IsHeadRead text read → IsBodyLength text (announced read)

@@ -1,35 +1,25 @@
 -- A message asks one thing.
-use Rattle.std.proofs.Common.{◌≡◌, ℕ, List, [], ◌∷◌, Bool, refl, sym, ap, ap₂, subst, ◌∙◌, Option, Some, None, Result, Ok, Err}
 use Rattle.std.specs.Prelude.{codes, option_and_then}
-use Rattle.serde_json.specs.Data.{Data}
-use Rattle.serde_json.specs.Find.{get, as_str}
-use Rattle.httparse.specs.Grammar.{RequestHead}
-use Rattle.httparse.proofs.GrammarLemmas.{request_unique}
+use Rattle.std.proofs.Common.{◌≡◌, ℕ, List, [], ◌∷◌, Bool, refl, sym, ap, ap₂, subst, ◌∙◌, Option, Some, None, Result, Ok, Err}
+use Rattle.serde_json.specs.{Data.{Data}, Find.{get, as_str}}
+use Rattle.httparse.{specs.Grammar.{RequestHead}, proofs.GrammarLemmas.{request_unique}}
 use Rattle.form_urlencoded.specs.Form.{raw_pairs}
 use Rattle.percent_encoding.specs.Percent.{percent_decode}
-use Rattle.broker_core.specs.Text.{Text, version}
-use Rattle.broker_core.specs.declared.command.Command.{Command}
-use Rattle.broker_core.specs.declared.command.Command.TheVariants as command
-use Rattle.broker_core.specs.declared.command.FormFault.{FormFault}
-use Rattle.broker_core.specs.declared.command.FormFault.TheVariants as fault
+use Rattle.broker_core.specs.{Text.{Text, version}, declared.command.Command.{Command}, declared.command.FormFault.{FormFault}}
 use Rattle.broker_core.specs.declared.command.Version.{Version}
-use Rattle.http_messages.specs.Fields.{values_named}
-use Rattle.http_messages.specs.Heads.{Judgement, fields_of, served_method, is_last_head}
-use Rattle.http_messages.specs.Message.{Message}
-use Rattle.http_messages.specs.declared.head.Refusal.{Refusal}
-use Rattle.http_messages.proofs.MessagesLemmas.{IsJudged-unique}
-use Rattle.http_routes.specs.Routes.{resource_of, segment}
-use Rattle.http_routes.specs.declared.Resource.{Resource}
-use Rattle.http_routes.specs.declared.Operation.{Operation}
-use Rattle.http_routes.specs.declared.Operation.TheVariants as operation
+use Rattle.http_messages.specs.{Fields.{values_named}, Heads.{Judgement, fields_of, served_method, is_last_head}, Message.{Message}}
+use Rattle.http_messages.{specs.declared.head.Refusal.{Refusal}, proofs.MessagesLemmas.{IsJudged-unique}}
+use Rattle.http_routes.specs.{Routes.{resource_of, segment}, declared.Resource.{Resource}, declared.Operation.{Operation}}
 use Rattle.http_routes.specs.declared.places.TheConstants.{OWN_NAME, VERSION, GRANTED_TEAM, GRANTED_ENVIRONMENT, PROVIDER, CONSUMER, PACT_VERSION, PACT_BRANCH}
-use Rattle.http_requests.specs.Names.{IsNamed, IsPathName, name_or}
-use Rattle.http_requests.specs.Queries.{IsOnce, IsQueryName, values_at}
+use Rattle.http_requests.specs.{Names.{IsNamed, IsPathName, name_or}, Queries.{IsOnce, IsQueryName, values_at}}
 use Rattle.http_requests.specs.Bodies.{IsData, only_object, or_empty, non_null, IsTextNamed, IsNameField, IsGivenName, IsOptionalName, some_or, IsTokenText, IsTokenField}
 use Rattle.http_requests.specs.Tokens.{IsTokenOf}
 use Rattle.http_requests.specs.Commands.{Continues, AndThen, WithFields, IsMade, IsTruthField, IsOptionalTruth, IsPactPath, IsVersionFields, IsVersionQuery, IsMove, IsSupport, IsGrant, IsParsed, IsCommand, or_malformed, pact_path, marks, report_on}
 use Rattle.http_requests.specs.Requests.{IsRequest, ByHead, ByResource, ByAsked, ByOperation, path_of, query_of, operation_asked}
 use Rattle.http_requests.specs.declared.requests.Request.{Request}
+use Rattle.broker_core.specs.declared.command.Command.TheVariants as command
+use Rattle.broker_core.specs.declared.command.FormFault.TheVariants as fault
+use Rattle.http_routes.specs.declared.Operation.TheVariants as operation
 use Rattle.http_requests.specs.declared.requests.Request.TheVariants as request
 
 -- no two are such

@@ -1,7 +1,6 @@
 -- One more pair of a query.
 use Rattle.std.proofs.Common.{◌≡◌, ◌≢◌, ℕ, ◌≤◌, Bool, true, false, cond, List, [], ◌∷◌, ◌++◌, length, map, filter, bytes_eq, length-append, refl, ap, ◌∙◌, arith}
-use Rattle.http_requests.specs.Queries.{decoded_text, values_at, AreValues}
-use Rattle.http_requests.specs.declared.queries.Values.{Values}
+use Rattle.http_requests.specs.{Queries.{decoded_text, values_at, AreValues}, declared.queries.Values.{Values}}
 use Rattle.http_requests.specs.declared.queries.Values.TheVariants.{Absent, Once, Repeated}
 
 values-split : (key : List ℕ) (pair : List ℕ × List ℕ) (done : List (List ℕ × List ℕ))

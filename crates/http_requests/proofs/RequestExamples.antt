@@ -1,35 +1,20 @@
 -- a worked example of a request, computed from its bytes: the message that they begin with, and the command that it asks
-use Rattle.std.proofs.Common.{◌≡◌, ◌≢◌, ◌<◌, ◌≤◌, arith, true, false, refl, inr}
-use Rattle.std.proofs.lemmas.List.Elements.{All-cons, All-nil}
-use Rattle.std.proofs.lemmas.List.Sums.{AllPass-from_list_all}
-use Rattle.std.proofs.lemmas.Bool.{ltb-true}
-use Rattle.std.proofs.lemmas.Str.{IsUtf8-from_ascii}
-use Rattle.std.proofs.lemmas.Str.Ascii.{IsAscii-from_all}
-use Rattle.std.proofs.Math.Dec.{ltb}
-use Rattle.std.specs.Prelude.{ℕ, List, [], ◌∷◌, ◌++◌, codes, length, nat_lt, All, Some, None, Ok}
-use Rattle.std.specs.List.{list_all}
-use Rattle.std.specs.Str.{IsUtf8}
+use Rattle.std.specs.{Prelude.{ℕ, List, [], ◌∷◌, ◌++◌, codes, length, All, Some, None, Ok}, List.{list_all}, Str.{IsUtf8}}
+use Rattle.std.proofs.{Common.{◌≡◌, ◌<◌, arith, true, false, refl, inr}, lemmas.List.Elements.{All-from_recursion}, lemmas.List.Sums.{AllPass-from_list_all}}
+use Rattle.std.proofs.{lemmas.Bool.{ltb-true}, lemmas.Str.{IsUtf8-from_ascii}, lemmas.Str.Ascii.{IsAscii-from_all}, Math.Dec.{ltb}}
+use Rattle.httparse.specs.Grammar.{RequestHead, IsRequestHead, Field, IsField, IsToken, crlf, is_token_byte, is_value_byte, is_uri_byte, print_request}
 use Rattle.httparse.proofs.OnLiterals.{httparse_on_literals}
-use Rattle.httparse.specs.Grammar.{RequestHead, IsRequestHead, Field, IsField, IsToken, AllPass, crlf, is_token_byte, is_value_byte, is_uri_byte, print_request}
 use Rattle.percent_encoding.proofs.OnLiterals.{percent_encoding_on_literals}
-use Rattle.serde_json.proofs.OnLiterals.{serde_json_on_literals}
-use Rattle.serde_json.specs.Data.{Data, string, object, member, no_members}
-use Rattle.broker_core.specs.Name.{IsName, is_name, IsToken as IsCallersToken, is_token_byte as is_callers_byte}
-use Rattle.broker_core.specs.Text.{Text, version}
+use Rattle.serde_json.{specs.Data.{Data, string, object, member, no_members}, proofs.OnLiterals.{serde_json_on_literals}}
+use Rattle.broker_core.specs.{Name.{IsName, is_name, IsToken as IsCallersToken, is_token_byte as is_callers_byte}, Text.{Text, version}}
 use Rattle.broker_core.specs.declared.command.Command.TheVariants.{Deploy}
 use Rattle.http_messages.specs.Fields.{same_name, values_named}
 use Rattle.http_messages.specs.Heads.{IsHeadText, IsJudged, IsBodyLength, judge_head, judge, body_length, served_method, fields_of}
-use Rattle.http_messages.specs.Message.{Message, message}
-use Rattle.http_messages.specs.Messages.{BeginsWithMessage}
-use Rattle.http_routes.specs.Routes.{fits, is_on, resource_of, segment}
-use Rattle.http_requests.specs.Bodies.{IsObject, IsNameField}
-use Rattle.http_requests.specs.Commands.{IsVersionFields, IsCommand}
-use Rattle.http_requests.specs.Names.{IsNamed, IsPathName}
-use Rattle.http_requests.specs.Requests.{IsRequest, path_of, query_of}
-use Rattle.http_requests.specs.Tokens.{IsTokenOf}
-use Rattle.http_requests.specs.declared.requests.Request.TheVariants.{Asks}
+use Rattle.http_messages.specs.{Message.{Message, message}, Messages.{BeginsWithMessage}}
+use Rattle.http_routes.specs.{Routes.{fits, is_on, resource_of, segment}, declared.places.TheConstants.{OWN_NAME}}
+use Rattle.http_requests.specs.{Bodies.{IsObject}, Commands.{IsVersionFields, IsCommand}, Names.{IsNamed, IsPathName}, Requests.{IsRequest, path_of, query_of}}
+use Rattle.http_requests.specs.{Tokens.{IsTokenOf}, declared.requests.Request.TheVariants.{Asks}}
 use Rattle.http_routes.specs.declared.Operation.TheVariants as operation
-use Rattle.http_routes.specs.declared.places.TheConstants.{OWN_NAME}
 
 -- ---- the request: a team asks that version 1 of shop be recorded as deployed to prod
 
@@ -74,13 +59,10 @@ is_field name raw some named valued = record { name = some_token name some named
 are_fields : All IsField fields
 unfolding httparse_on_literals
 are_fields =
-    All-cons IsField (field (codes "host") (codes " broker")) (field (codes "authorization") (codes " Bearer red-team-token-01") ∷ field (codes "content-length") (codes " 36") ∷ [])
-    (is_field (codes "host") (codes " broker") (omega arith) refl refl)
-    (All-cons IsField (field (codes "authorization") (codes " Bearer red-team-token-01")) (field (codes "content-length") (codes " 36") ∷ [])
-    (is_field (codes "authorization") (codes " Bearer red-team-token-01") (omega arith) refl refl)
-    (All-cons IsField (field (codes "content-length") (codes " 36")) []
-    (is_field (codes "content-length") (codes " 36") (omega arith) refl refl)
-    (All-nil IsField)))
+    let host = is_field (codes "host") (codes " broker") (omega arith) refl refl in
+    let token = is_field (codes "authorization") (codes " Bearer red-team-token-01") (omega arith) refl refl in
+    let size = is_field (codes "content-length") (codes " 36") (omega arith) refl refl in
+    All-from_recursion IsField fields (host, (token, (size, tt)))
 
 is_head : IsRequestHead parsed
 unfolding httparse_on_literals
@@ -105,18 +87,6 @@ the_stream_begins_with_the_message = record { whole = refl; head = refl; body = 
 
 -- ---- what it asks
 
-prod_name : IsName (codes "prod")
-unfolding is_name
-prod_name = refl
-
-shop_name : IsName (codes "shop")
-unfolding is_name
-shop_name = refl
-
-one_name : IsName (codes "1")
-unfolding is_name
-one_name = refl
-
 named : (text : Text) → list_all (λ b. ltb b 128) text ≡ true → IsName text → IsNamed text (Some text)
 named text low name = (refl, in_ascii text low, name)
 
@@ -124,15 +94,18 @@ abbrev body_fields : Data
 body_fields = object (member (codes "pacticipant") (string (codes "shop")) (member (codes "version") (string (codes "1")) no_members))
 
 environment_named : IsPathName OWN_NAME (path_of parsed.target) (Ok (codes "prod"))
-unfolding segment percent_encoding_on_literals
-environment_named = (Some (codes "prod"), named (codes "prod") refl prod_name, refl)
+unfolding segment percent_encoding_on_literals is_name
+environment_named = (Some (codes "prod"), named (codes "prod") refl refl, refl)
 
 body_read : IsObject deployment_body (Some body_fields)
 unfolding serde_json_on_literals
 body_read = (Some body_fields, (in_ascii deployment_body refl, refl), refl)
 
 version_named : IsVersionFields (Some body_fields) (Ok (version (codes "shop") (codes "1")))
-version_named = (Ok (codes "shop"), (Some (codes "shop"), named (codes "shop") refl shop_name, refl), (Ok (codes "1"), (Some (codes "1"), named (codes "1") refl one_name, refl), refl))
+unfolding is_name
+version_named =
+    let shop = named (codes "shop") refl refl in
+    (Ok (codes "shop"), (Some (codes "shop"), shop, refl), (Ok (codes "1"), (Some (codes "1"), named (codes "1") refl refl, refl), refl))
 
 the_command : IsCommand operation.Deploy (path_of parsed.target) (query_of parsed.target) deployment_body (Deploy (codes "prod") (version (codes "shop") (codes "1")) None)
 the_command = (

@@ -1,11 +1,8 @@
 -- The path of a target that is a text is a text.
-use Rattle.std.proofs.Common.{◌≡◌, ℕ, ◌==◌, ◌<◌, ◌≤◌, List, length, get_or, take_all, Bool, true, false, ltb, Option, refl, sym, ap, ◌∙◌, subst, arith, IsUtf8}
-use Rattle.std.proofs.lemmas.Bool.Decides.{nat_tests}
 use Rattle.std.specs.List.{position_or_len}
-use Rattle.std.proofs.lemmas.List.Sums.{passes_at_first}
-use Rattle.std.proofs.lemmas.Str.{IsUtf8-take, IsCharBoundary-before_ascii}
-use Rattle.http_routes.specs.Routes.{resource_of}
-use Rattle.http_routes.specs.declared.Resource.{Resource}
+use Rattle.std.proofs.Common.{◌≡◌, ℕ, ◌==◌, ◌<◌, ◌≤◌, List, length, get_or, take_all, Bool, true, false, ltb, Option, refl, sym, ap, ◌∙◌, subst, arith, IsUtf8}
+use Rattle.std.proofs.{lemmas.Bool.Decides.{nat_tests}, lemmas.List.Sums.{passes_at_first}, lemmas.Str.{IsUtf8-take, IsCharBoundary-before_ascii}}
+use Rattle.http_routes.specs.{Routes.{resource_of}, declared.Resource.{Resource}}
 use Rattle.http_requests.specs.Requests.{is_question_mark, path_of}
 
 pub path-text : (target : List ℕ) → IsUtf8 target → IsUtf8 (path_of target)

@@ -1,13 +1,10 @@
 -- What the written list says of a status is what the crate `http` says, and how a list of methods grows.
+use Rattle.std.specs.{Fmt.{digits}, List.{list_any}}
 use Rattle.std.proofs.Common.{◌≡◌, ℕ, zero, suc, ◌+◌, ◌<◌, ◌≤◌, ◌==◌, Bool, true, false, not, ◌&&◌, ◌||◌, cond, List, [], ◌∷◌, ◌++◌, length, get_or, take, drop, map, leb, filter, is_some, Option, Some, None, option_map, unwrap_or, Bor, codes, decimal, refl, sym, ap, subst, ◌∙◌, append_assoc, append-nil, arith, ◌*◌}
-use Rattle.std.proofs.lemmas.Bool.{eqb-true, leb-true}
-use Rattle.std.proofs.lemmas.List.Elements.{filter_more}
-use Rattle.std.specs.Fmt.{digits}
-use Rattle.std.specs.List.{list_any}
+use Rattle.std.proofs.{lemmas.Bool.{eqb-true, leb-true}, lemmas.List.Elements.{filter_more}}
 use Rattle.http.specs.StatusCode.{code_digits, reason_phrase}
 use Rattle.http_messages.specs.Heads.{served_methods}
-use Rattle.http_routes.specs.Methods.{operation_at, listed}
-use Rattle.http_routes.specs.declared.Resource.{Resource}
+use Rattle.http_routes.specs.{Methods.{operation_at, listed}, declared.Resource.{Resource}}
 use Rattle.http_responses.specs.Head.{phrases, phrase_in, has_phrase, phrase, listed_next}
 
 -- the crate's digits and phrases are those of the list

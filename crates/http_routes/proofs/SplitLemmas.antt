@@ -1,10 +1,8 @@
 -- A route's tokens take a path exactly where its pieces fit the path's segments.
+use Rattle.std.specs.{List.{onto_first}, Str.{bytes_eq}}
 use Rattle.std.proofs.Common.{◌≡◌, ℕ, List, [], ◌∷◌, ◌++◌, length, Bool, true, false, cond, refl, sym, ap, ◌∙◌, arith, nat_lt, ◌==◌, ltb, ◌||◌, ◌&&◌, not}
-use Rattle.std.proofs.lemmas.Bool.Decides.{nat_tests}
-use Rattle.std.specs.List.{onto_first}
-use Rattle.std.specs.Str.{bytes_eq}
-use Rattle.http_routes.specs.Routes.{segments, is_parameter, fits, all_fit}
-use Rattle.http_routes.proofs.WalkLemmas.{and-left, and-right, takes, is_nil, behind_segment}
+use Rattle.std.proofs.{lemmas.Bool.{and_parts, not-true}, lemmas.Bool.Decides.{nat_tests}}
+use Rattle.http_routes.{specs.Routes.{segments, is_parameter, fits, all_fit}, proofs.WalkLemmas.{takes, is_nil, behind_segment}}
 
 -- the tokens of a piece
 abbrev pub piece_tokens : List ℕ → List ℕ
@@ -52,10 +50,6 @@ and-assoc : (a b c : Bool) → (a && (b && c)) ≡ ((a && b) && c)
 and-assoc true b c = refl
 and-assoc false b c = refl
 
-pub not-true : (a : Bool) → not a ≡ true → a ≡ false
-not-true true e = cc
-not-true false e = refl
-
 module _ (more : List (List ℕ)) (behind : (path : List ℕ) → takes (tokens_behind more) (behind_segment path) ≡ all_fit more (more_parts path)) where
   -- nothing is left of a segment
   takes-end : (path : List ℕ) → takes (tokens_behind more) path ≡ (bytes_eq [] (first_part path) && all_fit more (more_parts path))
@@ -75,16 +69,16 @@ module _ (more : List (List ℕ)) (behind : (path : List ℕ) → takes (tokens_
   takes-literal : (w path : List ℕ) → is_literal w ≡ true → takes (w ++ tokens_behind more) path ≡ (bytes_eq w (first_part path) && all_fit more (more_parts path))
   takes-literal [] path l = takes-end path
   takes-literal (x ∷ w) [] l = refl
-  takes-literal (x ∷ w) (b ∷ path) l = by (b == 47) refl (takes-literal w path (and-right _ (is_literal w) l))
+  takes-literal (x ∷ w) (b ∷ path) l = by (b == 47) refl (takes-literal w path (and_parts _ (is_literal w) l).1)
     where
       ends : (v : Bool) → (x == b) ≡ v → (b == 47) ≡ true → (v && takes (w ++ tokens_behind more) path) ≡ false
       ends true e d =
-          let n = not-true (x == 47) (and-right (ltb x 256) _ (and-left _ (is_literal w) l)) in
+          let n = not-true (x == 47) (and_parts (ltb x 256) _ (and_parts _ (is_literal w) l).0).1 in
           grind (arith, nat_tests)
       ends false e d = refl
 
       token : (x == 256) ≡ false
-      token = let n = and-left (ltb x 256) _ (and-left _ (is_literal w) l) in grind (arith, nat_tests)
+      token = let n = (and_parts (ltb x 256) _ (and_parts _ (is_literal w) l).0).0 in grind (arith, nat_tests)
 
       by : (v : Bool) → (b == 47) ≡ v → takes (w ++ tokens_behind more) path ≡ (bytes_eq w (first_part path) && all_fit more (more_parts path))
           → takes (x ∷ (w ++ tokens_behind more)) (b ∷ path) ≡ (bytes_eq (x ∷ w) (cond v [] (b ∷ first_part path)) && all_fit more (cond v (segments path) (more_parts path)))
@@ -122,7 +116,8 @@ takes-behind [] good (b ∷ path) = by (b == 47) (takes-behind [] good path)
     by false ih = ih
 takes-behind (piece ∷ more) good [] = refl
 takes-behind (piece ∷ more) good (b ∷ path) =
-    by (b == 47) refl (takes-piece more (takes-behind more (and-right _ (are_pieces more) good)) piece path (and-left _ (are_pieces more) good)) (takes-behind (piece ∷ more) good path)
+    let both = and_parts _ (are_pieces more) good in
+    by (b == 47) refl (takes-piece more (takes-behind more both.1) piece path both.0) (takes-behind (piece ∷ more) good path)
   where
     by : (v : Bool) → (b == 47) ≡ v
         → takes (piece_tokens piece ++ tokens_behind more) path ≡ (fits piece (first_part path) && all_fit more (more_parts path))
@@ -136,5 +131,5 @@ takes-behind (piece ∷ more) good (b ∷ path) =
 -- a route's tokens and its pieces
 pub takes-tokens : (piece : List ℕ) (more : List (List ℕ)) (path : List ℕ) → are_pieces (piece ∷ more) ≡ true → takes (tokens (piece ∷ more)) path ≡ all_fit (piece ∷ more) (segments path)
 takes-tokens piece more path good =
-    takes-piece more (takes-behind more (and-right _ (are_pieces more) good)) piece path (and-left _ (are_pieces more) good)
+    takes-piece more (takes-behind more (and_parts _ (are_pieces more) good).1) piece path (and_parts _ (are_pieces more) good).0
     ∙ sym (ap (λ parts. all_fit (piece ∷ more) parts) (segments-parts path))

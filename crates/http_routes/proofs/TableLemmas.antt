@@ -1,20 +1,13 @@
 -- What the router finds in the table of all routes is the resource that the path names.
+use Rattle.std.specs.{Option.{option_map}, Str.{bytes_eq}}
 use Rattle.std.proofs.Common.{◌≡◌, ℕ, List, [], ◌∷◌, ◌++◌, Option, Some, None, is_some, Bool, true, false, cond, refl, sym, ap, subst, ◌∙◌, ◌&&◌, ◌||◌, not, ◌⊎◌, inl, inr, Result, Ok, Err}
-use Rattle.std.specs.Option.{option_map}
-use Rattle.std.specs.Str.{bytes_eq}
-use Rattle.std.proofs.lemmas.Slice.Eq.{bytes_eq-Decides}
-use Rattle.matchit.specs.Order.{placed}
-use Rattle.matchit.specs.Route.{Scan, parse_route}
-use Rattle.matchit.specs.Router.{RouteOf, route_from}
-use Rattle.matchit.specs.Rows.{comes_before}
-use Rattle.matchit.specs.Seek.{first}
-use Rattle.matchit.specs.declared.error.InsertError.{InsertError}
-use Rattle.matchit.proofs.OnLiterals.{matchit_on_literals}
+use Rattle.std.proofs.{lemmas.Bool.{and_parts, and_left, and_right, not-true}, lemmas.Slice.Eq.{bytes_eq-Decides}}
+use Rattle.matchit.specs.{Order.{placed}, Route.{Scan, parse_route}, Router.{RouteOf, route_from}, Rows.{comes_before}, Seek.{first}}
+use Rattle.matchit.{specs.declared.error.InsertError.{InsertError}, proofs.OnLiterals.{matchit_on_literals}}
 use Rattle.http_routes.specs.Routes.{segments, is_parameter, fits, all_fit, is_on, resource_in, resource_of, routes}
-use Rattle.http_routes.specs.Table.{Rows, with_route, with_routes, table}
-use Rattle.http_routes.specs.declared.Resource.{Resource}
-use Rattle.http_routes.proofs.WalkLemmas.{and-left, and-right, is_plain, takes, HasRow, ArePlain, seek-sound, seek-complete}
-use Rattle.http_routes.proofs.SplitLemmas.{not-true, tokens, are_pieces, segments-parts, takes-tokens}
+use Rattle.http_routes.specs.{Table.{Rows, with_route, with_routes, table}, declared.Resource.{Resource}}
+use Rattle.http_routes.proofs.WalkLemmas.{is_plain, takes, HasRow, ArePlain, seek-sound, seek-complete}
+use Rattle.http_routes.proofs.SplitLemmas.{tokens, are_pieces, segments-parts, takes-tokens}
 
 -- the pieces of no path fit both
 
@@ -27,17 +20,13 @@ clash [] (q ∷ qs) = true
 clash (p ∷ ps) [] = true
 clash (p ∷ ps) (q ∷ qs) = differ p q || clash ps qs
 
-and-no : (a b : Bool) → b ≡ false → (a && b) ≡ false
-and-no true b e = e
-and-no false b e = refl
-
 fits-other : (p q s : List ℕ) → differ p q ≡ true → fits p s ≡ true → fits q s ≡ false
 unfolding fits
 fits-other p q s d e =
-    let lp = not-true (is_parameter p) (and-left (not (is_parameter p)) (not (is_parameter q) && not (bytes_eq q p)) d) in
-    let more = and-right (not (is_parameter p)) (not (is_parameter q) && not (bytes_eq q p)) d in
-    let lq = not-true (is_parameter q) (and-left (not (is_parameter q)) (not (bytes_eq q p)) more) in
-    let qp = not-true (bytes_eq q p) (and-right (not (is_parameter q)) (not (bytes_eq q p)) more) in
+    let lp = not-true (is_parameter p) (and_parts (not (is_parameter p)) (not (is_parameter q) && not (bytes_eq q p)) d).0 in
+    let more = (and_parts (not (is_parameter p)) (not (is_parameter q) && not (bytes_eq q p)) d).1 in
+    let lq = not-true (is_parameter q) (and_parts (not (is_parameter q)) (not (bytes_eq q p)) more).0 in
+    let qp = not-true (bytes_eq q p) (and_parts (not (is_parameter q)) (not (bytes_eq q p)) more).1 in
     let here : bytes_eq p s ≡ true = rw lp at e in
     let same : p ≡ s = (bytes_eq-Decides p s).0 here in
     rw lq (subst (λ w. bytes_eq q w ≡ false) same qp)
@@ -49,15 +38,11 @@ clash-fit [] (q ∷ qs) (s ∷ segs) c e = cc
 clash-fit (p ∷ ps) [] [] c e = cc
 clash-fit (p ∷ ps) [] (s ∷ segs) c e = refl
 clash-fit (p ∷ ps) (q ∷ qs) [] c e = cc
-clash-fit (p ∷ ps) (q ∷ qs) (s ∷ segs) c e = by (differ p q) refl c (λ more. clash-fit ps qs segs more (and-right (fits p s) (all_fit ps segs) e))
+clash-fit (p ∷ ps) (q ∷ qs) (s ∷ segs) c e = by (differ p q) refl c (λ more. clash-fit ps qs segs more (and_parts (fits p s) (all_fit ps segs) e).1)
   where
-    and-first : (a b : Bool) → a ≡ false → (a && b) ≡ false
-    and-first true b e = cc
-    and-first false b e = refl
-
     by : (v : Bool) → differ p q ≡ v → (v || clash ps qs) ≡ true → (clash ps qs ≡ true → all_fit qs segs ≡ false) → (fits q s && all_fit qs segs) ≡ false
-    by true d c ih = and-first (fits q s) (all_fit qs segs) (fits-other p q s d (and-left (fits p s) (all_fit ps segs) e))
-    by false d c ih = and-no (fits q s) (all_fit qs segs) (ih c)
+    by true d c ih = and_left (fits q s) (all_fit qs segs) (fits-other p q s d (and_parts (fits p s) (all_fit ps segs) e).0)
+    by false d c ih = and_right (fits q s) (all_fit qs segs) (ih c)
 
 -- routes
 
@@ -81,8 +66,10 @@ off-route : (text : List ℕ) (rs : List (List ℕ × Resource)) (other : List �
 unfolding is_on
 off-route text [] other resource path c h e = elim h [ ]
 off-route text (route ∷ more) other resource path c h e = elim h [
-  | inl p ↦ clash-fit (segments route.0) (segments text) (segments path) (and-left _ (clashes text more) c) (ap (λ t. all_fit (segments t) (segments path)) p.0 ∙ e)
-  | inr q ↦ off-route text more other resource path (and-right _ (clashes text more) c) q e
+  | inl p ↦
+      clash-fit (segments route.0) (segments text) (segments path) (and_parts _ (clashes text more) c).0
+      (ap (λ t. all_fit (segments t) (segments path)) p.0 ∙ e)
+  | inr q ↦ off-route text more other resource path (and_parts _ (clashes text more) c).1 q e
 ]
 
 -- the resource of a path that is on a route
@@ -91,8 +78,8 @@ resource_in-route [] text resource path c h e = elim h [ ]
 resource_in-route (route ∷ more) text resource path c h e = elim h [
   | inl p ↦ ap (λ v. cond v (Some route.1) (resource_in more path)) (ap (λ t. is_on t path) p.0 ∙ e) ∙ ap Some p.1
   | inr q ↦
-      ap (λ v. cond v (Some route.1) (resource_in more path)) (off-route route.0 more text resource path (and-left _ (are_apart more) c) q e)
-      ∙ resource_in-route more text resource path (and-right _ (are_apart more) c) q e
+      ap (λ v. cond v (Some route.1) (resource_in more path)) (off-route route.0 more text resource path (and_parts _ (are_apart more) c).0 q e)
+      ∙ resource_in-route more text resource path (and_parts _ (are_apart more) c).1 q e
 ]
 
 -- a path that has a resource is on its route
@@ -122,48 +109,30 @@ abbrev pub AreGood : List (List ℕ × Resource) → Type 0
 AreGood [] = Unit {0}
 AreGood (route ∷ more) = IsGood route.0 × AreGood more
 
+-- the same, as a test
+abbrev pub is_read : Result Scan InsertError → List ℕ → Bool
+is_read (Ok scan) text = bytes_eq scan.pattern (tokens (segments text))
+is_read (Err e) text = false
+
+abbrev pub are_good : List (List ℕ × Resource) → Bool
+are_good [] = true
+are_good (route ∷ more) = (is_read (parse_route route.0) route.0 && (are_pieces (segments route.0) && is_plain (tokens (segments route.0)))) && are_good more
+
+read-from : (x : Result Scan InsertError) (text : List ℕ) → is_read x text ≡ true → IsRead x text
+read-from (Ok scan) text e = (bytes_eq-Decides scan.pattern (tokens (segments text))).0 e
+read-from (Err e) text wrong = cc
+
+good-from : (rs : List (List ℕ × Resource)) → are_good rs ≡ true → AreGood rs
+good-from [] e = tt
+good-from (route ∷ more) e =
+    let both = and_parts _ (are_good more) e in
+    let here = and_parts (is_read (parse_route route.0) route.0) _ both.0 in
+    let parts = and_parts (are_pieces (segments route.0)) _ here.1 in
+    ((read-from (parse_route route.0) route.0 here.0, parts.0, parts.1), good-from more both.1)
+
 routes-good : AreGood routes
 unfolding matchit_on_literals
-routes-good = (
-  (refl, refl, refl),
-  (
-    (refl, refl, refl),
-    (
-      (refl, refl, refl),
-      (
-        (refl, refl, refl),
-        (
-          (refl, refl, refl),
-          (
-            (refl, refl, refl),
-            (
-              (refl, refl, refl),
-              (
-                (refl, refl, refl),
-                (
-                  (refl, refl, refl),
-                  (
-                    (refl, refl, refl),
-                    (
-                      (refl, refl, refl),
-                      (
-                        (refl, refl, refl),
-                        (
-                          (refl, refl, refl),
-                          ((refl, refl, refl), ((refl, refl, refl), tt)),
-                        ),
-                      ),
-                    ),
-                  ),
-                ),
-              ),
-            ),
-          ),
-        ),
-      ),
-    ),
-  ),
-)
+routes-good = good-from routes refl
 
 -- a route's tokens take the paths that are on it
 takes-route : (text path : List ℕ) → are_pieces (segments text) ≡ true → takes (tokens (segments text)) path ≡ is_on text path

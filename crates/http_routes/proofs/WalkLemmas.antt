@@ -1,8 +1,7 @@
 -- What the router's walk finds: a row whose tokens take the path, and one wherever there is such a row.
+use Rattle.std.specs.{List.{ends_with}, Cmp.Lexicographic.{pointwise}}
 use Rattle.std.proofs.Common.{◌≡◌, ℕ, zero, suc, ◌-◌, ◌<◌, List, [], ◌∷◌, length, drop, Option, Some, None, is_some, Bool, true, false, cond, refl, sym, ap, subst, ◌∙◌, arith, nat_eq, ◌==◌, ltb, ◌&&◌, not, ◌⊎◌, inl, inr}
-use Rattle.std.proofs.lemmas.Bool.Decides.{nat_tests}
-use Rattle.std.specs.List.{ends_with}
-use Rattle.std.specs.Cmp.Lexicographic.{pointwise}
+use Rattle.std.proofs.{lemmas.Bool.{and_parts}, lemmas.Bool.Decides.{nat_tests}}
 use Rattle.matchit.specs.Rows.{RowsOf}
 use Rattle.matchit.specs.Seek.{segment, has_slash, same_text, cuts, better, own, step, or_else, longest_from, longest_suffix, with_suffix, param_step, seek}
 
@@ -39,14 +38,6 @@ tail-same x y t u e = cc
 
 not-nil : (x : ℕ) (t : List ℕ) → [] ≡ x ∷ t → ⊥
 not-nil x t e = cc
-
-pub and-left : (a b : Bool) → (a && b) ≡ true → a ≡ true
-and-left true b e = refl
-and-left false b e = cc
-
-pub and-right : (a b : Bool) → (a && b) ≡ true → b ≡ true
-and-right true b e = e
-and-right false b e = cc
 
 -- the bytes of a path, by their segment
 
@@ -120,7 +111,7 @@ takes-behind (x ∷ t) [] s e = cc
 takes-behind (x ∷ t) (c ∷ p) s e =
     let x47 : x ≡ 47 = grind (arith, nat_tests) in
     let here : ((47 == c) && takes t p) ≡ true = subst (λ y. takes (y ∷ t) (c ∷ p) ≡ true) x47 e in
-    let c47 : (c == 47) ≡ true = (let h = and-left (47 == c) (takes t p) here in grind (arith, nat_tests)) in
+    let c47 : (c == 47) ≡ true = (let h = (and_parts (47 == c) (takes t p) here).0 in grind (arith, nat_tests)) in
     ap (λ v. takes (x ∷ t) (cond v (c ∷ p) (behind_segment p))) c47 ∙ e
 
 module _ {K : Type 0} where
@@ -184,13 +175,13 @@ module _ {K : Type 0} where
   ArePlain-step b ((x ∷ u, j) ∷ rest) h = by (x == b) (ArePlain-step b rest h.1)
     where
       by : (v : Bool) → ArePlain (step b rest) → ArePlain (cond v ((u, j) ∷ step b rest) (step b rest))
-      by true ih = (and-right _ (is_plain u) h.0, ih)
+      by true ih = ((and_parts _ (is_plain u) h.0).1, ih)
       by false ih = ih
 
   pub EndSegments-step : (rs : RowsOf K) → ArePlain rs → EndSegments (step 256 rs)
   EndSegments-step [] h = tt
   EndSegments-step (([], j) ∷ rest) h = EndSegments-step rest h.1
-  EndSegments-step ((x ∷ u, j) ∷ rest) h = by (x == 256) refl (and-left _ (is_plain u) h.0) (EndSegments-step rest h.1)
+  EndSegments-step ((x ∷ u, j) ∷ rest) h = by (x == 256) refl (and_parts _ (is_plain u) h.0).0 (EndSegments-step rest h.1)
     where
       by : (v : Bool) → (x == 256) ≡ v → cond v (ends_segment u) (ltb x 256) ≡ true → EndSegments (step 256 rest) → EndSegments (cond v ((u, j) ∷ step 256 rest) (step 256 rest))
       by true e h ih = (h, ih)
@@ -200,7 +191,7 @@ module _ {K : Type 0} where
   pub own-catch_all : (rs : RowsOf K) → ArePlain rs → own (step 257 rs) ≡ None
   own-catch_all [] h = refl
   own-catch_all (([], j) ∷ rest) h = own-catch_all rest h.1
-  own-catch_all ((x ∷ u, j) ∷ rest) h = by (x == 257) refl (and-left _ (is_plain u) h.0) (own-catch_all rest h.1)
+  own-catch_all ((x ∷ u, j) ∷ rest) h = by (x == 257) refl (and_parts _ (is_plain u) h.0).0 (own-catch_all rest h.1)
     where
       by : (v : Bool) → (x == 257) ≡ v → cond (x == 256) (ends_segment u) (ltb x 256) ≡ true → own (step 257 rest) ≡ None → own (cond v ((u, j) ∷ step 257 rest) (step 257 rest)) ≡ None
       by true e h ih =
@@ -487,6 +478,6 @@ module _ {K : Type 0} where
           let r = param-complete (step 256 rs) b path t k (EndSegments-step rs plain) row e in
           or-second (seek 0 (step b rs) path) _ (or-first _ (own (step 257 rs)) (param r.0 r.1))
       by false d e byte param =
-          let xb : x ≡ b = (let s = and-left (x == b) (takes t path) e in grind (arith, nat_tests)) in
+          let xb : x ≡ b = (let s = (and_parts (x == b) (takes t path) e).0 in grind (arith, nat_tests)) in
           let row : HasRow (step b rs) t k = step-HasRow b rs t k (subst (λ y. HasRow rs (y ∷ t) k) xb h) in
-          or-first (seek 0 (step b rs) path) _ (byte row (and-right (x == b) (takes t path) e))
+          or-first (seek 0 (step b rs) path) _ (byte row (and_parts (x == b) (takes t path) e).1)

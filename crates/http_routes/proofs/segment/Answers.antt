@@ -1,7 +1,5 @@
-use Rattle.std.proofs.Common.{◌≡◌, Option, Some, None, List, ℕ, [], unwrap_or, Bor, refl, ap, ◌∙◌, rules, tests}
-use Rattle.std.specs.Option.{option_map}
-use Rattle.std.proofs.lemmas.Iterator.Consumers.{nth_from_yields_List}
-use Rattle.std.proofs.lemmas.Iterator.Splits.{YieldsList-from_slice_split}
+use Rattle.std.{specs.Option.{option_map}, proofs.Common.{◌≡◌, Option, Some, None, List, ℕ, [], unwrap_or, Bor, refl, ap, ◌∙◌, rules, tests}}
+use Rattle.std.proofs.{lemmas.Iterator.Consumers.{nth_from_yields_List}, lemmas.Iterator.Splits.{YieldsList-from_slice_split}}
 use Rattle.http_routes.specs.Routes.{is_slash, segment}
 use Rattle.http_routes.proofs.segment.Goals as goal
 

@@ -1,6 +1,5 @@
 use Rattle.std.proofs.Common.{◌∙◌}
-use Rattle.answer_texts.specs.Data.{object_of}
-use Rattle.answer_texts.proofs.TokenLemmas.{printed}
+use Rattle.answer_texts.{specs.Data.{object_of}, proofs.TokenLemmas.{printed}}
 use Rattle.answer_texts.proofs.writing.object_text.Goals as goal
 
 pub returns : goal.returns

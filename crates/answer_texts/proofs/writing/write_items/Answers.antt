@@ -1,9 +1,6 @@
-use Rattle.std.proofs.Common.{◌+◌, ◌∷◌, [], take, arith}
-use Rattle.std.specs.List.{flat_map}
+use Rattle.std.{specs.List.{flat_map}, proofs.Common.{◌+◌, ◌∷◌, [], take, arith}}
 use Rattle.json.specs.Token.{begin_array, end_array}
-use Rattle.answer_texts.specs.Data.{items}
-use Rattle.answer_texts.specs.Tokens.{tokens_of}
-use Rattle.answer_texts.proofs.TokenLemmas.{Adds-token, Adds-more, Adds-last, flat_map_next, whole_items}
+use Rattle.answer_texts.{specs.{Data.{items}, Tokens.{tokens_of}}, proofs.TokenLemmas.{Adds-token, Adds-more, Adds-last, flat_map_next, whole_items}}
 use Rattle.answer_texts.proofs.writing.write_items.Goals as goal
 
 pub loop-item-init : goal.loop-item-init

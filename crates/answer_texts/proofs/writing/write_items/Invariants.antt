@@ -1,5 +1,4 @@
-use Rattle.std.proofs.Common.{◌∷◌, take}
-use Rattle.std.specs.List.{flat_map}
+use Rattle.std.{specs.List.{flat_map}, proofs.Common.{◌∷◌, take}}
 use Rattle.json.specs.Token.{begin_array}
 use Rattle.answer_texts.specs.Tokens.{tokens_of, Adds}
 use Rattle.answer_texts.proofs.writing.write_items.Given as goal

@@ -1,8 +1,6 @@
-use Rattle.std.proofs.Common.{◌+◌, ◌∷◌, [], take, arith}
-use Rattle.std.specs.List.{flat_map}
+use Rattle.std.{specs.List.{flat_map}, proofs.Common.{◌+◌, ◌∷◌, [], take, arith}}
 use Rattle.json.specs.Token.{begin_object, end_object, key}
-use Rattle.answer_texts.specs.Data.{object_of}
-use Rattle.answer_texts.specs.Tokens.{tokens_of}
+use Rattle.answer_texts.specs.{Data.{object_of}, Tokens.{tokens_of}}
 use Rattle.answer_texts.proofs.TokenLemmas.{Adds-token, Adds-trans, Adds-more, Adds-last, member_tokens, flat_map_next, whole_members}
 use Rattle.answer_texts.proofs.writing.write_object.Goals as goal
 

@@ -1,8 +1,6 @@
-use Rattle.std.proofs.Common.{◌∷◌, take}
-use Rattle.std.specs.List.{flat_map}
+use Rattle.std.{specs.List.{flat_map}, proofs.Common.{◌∷◌, take}}
 use Rattle.json.specs.Token.{begin_object}
-use Rattle.answer_texts.specs.Tokens.{Adds}
-use Rattle.answer_texts.proofs.TokenLemmas.{member_tokens}
+use Rattle.answer_texts.{specs.Tokens.{Adds}, proofs.TokenLemmas.{member_tokens}}
 use Rattle.answer_texts.proofs.writing.write_object.Given as goal
 
 -- the members so far

@@ -1,8 +1,6 @@
-use Rattle.std.proofs.lemmas.Result.{IfOk-weaker}
-use Rattle.std.proofs.Common.{◌∙◌, ap}
+use Rattle.std.proofs.{lemmas.Result.{IfOk-weaker}, Common.{◌∙◌, ap}}
 use Rattle.clap.specs.Words.{is_simple_and_free}
-use Rattle.command_line.specs.Lines.{command_named, texts_of}
-use Rattle.command_line.proofs.LineLemmas.{has_options, named_is_free, named_is_simple, only_memory}
+use Rattle.command_line.{specs.Lines.{command_named, texts_of}, proofs.LineLemmas.{has_options, named_is_free, named_is_simple, only_memory}}
 use Rattle.command_line.proofs.line.read_command.Goals as goal
 
 pub returns-in-Ok-clause-ok : goal.returns-in-Ok-clause-ok

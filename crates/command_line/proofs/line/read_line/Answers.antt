@@ -1,6 +1,4 @@
-use Rattle.std.proofs.Common.{ap, map}
-use Rattle.std.proofs.lemmas.Result.{IfErr-weaker, IfOk-weaker}
-use Rattle.std.proofs.lemmas.List.{nil_from_length}
+use Rattle.std.proofs.{Common.{ap, map}, lemmas.Result.{IfErr-weaker, IfOk-weaker}, lemmas.List.{nil_from_length}}
 use Rattle.command_line.proofs.LineLemmas.{line_taken, taken, unnamed, wordless}
 use Rattle.command_line.proofs.line.read_line.Goals as goal
 

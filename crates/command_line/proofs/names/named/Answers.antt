@@ -1,6 +1,5 @@
 use Rattle.std.proofs.Common.{◌≡◌, ap, map, sym, subst, false, MatchOption}
-use Rattle.command_line.specs.Lines.{BeginsWithName, is_command}
-use Rattle.command_line.proofs.LineLemmas.{begins}
+use Rattle.command_line.{specs.Lines.{BeginsWithName, is_command}, proofs.LineLemmas.{begins}}
 use Rattle.command_line.proofs.names.named.Goals as goal
 
 pub returns-in-Some : goal.returns-in-Some

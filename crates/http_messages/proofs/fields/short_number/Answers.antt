@@ -1,11 +1,6 @@
-use Rattle.std.proofs.Common.{◌≡◌, ℕ, ◌+◌, ◌*◌, ◌^◌, ◌<◌, Bool, true, ◌&&◌, List, length, get_or, take, sym, ap, ◌∙◌, arith, add-one}
-use Rattle.std.specs.List.{list_all}
-use Rattle.std.specs.Char.{is_ascii_digit, digit_value}
-use Rattle.std.proofs.Math.Nat.{pow-suc}
-use Rattle.std.proofs.lemmas.Bool.Decides.{nat_tests}
-use Rattle.std.proofs.lemmas.Int.Digits.{digits_value_more}
-use Rattle.std.proofs.lemmas.List.{take_more}
-use Rattle.std.proofs.lemmas.List.Folds.{list_all-append}
+use Rattle.std.specs.{List.{list_all}, Char.{is_ascii_digit, digit_value}}
+use Rattle.std.proofs.{Common.{◌≡◌, ℕ, ◌+◌, ◌*◌, ◌^◌, ◌<◌, Bool, true, ◌&&◌, List, length, get_or, take, sym, ap, ◌∙◌, arith, add-one}, Math.Nat.{pow-suc}}
+use Rattle.std.proofs.{lemmas.Bool.Decides.{nat_tests}, lemmas.Int.Digits.{digits_value_more}, lemmas.List.{take_more}, lemmas.List.Folds.{list_all-append}}
 use Rattle.http_messages.proofs.fields.short_number.Goals as goal
 
 list_all_more : {X : Type 0} (p : X → Bool) (xs : List X) (i : ℕ) (d : X) → i < length xs → list_all p (take i xs) ≡ true → p (get_or xs i d) ≡ true → list_all p (take (i + 1) xs) ≡ true

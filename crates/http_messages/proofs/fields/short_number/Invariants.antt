@@ -1,7 +1,4 @@
-use Rattle.std.proofs.Common.{◌≡◌, ◌<◌, ◌^◌, true, take}
-use Rattle.std.specs.List.{list_all}
-use Rattle.std.specs.Char.{is_ascii_digit}
-use Rattle.std.specs.Str.Parse.{digits_value}
+use Rattle.std.{specs.{List.{list_all}, Char.{is_ascii_digit}, Str.Parse.{digits_value}}, proofs.Common.{◌≡◌, ◌<◌, ◌^◌, true, take}}
 use Rattle.http_messages.proofs.fields.short_number.Given as goal
 
 -- the digits so far

@@ -1,8 +1,6 @@
-use Rattle.std.proofs.Common.{◌≡◌, ◌+◌, ◌-◌, ℕ, Bool, List, length-drop, take, drop, ap, sym, ◌∙◌, arith}
-use Rattle.std.proofs.lemmas.List.{take_rest}
+use Rattle.std.proofs.{Common.{◌≡◌, ◌+◌, ◌-◌, ℕ, Bool, List, length-drop, take, drop, ap, sym, ◌∙◌, arith}, lemmas.List.{take_rest}}
 use Rattle.std.proofs.Math.Nat.{add-sub_cancel_left}
-use Rattle.http_messages.specs.Lines.{is_empty_line}
-use Rattle.http_messages.proofs.LinesLemmas.{over_full, over_blank, at_last}
+use Rattle.http_messages.{specs.Lines.{is_empty_line}, proofs.LinesLemmas.{over_full, over_blank, at_last}}
 use Rattle.http_messages.proofs.lines.head_len.Goals as goal
 
 -- what the code calls the line is the line

@@ -1,6 +1,5 @@
 use Rattle.std.proofs.Common.{◌≡◌, ◌-◌, ◌≤◌, length, take, drop}
-use Rattle.http_messages.specs.Lines.{head_text}
-use Rattle.http_messages.proofs.LinesLemmas.{behind, rest_text}
+use Rattle.http_messages.{specs.Lines.{head_text}, proofs.LinesLemmas.{behind, rest_text}}
 use Rattle.http_messages.proofs.lines.head_len.Given as goal
 
 -- the head text is the lines so far and what the other lines make of it

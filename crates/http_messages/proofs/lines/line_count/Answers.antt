@@ -1,5 +1,4 @@
-use Rattle.std.proofs.Common.{◌≡◌, ◌+◌, ℕ, suc, false, List, ◌∷◌, length, length-drop, take, drop, ap, sym, ◌∙◌, arith}
-use Rattle.std.proofs.lemmas.List.{take_rest, drop-drop}
+use Rattle.std.proofs.{Common.{◌≡◌, ◌+◌, ℕ, suc, false, List, ◌∷◌, length, length-drop, take, drop, ap, sym, ◌∙◌, arith}, lemmas.List.{take_rest, drop-drop}}
 use Rattle.std.proofs.Math.Nat.{add-sub_cancel_left}
 use Rattle.http_messages.specs.Lines.{lines_of, from_first, is_empty_line}
 use Rattle.http_messages.proofs.lines.line_count.Goals.{then-count-gt0-via-then-count-gt0, then-count-gt0-via-else-count-gt0+then-not-is_empty_line}

@@ -1,7 +1,5 @@
-use Rattle.std.proofs.Common.{◌≡◌, ℕ, List, min, length, take, ap, ◌∙◌}
-use Rattle.std.proofs.lemmas.List.{take_min}
-use Rattle.http_messages.specs.Limits.{head_limit}
-use Rattle.http_messages.proofs.MessagesLemmas.{IsHeadOf-some, IsHeadOf-none, IsHeadOf-short}
+use Rattle.std.proofs.{Common.{◌≡◌, ℕ, List, min, length, take, ap, ◌∙◌}, lemmas.List.{take_min}}
+use Rattle.http_messages.{specs.Limits.{head_limit}, proofs.MessagesLemmas.{IsHeadOf-some, IsHeadOf-none, IsHeadOf-short}}
 use Rattle.http_messages.proofs.messages.whole_head.Goals as goal
 
 -- the bytes that are looked at

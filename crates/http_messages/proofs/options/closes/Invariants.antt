@@ -1,8 +1,6 @@
-use Rattle.std.proofs.Common.{◌≡◌, take, map, codes}
-use Rattle.std.specs.List.{list_any}
+use Rattle.std.{specs.List.{list_any}, proofs.Common.{◌≡◌, take, map, codes}}
 use Rattle.httparse.specs.Spans.{header_bytes}
-use Rattle.http_messages.specs.Fields.{values_named}
-use Rattle.http_messages.specs.Options.{has_close}
+use Rattle.http_messages.specs.{Fields.{values_named}, Options.{has_close}}
 use Rattle.http_messages.proofs.options.closes.Given as goal
 
 -- whether a field so far has the option

@@ -1,8 +1,5 @@
-use Rattle.std.proofs.Common.{◌+◌, length, sym, ap, ◌∙◌, arith, rules}
-use Rattle.std.proofs.lemmas.List.{take_rest}
-use Rattle.std.proofs.lemmas.List.Sums.{position_or_len_is}
-use Rattle.http_messages.specs.Options.{has_close}
-use Rattle.http_messages.proofs.OptionsLemmas.{is_comma, has_close-first, has_close-behind, has_close-last}
+use Rattle.std.proofs.{Common.{◌+◌, length, sym, ap, ◌∙◌, arith, rules}, lemmas.List.{take_rest}, lemmas.List.Sums.{position_or_len_is}}
+use Rattle.http_messages.{specs.Options.{has_close}, proofs.OptionsLemmas.{is_comma, has_close-first, has_close-behind, has_close-last}}
 use Rattle.http_messages.proofs.options.has_close.Goals as goal
 
 pub returns-then-is_close : goal.returns-then-is_close

@@ -1,7 +1,5 @@
-use Rattle.std.proofs.Common.{◌≡◌, ℕ, ◌≤◌, List, length, reverse, slice_range, sym, ap, ◌∙◌, arith}
-use Rattle.std.proofs.lemmas.List.{reverse-reverse}
-use Rattle.httparse.specs.Grammar.{skip_ows, trim_ows}
-use Rattle.httparse.proofs.TrimLemmas.{skip_ows_yes, skip_ows_no, slice_first, slice_last, slice_empty}
+use Rattle.std.proofs.{Common.{◌≡◌, ℕ, ◌≤◌, List, length, reverse, slice_range, sym, ap, ◌∙◌, arith}, lemmas.List.{reverse-reverse}}
+use Rattle.httparse.{specs.Grammar.{skip_ows, trim_ows}, proofs.TrimLemmas.{skip_ows_yes, skip_ows_no, slice_first, slice_last, slice_empty}}
 use Rattle.http_messages.proofs.options.trimmed.Goals.{then-loop-start-test+else-is_space_or_tab, else-loop-start-test, then-loop-end-test+else-is_space_or_tab-2, else-loop-end-test}
 use Rattle.http_messages.proofs.options.trimmed.Goals as goal
 

@@ -1,6 +1,5 @@
 use Rattle.std.proofs.Common.{◌-◌, ◌≤◌, max, length}
-use Rattle.http_messages.specs.Reading.{Gains}
-use Rattle.http_messages.specs.Limits.{head_limit}
+use Rattle.http_messages.specs.{Reading.{Gains}, Limits.{head_limit}}
 use Rattle.http_messages.proofs.reading.read_head_bytes.Given as goal
 
 -- what was read stands at the buffer's end, and is within the limit

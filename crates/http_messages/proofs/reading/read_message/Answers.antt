@@ -1,8 +1,5 @@
-use Rattle.std.proofs.Common.{◌≤◌, rules, length, take}
-use Rattle.std.proofs.lemmas.Result.{err_from_is_err_and}
-use Rattle.http_messages.specs.Messages.{IsHeadOf, HasNoHead}
-use Rattle.http_messages.specs.Views.{IsHeadRead}
-use Rattle.http_messages.specs.Limits.{head_limit}
+use Rattle.std.proofs.{Common.{◌≤◌, rules, length, take}, lemmas.Result.{err_from_is_err_and}}
+use Rattle.http_messages.specs.{Messages.{IsHeadOf, HasNoHead}, Views.{IsHeadRead}, Limits.{head_limit}}
 use Rattle.http_messages.proofs.ReadingLemmas.{Gains-trans, LeavesAtFault-after, no_message, grown_at_fault, is_whole, is_short}
 use Rattle.http_messages.proofs.reading.read_message.Goals as goal
 

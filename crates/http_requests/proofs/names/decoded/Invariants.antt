@@ -1,6 +1,5 @@
 use Rattle.std.proofs.Common.{◌≡◌, ◌++◌}
-use Rattle.percent_encoding.specs.Iter.{decoded_bytes}
-use Rattle.percent_encoding.specs.Percent.{percent_decode}
+use Rattle.percent_encoding.specs.{Iter.{decoded_bytes}, Percent.{percent_decode}}
 use Rattle.http_requests.proofs.names.decoded.Given as goal
 
 -- the bytes so far, and those that are left

@@ -1,6 +1,5 @@
 use Rattle.std.proofs.Common.{◌≡◌, ◌≤◌, ℕ, Bool, true, false, List, [], ◌∷◌, ◌++◌, length, bytes_eq, append_assoc, append-nil, sym, ap, ◌∙◌, subst}
-use Rattle.http_requests.specs.Queries.{decoded_text, values_at, AreValues}
-use Rattle.http_requests.proofs.QueryLemmas.{values-with, values-without, several}
+use Rattle.http_requests.{specs.Queries.{decoded_text, values_at, AreValues}, proofs.QueryLemmas.{values-with, values-without, several}}
 use Rattle.http_requests.proofs.queries.values_at.Goals.{in-Absent+in_ok-decode-in-Absent+in_ok-into_owned-in-Absent, in_default-found}
 use Rattle.http_requests.proofs.queries.values_at.Goals as goal
 

@@ -1,6 +1,5 @@
 use Rattle.std.proofs.Common.{◌≡◌, ℕ, List, ◌++◌, length}
-use Rattle.form_urlencoded.specs.Form.{raw_pairs}
-use Rattle.form_urlencoded.specs.Parse.{raw_pairs_left}
+use Rattle.form_urlencoded.specs.{Form.{raw_pairs}, Parse.{raw_pairs_left}}
 use Rattle.http_requests.specs.Queries.{values_at, AreValues}
 use Rattle.http_requests.proofs.queries.values_at.Given as goal
 

@@ -1,7 +1,5 @@
-use Rattle.std.proofs.Common.{Ok, Err, inr, refl}
-use Rattle.std.proofs.lemmas.Result.{IfOk-weaker}
-use Rattle.http_messages.specs.Heads.{judge_head}
-use Rattle.http_messages.specs.Views.{IsHeadRead, judgement_of}
+use Rattle.std.proofs.{Common.{Ok, Err, inr, refl}, lemmas.Result.{IfOk-weaker}}
+use Rattle.http_messages.specs.{Heads.{judge_head}, Views.{IsHeadRead, judgement_of}}
 use Rattle.http_requests.specs.Requests.{IsRequest}
 use Rattle.http_requests.proofs.requests.read_request.Goals as goal
 

@@ -1,6 +1,5 @@
 use Rattle.std.proofs.Common.{IfOk, sym, ap, subst, ◌∙◌}
-use Rattle.http_requests.specs.declared.requests.Request.TheVariants.{NoRoute, NoMethod}
-use Rattle.http_requests.specs.Requests.{path_of, query_of, operation_asked, ByAsked, ByResource}
+use Rattle.http_requests.specs.{declared.requests.Request.TheVariants.{NoRoute, NoMethod}, Requests.{path_of, query_of, operation_asked, ByAsked, ByResource}}
 use Rattle.http_requests.proofs.TargetLemmas.{resource-read}
 use Rattle.http_requests.proofs.requests.request_of.Goals as goal
 

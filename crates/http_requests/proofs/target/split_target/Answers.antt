@@ -1,5 +1,4 @@
-use Rattle.std.proofs.Common.{◌+◌, length, length-drop, take, drop, take_all, sym, ap, ◌∙◌, arith, rules}
-use Rattle.std.proofs.lemmas.List.{take_rest, nil_from_length}
+use Rattle.std.proofs.{Common.{◌+◌, length, length-drop, take, drop, take_all, sym, ap, ◌∙◌, arith, rules}, lemmas.List.{take_rest, nil_from_length}}
 use Rattle.std.proofs.lemmas.List.Sums.{position_or_len_is}
 use Rattle.http_requests.specs.Requests.{is_question_mark}
 use Rattle.http_requests.proofs.target.split_target.Goals as goal

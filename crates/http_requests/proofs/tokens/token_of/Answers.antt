@@ -1,6 +1,4 @@
-use Rattle.std.proofs.Common.{◌≡◌, ◌<◌, ℕ, IsTrue, subst, arith}
-use Rattle.std.proofs.lemmas.Bool.Decides.{nat_tests}
-use Rattle.std.proofs.lemmas.Str.{IsUtf8-from_ascii}
+use Rattle.std.proofs.{Common.{◌≡◌, ◌<◌, ℕ, IsTrue, subst, arith}, lemmas.Bool.Decides.{nat_tests}, lemmas.Str.{IsUtf8-from_ascii}}
 use Rattle.std.proofs.lemmas.Str.Ascii.{IsAscii-from_all}
 use Rattle.broker_core.specs.Name.{IsToken, is_token_byte}
 use Rattle.http_requests.proofs.TokenLemmas.{is_token}

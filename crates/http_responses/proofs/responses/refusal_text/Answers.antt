@@ -1,5 +1,4 @@
-use Rattle.std.proofs.Common.{refl}
-use Rattle.std.specs.Fmt.{digits}
+use Rattle.std.{specs.Fmt.{digits}, proofs.Common.{refl}}
 use Rattle.http_responses.proofs.responses.refusal_text.Goals as goal
 
 pub returns-in-BadRequest : goal.returns-in-BadRequest

@@ -1,8 +1,5 @@
-use Rattle.std.proofs.Common.{take, drop, length-drop, subst, sym, arith}
-use Rattle.std.proofs.KnownBytes.{Appends-trans}
-use Rattle.std.proofs.Math.Seq.{take-add}
+use Rattle.std.{specs.Io.KnownBytes.{Appends}, proofs.{Common.{take, drop, length-drop, subst, sym, arith}, KnownBytes.{Appends-trans}, Math.Seq.{take-add}}}
 use Rattle.std.proofs.lemmas.List.{take_rest}
-use Rattle.std.specs.Io.KnownBytes.{Appends}
 use Rattle.http_responses.proofs.writing.write_whole.Goals as goal
 
 pub loop-done-preserved : goal.loop-done-preserved

@@ -1,5 +1,4 @@
-use Rattle.std.proofs.Common.{◌-◌, ◌≤◌, length, take}
-use Rattle.std.specs.Io.KnownBytes.{Appends}
+use Rattle.std.{specs.Io.KnownBytes.{Appends}, proofs.Common.{◌-◌, ◌≤◌, length, take}}
 use Rattle.http_responses.proofs.writing.write_whole.Given as goal
 
 -- the first bytes are out

@@ -1,6 +1,5 @@
 use Rattle.std.proofs.Common.{refl}
-use Rattle.http_routes.specs.Places.{PlacesAreRight}
-use Rattle.http_routes.specs.Routes.{segment}
+use Rattle.http_routes.specs.{Places.{PlacesAreRight}, Routes.{segment}}
 use Rattle.http_routes.proofs.laws.places_are_right.Goals as goal
 
 -- route by route, in their order, and name by name

@@ -1,6 +1,5 @@
 use Rattle.std.proofs.Common.{[], ◌++◌, sym, ap, ◌∙◌}
-use Rattle.http_routes.specs.Routes.{registry_routes, pact_routes, deployment_routes, question_routes}
-use Rattle.http_routes.specs.Table.{table, with_routes}
+use Rattle.http_routes.specs.{Routes.{registry_routes, pact_routes, deployment_routes, question_routes}, Table.{table, with_routes}}
 use Rattle.http_routes.proofs.TableLemmas.{with_routes-append}
 use Rattle.http_routes.proofs.table.RouteTable.new.Goals as goal
 

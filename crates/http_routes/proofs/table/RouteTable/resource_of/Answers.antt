@@ -1,5 +1,4 @@
-use Rattle.std.proofs.Common.{sym, ap, ◌∙◌}
-use Rattle.std.specs.Option.{option_map}
+use Rattle.std.{specs.Option.{option_map}, proofs.Common.{sym, ap, ◌∙◌}}
 use Rattle.matchit.specs.Seek.{first}
 use Rattle.http_routes.proofs.TableLemmas.{finds}
 use Rattle.http_routes.proofs.table.RouteTable.resource_of.Goals as goal
