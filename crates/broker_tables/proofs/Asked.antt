@@ -1,38 +1,22 @@
 -- A query as a value: what a text asks of the broker's tables, and what a call that asks it answers, and why it fails.
+use Rattle.std.specs.{Prelude.{option_map, is_some, IsUtf8}, List.Sorted.{IsPermutation}}
 use Rattle.std.proofs.Common.{◌≡◌, ◌∙◌, inl, inr, ℕ, List, [], ◌∷◌, Option, Some, None, Result, IfErr, Bool, true, false, sym, ap, subst, pos, slice_get, map, filter, arith}
-use Rattle.std.specs.Prelude.{option_map, is_some, IsUtf8}
-use Rattle.std.specs.List.Sorted.{IsPermutation}
 use Rattle.std.proofs.lemmas.Result.{IfOk-weaker}
-use Rattle.sqlite.specs.declared.types.Value.TheVariants.{Int, Text}
-use Rattle.sqlite.specs.Order.{Row, column}
-use Rattle.sqlite.specs.Term.{Term, col, eval_all}
-use Rattle.sqlite.specs.Query.{Query}
-use Rattle.sqlite.specs.Command.TheVariants.{Select}
-use Rattle.sqlite.specs.Effect.{Database, Answers}
-use Rattle.sqlite.specs.State.{State, Shown, HasCleanDisk}
+use Rattle.sqlite.specs.{declared.types.Value.TheVariants.{Int, Text}, Order.{Row, column}, Term.{Term, col, eval_all}, Query.{Query}}
+use Rattle.sqlite.specs.{Command.TheVariants.{Select}, Effect.{Database, Answers}, State.{State, Shown, HasCleanDisk}}
 use Rattle.sqlite_value.specs.declared.keys.Key.{Key}
 use Rattle.sqlite_rules.specs.Lists.{Has}
-use Rattle.table_access.specs.declared.StoreFault.{StoreFault}
-use Rattle.table_access.specs.declared.StoreFault.TheVariants.{Store}
-use Rattle.table_access.specs.Columns.{text, whole_at}
+use Rattle.table_access.specs.{declared.StoreFault.{StoreFault}, declared.StoreFault.TheVariants.{Store}, Columns.{text, whole_at}}
 use Rattle.table_access.specs.Calls.{CallsTablesBetween, CallsStoreBetween, HasFailed}
 use Rattle.table_access.specs.Reading.{AreRead, FailsToRead, FailsToTake, IsRefusedAs, TellsNumber, TellsText, BeginsWithText, IsNumberRow, IsTextAt}
-use Rattle.table_access.specs.Statements.{from_table, from_both, up_to, keeps, keeps_both, shows}
-use Rattle.table_access.proofs.Members.{map_has, filter_has}
-use Rattle.table_access.proofs.Newest.{first_rows}
+use Rattle.table_access.{specs.Statements.{from_table, from_both, up_to, keeps, keeps_both, shows}, proofs.{Members.{map_has, filter_has}, Newest.{first_rows}}}
 use Rattle.table_access.proofs.Steps.{Means, answered, shown_answers, shown_unchanged}
 use Rattle.table_access.proofs.Answered.{Runs, refusal_ends, list_ends, number_ends, text_ends, first_has, permuted_has, take_has, pair_shown, first_pair_shown}
-use Rattle.broker_core.specs.declared.command.Version.{Version}
-use Rattle.broker_core.specs.State.{State as Broker}
-use Rattle.broker_tables.specs.Schema.{broker_schema}
-use Rattle.broker_tables.specs.Numbers.{number_of}
-use Rattle.broker_tables.specs.Holds.{Holds, IsBroker, IsRead}
-use Rattle.broker_tables.specs.Calm.{Serves, HasFailedOrMemory, CalmQueriesBetween, CalmQueriesInPlaceBetween, IfNoVersionBetween}
-use Rattle.broker_tables.specs.Readable.{IsReadable}
-use Rattle.broker_tables.proofs.Frames.{meant, runs_here, held_still}
-use Rattle.broker_tables.proofs.NoVersion.{no_items, no_answer, no_first}
-use Rattle.broker_tables.proofs.QueryLemmas.{read_out, looked_up, else_memory}
-use Rattle.broker_tables.proofs.ReadableRows.{IsLow, number_cell}
+use Rattle.broker_core.specs.{declared.command.Version.{Version}, State.{State as Broker}}
+use Rattle.broker_tables.specs.{Schema.{broker_schema}, Numbers.{number_of}, Holds.{Holds, IsBroker, IsRead}}
+use Rattle.broker_tables.specs.{Calm.{Serves, HasFailedOrMemory, CalmQueriesBetween, CalmQueriesInPlaceBetween, IfNoVersionBetween}, Readable.{IsReadable}}
+use Rattle.broker_tables.proofs.{Frames.{meant, runs_here, held_still}, NoVersion.{no_items, no_answer, no_first}}
+use Rattle.broker_tables.proofs.{QueryLemmas.{read_out, looked_up, else_memory}, ReadableRows.{IsLow, number_cell}}
 
 -- The text asks this query of the broker's tables, and can be run with these parameters: `refl` finds each field of both,
 -- under `unfolding understood everything`, also where the parameters are variables.

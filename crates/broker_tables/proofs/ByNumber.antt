@@ -1,20 +1,12 @@
 -- What has a number, in a list that is numbered from 1.
-use Rattle.std.proofs.Common.{◌≡◌, ◌==◌, ◌+◌, ◌-◌, ◌<◌, ℕ, pos, zero, suc, cond, List, [], ◌∷◌, map, true, false, Bool, refl, sym, ap, ◌∙◌, slice_get, Some, None, arith}
-use Rattle.std.specs.Prelude.{if◌then◌else◌, ℤ}
-use Rattle.std.specs.List.{enumerate_from}
-use Rattle.std.specs.Ordering.{eq_by_cmp, int_cmp}
-use Rattle.std.specs.Cmp.{int_cmp_total, eq_by_cmp_equiv, Equal-is}
+use Rattle.std.specs.{Prelude.{if◌then◌else◌, ℤ}, List.{enumerate_from}, Ordering.{eq_by_cmp, int_cmp}, Cmp.{int_cmp_total, eq_by_cmp_equiv}}
 use Rattle.std.specs.FinMap.Entries.{find}
-use Rattle.std.specs.FinMap.{int_cmp-IsAntisymmetric}
+use Rattle.std.proofs.Common.{◌≡◌, ◌==◌, ◌+◌, ◌-◌, ◌<◌, ℕ, pos, zero, suc, cond, List, [], ◌∷◌, map, false, refl, sym, ap, ◌∙◌, slice_get, Some, None, arith}
 use Rattle.std.proofs.lemmas.Bool.{ne_eqb}
-use Rattle.broker_tables.specs.Numbers.{numbered}
+use Rattle.broker_tables.{specs.Numbers.{numbered}, proofs.Ties.{nat_ties}}
 
 differ : (a b : ℕ) → (a ≡ b → ⊥) → eq_by_cmp int_cmp (pos a) (pos b) ≡ false
-differ a b apart = go (eq_by_cmp int_cmp (pos a) (pos b)) refl
-  where
-    go : (t : Bool) → eq_by_cmp int_cmp (pos a) (pos b) ≡ t → eq_by_cmp int_cmp (pos a) (pos b) ≡ false
-    go true e = absurd (let same : pos a ≡ pos b = int_cmp-IsAntisymmetric (pos a) (pos b) ((Equal-is (int_cmp (pos a) (pos b))).0 e) in let nats : a ≡ b = cc in apart nats)
-    go false e = e
+differ a b apart = sym (nat_ties a b) ∙ ne_eqb a b apart
 
 module _ {X : Type 0} where
   abbrev numbers_from : ℕ → List X → List (ℤ × X)

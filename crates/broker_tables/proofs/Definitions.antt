@@ -1,73 +1,50 @@
 -- The texts that make the tables and the indexes define them.
-use Rattle.std.proofs.Common.{refl, take}
-use Rattle.sqlite.specs.Listing.{understood}
+use Rattle.std.proofs.Common.{ℕ, List, refl, take}
+use Rattle.sqlite.specs.{Listing.{understood}, Table.{Table}}
 use Rattle.sqlite_tied.specs.Compute.{everything}
-use Rattle.broker_tables.specs.Schema as schema
 use Rattle.table_access.specs.Statements.{indexed_by}
-use Rattle.broker_tables.specs.Schema.{no_schema, schema_of, all_tables, all_indexes}
-use Rattle.broker_tables.specs.Making.{table_texts, index_texts}
+use Rattle.broker_tables.specs.{Schema.{no_schema, schema_of, all_tables, all_indexes}, Making.{table_texts, index_texts}}
 use Rattle.broker_tables.specs.declared.create.TheConstants.{META, TEAMS, PACTICIPANTS, VERSIONS, BRANCHES, ENVIRONMENTS, GRANTS, CONTENTS, CONTRACTS, RESULTS, LATEST, DEPLOYED, RELEASED, CHECKED_RESULTS, STRICT_ENVIRONMENTS, CONTENTS_BY_DIGEST, CONTRACTS_BY_CONTENT, LATEST_BY_PROVIDER_VERSION, VERSIONS_BY_PACTICIPANT}
 use Rattle.broker_tables.proofs.Written.{DefinesTable, DefinesIndex, AreDefinedTables, AreDefinedIndexes}
+use Rattle.broker_tables.specs.Schema as schema
 
-meta_text : DefinesTable (schema_of (take 0 all_tables)) META.now schema.meta
-unfolding understood everything
-meta_text = record { means = record { is = refl; plain = (refl, refl); unlisted = refl }; whole = refl; defined = refl; uncounted = refl }
+-- the text defines the table over the schema of those before it
+abbrev Defines : ℕ → List ℕ → Table → Type 0
+Defines before = DefinesTable (schema_of (take before all_tables))
 
-teams_text : DefinesTable (schema_of (take 1 all_tables)) TEAMS.now schema.teams
+each_table : Defines 0 META.now schema.meta
+    × Defines 1 TEAMS.now schema.teams
+    × Defines 2 PACTICIPANTS.now schema.pacticipants
+    × Defines 3 VERSIONS.now schema.versions
+    × Defines 4 BRANCHES.now schema.branches
+    × Defines 5 ENVIRONMENTS.now schema.environments
+    × Defines 6 GRANTS.now schema.grants
+    × Defines 7 CONTENTS.now schema.contents
+    × Defines 8 CONTRACTS.now schema.contracts
+    × Defines 9 RESULTS.now schema.results
+    × Defines 10 LATEST.now schema.latest
+    × Defines 11 DEPLOYED.now schema.deployed
+    × Defines 12 RELEASED.now schema.released
+    × Defines 13 CHECKED_RESULTS.now schema.checked_results
+    × Defines 14 STRICT_ENVIRONMENTS.now schema.strict_environments
 unfolding understood everything
-teams_text = record { means = record { is = refl; plain = (refl, refl); unlisted = refl }; whole = refl; defined = refl; uncounted = refl }
-
-pacticipants_text : DefinesTable (schema_of (take 2 all_tables)) PACTICIPANTS.now schema.pacticipants
-unfolding understood everything
-pacticipants_text = record { means = record { is = refl; plain = (refl, refl); unlisted = refl }; whole = refl; defined = refl; uncounted = refl }
-
-versions_text : DefinesTable (schema_of (take 3 all_tables)) VERSIONS.now schema.versions
-unfolding understood everything
-versions_text = record { means = record { is = refl; plain = (refl, refl); unlisted = refl }; whole = refl; defined = refl; uncounted = refl }
-
-branches_text : DefinesTable (schema_of (take 4 all_tables)) BRANCHES.now schema.branches
-unfolding understood everything
-branches_text = record { means = record { is = refl; plain = (refl, refl); unlisted = refl }; whole = refl; defined = refl; uncounted = refl }
-
-environments_text : DefinesTable (schema_of (take 5 all_tables)) ENVIRONMENTS.now schema.environments
-unfolding understood everything
-environments_text = record { means = record { is = refl; plain = (refl, refl); unlisted = refl }; whole = refl; defined = refl; uncounted = refl }
-
-grants_text : DefinesTable (schema_of (take 6 all_tables)) GRANTS.now schema.grants
-unfolding understood everything
-grants_text = record { means = record { is = refl; plain = (refl, refl); unlisted = refl }; whole = refl; defined = refl; uncounted = refl }
-
-contents_text : DefinesTable (schema_of (take 7 all_tables)) CONTENTS.now schema.contents
-unfolding understood everything
-contents_text = record { means = record { is = refl; plain = (refl, refl); unlisted = refl }; whole = refl; defined = refl; uncounted = refl }
-
-contracts_text : DefinesTable (schema_of (take 8 all_tables)) CONTRACTS.now schema.contracts
-unfolding understood everything
-contracts_text = record { means = record { is = refl; plain = (refl, refl); unlisted = refl }; whole = refl; defined = refl; uncounted = refl }
-
-results_text : DefinesTable (schema_of (take 9 all_tables)) RESULTS.now schema.results
-unfolding understood everything
-results_text = record { means = record { is = refl; plain = (refl, refl); unlisted = refl }; whole = refl; defined = refl; uncounted = refl }
-
-latest_text : DefinesTable (schema_of (take 10 all_tables)) LATEST.now schema.latest
-unfolding understood everything
-latest_text = record { means = record { is = refl; plain = (refl, refl); unlisted = refl }; whole = refl; defined = refl; uncounted = refl }
-
-deployed_text : DefinesTable (schema_of (take 11 all_tables)) DEPLOYED.now schema.deployed
-unfolding understood everything
-deployed_text = record { means = record { is = refl; plain = (refl, refl); unlisted = refl }; whole = refl; defined = refl; uncounted = refl }
-
-released_text : DefinesTable (schema_of (take 12 all_tables)) RELEASED.now schema.released
-unfolding understood everything
-released_text = record { means = record { is = refl; plain = (refl, refl); unlisted = refl }; whole = refl; defined = refl; uncounted = refl }
-
-checked_results_text : DefinesTable (schema_of (take 13 all_tables)) CHECKED_RESULTS.now schema.checked_results
-unfolding understood everything
-checked_results_text = record { means = record { is = refl; plain = (refl, refl); unlisted = refl }; whole = refl; defined = refl; uncounted = refl }
-
-strict_environments_text : DefinesTable (schema_of (take 14 all_tables)) STRICT_ENVIRONMENTS.now schema.strict_environments
-unfolding understood everything
-strict_environments_text = record { means = record { is = refl; plain = (refl, refl); unlisted = refl }; whole = refl; defined = refl; uncounted = refl }
+each_table = (
+  record { means = record { is = refl; plain = (refl, refl); unlisted = refl }; whole = refl; defined = refl; uncounted = refl },
+  record { means = record { is = refl; plain = (refl, refl); unlisted = refl }; whole = refl; defined = refl; uncounted = refl },
+  record { means = record { is = refl; plain = (refl, refl); unlisted = refl }; whole = refl; defined = refl; uncounted = refl },
+  record { means = record { is = refl; plain = (refl, refl); unlisted = refl }; whole = refl; defined = refl; uncounted = refl },
+  record { means = record { is = refl; plain = (refl, refl); unlisted = refl }; whole = refl; defined = refl; uncounted = refl },
+  record { means = record { is = refl; plain = (refl, refl); unlisted = refl }; whole = refl; defined = refl; uncounted = refl },
+  record { means = record { is = refl; plain = (refl, refl); unlisted = refl }; whole = refl; defined = refl; uncounted = refl },
+  record { means = record { is = refl; plain = (refl, refl); unlisted = refl }; whole = refl; defined = refl; uncounted = refl },
+  record { means = record { is = refl; plain = (refl, refl); unlisted = refl }; whole = refl; defined = refl; uncounted = refl },
+  record { means = record { is = refl; plain = (refl, refl); unlisted = refl }; whole = refl; defined = refl; uncounted = refl },
+  record { means = record { is = refl; plain = (refl, refl); unlisted = refl }; whole = refl; defined = refl; uncounted = refl },
+  record { means = record { is = refl; plain = (refl, refl); unlisted = refl }; whole = refl; defined = refl; uncounted = refl },
+  record { means = record { is = refl; plain = (refl, refl); unlisted = refl }; whole = refl; defined = refl; uncounted = refl },
+  record { means = record { is = refl; plain = (refl, refl); unlisted = refl }; whole = refl; defined = refl; uncounted = refl },
+  record { means = record { is = refl; plain = (refl, refl); unlisted = refl }; whole = refl; defined = refl; uncounted = refl },
+)
 
 contents_by_digest_text : DefinesIndex (indexed_by (schema_of all_tables) (take 0 all_indexes)) CONTENTS_BY_DIGEST.now schema.contents_by_digest
 unfolding understood everything
@@ -86,7 +63,9 @@ unfolding understood everything
 versions_by_pacticipant_text = record { at = 3; means = record { is = refl; plain = (refl, refl); unlisted = refl }; whole = refl; there = refl; defined = refl }
 
 pub tables_defined : AreDefinedTables no_schema table_texts
-tables_defined = (meta_text, (teams_text, (pacticipants_text, (versions_text, (branches_text, (environments_text, (grants_text, (contents_text, (contracts_text, (results_text, (latest_text, (deployed_text, (released_text, (checked_results_text, (strict_environments_text, tt)))))))))))))))
+tables_defined =
+    let e = each_table in
+    (e.0, (e.1, (e.2, (e.3, (e.4, (e.5, (e.6, (e.7, (e.8, (e.9, (e.10, (e.11, (e.12, (e.13, (e.14, tt)))))))))))))))
 
 pub indexes_defined : AreDefinedIndexes (schema_of all_tables) index_texts
 indexes_defined = (contents_by_digest_text, (contracts_by_content_text, (latest_by_provider_version_text, (versions_by_pacticipant_text, tt))))

@@ -1,18 +1,13 @@
 -- Why a call fails that comes after a query, and what the failure of a call is to another.
-use Rattle.std.proofs.Common.{◌≡◌, ◌≤◌, ◌+◌, ℕ, List, true, ◌∙◌, sym, subst, inl, inr, Ok, Err, Result, arith}
-use Rattle.std.specs.List.{AllByRecursion}
+use Rattle.std.{specs.List.{AllByRecursion}, proofs.Common.{◌≡◌, ◌≤◌, ◌+◌, ℕ, List, true, ◌∙◌, sym, subst, inl, inr, Ok, Err, Result, arith}}
 use Rattle.std.proofs.lemmas.Result.{IfErr-weaker}
 use Rattle.sqlite.specs.State.{State, HasCleanDisk}
-use Rattle.table_access.specs.declared.StoreFault.{StoreFault}
-use Rattle.table_access.specs.Calls.{CallsTablesBetween}
-use Rattle.table_access.proofs.CallLemmas.{ended_since}
+use Rattle.table_access.{specs.{declared.StoreFault.{StoreFault}, Calls.{CallsTablesBetween}}, proofs.CallLemmas.{ended_since, ended_with}}
 use Rattle.broker_core.specs.State.{State as Broker}
 use Rattle.broker_tables.specs.Holds.{Holds, QueriesBetween, AnswersTakingBetween}
 use Rattle.broker_tables.specs.Calm.{Serves, HasFailedOrMemory, CalmQueriesBetween, IsCalmFromBetween, FailsFromBetween}
-use Rattle.broker_tables.specs.Refusals.{IsCalmIfBetween, IsCalmTakingBetween}
-use Rattle.broker_tables.specs.Room.{HasRoomFor, enough}
-use Rattle.broker_tables.proofs.QueryLemmas.{serves_on, ended_or_memory, query_failed}
-use Rattle.broker_tables.proofs.RoomLemmas.{is_counted, numbers_of, room_for}
+use Rattle.broker_tables.specs.{Refusals.{IsCalmTakingBetween, IsCalmUnlessBetween}, Room.{HasRoomFor, enough}}
+use Rattle.broker_tables.proofs.{QueryLemmas.{serves_on, ended_or_memory, query_failed}, RoomLemmas.{is_counted, numbers_of, room_for}}
 
 -- the failure of a query after another
 pub failed_after : {A B : Type 0} (old mid new : State) (a : A) (e : StoreFault) (P : A → Broker → Type 0) (Q : B → Broker → Type 0) → CalmQueriesBetween old mid (Ok a) P → CalmQueriesBetween mid new (Err e) Q
@@ -27,8 +22,9 @@ module _ {A B : Type 0} (old mid new : State) (a : A) (r : Result B StoreFault) 
       let read = one.ok mid_clean s here.held in
       IfErr-weaker r _ _ (λ e is. ended_or_memory old mid new e (one.goes_on mid_clean here.inside) one.survives.counts is) (why clean s (serves_on old mid a P mid_clean one s here) (more s here.held may read.0))
 
+module _ {A B : Type 0} (TooBig : Type 0) (old mid new : State) (a : A) (r : Result B StoreFault) (P : A → Broker → Type 0) (Q : B → Type 0) (First Then : Broker → Type 0) where
   -- and what the change of the next call is to the first state
-  pub fails_after : (Changes Made : Broker → Type 0) → ((s : Broker) → Holds old.now s → First s → P a s → Then s × (Made s → Changes s)) → QueriesBetween old mid (Ok a) P → CallsTablesBetween mid new r Q → FailsFromBetween mid new r Then Made → FailsFromBetween old new r First Changes
+  pub fails_after : (Changes Made : Broker → Type 0) → ((s : Broker) → Holds old.now s → First s → P a s → Then s × (Made s → Changes s)) → QueriesBetween old mid (Ok a) P → CallsTablesBetween mid new r Q → FailsFromBetween mid new r TooBig Then Made → FailsFromBetween old new r TooBig First Changes
   fails_after Changes Made more one two why clean s here may =
       let mid_clean : HasCleanDisk mid = omega (arith, two.survives.clean, clean) in
       let read = one.ok mid_clean s here.held in
@@ -40,40 +36,47 @@ module _ {A B : Type 0} (old mid new : State) (a : A) (r : Result B StoreFault) 
       ]) (why clean s (serves_on old mid a P mid_clean one s here) go.0)
 
 -- the failure of a call, handed on
-pub fails_as : (A B : Type 0) (old new : State) (e : StoreFault) (First Changes Made : Broker → Type 0) → ((s : Broker) → First s → Made s → Changes s) → FailsFromBetween {A = A} old new (Err e) First Made → FailsFromBetween {A = B} old new (Err e) First Changes
-fails_as A B old new e First Changes Made more why clean s here may = elim (why clean s here may) [ inl calm ↦ inl calm | inr made ↦ inr (more s may made.0, made.1) ]
+pub fails_as : (TooBig A B : Type 0) (old new : State) (e : StoreFault) (First Changes Made : Broker → Type 0) → ((s : Broker) → First s → Made s → Changes s) → FailsFromBetween {A = A} old new (Err e) TooBig First Made → FailsFromBetween {A = B} old new (Err e) TooBig First Changes
+fails_as TooBig A B old new e First Changes Made more why clean s here may = elim (why clean s here may) [ inl calm ↦ inl calm | inr made ↦ inr (more s may made.0, made.1) ]
 
 -- a call that changes nothing has no change refused
-pub calm_fails : {A : Type 0} (old new : State) (r : Result A StoreFault) (First Changes : Broker → Type 0) → IsCalmFromBetween old new r First → FailsFromBetween old new r First Changes
-calm_fails old new r First Changes why clean s here may = IfErr-weaker r _ _ (λ e is. inl is) (why clean s here may)
+pub calm_fails : {A : Type 0} (TooBig : Type 0) (old new : State) (r : Result A StoreFault) (First Changes : Broker → Type 0) → IsCalmFromBetween old new r First → FailsFromBetween old new r TooBig First Changes
+calm_fails TooBig old new r First Changes why clean s here may = IfErr-weaker r _ _ (λ e is. inl is) (why clean s here may)
 
 -- ---- changes
 
 -- a change of tables that SQLite numbers is one of several that take numbers
-pub taking : {A : Type 0} (old new : State) (r : Result A StoreFault) (tables : List (List ℕ)) → AllByRecursion (λ name. is_counted name ≡ true) tables → (taken : ℕ) → 1 ≤ taken → (Allows : Broker → Type 0)
-    → IsCalmIfBetween old new r tables Allows → IsCalmTakingBetween taken old new r Allows
-taking old new r tables counted taken one Allows why clean s here may room = why clean s here may (numbers_of tables counted taken one old.now room)
+pub taking : {A : Type 0} (TooBig : Type 0) (old new : State) (r : Result A StoreFault) (tables : List (List ℕ)) → AllByRecursion (λ name. is_counted name ≡ true) tables → (taken : ℕ) → 1 ≤ taken → (Allows : Broker → Type 0)
+    → IsCalmUnlessBetween old new r tables TooBig Allows → IsCalmTakingBetween taken old new r TooBig Allows
+taking TooBig old new r tables counted taken one Allows why clean s here may room = why clean s here may (numbers_of tables counted taken one old.now room)
+
+-- what is so where a row was too big is so of more
+pub calm_with : {A : Type 0} (TooBig More : Type 0) (old new : State) (r : Result A StoreFault) (tables : List (List ℕ)) (Allows : Broker → Type 0) → (TooBig → More) → IsCalmUnlessBetween old new r tables TooBig Allows → IsCalmUnlessBetween old new r tables More Allows
+calm_with TooBig More old new r tables Allows more why clean s here may room = IfErr-weaker r _ _ (λ e ended. ended_with old new e more ended) (why clean s here may room)
+
+pub fails_more : {A : Type 0} (TooBig More : Type 0) (old new : State) (r : Result A StoreFault) (First Changes : Broker → Type 0) → (TooBig → More) → FailsFromBetween old new r TooBig First Changes → FailsFromBetween old new r More First Changes
+fails_more TooBig More old new r First Changes more why clean s here may = IfErr-weaker r _ _ (λ e it. elim it [ inl calm ↦ inl calm | inr made ↦ inr (made.0, λ room. ended_with old new e more (made.1 room)) ]) (why clean s here may)
 
 -- and where they are allowed, a call fails so
-pub fails_taking : {A : Type 0} (old new : State) (r : Result A StoreFault) (taken : ℕ) → taken ≤ enough → (Allows First Changes : Broker → Type 0) → ((s : Broker) → Holds old.now s → First s → Allows s × Changes s)
-    → IsCalmTakingBetween taken old new r Allows → FailsFromBetween old new r First Changes
-fails_taking old new (Ok a) taken few Allows First Changes more why clean s here may = tt
-fails_taking old new (Err e) taken few Allows First Changes more why clean s here may =
+pub fails_taking : {A : Type 0} (TooBig : Type 0) (old new : State) (r : Result A StoreFault) (taken : ℕ) → taken ≤ enough → (Allows First Changes : Broker → Type 0) → ((s : Broker) → Holds old.now s → First s → Allows s × Changes s)
+    → IsCalmTakingBetween taken old new r TooBig Allows → FailsFromBetween old new r TooBig First Changes
+fails_taking TooBig old new (Ok a) taken few Allows First Changes more why clean s here may = tt
+fails_taking TooBig old new (Err e) taken few Allows First Changes more why clean s here may =
     let go = more s here.held may in
     inr (go.1, λ room. why clean s (record { inside = here.inside; unlimited = here.unlimited; held = here.held }) go.0 (room_for taken enough few old.now room))
 
 -- the same of a change after a query
-pub fails_changing : {A B : Type 0} (old mid new : State) (a : A) (r : Result B StoreFault) (P : A → Broker → Type 0) (Q : B → Type 0) (taken : ℕ) → taken ≤ enough → (Allows First Changes : Broker → Type 0)
-    → ((s : Broker) → Holds old.now s → First s → P a s → Allows s × Changes s) → QueriesBetween old mid (Ok a) P → CallsTablesBetween mid new r Q → IsCalmTakingBetween taken mid new r Allows → FailsFromBetween old new r First Changes
-fails_changing old mid new a r P Q taken few Allows First Changes more one two why =
-    fails_after old mid new a r P Q First (λ s. Allows s × Changes s) Changes Changes (λ s held may read. let go = more s held may read in (go, λ made. made)) one two
-    (fails_taking mid new r taken few Allows (λ s. Allows s × Changes s) Changes (λ s held go. go) why)
+pub fails_changing : {A B : Type 0} (TooBig : Type 0) (old mid new : State) (a : A) (r : Result B StoreFault) (P : A → Broker → Type 0) (Q : B → Type 0) (taken : ℕ) → taken ≤ enough → (Allows First Changes : Broker → Type 0)
+    → ((s : Broker) → Holds old.now s → First s → P a s → Allows s × Changes s) → QueriesBetween old mid (Ok a) P → CallsTablesBetween mid new r Q → IsCalmTakingBetween taken mid new r TooBig Allows → FailsFromBetween old new r TooBig First Changes
+fails_changing TooBig old mid new a r P Q taken few Allows First Changes more one two why =
+    fails_after TooBig old mid new a r P Q First (λ s. Allows s × Changes s) Changes Changes (λ s held may read. let go = more s held may read in (go, λ made. made)) one two
+    (fails_taking TooBig mid new r taken few Allows (λ s. Allows s × Changes s) Changes (λ s held go. go) why)
 
 -- a change after another
-pub taking_then : {A B : Type 0} (old mid new : State) (a : A) (r : Result B StoreFault) (one two : ℕ) (Q : B → Type 0) (First : Broker → Type 0) (Next : A → Broker → Broker → Type 0) (Then : Broker → Type 0)
+pub taking_then : {A B : Type 0} (TooBig : Type 0) (old mid new : State) (a : A) (r : Result B StoreFault) (one two : ℕ) (Q : B → Type 0) (First : Broker → Type 0) (Next : A → Broker → Broker → Type 0) (Then : Broker → Type 0)
     → ((s : Broker) → First s → (t : Broker) → Next a s t → Then t) → AnswersTakingBetween one old mid (Ok a) First Next → CallsTablesBetween mid new r Q
-    → IsCalmTakingBetween two mid new r Then → IsCalmTakingBetween (two + one) old new r First
-taking_then old mid new a r one two Q First Next Then more first second why clean s here may room =
+    → IsCalmTakingBetween two mid new r TooBig Then → IsCalmTakingBetween (two + one) old new r TooBig First
+taking_then TooBig old mid new a r one two Q First Next Then more first second why clean s here may room =
     let mid_clean : HasCleanDisk mid = omega (arith, second.survives.clean, clean) in
     let on = first.call.goes_on mid_clean here.inside in
     let next = first.call.ok mid_clean s here.held may in

@@ -1,27 +1,14 @@
 -- A database of format 1, as it becomes one of format 2.
+use Rattle.std.specs.{List.{AllByRecursion, enumerate_from}, Cmp.Lexicographic.{nat_list_cmp_total}}
 use Rattle.std.proofs.Common.{◌≡◌, ◌≢◌, ◌+◌, ℕ, ℤ, pos, List, [], ◌∷◌, ◌++◌, map, false, codes, refl, sym, ap, subst, subst₂, ◌∙◌, arith}
-use Rattle.std.specs.List.{AllByRecursion, enumerate_from}
-use Rattle.std.specs.Cmp.Lexicographic.{nat_list_cmp_total}
-use Rattle.sqlite.specs.Table.{Table}
-use Rattle.sqlite.specs.Tree.{Trees}
-use Rattle.sqlite.specs.Schema.{Schema}
-use Rattle.sqlite.specs.Order.{Row}
-use Rattle.sqlite.specs.Change.{created, next_tree, KeepsRows}
-use Rattle.sqlite.specs.Effect.{Database}
-use Rattle.table_access.specs.Columns.{text, whole_at}
-use Rattle.table_access.specs.Sound.{IsKept}
-use Rattle.table_access.specs.Statements.{Creates, MakesIndexes, indexed_by}
-use Rattle.table_access.proofs.Creation.{made_kept}
-use Rattle.table_access.proofs.Indexing.{indexes_schema, indexes_keep, indexes_kept}
-use Rattle.table_access.proofs.Maps.{find_has}
-use Rattle.broker_core.specs.declared.command.Marks.{Marks}
-use Rattle.broker_core.specs.declared.command.Version.{Version}
-use Rattle.broker_core.specs.State.{State as Broker, Verification}
-use Rattle.broker_tables.specs.Schema.{schema_of, all_tables, all_indexes, checked_results, strict_environments}
-use Rattle.broker_tables.specs.Rows.{rows_of}
+use Rattle.sqlite.specs.{Table.{Table}, Tree.{Trees}, Schema.{Schema}, Order.{Row}, Change.{created, next_tree, KeepsRows}, Effect.{Database}}
+use Rattle.table_access.specs.{Columns.{text, whole_at}, Sound.{IsKept}, Statements.{Creates, MakesIndexes, indexed_by}}
+use Rattle.table_access.proofs.{Creation.{made_kept, all_front}, Indexing.{indexes_schema, indexes_keep, indexes_kept}, Maps.{find_has}}
+use Rattle.sqlite_keyed.proofs.ListLemmas.{all_weaker}
+use Rattle.broker_core.specs.{declared.command.Marks.{Marks}, declared.command.Version.{Version}, State.{State as Broker, Verification}}
+use Rattle.broker_tables.specs.{Schema.{schema_of, all_tables, all_indexes, checked_results, strict_environments}, Rows.{rows_of}}
 use Rattle.broker_tables.specs.Holds.{Holds, IsMeta, format, AreTeams, ArePacticipants, AreVersions, AreBranches, AreEnvironments, AreGrants, AreContents, AreContracts, AreResults, AreLatest, AreDeployed, AreReleased, ResultRow, result_in, result_of, marks_in}
-use Rattle.broker_tables.specs.Former.{HoldsUnmarked, IsUnmarked, former_tables, added_tables}
-use Rattle.broker_tables.proofs.Orders.{exact_texts}
+use Rattle.broker_tables.{specs.Former.{HoldsUnmarked, IsUnmarked, former_tables, added_tables}, proofs.Orders.{exact_texts}}
 
 -- ---- the tables of format 1 keep their rows
 
@@ -30,8 +17,7 @@ abbrev pub KeepsOthers : Trees → Trees → Table → Type 0
 KeepsOthers old new t = t.tree ≢ 0 → new t.tree ≡ old t.tree
 
 unless_meta : (old new : Trees) (ts : List Table) → KeepsRows ts old new → AllByRecursion (KeepsOthers old new) ts
-unless_meta old new [] same = tt
-unless_meta old new (t ∷ ts) same = ((λ _. same.0), unless_meta old new ts same.1)
+unless_meta old new = all_weaker (λ t. new t.tree ≡ old t.tree) (KeepsOthers old new) (λ t same _. same)
 
 -- The tables but meta have the rows that they had, meta has its row, and the tables that are added have none.
 pub still_unmarked : (n m : ℕ) (more next : List Table) (old new : Database) (s : Broker) → HoldsUnmarked n more old s
@@ -56,10 +42,6 @@ still_unmarked n m more next old new s held same meta schema kept empty = record
   released = subst (AreReleased s.versions s.released) (sym (same.1.1.1.1.1.1.1.1.1.1.1.1.0 (omega arith))) held.released;
 }
 
-front_of : {X : Type 0} (P : X → Type 0) (xs ys : List X) → AllByRecursion P (xs ++ ys) → AllByRecursion P xs
-front_of P [] ys all = tt
-front_of P (x ∷ xs) ys all = (all.0, front_of P xs ys all.1)
-
 module _ (n : ℕ) (old new : Database) (s : Broker) where
   -- the table of checked results is made
   pub checked_made : HoldsUnmarked n [] old s → Creates old new checked_results → HoldsUnmarked n (checked_results ∷ []) new s
@@ -74,7 +56,7 @@ module _ (n : ℕ) (old new : Database) (s : Broker) where
   strict_made held made =
       let before = former_tables ++ checked_results ∷ [] in
       let keeps : KeepsRows (schema_of before).tables old.trees new.trees = subst (λ (c : Schema). KeepsRows c.tables old.trees new.trees) held.schema made.others in
-      let front = front_of (λ t. new.trees t.tree ≡ old.trees t.tree) (schema_of former_tables).tables (record checked_results { tree = 25 } ∷ []) keeps in
+      let front = all_front (λ t. new.trees t.tree ≡ old.trees t.tree) (schema_of former_tables).tables (record checked_results { tree = 25 } ∷ []) keeps in
       still_unmarked n n (checked_results ∷ []) added_tables old new s held (unless_meta old.trees new.trees (schema_of former_tables).tables front) (subst (IsMeta n s.office) (sym keeps.0) held.meta)
       (made.schema ∙ ap (λ c. created c strict_environments) held.schema) (made_kept (strict_environments ∷ []) old new (new, made, refl) held.kept)
       (keeps.1.1.1.1.1.1.1.1.1.1.1.1.1.0 ∙ held.empty.0, (subst (λ c. new.trees (next_tree c) ≡ []) held.schema made.empty, tt))
@@ -82,7 +64,7 @@ module _ (n : ℕ) (old new : Database) (s : Broker) where
   -- meta tells another format
   pub format_told : (m : ℕ) → HoldsUnmarked n added_tables old s → new.schema ≡ old.schema → IsKept new → AllByRecursion (KeepsOthers old.trees new.trees) (schema_of all_tables).tables → IsMeta m s.office (new.trees 0) → HoldsUnmarked m added_tables new s
   format_told m held same kept others meta =
-      let front = front_of (KeepsOthers old.trees new.trees) (schema_of former_tables).tables (record checked_results { tree = 25 } ∷ record strict_environments { tree = 26 } ∷ []) others in
+      let front = all_front (KeepsOthers old.trees new.trees) (schema_of former_tables).tables (record checked_results { tree = 25 } ∷ record strict_environments { tree = 26 } ∷ []) others in
       still_unmarked n m added_tables added_tables old new s held front meta (same ∙ held.schema) kept
       (others.1.1.1.1.1.1.1.1.1.1.1.1.1.0 (omega arith) ∙ held.empty.0, (others.1.1.1.1.1.1.1.1.1.1.1.1.1.1.0 (omega arith) ∙ held.empty.1.0, tt))
 

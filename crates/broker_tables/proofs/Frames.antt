@@ -1,28 +1,13 @@
 -- What a change of some tables leaves of the others, and a read of all.
+use Rattle.std.specs.{Prelude.{MatchBool}, List.{AllByRecursion, list_any, list_all}, Cmp.{nat_eq_equiv}, Option.{option_map_or}}
 use Rattle.std.proofs.Common.{◌≡◌, ◌≢◌, ◌==◌, ℕ, List, [], ◌∷◌, ◌++◌, map, codes, Bool, true, false, not, ◌&&◌, ◌||◌, refl, sym, ap, subst, subst₂, ◌∙◌, Some, Option}
-use Rattle.std.specs.Prelude.{MatchBool}
-use Rattle.std.specs.List.{AllByRecursion, list_any, list_all}
-use Rattle.sqlite.specs.Schema.{Schema}
-use Rattle.sqlite.specs.Order.{Row}
-use Rattle.sqlite.specs.Command.{Command}
-use Rattle.sqlite.specs.Effect.{Database}
-use Rattle.sqlite.specs.State.{State, Shown}
-use Rattle.table_access.specs.Statements.{ChangesOnly}
-use Rattle.table_access.specs.Sound.{IsKept}
-use Rattle.table_access.proofs.Steps.{Means, shown_unchanged}
-use Rattle.table_access.proofs.Answered.{Runs}
-use Rattle.sqlite.specs.Query.{Query}
-use Rattle.broker_core.specs.declared.command.Version.{Version}
-use Rattle.broker_core.specs.declared.command.Marks.{Marks}
-use Rattle.broker_core.specs.Text.{Text, same_text}
-use Rattle.broker_core.specs.State.{State as Broker, Verification}
-use Rattle.broker_tables.specs.Schema.{broker_schema}
-use Rattle.broker_tables.specs.Rows.{rows_of, tree_of}
-use Rattle.sqlite.specs.Table.{Table}
-use Rattle.std.specs.Cmp.{nat_eq_equiv}
-use Rattle.std.specs.Option.{option_map_or}
-use Rattle.sqlite_keyed.proofs.RuleLemmas.{first_of_both, second_of_both}
+use Rattle.std.proofs.{lemmas.Bool.{not-true, not_from_false, or_parts}, lemmas.List.Folds.{list_any-append}}
+use Rattle.sqlite.specs.{Schema.{Schema}, Order.{Row}, Command.{Command}, Effect.{Database}, State.{State, Shown}, Query.{Query}, Table.{Table}}
+use Rattle.table_access.{specs.{Statements.{ChangesOnly}, Sound.{IsKept}}, proofs.{Steps.{Means, shown_unchanged}, Answered.{Runs}}}
+use Rattle.broker_core.specs.{declared.command.Version.{Version}, declared.command.Marks.{Marks}, Text.{Text, same_text}, State.{State as Broker, Verification}}
+use Rattle.broker_tables.specs.{Schema.{broker_schema}, Rows.{rows_of, tree_of}}
 use Rattle.broker_tables.specs.Holds.{Holds, IsBroker, IsMeta, AreTeams, ArePacticipants, AreVersions, AreBranches, AreEnvironments, AreGrants, AreContents, AreContracts, AreResults, AreLatest, AreDeployed, AreReleased, format}
+use Rattle.sqlite_keyed.proofs.RuleLemmas.{first_of_both, second_of_both}
 
 -- ---- a text's meaning, and a read
 
@@ -81,18 +66,6 @@ frame_of changed tree among old new broker only = record {
   others = names changed tree old.now new.now broker_schema.tables found_by_name (subst (λ (s : Schema). AllByRecursion (λ t. t.tree ≢ tree → new.now.trees t.tree ≡ old.now.trees t.tree) s.tables) broker.schema only.others) among;
 }
 
-neither : (a b : Bool) → not (a || b) ≡ true → (not a ≡ true) × (not b ≡ true)
-neither true b h = absurd cc
-neither false b h = (refl, h)
-
-any_append : (name : List ℕ) (a b : List (List ℕ)) → list_any (same_text name) (a ++ b) ≡ (list_any (same_text name) a || list_any (same_text name) b)
-any_append name [] b = refl
-any_append name (x ∷ a) b = ap (λ t. same_text name x || t) (any_append name a b) ∙ grouped (same_text name x) (list_any (same_text name) a) (list_any (same_text name) b)
-  where
-    grouped : (p q r : Bool) → (p || (q || r)) ≡ ((p || q) || r)
-    grouped true q r = refl
-    grouped false q r = refl
-
 -- of one change after another
 pub frame_then : (one two : List (List ℕ)) (old mid new : Database) → Frame one old mid → Frame two mid new → Frame (one ++ two) old new
 frame_then one two old mid new first second = record {
@@ -105,7 +78,7 @@ frame_then one two old mid new first second = record {
         → AllByRecursion (λ name. is_other (one ++ two) name ≡ true → rows_of new name ≡ rows_of old name) names
     go [] a b = tt
     go (name ∷ names) a b =
-        ((λ other. let both = neither (list_any (same_text name) one) (list_any (same_text name) two) (sym (ap not (any_append name one two)) ∙ other) in b.0 both.1 ∙ a.0 both.0), go names a.1 b.1)
+        ((λ other. let both = or_parts _ _ (sym (list_any-append (same_text name) one two) ∙ not-true _ other) in b.0 (not_from_false _ both.1) ∙ a.0 (not_from_false _ both.0)), go names a.1 b.1)
 
 -- a broker's database is one still, after a change of some tables
 pub still_broker : (changed : List (List ℕ)) (old new : Database) → Frame changed old new → IsBroker old → IsBroker new
@@ -171,57 +144,38 @@ module _ (changed : List (List ℕ)) (old new : Database) where
   }
 
 -- the field has the value that it had
-pub stays : {A : Type 0} → A → A
-stays h = h
+pub same : {A : Type 0} → A → A
+same h = h
 
--- ---- one field of the state is another: a lemma for each table that is changed
+-- ---- one field of the state is another: where only these tables changed, the state is held with what their rows tell now
 
--- where only the table teams changed, the state is held with the teams that its rows tell now
-pub teams_change : (old new : Database) (s : Broker) (next : Text → Option Text) → Holds old s → Frame (codes "teams" ∷ []) old new → AreTeams next (rows_of new (codes "teams")) → Holds new (record s { teams = next })
-teams_change old new s next held frame is =
-    held_next (codes "teams" ∷ []) old new s _ held frame (stays, is, stays, stays, stays, stays, stays, stays, stays, stays, stays, stays, stays)
+module _ (old new : Database) (s : Broker) where
+  pub teams_change : (next : Text → Option Text) → Holds old s → Frame (codes "teams" ∷ []) old new → AreTeams next (rows_of new (codes "teams")) → Holds new (record s { teams = next })
+  teams_change next held frame is = held_next _ old new s _ held frame (same, is, same, same, same, same, same, same, same, same, same, same, same)
 
--- where only the table pacticipants changed, the state is held with the pacticipants that its rows tell now
-pub pacticipants_change : (old new : Database) (s : Broker) (next : Text → Option Text) → Holds old s → Frame (codes "pacticipants" ∷ []) old new → ArePacticipants next (rows_of new (codes "pacticipants")) → Holds new (record s { pacticipants = next })
-pacticipants_change old new s next held frame is =
-    held_next (codes "pacticipants" ∷ []) old new s _ held frame (stays, stays, is, stays, stays, stays, stays, stays, stays, stays, stays, stays, stays)
+  pub pacticipants_change : (next : Text → Option Text) → Holds old s → Frame (codes "pacticipants" ∷ []) old new → ArePacticipants next (rows_of new (codes "pacticipants")) → Holds new (record s { pacticipants = next })
+  pacticipants_change next held frame is = held_next _ old new s _ held frame (same, same, is, same, same, same, same, same, same, same, same, same, same)
 
--- where only the table branches changed, the state is held with the branches that its rows tell now
-pub branches_change : (old new : Database) (s : Broker) (next : Version × Text → Bool) → Holds old s → Frame (codes "branches" ∷ []) old new → AreBranches s.versions next (rows_of new (codes "branches")) → Holds new (record s { branches = next })
-branches_change old new s next held frame is =
-    held_next (codes "branches" ∷ []) old new s _ held frame (stays, stays, stays, stays, is, stays, stays, stays, stays, stays, stays, stays, stays)
+  pub branches_change : (next : Version × Text → Bool) → Holds old s → Frame (codes "branches" ∷ []) old new → AreBranches s.versions next (rows_of new (codes "branches")) → Holds new (record s { branches = next })
+  branches_change next held frame is = held_next _ old new s _ held frame (same, same, same, same, is, same, same, same, same, same, same, same, same)
 
--- where only environments and strict_environments changed, the state is held with the environments they tell now
-pub environments_change : (old new : Database) (s : Broker) (next : Text → Option Marks) → Holds old s → Frame (codes "environments" ∷ codes "strict_environments" ∷ []) old new → AreEnvironments next (rows_of new (codes "environments")) (rows_of new (codes "strict_environments")) → Holds new (record s { environments = next })
-environments_change old new s next held frame is =
-    held_next (codes "environments" ∷ codes "strict_environments" ∷ []) old new s _ held frame (stays, stays, stays, stays, stays, is, stays, stays, stays, stays, stays, stays, stays)
+  pub environments_change : (next : Text → Option Marks) → Holds old s → Frame (codes "environments" ∷ codes "strict_environments" ∷ []) old new → AreEnvironments next (rows_of new (codes "environments")) (rows_of new (codes "strict_environments")) → Holds new (record s { environments = next })
+  environments_change next held frame is = held_next _ old new s _ held frame (same, same, same, same, same, is, same, same, same, same, same, same, same)
 
--- where only the table grants changed, the state is held with the grants that its rows tell now
-pub grants_change : (old new : Database) (s : Broker) (next : Text × Text → Bool) → Holds old s → Frame (codes "grants" ∷ []) old new → AreGrants next (rows_of new (codes "grants")) → Holds new (record s { grants = next })
-grants_change old new s next held frame is =
-    held_next (codes "grants" ∷ []) old new s _ held frame (stays, stays, stays, stays, stays, stays, is, stays, stays, stays, stays, stays, stays)
+  pub grants_change : (next : Text × Text → Bool) → Holds old s → Frame (codes "grants" ∷ []) old new → AreGrants next (rows_of new (codes "grants")) → Holds new (record s { grants = next })
+  grants_change next held frame is = held_next _ old new s _ held frame (same, same, same, same, same, same, is, same, same, same, same, same, same)
 
--- where only the table contents changed, the state is held with the contents that its rows tell now
-pub contents_change : (old new : Database) (s : Broker) (next : List Text) → Holds old s → Frame (codes "contents" ∷ []) old new → AreContents next (rows_of new (codes "contents")) → Holds new (record s { contents = next })
-contents_change old new s next held frame is =
-    held_next (codes "contents" ∷ []) old new s _ held frame (stays, stays, stays, stays, stays, stays, stays, is, stays, stays, stays, stays, stays)
+  pub contents_change : (next : List Text) → Holds old s → Frame (codes "contents" ∷ []) old new → AreContents next (rows_of new (codes "contents")) → Holds new (record s { contents = next })
+  contents_change next held frame is = held_next _ old new s _ held frame (same, same, same, same, same, same, same, is, same, same, same, same, same)
 
--- where only the table contracts changed, the state is held with the contracts that its rows tell now
-pub contracts_change : (old new : Database) (s : Broker) (next : Version × Text → Option ℕ) → Holds old s → Frame (codes "contracts" ∷ []) old new → AreContracts s.versions next (rows_of new (codes "contracts")) → Holds new (record s { contracts = next })
-contracts_change old new s next held frame is =
-    held_next (codes "contracts" ∷ []) old new s _ held frame (stays, stays, stays, stays, stays, stays, stays, stays, is, stays, stays, stays, stays)
+  pub contracts_change : (next : Version × Text → Option ℕ) → Holds old s → Frame (codes "contracts" ∷ []) old new → AreContracts s.versions next (rows_of new (codes "contracts")) → Holds new (record s { contracts = next })
+  contracts_change next held frame is = held_next _ old new s _ held frame (same, same, same, same, same, same, same, same, is, same, same, same, same)
 
--- where only results, checked_results and latest changed, the state is held with the results they tell now
-pub results_change : (old new : Database) (s : Broker) (next : List Verification) → Holds old s → Frame (codes "results" ∷ codes "checked_results" ∷ codes "latest" ∷ []) old new → AreResults s.versions next (rows_of new (codes "results")) (rows_of new (codes "checked_results")) → AreLatest (record s { results = next }) (rows_of new (codes "latest")) → Holds new (record s { results = next })
-results_change old new s next held frame are newest =
-    held_next (codes "results" ∷ codes "checked_results" ∷ codes "latest" ∷ []) old new s _ held frame (stays, stays, stays, stays, stays, stays, stays, stays, stays, are, newest, stays, stays)
+  pub results_change : (next : List Verification) → Holds old s → Frame (codes "results" ∷ codes "checked_results" ∷ codes "latest" ∷ []) old new → AreResults s.versions next (rows_of new (codes "results")) (rows_of new (codes "checked_results")) → AreLatest (record s { results = next }) (rows_of new (codes "latest")) → Holds new (record s { results = next })
+  results_change next held frame are newest = held_next _ old new s _ held frame (same, same, same, same, same, same, same, same, same, are, newest, same, same)
 
--- where only the table deployed changed, the state is held with the deployments that its rows tell now
-pub deployed_change : (old new : Database) (s : Broker) (next : Text × Text × Text → Option Text) → Holds old s → Frame (codes "deployed" ∷ []) old new → AreDeployed s.versions next (rows_of new (codes "deployed")) → Holds new (record s { deployed = next })
-deployed_change old new s next held frame is =
-    held_next (codes "deployed" ∷ []) old new s _ held frame (stays, stays, stays, stays, stays, stays, stays, stays, stays, stays, stays, is, stays)
+  pub deployed_change : (next : Text × Text × Text → Option Text) → Holds old s → Frame (codes "deployed" ∷ []) old new → AreDeployed s.versions next (rows_of new (codes "deployed")) → Holds new (record s { deployed = next })
+  deployed_change next held frame is = held_next _ old new s _ held frame (same, same, same, same, same, same, same, same, same, same, same, is, same)
 
--- where only the table released changed, the state is held with the releases that its rows tell now
-pub released_change : (old new : Database) (s : Broker) (next : Text × Version → Bool) → Holds old s → Frame (codes "released" ∷ []) old new → AreReleased s.versions next (rows_of new (codes "released")) → Holds new (record s { released = next })
-released_change old new s next held frame is =
-    held_next (codes "released" ∷ []) old new s _ held frame (stays, stays, stays, stays, stays, stays, stays, stays, stays, stays, stays, stays, is)
+  pub released_change : (next : Text × Version → Bool) → Holds old s → Frame (codes "released" ∷ []) old new → AreReleased s.versions next (rows_of new (codes "released")) → Holds new (record s { released = next })
+  released_change next held frame is = held_next _ old new s _ held frame (same, same, same, same, same, same, same, same, same, same, same, same, is)

@@ -1,25 +1,16 @@
 -- What a new version leaves of the state that the database holds.
-use Rattle.std.proofs.Common.{◌≡◌, ℕ, ℤ, pos, ◌+◌, List, [], ◌∷◌, ◌++◌, map, length, false, cond, ◌||◌, refl, sym, ap, ◌∙◌, Some, None, Option, codes, inl, inr, Ordering, Less, Equal, Greater}
-use Rattle.std.specs.Prelude.{option_map, option_and_then}
-use Rattle.std.specs.Option.{option_map_or}
-use Rattle.std.specs.List.{enumerate_from}
-use Rattle.std.specs.Ordering.{is_eq, int_cmp, eq_by_cmp, ordering_then}
-use Rattle.sqlite.specs.Order.{Row}
-use Rattle.sqlite.specs.Effect.{Database}
+use Rattle.std.specs.{Prelude.{option_map, option_and_then}, Option.{option_map_or}, List.{enumerate_from}, Ordering.{is_eq, int_cmp, eq_by_cmp, ordering_then}}
+use Rattle.std.proofs.Common.{slice_get, true, ◌≡◌, ℕ, ℤ, pos, ◌+◌, List, [], ◌∷◌, ◌++◌, map, length, false, cond, ◌||◌, refl, sym, ap, ◌∙◌, Some, None, Option, codes, inl, inr, Ordering, Equal}
+use Rattle.sqlite.specs.{Order.{Row}, Effect.{Database}, Table.{Table}}
 use Rattle.sqlite_rules.specs.Lists.{Has}
-use Rattle.table_access.specs.Columns.{text, text_cmp, whole_at, by_both}
-use Rattle.table_access.proofs.SoundLemmas.{whole_in, has_place}
-use Rattle.broker_core.specs.declared.command.Version.{Version}
-use Rattle.broker_core.specs.Text.{Text, version}
-use Rattle.broker_core.specs.State.{State as Broker, Verification}
-use Rattle.broker_core.specs.Request.{is_known}
-use Rattle.broker_tables.specs.Rows.{rows_of, value_at, stands_at}
-use Rattle.broker_tables.specs.Numbers.{numbered, number_of}
+use Rattle.sqlite_schema.specs.{declared.schema.Column.{Column}, Names.{is_key}}
+use Rattle.table_access.{specs.Columns.{text, text_cmp, whole_at, by_both}, proofs.SoundLemmas.{whole_in, has_place}}
+use Rattle.broker_core.specs.{declared.command.Version.{Version}, Text.{Text, version}, State.{State as Broker, Verification}, Request.{is_known}}
+use Rattle.broker_tables.specs.{Schema.{to}, Rows.{rows_of, value_at, stands_at}, Numbers.{numbered, number_of}}
 use Rattle.broker_tables.specs.Holds.{Holds, AreVersions, AreBranches, AreContracts, AreResults, AreLatest, AreDeployed, AreReleased, ResultRow, result_in, result_of}
-use Rattle.broker_tables.proofs.Frames.{Frame, held_next, stays}
-use Rattle.broker_tables.proofs.NumberLemmas.{grown, still_numbered as stays_numbered}
-use Rattle.broker_tables.proofs.References.{not_next}
+use Rattle.broker_tables.proofs.{Frames.{Frame, held_next, same}, NumberLemmas.{grown, still_numbered as stays_numbered}, References.{not_next}}
 use Rattle.broker_tables.proofs.Placed.{branches, branches_there, contracts, contracts_there, latest, latest_there, released, released_there}
+use Rattle.sqlite.specs.Kind.TheVariants as kind
 
 -- ---- no row has the key
 
@@ -34,24 +25,14 @@ module _ {K V : Type 0} (R : K → K → Ordering) (key : Row → K) (value : Ro
   none_found (r ∷ rows) apart = ap (λ b. cond b (Some (value r)) (value_at R key value rows k)) (apart r (inl refl)) ∙ none_found rows (λ x has. apart x (inr has))
 
 first_apart : (x y : Ordering) → is_eq x ≡ false → is_eq (ordering_then x y) ≡ false
-first_apart Less y e = refl
 first_apart Equal y e = absurd cc
-first_apart Greater y e = refl
+first_apart _ y e = refl
 
 second_apart : (x y : Ordering) → is_eq y ≡ false → is_eq (ordering_then x y) ≡ false
-second_apart Less y e = refl
 second_apart Equal y e = e
-second_apart Greater y e = refl
+second_apart _ y e = refl
 
 -- ---- results name versions that are there
-
-abbrev head_of : {A B : Type 0} → B → List (A × B) → B
-head_of other [] = other
-head_of other (p ∷ ps) = p.1
-
-abbrev rest_of : {A : Type 0} → List A → List A
-rest_of [] = []
-rest_of (p ∷ ps) = ps
 
 module _ (versions : List Version) (v : Version) (checked : List Row) where
   same_result : (r : Row) (q : Verification) → result_in checked r ≡ result_of versions q → result_of versions q ≡ result_of (versions ++ v ∷ []) q
@@ -66,9 +47,9 @@ module _ (versions : List Version) (v : Version) (checked : List Row) where
   same_results n rows [] is = refl
   same_results n [] (q ∷ rs) is = absurd (let e = is in cc)
   same_results n (r ∷ rows) (q ∷ rs) is =
-      let one : result_of versions q ≡ result_of (versions ++ v ∷ []) q = same_result r q (ap (head_of (result_of versions q)) is) in
-      let more : map (result_of versions) rs ≡ map (result_of (versions ++ v ∷ [])) rs = same_results (n + 1) rows rs (ap rest_of is) in
-      λ i. one i ∷ more i
+      let pair : ◌≡◌ {A = ℤ × ResultRow} (whole_at 0 r, result_in checked r) (pos n, result_of versions q) = cc in
+      let later : map {B = ℤ × ResultRow} (λ r. (whole_at 0 r, result_in checked r)) rows ≡ map (λ e. (pos e.0, e.1)) (enumerate_from (n + 1) (map (result_of versions) rs)) = cc in
+      λ i. same_result r q (ap (λ (x : ℤ × ResultRow). x.1) pair) i ∷ same_results (n + 1) rows rs later i
 
 -- ---- each table that names versions
 
@@ -76,25 +57,11 @@ module _ (db : Database) (s : Broker) (held : Holds db s) (v : Version) (free : 
   abbrev next : ℕ
   next = length s.versions + 1
 
-  branch_numbers : (r : Row) → Has (db.trees 8) r → is_eq (int_cmp (pos next) (whole_at 1 r)) ≡ false
-  branch_numbers r has =
-      let listed = has_place _ 4 branches (branches_there db held.broker) in
-      not_next db held.broker s.versions held.versions branches listed 1 (inl refl) r has (whole_in db held.broker.kept.sound branches listed r has 0 _ refl refl refl refl refl)
-
-  contract_numbers : (r : Row) → Has (db.trees 15) r → is_eq (int_cmp (pos next) (whole_at 1 r)) ≡ false
-  contract_numbers r has =
-      let listed = has_place _ 8 contracts (contracts_there db held.broker) in
-      not_next db held.broker s.versions held.versions contracts listed 1 (inl refl) r has (whole_in db held.broker.kept.sound contracts listed r has 0 _ refl refl refl refl refl)
-
-  latest_numbers : (r : Row) → Has (db.trees 19) r → is_eq (int_cmp (pos next) (whole_at 2 r)) ≡ false
-  latest_numbers r has =
-      let listed = has_place _ 10 latest (latest_there db held.broker) in
-      not_next db held.broker s.versions held.versions latest listed 2 (inr (inl refl)) r has (whole_in db held.broker.kept.sound latest listed r has 1 _ refl refl refl refl refl)
-
-  released_numbers : (r : Row) → Has (db.trees 23) r → is_eq (int_cmp (pos next) (whole_at 2 r)) ≡ false
-  released_numbers r has =
-      let listed = has_place _ 12 released (released_there db held.broker) in
-      not_next db held.broker s.versions held.versions released listed 2 (inr (inl refl)) r has (whole_in db held.broker.kept.sound released listed r has 1 _ refl refl refl refl refl)
+  -- no row of a table names the next version
+  apart : (t : Table) → Has db.schema.tables t → (at : ℕ) (c : Column) → slice_get t.columns at ≡ Some c → is_key t.key at ≡ false → c.is_strict ≡ true → c.not_null ≡ true → c.kind ≡ kind.Integer
+      → Has t.references (to (at + 1) (codes "versions") (codes "number")) → (r : Row) → Has (db.trees t.tree) r → is_eq (int_cmp (pos next) (whole_at (at + 1) r)) ≡ false
+  apart t listed at c there free strict needed whole among r has =
+      not_next db held.broker s.versions held.versions t listed (at + 1) among r has (whole_in db held.broker.kept.sound t listed r has at c there free strict needed whole)
 
   abbrev more : List Version
   more = s.versions ++ v ∷ []
@@ -102,13 +69,15 @@ module _ (db : Database) (s : Broker) (held : Holds db s) (v : Version) (free : 
   branches_grow : AreBranches more s.branches (rows_of db (codes "branches"))
   branches_grow w b =
       grown (λ o. option_map_or (λ n. stands_at (by_both int_cmp text_cmp) (λ r. (whole_at 1 r, text 2 r)) (db.trees 8) (pos n, b)) o false) s.versions v w free
-      (none_stands (by_both int_cmp text_cmp) (λ r. (whole_at 1 r, text 2 r)) (text 2) (pos next, b) (db.trees 8) (λ r has. first_apart _ _ (branch_numbers r has)))
+      (none_stands (by_both int_cmp text_cmp) (λ r. (whole_at 1 r, text 2 r)) (text 2) (pos next, b) (db.trees 8)
+      (λ r has. first_apart _ _ (apart branches (has_place _ 4 branches (branches_there db held.broker)) 0 _ refl refl refl refl refl (inl refl) r has)))
       ∙ held.branches w b
 
   contracts_grow : AreContracts more s.contracts (rows_of db (codes "contracts"))
   contracts_grow w p =
       grown (λ o. option_and_then (λ n. value_at (by_both int_cmp text_cmp) (λ r. (whole_at 1 r, text 2 r)) (whole_at 3) (db.trees 15) (pos n, p)) o) s.versions v w free
-      (none_found (by_both int_cmp text_cmp) (λ r. (whole_at 1 r, text 2 r)) (whole_at 3) (pos next, p) (db.trees 15) (λ r has. first_apart _ _ (contract_numbers r has)))
+      (none_found (by_both int_cmp text_cmp) (λ r. (whole_at 1 r, text 2 r)) (whole_at 3) (pos next, p) (db.trees 15)
+      (λ r has. first_apart _ _ (apart contracts (has_place _ 8 contracts (contracts_there db held.broker)) 0 _ refl refl refl refl refl (inl refl) r has)))
       ∙ held.contracts w p
 
   results_grow : AreResults more s.results (rows_of db (codes "results")) (rows_of db (codes "checked_results"))
@@ -117,7 +86,8 @@ module _ (db : Database) (s : Broker) (held : Holds db s) (v : Version) (free : 
   latest_grow : AreLatest (record s { versions = more }) (rows_of db (codes "latest"))
   latest_grow content w =
       grown (λ o. option_and_then (λ n. value_at (by_both int_cmp int_cmp) (λ r. (whole_at 1 r, whole_at 2 r)) (whole_at 3) (db.trees 19) (pos content, pos n)) o) s.versions v w free
-      (none_found (by_both int_cmp int_cmp) (λ r. (whole_at 1 r, whole_at 2 r)) (whole_at 3) (pos content, pos next) (db.trees 19) (λ r has. second_apart _ _ (latest_numbers r has)))
+      (none_found (by_both int_cmp int_cmp) (λ r. (whole_at 1 r, whole_at 2 r)) (whole_at 3) (pos content, pos next) (db.trees 19)
+      (λ r has. second_apart _ _ (apart latest (has_place _ 10 latest (latest_there db held.broker)) 1 _ refl refl refl refl refl (inr (inl refl)) r has)))
       ∙ held.latest content w
 
   deployed_grow : AreDeployed more s.deployed (rows_of db (codes "deployed"))
@@ -138,21 +108,22 @@ module _ (db : Database) (s : Broker) (held : Holds db s) (v : Version) (free : 
   released_grow : AreReleased more s.released (rows_of db (codes "released"))
   released_grow e w =
       grown (λ o. option_map_or (λ n. stands_at (by_both text_cmp int_cmp) (λ r. (text 1 r, whole_at 2 r)) (db.trees 23) (e, pos n)) o false) s.versions v w free
-      (none_stands (by_both text_cmp int_cmp) (λ r. (text 1 r, whole_at 2 r)) (text 1) (e, pos next) (db.trees 23) (λ r has. second_apart _ _ (released_numbers r has)))
+      (none_stands (by_both text_cmp int_cmp) (λ r. (text 1 r, whole_at 2 r)) (text 1) (e, pos next) (db.trees 23)
+      (λ r has. second_apart _ _ (apart released (has_place _ 12 released (released_there db held.broker)) 1 _ refl refl refl refl refl (inr (inl refl)) r has)))
       ∙ held.released e w
 
 -- a version that wasn't there gets the next number, and nothing else changes
 pub versions_grow : (old new : Database) (s : Broker) (v : Version) → Holds old s → is_known s v ≡ false → Frame (codes "versions" ∷ []) old new → AreVersions (s.versions ++ v ∷ []) (rows_of new (codes "versions"))
     → Holds new (record s { versions = s.versions ++ v ∷ [] })
 versions_grow old new s v held free frame is = held_next (codes "versions" ∷ []) old new s _ held frame (
-  stays,
-  stays,
-  stays,
+  same,
+  same,
+  same,
   is,
   λ h. branches_grow old s held v free,
-  stays,
-  stays,
-  stays,
+  same,
+  same,
+  same,
   λ h. contracts_grow old s held v free,
   λ h. results_grow old s held v free,
   λ h. latest_grow old s held v free,

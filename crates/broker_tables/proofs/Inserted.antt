@@ -1,77 +1,34 @@
 -- Why an INSERT of one row into a table of the broker fails: if the row suits its table, only as the store fails.
-use Rattle.std.proofs.Common.{◌≡◌, inl, inr, ℕ, ℤ, List, [], ◌∷◌, map, filter, length, slice_get, Bool, true, false, not, ◌&&◌, nat_lt, refl, sym, ap, subst, ◌∙◌, ◌<◌, ◌/◌, arith, Some, None, Option, Ok, Err, append-nil, ◌+◌, pos, IsTrue, Ordering, codes}
-use Rattle.std.specs.Prelude.{⊤, is_some}
-use Rattle.std.specs.List.{AllByRecursion, list_all}
-use Rattle.std.specs.Ordering.{int_cmp, eq_by_cmp, is_eq}
-use Rattle.std.specs.Cmp.{Equal-is, eq_by_cmp_equiv, int_cmp_total, IsTotalOrder}
+use Rattle.std.specs.{Prelude.{⊤, is_some}, List.{AllByRecursion, list_all}, Ordering.{int_cmp, eq_by_cmp, is_eq}}
+use Rattle.std.specs.{Cmp.{Equal-is, eq_by_cmp_equiv, int_cmp_total, IsTotalOrder}, Cmp.Lexicographic.{nat_list_cmp_total}, FinMap.{int_cmp-IsAntisymmetric}}
+use Rattle.std.proofs.Common.{◌≡◌, inl, inr, ℕ, ℤ, List, [], ◌∷◌, map, filter, length, slice_get, Bool, true, false, not, ◌&&◌, nat_lt, refl, sym, ap, subst, ◌∙◌, ◌<◌, ◌≤◌, ◌⊎◌, ◌/◌, arith, Some, None, Option, Ok, Err, append-nil, ◌+◌, pos, IsTrue, Ordering, codes}
 use Rattle.std.proofs.lemmas.Bool.{false_from_ne_true, and_parts, or_right, ltb-true, and_from}
-use Rattle.sqlite.specs.declared.types.Value.TheVariants.{Int, Text}
-use Rattle.sqlite.specs.declared.error.Error.{Error}
-use Rattle.sqlite.specs.Cast.{cast_row}
-use Rattle.sqlite.specs.Term.{Term}
-use Rattle.sqlite.specs.Command.TheVariants.{Insert}
-use Rattle.sqlite.specs.Source.TheVariants.{Values}
-use Rattle.sqlite.specs.Listing.{understood}
-use Rattle.sqlite.specs.Order.{Row, column, value_cmp}
-use Rattle.sqlite.specs.Tree.{rowid, IsAscending}
-use Rattle.sqlite.specs.Schema.{Schema}
-use Rattle.sqlite.specs.Table.{Table}
-use Rattle.sqlite.specs.Effect.{Database, value_rows}
-use Rattle.sqlite.specs.Rows.{Written, Inserts, Edited}
-use Rattle.sqlite.specs.State.{State, Executes, Fails, mode_of}
-use Rattle.sqlite_value.specs.Keys.{plain, first_key}
-use Rattle.sqlite_value.specs.declared.keys.Order.{Order}
+use Rattle.sqlite.specs.{declared.types.Value.TheVariants.{Int, Text}, declared.error.Error.{Error}, Cast.{cast_row}, Term.{Term}, Command.TheVariants.{Insert}}
+use Rattle.sqlite.specs.{Source.TheVariants.{Values}, Listing.{understood}, Order.{Row, column, value_cmp}, Tree.{rowid, IsAscending}, Schema.{Schema}}
+use Rattle.sqlite.specs.{Table.{Table}, Effect.{Database, value_rows}, Rows.{Written, Inserts, Edited}, Does.{due}, State.{State, Executes, Fails, mode_of}}
+use Rattle.sqlite.specs.{View.{is_int}, declared.types.Value.{Value}, Edit.{next_rowid, with_rowid}, Collation.TheVariants.{Binary}}
+use Rattle.sqlite_value.{specs.{Keys.{plain, first_key}, declared.keys.Order.{Order}}, proofs.OrderLemmas.{value_cmp-Int}}
 use Rattle.sqlite_sql.specs.Ops.{fits_i64, binary}
-use Rattle.sqlite_schema.specs.declared.schema.Keys.{Keys}
-use Rattle.sqlite_schema.specs.declared.schema.Keys.TheVariants.{Enforced, Deferred, Off}
-use Rattle.sqlite_schema.specs.declared.schema.Index.{Index}
+use Rattle.sqlite_schema.specs.{declared.schema.Keys.{Keys}, declared.schema.Keys.TheVariants.{Enforced, Deferred, Off}, declared.schema.Index.{Index}}
 use Rattle.sqlite_schema.specs.declared.schema.Among.TheVariants.{All}
-use Rattle.sqlite_schema.specs.Rules.{agree, guards, Refers, has_parent, is_held, parent_key, is_key_of, equal}
-use Rattle.sqlite_rules.specs.Lists.{Has}
-use Rattle.sqlite_rules.specs.Steps.{PassAlone}
-use Rattle.sqlite_rules.specs.Edit.{Edit, IsRefused, id_in, is_taken, is_referred, edit_of, with_rowid}
-use Rattle.sqlite_rules.specs.declared.error.Rowids.TheVariants.{Chosen}
-use Rattle.sqlite_rules.proofs.ListLemmas.{some_has, some_from, test_has, has_kept}
-use Rattle.sqlite_rules.proofs.TableLemmas.{int_is}
-use Rattle.sqlite.specs.View.{is_int}
-use Rattle.sqlite_value.proofs.OrderLemmas.{value_cmp-Int}
+use Rattle.sqlite_schema.specs.{Rules.{agree, guards, Refers, has_parent, is_held, parent_key, is_key_of, equal, table_reals}, Names.{is_key}}
+use Rattle.sqlite_schema.specs.declared.schema.Column.{Column}
+use Rattle.sqlite_rules.specs.{Lists.{Has}, Steps.{PassAlone}, Edit.{Edit, IsOversized, id_in, is_taken, is_referred, edit_of, with_rowid}}
+use Rattle.sqlite_rules.{specs.declared.error.Rowids.TheVariants.{Chosen}, proofs.{ListLemmas.{some_has, some_from, test_has, has_kept}, TableLemmas.{int_is}}}
+use Rattle.sqlite_rules.proofs.PlaceLemmas.{next_is_free}
 use Rattle.sqlite_typing.specs.Types.{accepts_terms}
 use Rattle.sqlite_tied.specs.Compute.{everything}
-use Rattle.table_access.specs.declared.StoreFault.{StoreFault}
-use Rattle.table_access.specs.Calls.{IsEnded, FailsToRun, fault_of}
-use Rattle.table_access.specs.Statements.{plain_table, ChangesOnly, IsAdded}
-use Rattle.table_access.proofs.Answered.{is_whole}
-use Rattle.table_access.proofs.Edits.{Suits as EditSuits, no_rule, refers, one_unique}
-use Rattle.table_access.proofs.UpsertRefused.{key_of}
-use Rattle.table_access.proofs.Members.{has_map, map_has}
-use Rattle.table_access.proofs.Refused.{insert_fails}
-use Rattle.table_access.proofs.SoundLemmas.{has_place, at_has, all_of, text_at}
-use Rattle.table_access.proofs.Steps.{Means, inserts, went, same_value}
-use Rattle.broker_tables.specs.Schema.{broker_schema, to}
-use Rattle.broker_tables.specs.Holds.{IsBroker, Holds, marks_in}
-use Rattle.broker_tables.proofs.Frames.{meant}
-use Rattle.broker_tables.proofs.Placed.{calm}
-use Rattle.std.specs.Cmp.Lexicographic.{nat_list_cmp_total}
-use Rattle.sqlite.specs.declared.types.Value.{Value}
-use Rattle.sqlite.specs.Edit.{next_rowid, with_rowid}
-use Rattle.sqlite.specs.Collation.TheVariants.{Binary}
-use Rattle.sqlite_rules.proofs.PlaceLemmas.{next_is_free}
-use Rattle.table_access.specs.Columns.{text, text_cmp, whole_at, by_both}
-use Rattle.std.specs.FinMap.{int_cmp-IsAntisymmetric}
-use Rattle.table_access.specs.Sound.{IsNumbered}
-use Rattle.broker_tables.specs.Numbers.{numbered, number_of}
-use Rattle.broker_tables.proofs.References.{row_number}
-use Rattle.table_access.proofs.Maps.{find_has}
-use Rattle.table_access.proofs.Parts.{Part, text_part, whole_part, agree_last, agree_and}
-use Rattle.sqlite_schema.specs.Names.{is_key}
-use Rattle.sqlite_schema.specs.declared.schema.Column.{Column}
-use Rattle.broker_tables.proofs.Placed.{teams, teams_there, pacticipants, pacticipants_there, environments, environments_there}
+use Rattle.table_access.specs.{declared.StoreFault.{StoreFault}, Calls.{EndsBy, FailsToRun, fault_of}, Statements.{plain_table, ChangesOnly, IsAdded}}
+use Rattle.table_access.{specs.{Columns.{text, text_cmp, whole_at, by_both}, Sound.{IsNumbered}}, proofs.Answered.{is_whole}}
+use Rattle.table_access.proofs.{Edits.{Suits as EditSuits, goes, refers, one_unique}, Storable.{IsShortRow, IsShortValue, short_fits}, UpsertRefused.{key_of}}
+use Rattle.table_access.proofs.{Members.{has_map, map_has}, Refused.{insert_fails, caused_by}, SoundLemmas.{has_place, at_has, all_of, text_at}}
+use Rattle.table_access.proofs.{Steps.{Means, inserts, went, same_value}, Maps.{find_has}, Parts.{Part, text_part, whole_part, agree_last, agree_and}}
 use Rattle.table_access.proofs.Values.{same_texts, same_ints}
-use Rattle.broker_core.specs.declared.command.Version.{Version}
-use Rattle.broker_core.specs.State.{State as Broker}
-use Rattle.broker_tables.specs.Rows.{rows_of, value_at, stands_at}
-use Rattle.broker_tables.proofs.Orders.{exact_texts}
-use Rattle.broker_tables.proofs.VersionRows.{find_version, version_number}
+use Rattle.broker_tables.specs.{Schema.{broker_schema, to}, Holds.{IsBroker, Holds, marks_in}, Refusals.{AreShort}, Numbers.{numbered, number_of}}
+use Rattle.broker_tables.{specs.Rows.{rows_of, value_at, stands_at}, proofs.Frames.{meant}}
+use Rattle.broker_tables.proofs.{Placed.{calm, teams, teams_there, pacticipants, pacticipants_there, environments, environments_there}, References.{row_number}}
+use Rattle.broker_tables.proofs.{Orders.{exact_texts}, VersionRows.{find_version, version_number}}
+use Rattle.broker_core.specs.{declared.command.Version.{Version}, State.{State as Broker}}
 use Rattle.sqlite.specs.Kind.TheVariants as kind
 
 -- ---- the tables of a broker
@@ -114,6 +71,18 @@ ready : AllByRecursion (IsReady broker_schema) broker_schema.tables
 unfolding everything
 ready = (refl, (refl, (refl, (refl, (refl, (refl, (refl, (refl, (refl, (refl, (refl, (refl, (refl, (refl, (refl, tt)))))))))))))))
 
+-- no table has a REAL column, and no index many columns
+short_entries : (list_all (λ t. nat_lt (table_reals t) 1) broker_schema.tables ≡ true) × (list_all (λ i. nat_lt (length i.columns) 12) broker_schema.indexes ≡ true)
+unfolding everything
+short_entries = (refl, refl)
+
+-- so a row with a few short texts can be stored
+pub storable : (db : Database) → IsBroker db → (t : Table) → Has db.schema.tables t → (row : Row) → IsShortRow row → ¬ IsOversized db.schema t row
+storable db broker t listed = short_fits db.schema t (record {
+  whole = (let none = ltb-true (table_reals t) 1 (test_has (λ (u : Table). nat_lt (table_reals u) 1) db.schema.tables t (subst (λ (s : Schema). list_all (λ u. nat_lt (table_reals u) 1) s.tables ≡ true) (sym broker.schema) short_entries.0) listed) in omega (arith, none));
+  narrow = subst (λ (s : Schema). list_all (λ i. nat_lt (length i.columns) 12) s.indexes ≡ true) (sym broker.schema) short_entries.1;
+})
+
 ready_at : (db : Database) → IsBroker db → (t : Table) → Has db.schema.tables t → IsReady db.schema t
 ready_at db broker t listed = at_has _ db.schema.tables t (subst (λ (s : Schema). AllByRecursion (IsReady s) s.tables) (sym broker.schema) ready) listed
 
@@ -132,7 +101,7 @@ pub record Suits (db : Database) (t : Table) (made : Row) : Type 0 where
   pub free : AllByRecursion (IsFree (db.trees t.tree) made) t.uniques
   pub parents : AllByRecursion (λ ref. has_parent broker_schema.tables db.trees made ref ≡ true) t.references
 
-module _ (db : Database) (broker : IsBroker db) (t : Table) (listed : Has db.schema.tables t) (made : Row) (suits : Suits db t made) where
+module _ (db : Database) (broker : IsBroker db) (t : Table) (listed : Has db.schema.tables t) (made : Row) (suits : Suits db t made) (texts : List (List ℕ)) (short : AreShort texts → IsShortRow made) where
   abbrev putting : Edit
   putting = record { table = t; gone = []; news = made ∷ [] }
 
@@ -148,13 +117,14 @@ module _ (db : Database) (broker : IsBroker db) (t : Table) (listed : Has db.sch
   referred Off = refl
 
   -- so the edit that puts it in suits the table
-  edit_suits : (keys : Keys) → EditSuits db.schema keys db.trees putting
+  edit_suits : (keys : Keys) → EditSuits (¬ AreShort texts) db.schema keys db.trees putting
   edit_suits keys = record {
     apart = subst (λ (s : Schema). IsAscending (λ a b. a.tree ≡ b.tree → ⊥) s.tables) (sym broker.schema) apart;
     calm = calm db broker;
     listed = listed;
     ordered = (at_has _ db.schema.tables t broker.kept.numbered listed).0;
     rules = broker.kept.sound.obeys.rules;
+    storable = λ row new big are. elim new [ inl same ↦ storable db broker t listed row (subst IsShortRow (sym same) (short are)) big | inr none ↦ absurd none ];
     pass = suits.pass;
     keyed = ap (λ b. b && true) suits.keyed;
     fits = ap (λ b. b && true) suits.fits;
@@ -170,9 +140,9 @@ module _ (db : Database) (broker : IsBroker db) (t : Table) (listed : Has db.sch
 
 -- ---- the statement
 
--- without a limit of steps it fails only as the store fails, or since a row was too big
-abbrev pub EndsOnly : List ℕ → Row → State → State → Type 0
-EndsOnly sql params old new = old.step_limit ≡ None → (fault : StoreFault) → FailsToRun sql params old new fault → IsEnded old new fault
+-- without a limit of steps it fails only as the store fails, or since one of these texts is too long
+abbrev pub EndsOnly : List (List ℕ) → List ℕ → Row → State → State → Type 0
+EndsOnly texts sql params old new = old.step_limit ≡ None → (fault : StoreFault) → FailsToRun sql params old new fault → EndsBy (¬ AreShort texts) old new fault
 
 -- the text, with these parameters, puts one row into the table at this place
 pub record Puts (at : ℕ) (sql : List ℕ) (params row : Row) : Type 0 where
@@ -196,9 +166,9 @@ module _ (sql : List ℕ) (params : Row) (old new : State) (broker : IsBroker ol
   inserted count h =
       inserts t.name t.tree t.columns t.key t.primary t.uniques t.orders t.checks t.references sql params old new at (there ∙ ap Some (sym same)) puts.terms puts.width row made puts.one stored (meant old.now broker sql puts.means) count h
 
-  module _ (suits : Suits old.now t made) where
+  module _ (suits : Suits old.now t made) (texts : List (List ℕ)) (short : AreShort texts → IsShortRow made) where
     -- the edit is the one of this row
-    edit_is : (rows : List Row) → rows ≡ row ∷ [] → edit_of old.now.trees (plainly t) [] Chosen 0 rows ≡ putting old.now broker t listed made suits
+    edit_is : (rows : List Row) → rows ≡ row ∷ [] → edit_of old.now.trees (plainly t) [] Chosen 0 rows ≡ putting old.now broker t listed made suits texts short
     edit_is rows is =
         ap (edit_of old.now.trees (plainly t) [] Chosen 0) is ∙ ap (λ u. edit_of old.now.trees u [] Chosen 0 (row ∷ [])) same ∙ ap (λ r. record { table = t; gone = []; news = r ∷ [] }) stored
 
@@ -210,18 +180,22 @@ module _ (sql : List ℕ) (params : Row) (old new : State) (broker : IsBroker ol
         let one = subst (λ (e : Edit). Edited old.now.schema (mode_of old).keys old.now.trees e (Ok written.0))
         (edit_is _ (given.1.1 ∙ ap (λ ps. value_rows ps puts.width (length puts.terms / puts.width) puts.terms) (append-nil params) ∙ puts.one)) written.1 in
         subst (λ trees. Refers All old.now.schema trees) (sym (ap (λ (it : Written). it.trees) (same_value counted.2) ∙ same_value counted.1))
-        (refers old.now.schema (mode_of old).keys old.now.trees (putting old.now broker t listed made suits) (edit_suits old.now broker t listed made suits (mode_of old).keys) written.0 one)
+        (refers (¬ AreShort texts) old.now.schema (mode_of old).keys old.now.trees (putting old.now broker t listed made suits texts short) (edit_suits old.now broker t listed made suits texts short (mode_of old).keys) written.0 one)
 
-    fails : old.step_limit ≡ None → (error : Error) → Executes sql params old new (Err error) → Fails old new ⊤ error
+    fails : old.step_limit ≡ None → (error : Error) → Executes sql params old new (Err error) → Fails old new (¬ AreShort texts) error
     fails unlimited error h =
         elim (insert_fails t.name t.tree t.columns t.key t.primary t.uniques t.orders t.checks t.references sql params old new at (there ∙ ap Some (sym same)) puts.terms puts.width (meant old.now broker sql puts.means)
         (subst (λ (s : Schema). is_whole sql (length params) (understood s sql) ≡ true) (sym broker.schema) puts.whole) puts.kinds unlimited error h) [
-          | inl store ↦ store
-          | inr (inl (why, refused, is)) ↦ absurd (no_rule old.now.schema (mode_of old).keys old.now.trees (putting old.now broker t listed made suits) (edit_suits old.now broker t listed made suits (mode_of old).keys) why (subst (λ (e : Edit). IsRefused old.now.schema (mode_of old).keys old.now.trees e why) (edit_is _ puts.one) refused))
-          | inr (inr (w, writes, stray)) ↦ absurd (stray (left w writes))
+          | inl store ↦ caused_by old new error (λ unfit. (stops None unfit).1) store
+          | inr unfit ↦ absurd (let clash : Some error ≡ None = (stops (Some error) unfit).0 in cc)
         ]
+      where
+        stops : (stop : Option Error) → Edited old.now.schema (mode_of old).keys old.now.trees (edit_of old.now.trees (plainly t) [] Chosen 0 (value_rows params puts.width (length puts.terms / puts.width) puts.terms)) (Err stop)
+            ⊎ ((w : Written) × Inserts (record { limit = old.step_limit; keys = (mode_of old).keys; schema = old.now.schema; table = plainly t; params = params }) (Values puts.terms puts.width) old.now.trees (Ok w) × (¬ Refers (due (mode_of old)) old.now.schema w.trees)) → (stop ≡ None) × (¬ AreShort texts)
+        stops stop (inl edited) = goes (¬ AreShort texts) old.now.schema (mode_of old).keys old.now.trees (putting old.now broker t listed made suits texts short) (edit_suits old.now broker t listed made suits texts short (mode_of old).keys) stop (subst (λ (e : Edit). Edited old.now.schema (mode_of old).keys old.now.trees e (Err stop)) (edit_is _ puts.one) edited)
+        stops stop (inr (w, writes, stray)) = absurd (stray (left w writes))
 
-    pub insert_ends : EndsOnly sql params old new
+    pub insert_ends : EndsOnly texts sql params old new
     insert_ends unlimited fault (error, is, h) = let it = fails unlimited error h in record { cause = it.0; fault_is = is ∙ ap fault_of it.1; has = it.2; over = it.3.autocommit; blamed = it.4 }
 
 -- ---- keys
@@ -320,8 +294,8 @@ pub next_ends : (sql : List ℕ) (params : Row) (old new : State) (broker : IsBr
     → with_rowid Chosen (old.now.trees t.tree) (cast_row t row) ≡ Int (next_rowid (old.now.trees t.tree)) ∷ rest → fits_i64 (next_rowid (old.now.trees t.tree)) ≡ true
     → PassAlone t ((Int (next_rowid (old.now.trees t.tree)) ∷ rest) ∷ []) → AllByRecursion (IsFree (old.now.trees t.tree) (Int (next_rowid (old.now.trees t.tree)) ∷ rest)) t.uniques
     → AllByRecursion (λ ref. has_parent broker_schema.tables old.now.trees (Int (next_rowid (old.now.trees t.tree)) ∷ rest) ref ≡ true) t.references
-    → EndsOnly sql params old new
-next_ends sql params old new broker t at there row rest puts stored room pass free parents =
+    → (texts : List (List ℕ)) → (AreShort texts → AllByRecursion IsShortValue rest) → 0 < length rest → length rest ≤ 11 → EndsOnly texts sql params old new
+next_ends sql params old new broker t at there row rest puts stored room pass free parents texts short some few =
     let numbered = at_has _ old.now.schema.tables t broker.kept.numbered (has_place _ at t there) in
     insert_ends sql params old new broker t at there row _ puts stored (record {
       pass = pass;
@@ -330,4 +304,4 @@ next_ends sql params old new broker t at there row rest puts stored room pass fr
       fresh = next_is_free Chosen (old.now.trees t.tree) rest numbered.0 numbered.1;
       free = free;
       parents = parents;
-    })
+    }) texts (λ are. record { wide = omega (arith, some); narrow = omega (arith, few); short = (tt, short are) })

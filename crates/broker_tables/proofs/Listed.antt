@@ -1,27 +1,15 @@
 -- What is read of a list in an order: the items list a set in their own order.
+use Rattle.std.specs.{Prelude.{Contains}, List.{AllByRecursion}, List.Sorted.{IsStrictlySortedBy}, Ordering.{is_eq}, declared.cmp.Ordering.{Ordering}}
+use Rattle.std.specs.{declared.cmp.Ordering.TheVariants.{Less}, Cmp.{IsTotalOrder, on_total}}
 use Rattle.std.proofs.Common.{◌≡◌, inl, inr, ℕ, List, [], ◌∷◌, map, filter, sym, subst, refl, false}
-use Rattle.std.specs.Prelude.{Contains}
-use Rattle.std.specs.List.{AllByRecursion}
-use Rattle.std.specs.List.Sorted.{IsStrictlySortedBy}
-use Rattle.std.specs.Ordering.{is_eq}
-use Rattle.std.specs.declared.cmp.Ordering.{Ordering}
-use Rattle.std.specs.declared.cmp.Ordering.TheVariants.{Less}
-use Rattle.std.specs.Cmp.{IsTotalOrder, on_total}
-use Rattle.sqlite.specs.Order.{Row}
-use Rattle.sqlite.specs.Term.{Term, eval_all}
-use Rattle.sqlite.specs.Tree.{IsAscending}
-use Rattle.sqlite.specs.Effect.{Database, Answers}
-use Rattle.sqlite_sql.specs.Query.{sort_cmp}
-use Rattle.sqlite_sql.proofs.QueryLemmas.{key_cmp_total}
+use Rattle.sqlite.specs.{Order.{Row}, Term.{Term, eval_all}, Tree.{IsAscending}, Effect.{Database, Answers}}
+use Rattle.sqlite_sql.{specs.Query.{sort_cmp}, proofs.QueryLemmas.{key_cmp_total}}
 use Rattle.sqlite_value.specs.declared.keys.Key.{Key}
 use Rattle.sqlite_rules.specs.Lists.{Has}
 use Rattle.sqlite_keyed.specs.Lists.{sort_by}
-use Rattle.table_access.specs.Reading.{AreRead}
-use Rattle.table_access.specs.Statements.{from_table, from_both, keeps, pairs_kept, shows}
-use Rattle.table_access.proofs.Members.{contains_has, has_contains}
+use Rattle.table_access.{specs.{Reading.{AreRead}, Statements.{from_table, from_both, keeps, pairs_kept, shows}}, proofs.Members.{contains_has, has_contains}}
 use Rattle.table_access.proofs.Ordered.{selects_in_order, joins_in_order, rises, sorted_has, has_sorted}
-use Rattle.broker_core.specs.Listing.{Lists}
-use Rattle.broker_core.proofs.Lists.{contains_none, contains_cases, contains_here, contains_later}
+use Rattle.broker_core.{specs.Listing.{Lists}, proofs.Lists.{contains_none, contains_cases, contains_here, contains_later}}
 
 -- ---- what is read of a list, by members
 

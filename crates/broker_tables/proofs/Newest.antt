@@ -1,15 +1,11 @@
 -- The greatest number of what is numbered from 1 is how many there are.
+use Rattle.std.specs.{Prelude.{option_map}, List.{enumerate_from}}
 use Rattle.std.proofs.Common.{◌≡◌, ℕ, ℤ, pos, ◌+◌, List, [], ◌∷◌, ◌++◌, map, length, reverse, refl, ap, ◌∙◌, Some, None, Option, slice_get, unwrap_or, arith}
-use Rattle.std.specs.Prelude.{option_map}
-use Rattle.std.specs.List.{enumerate_from}
-use Rattle.std.proofs.lemmas.Grind.{reverse_onto}
+use Rattle.std.proofs.{lemmas.Grind.{reverse_onto}, lemmas.List.{length-map}}
 use Rattle.sqlite.specs.Order.{Row}
-use Rattle.std.proofs.lemmas.List.{length-map}
 use Rattle.table_access.specs.Columns.{whole_at}
-use Rattle.broker_core.specs.declared.command.Version.{Version}
-use Rattle.broker_core.specs.State.{Verification}
-use Rattle.broker_tables.specs.Numbers.{numbered}
-use Rattle.broker_tables.specs.Holds.{AreResults, result_in, result_of}
+use Rattle.broker_core.specs.{declared.command.Version.{Version}, State.{Verification}}
+use Rattle.broker_tables.specs.{Numbers.{numbered}, Holds.{AreResults, result_in, result_of}}
 
 abbrev last_of : {A : Type 0} → A → List A → A
 last_of x [] = x
@@ -27,19 +23,15 @@ module _ {X : Type 0} (entry : Row → X) where
   abbrev listed : Row → ℤ × X
   listed r = (whole_at 0 r, entry r)
 
-  abbrev head_of : ℤ → List (ℤ × X) → ℤ
-  head_of other [] = other
-  head_of other (e ∷ es) = e.0
-
-  abbrev rest_of : List (ℤ × X) → List (ℤ × X)
-  rest_of [] = []
-  rest_of (e ∷ es) = es
-
   last_number : (n : ℕ) (r : Row) (rows : List Row) (x : X) (xs : List X) → map listed (r ∷ rows) ≡ map (λ e. (pos e.0, e.1)) (enumerate_from n (x ∷ xs)) → whole_at 0 (last_of r rows) ≡ pos (n + length xs)
-  last_number n r [] x [] is = ap (head_of (pos n)) is ∙ ap pos (let e : n ≡ n + 0 = omega arith in e)
+  last_number n r [] x [] is =
+      let pair : ◌≡◌ {A = ℤ × X} (listed r) (pos n, x) = cc in
+      ap (λ (p : ℤ × X). p.0) pair ∙ ap pos (let e : n ≡ n + 0 = omega arith in e)
   last_number n r [] x (y ∷ ys) is = absurd (let e = ap length is in cc)
   last_number n r (s ∷ rows) x [] is = absurd (let e = ap length is in cc)
-  last_number n r (s ∷ rows) x (y ∷ ys) is = last_number (n + 1) s rows y ys (ap rest_of is) ∙ ap pos (let e : n + 1 + length ys ≡ n + length (y ∷ ys) = omega arith in e)
+  last_number n r (s ∷ rows) x (y ∷ ys) is =
+      let rest : map listed (s ∷ rows) ≡ map (λ e. (pos e.0, e.1)) (enumerate_from (n + 1) (y ∷ ys)) = cc in
+      last_number (n + 1) s rows y ys rest ∙ ap pos (let e : n + 1 + length ys ≡ n + length (y ∷ ys) = omega arith in e)
 
   -- What is listed from the row with the greatest number on: none where there is no row, and 0 stands for it.
   pub newest : (rows : List Row) (xs : List X) (found : Option ℕ) → map listed rows ≡ numbered xs → option_map pos found ≡ option_map (whole_at 0) (slice_get (reverse rows) 0) → unwrap_or found 0 ≡ length xs

@@ -1,29 +1,16 @@
 -- The row that gets the next number, in a table whose rows are numbered from 1 without gaps.
+use Rattle.std.specs.{List.{enumerate_from}, Ordering.{int_cmp}}
 use Rattle.std.proofs.Common.{◌≡◌, inl, inr, ℕ, ℤ, pos, ◌+◌, ◌<◌, nat_lt, cond, List, [], ◌∷◌, ◌++◌, map, length, true, false, Bool, refl, sym, ap, subst, ◌∙◌, arith, append-nil, Less, Equal, Greater}
-use Rattle.std.specs.List.{enumerate_from}
-use Rattle.std.specs.Ordering.{int_cmp}
-use Rattle.std.proofs.lemmas.Bool.{ltb-true}
-use Rattle.std.proofs.lemmas.List.{map-append}
-use Rattle.sqlite.specs.Tree.{IsAscending, rowid}
-use Rattle.sqlite.specs.declared.types.Value.TheVariants.{Int}
-use Rattle.sqlite.specs.Order.{Row, value_cmp}
-use Rattle.sqlite_rules.specs.Lists.{Has}
-use Rattle.sqlite_rules.proofs.TableLemmas.{int_is}
+use Rattle.std.proofs.{lemmas.Bool.{ltb-true}, lemmas.List.{map-append}}
+use Rattle.sqlite.specs.{Tree.{IsAscending, rowid}, declared.types.Value.TheVariants.{Int}, Order.{Row, value_cmp}}
+use Rattle.sqlite_rules.{specs.Lists.{Has}, proofs.TableLemmas.{int_is}}
 use Rattle.sqlite_value.proofs.OrderLemmas.{value_cmp-Int}
-use Rattle.table_access.specs.Columns.{whole_at}
-use Rattle.table_access.specs.Sound.{IsNumbered}
-use Rattle.table_access.specs.Statements.{IsAdded}
-use Rattle.table_access.proofs.SoundLemmas.{at_has}
-use Rattle.broker_tables.specs.Numbers.{numbered}
-use Rattle.broker_tables.proofs.References.{row_number}
+use Rattle.table_access.{specs.{Columns.{whole_at}, Sound.{IsNumbered}, Statements.{IsAdded}}, proofs.{SoundLemmas.{at_has}, Members.{has_right}}}
+use Rattle.broker_tables.{specs.Numbers.{numbered}, proofs.References.{row_number}}
 
 ascending_middle : (R : Row → Row → Type 0) (front back : List Row) (a b : Row) → IsAscending R (front ++ a ∷ b ∷ back) → R a b
 ascending_middle R [] back a b up = up.0.0
 ascending_middle R (f ∷ front) back a b up = ascending_middle R front back a b up.1
-
-has_middle : (front back : List Row) (b : Row) → Has (front ++ b ∷ back) b
-has_middle [] back b = inl refl
-has_middle (f ∷ front) back b = inr (has_middle front back b)
 
 not_past : (n k : ℕ) → k < 1 + n → int_cmp (pos (n + 1)) (pos k) ≡ Less → ⊥
 not_past n k low less = go (nat_lt (n + 1) k) refl (nat_lt k (n + 1)) less
@@ -44,19 +31,15 @@ module _ {X : Type 0} (f : Row → X) (xs : List X) (old new : List Row) (made :
   stands_last : (front back : List Row) → old ≡ front ++ back → new ≡ front ++ made ∷ back → new ≡ old ++ made ∷ []
   stands_last front [] was now = now ∙ ap (λ rows. rows ++ made ∷ []) (sym (was ∙ append-nil front))
   stands_last front (b ∷ back) was now =
-      let among : Has old b = subst (λ rows. Has rows b) (sym was) (has_middle front back b) in
+      let among : Has old b = subst (λ rows. Has rows b) (sym was) (has_right front (b ∷ back) b (inl refl)) in
       let low = row_number f old xs 1 are b among in
       let less : value_cmp (rowid made) (rowid b) ≡ Less = ascending_middle _ front back made b (subst (IsAscending (λ x y. value_cmp (rowid x) (rowid y) ≡ Less)) now rising.0) in
-      let one : rowid made ≡ Int (whole_at 0 made) = id_of made (subst (λ rows. Has rows made) (sym now) (has_middle front (b ∷ back) made)) in
-      let two : rowid b ≡ Int (whole_at 0 b) = id_of b (subst (λ rows. Has rows b) (sym now) (later front)) in
+      let one : rowid made ≡ Int (whole_at 0 made) = id_of made (subst (λ rows. Has rows made) (sym now) (has_right front (made ∷ b ∷ back) made (inl refl))) in
+      let two : rowid b ≡ Int (whole_at 0 b) = id_of b (subst (λ rows. Has rows b) (sym now) (has_right front (made ∷ b ∷ back) b (inr (inl refl)))) in
       let ordered : int_cmp (pos (length xs + 1)) (pos low.0) ≡ Less =
       ap (λ k. int_cmp k (pos low.0)) (sym is) ∙ ap (int_cmp (whole_at 0 made)) (sym low.1) ∙ sym (value_cmp-Int (whole_at 0 made) (whole_at 0 b))
       ∙ sym (ap (λ v. value_cmp v (rowid b)) one ∙ ap (value_cmp (Int (whole_at 0 made))) two) ∙ less in
       absurd (not_past (length xs) low.0 low.2 ordered)
-    where
-      later : (fs : List Row) → Has (fs ++ made ∷ b ∷ back) b
-      later [] = inr (inl refl)
-      later (f ∷ fs) = inr (later fs)
 
   -- a row that was put in under the next number stands last, with what it has
   pub next_row : IsAdded old new made → map {B = ℤ × X} (λ r. (whole_at 0 r, f r)) new ≡ numbered (xs ++ f made ∷ [])

@@ -1,25 +1,11 @@
 -- Rows that name a version by its number: where no version has the number, no such row is there.
-use Rattle.std.proofs.Common.{◌≡◌, ◌∙◌, inl, ℕ, pos, List, [], ◌∷◌, Option, Some, None, true, refl, sym, ap, codes, slice_get}
-use Rattle.std.specs.Prelude.{option_map}
-use Rattle.sqlite.specs.declared.types.Value.TheVariants.{Int}
-use Rattle.sqlite.specs.Order.{Row, column}
-use Rattle.sqlite.specs.Collation.TheVariants.{Binary}
-use Rattle.sqlite_sql.specs.Ops.{binary, is_true}
-use Rattle.sqlite_sql.specs.declared.ops.BinaryOp.TheVariants.{Compare}
-use Rattle.sqlite_sql.specs.declared.ops.CompareOp.TheVariants.{Eq}
-use Rattle.sqlite.specs.Table.{Table}
-use Rattle.sqlite.specs.Effect.{Database}
+use Rattle.std.{specs.Prelude.{option_map}, proofs.Common.{◌≡◌, ◌∙◌, inl, ℕ, pos, List, [], ◌∷◌, Option, Some, None, true, refl, sym, ap, codes, slice_get}}
+use Rattle.sqlite.specs.{declared.types.Value.TheVariants.{Int}, Order.{Row, column}, Collation.TheVariants.{Binary}, Table.{Table}, Effect.{Database}}
+use Rattle.sqlite_sql.specs.{Ops.{binary, is_true}, declared.ops.BinaryOp.TheVariants.{Compare}, declared.ops.CompareOp.TheVariants.{Eq}}
 use Rattle.sqlite_rules.specs.Lists.{Has}
-use Rattle.table_access.specs.Columns.{text, whole_at}
-use Rattle.table_access.specs.Reading.{AreRead}
-use Rattle.broker_core.specs.declared.command.Version.{Version}
-use Rattle.broker_core.specs.Text.{version}
-use Rattle.broker_core.specs.State.{State as Broker}
-use Rattle.broker_tables.specs.Schema.{to}
-use Rattle.broker_tables.specs.Numbers.{number_of}
-use Rattle.broker_tables.specs.Holds.{Holds}
-use Rattle.broker_tables.proofs.References.{refers_version}
-use Rattle.broker_tables.proofs.VersionRows.{row_number, whole_test}
+use Rattle.table_access.specs.{Columns.{text, whole_at}, Reading.{AreRead}}
+use Rattle.broker_core.specs.{declared.command.Version.{Version}, Text.{version}, State.{State as Broker}}
+use Rattle.broker_tables.{specs.{Schema.{to}, Numbers.{number_of}, Holds.{Holds}}, proofs.{References.{refers_version}, VersionRows.{row_number, whole_test}}}
 
 -- a row whose column refers to versions has the number of one
 pub no_row : (db : Database) (s : Broker) → Holds db s → (n : ℕ) → ((v : Version) → ¬ (number_of s.versions v ≡ Some n)) → (t : Table) → Has db.schema.tables t → (p : ℕ) → Has t.references (to p (codes "versions") (codes "number"))

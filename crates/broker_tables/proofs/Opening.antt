@@ -1,35 +1,21 @@
 -- What the tables that were made hold.
-use Rattle.std.proofs.Common.{◌≡◌, ℕ, List, [], ◌∷◌, ◌++◌, fold, false, refl, sym, ap, subst, subst₂, ◌∙◌, codes}
-use Rattle.std.specs.List.{AllByRecursion}
+use Rattle.std.{specs.List.{AllByRecursion}, proofs.Common.{◌≡◌, ℕ, List, [], ◌∷◌, ◌++◌, fold, false, refl, sym, ap, subst, subst₂, ◌∙◌, codes}}
 use Rattle.std.proofs.lemmas.List.Sums.{fold-append}
-use Rattle.sqlite.specs.Table.{Table}
-use Rattle.sqlite.specs.Schema.{Schema}
-use Rattle.sqlite.specs.Order.{Row}
-use Rattle.sqlite.specs.Tree.{Trees}
-use Rattle.sqlite.specs.Change.{created, next_tree, KeepsRows}
-use Rattle.sqlite.specs.Effect.{Database}
+use Rattle.sqlite.specs.{Table.{Table}, Schema.{Schema}, Order.{Row}, Tree.{Trees}, Change.{created, next_tree, KeepsRows}, Effect.{Database}}
 use Rattle.sqlite_rules.specs.Lists.{Has}
-use Rattle.table_access.specs.Statements.{Makes, new_trees, MakesIndexes, indexed_by}
-use Rattle.table_access.specs.Sound.{IsKept, IsNumbered}
-use Rattle.table_access.proofs.Creation.{made_schema, made_keeps, made_empty, made_kept}
-use Rattle.table_access.proofs.Indexing.{indexes_schema, indexes_keep, indexes_kept}
+use Rattle.sqlite_keyed.proofs.ListLemmas.{all-append, all_both}
+use Rattle.table_access.specs.{Statements.{Makes, new_trees, MakesIndexes, indexed_by}, Sound.{IsKept, IsNumbered}}
+use Rattle.table_access.proofs.{Creation.{made_schema, made_keeps, made_empty, made_kept}, Indexing.{indexes_schema, indexes_keep, indexes_kept}}
 use Rattle.table_access.proofs.SoundLemmas.{at_has}
-use Rattle.broker_core.specs.Text.{Text, same_text}
-use Rattle.broker_core.specs.State.{opening}
-use Rattle.broker_tables.specs.Schema as schema
-use Rattle.broker_tables.specs.Schema.{schema_of, all_tables, all_indexes}
-use Rattle.broker_tables.specs.Room.{LeaveNumbers, HasAllNumbers}
-use Rattle.broker_tables.specs.Making.{IsBlank, HasTables, HasAll}
+use Rattle.broker_core.specs.{Text.{Text, same_text}, State.{opening}}
+use Rattle.broker_tables.specs.{Schema.{schema_of, all_tables, all_indexes}, Room.{LeaveNumbers, HasAllNumbers}, Making.{IsBlank, HasTables, HasAll}}
 use Rattle.broker_tables.specs.Holds.{Holds, IsMeta, format, AreTeams, ArePacticipants, AreVersions, AreBranches, AreEnvironments, AreGrants, AreContents, AreContracts, AreResults, AreLatest, AreDeployed, AreReleased}
 use Rattle.broker_tables.proofs.Placed.{meta}
+use Rattle.broker_tables.specs.Schema as schema
 
 -- a database without tables is kept: it is sound, and there are no rows whose numbers could be amiss
 pub blank_kept : (db : Database) → IsBlank db → IsKept db
 blank_kept db blank = record { sound = blank.sound; numbered = subst (λ (s : Schema). AllByRecursion (λ t. IsNumbered (db.trees t.tree)) s.tables) (sym blank.schema) tt }
-
-all_append : {X : Type 0} (P : X → Type 0) (xs ys : List X) → AllByRecursion P xs → AllByRecursion P ys → AllByRecursion P (xs ++ ys)
-all_append P [] ys one two = two
-all_append P (x ∷ xs) ys one two = (one.0, all_append P xs ys one.1 two)
 
 abbrev IsEmpty : Trees → Table → Type 0
 IsEmpty trees t = same_text t.name (codes "meta") ≡ false → trees t.tree ≡ []
@@ -37,11 +23,10 @@ IsEmpty trees t = same_text t.name (codes "meta") ≡ false → trees t.tree ≡
 -- tables that were empty, and new ones
 all_empty : (trees : Trees) (s : Schema) (part : List Table) → AllByRecursion (IsEmpty trees) s.tables → AllByRecursion (λ n. trees n ≡ []) (new_trees s part) → AllByRecursion (IsEmpty trees) (fold created s part).tables
 all_empty trees s [] one two = one
-all_empty trees s (t ∷ part) one two = all_empty trees (created s t) part (all_append (IsEmpty trees) s.tables (record t { tree = next_tree s } ∷ []) one ((λ _. two.0), tt)) two.1
+all_empty trees s (t ∷ part) one two = all_empty trees (created s t) part (all-append (IsEmpty trees) s.tables (record t { tree = next_tree s } ∷ []) one ((λ _. two.0), tt)) two.1
 
 still_empty : (old new : Trees) (ts : List Table) → KeepsRows ts old new → AllByRecursion (IsEmpty old) ts → AllByRecursion (IsEmpty new) ts
-still_empty old new [] same all = tt
-still_empty old new (t ∷ ts) same all = ((λ other. same.0 ∙ all.0 other), still_empty old new ts same.1 all.1)
+still_empty old new = all_both (λ t. new t.tree ≡ old t.tree) (IsEmpty old) (IsEmpty new) (λ t same was other. same ∙ was other)
 
 -- more tables are made, after these
 pub has_more : (before part : List Table) (n : ℕ) (office : Text) (old new : Database) → Has (schema_of before).tables meta → HasTables before n office old → Makes part old new → HasTables (before ++ part) n office new

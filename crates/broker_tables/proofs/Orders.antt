@@ -1,11 +1,8 @@
 -- The orders of keys: each is total, and equal keys are the same.
-use Rattle.std.specs.Ordering.{int_cmp}
-use Rattle.std.specs.Cmp.{IsTotalOrder, int_cmp_total}
-use Rattle.std.specs.Cmp.Lexicographic.{nat_list_cmp_total}
-use Rattle.table_access.proofs.Parts.{both_total}
+use Rattle.std.specs.{Ordering.{int_cmp}, Cmp.{IsTotalOrder, int_cmp_total}, Cmp.Lexicographic.{nat_list_cmp_total}}
 use Rattle.std.specs.FinMap.{nat_cmp-IsAntisymmetric, slice_cmp-IsAntisymmetric, int_cmp-IsAntisymmetric, IsAntisymmetric}
 use Rattle.std.proofs.lemmas.Map.Lookups.{exact_pairs}
-use Rattle.table_access.specs.Columns.{text_cmp, pair_cmp, by_both}
+use Rattle.table_access.{specs.Columns.{text_cmp, pair_cmp, by_both}, proofs.Parts.{both_total}}
 
 -- texts that tie in their order are the same
 pub exact_texts : IsAntisymmetric text_cmp

@@ -1,11 +1,9 @@
 -- Each table as it stands in the schema, and what its columns hold.
 use Rattle.std.proofs.Common.{◌≡◌, ap, refl, sym, subst, slice_get, Some}
 use Rattle.table_access.specs.Statements.{IsCalm}
-use Rattle.sqlite.specs.Schema.{Schema}
-use Rattle.sqlite.specs.Table.{Table}
-use Rattle.sqlite.specs.Effect.{Database}
-use Rattle.broker_tables.specs.Schema as schema
+use Rattle.sqlite.specs.{Schema.{Schema}, Table.{Table}, Effect.{Database}}
 use Rattle.broker_tables.specs.Holds.{IsBroker}
+use Rattle.broker_tables.specs.Schema as schema
 
 -- the table meta, with its rows at tree 0
 abbrev pub meta : Table

@@ -1,10 +1,8 @@
 -- Queries that fail only as the store fails, one and one after another. Each lemma has the form of its namesake in
 -- `CallLemmas`; why a query fails goes along, and asks nothing of the caller.
-use Rattle.std.proofs.Common.{refl, sym, subst, inl, inr, ◌⊎◌, ◌≡◌, ◌∙◌, arith, Ok, Err, Result, IfOk, IfErr, ◌≤◌}
-use Rattle.std.proofs.lemmas.Result.{IfErr-weaker}
+use Rattle.std.proofs.{Common.{refl, sym, subst, inl, inr, ◌⊎◌, ◌≡◌, ◌∙◌, arith, Ok, Err, Result, IfOk, IfErr, ◌≤◌}, lemmas.Result.{IfErr-weaker}}
 use Rattle.sqlite.specs.State.{State, HasCleanDisk}
-use Rattle.table_access.specs.declared.StoreFault.{StoreFault}
-use Rattle.table_access.specs.declared.StoreFault.TheVariants.{Memory, Store}
+use Rattle.table_access.specs.{declared.StoreFault.{StoreFault}, declared.StoreFault.TheVariants.{Memory, Store}}
 use Rattle.table_access.specs.Calls.{CallsTablesBetween, CallsStoreBetween, GoesOn, EndsBy, HasFailed}
 use Rattle.table_access.proofs.CallLemmas.{call_with, then_ok, then_err, then_stop, seq, ended_since, memory_ok, statement_with, statement_ok, statement_err, statement_result, statement_seq}
 use Rattle.broker_core.specs.State.{State as Broker}

@@ -1,37 +1,18 @@
 -- The rows of a state that can be read back: numbers are low, names are names, and marks are 0 or 1.
+use Rattle.std.specs.{Prelude.{IsUtf8}, Ordering.{eq_by_cmp}, Cmp.Lexicographic.{nat_list_cmp_total}}
 use Rattle.std.proofs.Common.{◌≡◌, ◌∙◌, ◌<◌, ◌≤◌, ◌^◌, ℕ, ℤ, pos, List, map, length, true, false, refl, sym, ap, subst, codes, slice_get, arith}
-use Rattle.std.specs.Prelude.{IsUtf8}
-use Rattle.std.specs.Ordering.{eq_by_cmp}
-use Rattle.std.specs.Cmp.Lexicographic.{nat_list_cmp_total}
-use Rattle.std.proofs.lemmas.List.{length-map}
-use Rattle.std.proofs.lemmas.List.Elements.{All-contains}
-use Rattle.sqlite.specs.declared.types.Value.TheVariants.{Int, Text as SqlText}
-use Rattle.sqlite.specs.Order.{Row, column}
-use Rattle.sqlite.specs.Schema.{Schema}
-use Rattle.sqlite.specs.Table.{Table}
-use Rattle.sqlite.specs.Tree.{IsAscending}
+use Rattle.std.proofs.{lemmas.List.{length-map}, lemmas.List.Elements.{All-contains}}
+use Rattle.sqlite.specs.{declared.types.Value.TheVariants.{Int, Text as SqlText}, Order.{Row, column}, Schema.{Schema}, Table.{Table}, Tree.{IsAscending}}
 use Rattle.sqlite.specs.Effect.{Database}
 use Rattle.sqlite_rules.specs.Lists.{Has}
 use Rattle.sqlite_keyed.proofs.RuleLemmas.{first_of_both}
-use Rattle.table_access.specs.Columns.{text, text_cmp, whole_at}
-use Rattle.table_access.specs.Reading.{IsNumberAt}
-use Rattle.table_access.proofs.Keys.{apart_by, text_keys}
-use Rattle.table_access.proofs.Maps.{has_find}
-use Rattle.table_access.proofs.Members.{map_has, has_contains}
-use Rattle.table_access.proofs.SoundLemmas.{text_at, whole_in, checks_hold, has_place}
-use Rattle.broker_core.specs.declared.command.Version.{Version}
-use Rattle.broker_core.specs.Limit.{limit}
-use Rattle.broker_core.specs.Text.{Text, version}
-use Rattle.broker_core.specs.State.{State as Broker}
-use Rattle.broker_tables.specs.Schema.{to}
-use Rattle.broker_tables.specs.Rows.{IsTruthAt}
-use Rattle.broker_tables.specs.Names.{IsNameAt}
-use Rattle.broker_tables.specs.Numbers.{numbered}
-use Rattle.broker_tables.specs.Holds.{Holds, with_digest, result_in, result_of}
-use Rattle.broker_tables.specs.Readable.{IsReadable, IsNamed, AreFew}
-use Rattle.broker_tables.proofs.Orders.{exact_texts}
+use Rattle.table_access.{specs.{Columns.{text, text_cmp, whole_at}, Reading.{IsNumberAt}}, proofs.{Keys.{apart_by, text_keys}, Maps.{has_find}}}
+use Rattle.table_access.proofs.{Members.{map_has, has_contains}, SoundLemmas.{whole_in, checks_hold, has_place}}
+use Rattle.broker_core.specs.{declared.command.Version.{Version}, Limit.{limit}, Text.{Text, version}, State.{State as Broker}}
+use Rattle.broker_tables.specs.{Schema.{to}, Rows.{IsTruthAt}, Names.{IsNameAt}, Numbers.{numbered}, Holds.{Holds, with_digest, result_in, result_of}}
+use Rattle.broker_tables.{specs.Readable.{IsReadable, IsNamed, AreFew}, proofs.Orders.{exact_texts}}
 use Rattle.broker_tables.proofs.Placed.{pacticipants, pacticipants_there, results, results_there}
-use Rattle.broker_tables.proofs.References.{row_number, row_entry, refers_version, refers_content, refers_result, refers_pacticipant}
+use Rattle.broker_tables.proofs.References.{row_number, row_entry, refers_version, refers_content, refers_result, refers_pacticipant, pacticipant_names}
 use Rattle.broker_tables.proofs.TruthLemmas.{is_low}
 
 -- it is a number below 2^32
@@ -92,11 +73,8 @@ module _ (db : Database) (s : Broker) (held : Holds db s) (readable : IsReadable
       let same : text 3 r ≡ it.0 = ap (λ (e : Text × Text). e.1) it.2 in
       subst IsUtf8 (sym same) (All-contains IsUtf8 s.contents it.0 readable.contents (has_contains s.contents it.0 it.1))
 
-  pacticipant_names : (r : Row) → Has (db.trees 4) r → column r 1 ≡ SqlText (text 1 r)
-  pacticipant_names r has = text_at db held.broker.kept.sound pacticipants (has_place _ 2 pacticipants (pacticipants_there db held.broker)) r has 0 _ refl refl refl refl refl
-
   pacticipant_keys : IsAscending (λ a b. eq_by_cmp text_cmp (text 1 a) (text 1 b) ≡ false) (db.trees 4)
-  pacticipant_keys = text_keys (db.trees 4) 1 pacticipant_names (apart_by db held.broker.kept pacticipants 2 (pacticipants_there db held.broker) _ 2 (ap (λ (x : Schema). slice_get x.indexes 2) held.broker.schema) refl)
+  pacticipant_keys = text_keys (db.trees 4) 1 (pacticipant_names db held.broker) (apart_by db held.broker.kept pacticipants 2 (pacticipants_there db held.broker) _ 2 (ap (λ (x : Schema). slice_get x.indexes 2) held.broker.schema) refl)
 
   -- the name of a pacticipant
   pub pacticipant_named : (r : Row) → Has (db.trees 4) r → IsNamed (text 1 r)

@@ -1,34 +1,19 @@
 -- A state that can be read back stays such.
+use Rattle.std.specs.{Prelude.{Option, Some, None, IfSome, IsUtf8, All, MatchOption}, Option.{option_map_or}, List.{list_any}}
 use Rattle.std.proofs.Common.{◌≡◌, ◌⊎◌, ◌∷◌, [], ◌++◌, ◌<◌, ℕ, List, refl, sym, ap, subst, inl, inr, Bool, true, false, ◌&&◌, ◌||◌, if◌then◌else◌, arith}
-use Rattle.std.specs.Prelude.{Option, Some, None, IfSome, IsUtf8, All, MatchOption}
-use Rattle.std.specs.Option.{option_map_or}
-use Rattle.std.specs.List.{list_any}
-use Rattle.std.proofs.lemmas.List.{length_push}
-use Rattle.std.proofs.lemmas.Bool.Decides.{nat_tests}
-use Rattle.std.proofs.lemmas.List.Elements.{All-nil, All-cons, All-append}
-use Rattle.std.proofs.lemmas.Str.{IsUtf8-nil, IsUtf8-from_ascii}
-use Rattle.std.proofs.lemmas.Str.Ascii.{IsAscii-from_all}
-use Rattle.broker_core.specs.declared.policy.Caller.{Caller}
-use Rattle.broker_core.specs.declared.policy.Rule.TheVariants.{A1}
+use Rattle.std.proofs.{lemmas.List.{length_push}, lemmas.Bool.Decides.{nat_tests}, lemmas.List.Elements.{All-nil, All-cons, All-append}}
+use Rattle.std.proofs.{lemmas.Str.{IsUtf8-nil, IsUtf8-from_ascii}, lemmas.Str.Ascii.{IsAscii-from_all}}
 use Rattle.broker_core.specs.declared.command.Command.{Command}
 use Rattle.broker_core.specs.declared.command.Command.TheVariants.{PutTeam, PutPacticipant, PutEnvironment, PutGrant, DeleteGrant, PutVersion, PutPact, GetPact, GetBranchPact, PostResult, PostReplies, Deploy, Undeploy, Release, EndSupport, GetEnvironment, CanIDeploy, GetMatrix, Malformed}
-use Rattle.broker_core.specs.declared.command.FormFault.{FormFault}
-use Rattle.broker_core.specs.declared.command.Marks.{Marks}
-use Rattle.broker_core.specs.declared.command.Version.{Version}
-use Rattle.broker_core.specs.declared.answer.Answer.{Answer}
-use Rattle.broker_core.specs.declared.answer.Answer.TheVariants.{Denied, Full, NotPermitted, BadForm}
-use Rattle.broker_core.specs.declared.answer.Detail.{Detail}
-use Rattle.broker_core.specs.Text.{Text, same_text, same_place, put_at}
-use Rattle.broker_core.specs.Limit.{has_room}
-use Rattle.broker_core.specs.State.{State as Broker, Verification}
+use Rattle.broker_core.specs.{declared.command.Marks.{Marks}, declared.command.Version.{Version}}
+use Rattle.broker_core.specs.{declared.answer.Answer.TheVariants.{Full, NotPermitted, Denied, BadForm}, declared.answer.Detail.{Detail}}
+use Rattle.broker_core.specs.{Text.{Text, same_text, same_place, put_at}, Limit.{has_room}, State.{State as Broker, Verification}}
 use Rattle.broker_core.specs.Request.{is_known, consumer_version, refusal}
 use Rattle.broker_core.specs.Change.{Transition, unchanged_with, repeated, put_team, put_pacticipant, put_environment, put_version, named, joined, put_pact, stored, is_stored, report, is_text, instance_of, can_name, on_branch}
-use Rattle.broker_core.specs.Machine.{Primitives, StepOfCaller, TakesEffect, report_replies}
-use Rattle.broker_core.specs.SoundNames.{IsDigest, IsHexDigit}
-use Rattle.broker_core.proofs.Lists.{some_is}
-use Rattle.broker_core.proofs.Judgement.{and_both, text_is, place_is}
-use Rattle.broker_tables.specs.Readable.{IsReadable, IsNamed, AreFew}
-use Rattle.broker_tables.specs.Laws.{HasReadableNames, KeepsUtf8, ReadableBegins, ReadableStays, ReadableStaysInRuns}
+use Rattle.broker_core.specs.{Machine.{Primitives, TakesEffect, report_replies, StepOfCaller}, SoundNames.{IsDigest, IsHexDigit}}
+use Rattle.broker_core.specs.{declared.answer.Answer.{Answer}, declared.command.FormFault.{FormFault}, declared.policy.Caller.{Caller}}
+use Rattle.broker_core.{specs.declared.policy.Rule.TheVariants.{A1}, proofs.{Lists.{some_is}, Judgement.{and_both, text_is, place_is}}}
+use Rattle.broker_tables.specs.{Readable.{IsReadable, IsNamed, AreFew}, Laws.{HasReadableNames, KeepsUtf8, ReadableBegins, ReadableStays, ReadableStaysInRuns}}
 
 -- ---- a digest is in UTF-8
 

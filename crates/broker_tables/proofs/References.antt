@@ -1,74 +1,39 @@
 -- That a number or a name in a column is the one of a row that is there, by the table's REFERENCES.
+use Rattle.std.specs.{List.{enumerate_from}, Ordering.{is_eq, int_cmp}, Cmp.{Equal-is}, FinMap.{int_cmp-IsAntisymmetric}}
 use Rattle.std.proofs.Common.{◌≡◌, ℕ, ℤ, pos, ◌+◌, ◌<◌, List, [], ◌∷◌, map, length, Bool, true, false, ◌||◌, refl, sym, ap, subst, ◌∙◌, Some, codes, arith, inl, inr}
-use Rattle.std.specs.List.{enumerate_from, list_any}
-use Rattle.std.specs.Ordering.{is_eq, int_cmp}
-use Rattle.std.specs.Cmp.{Equal-is}
-use Rattle.std.specs.FinMap.{int_cmp-IsAntisymmetric}
-use Rattle.sqlite.specs.Tree.{rowid}
-use Rattle.sqlite.specs.declared.types.Value.TheVariants.{Int, Text}
-use Rattle.sqlite.specs.Order.{Row, column}
-use Rattle.sqlite.specs.Schema.{Schema}
-use Rattle.sqlite.specs.Table.{Table}
-use Rattle.sqlite.specs.Effect.{Database}
+use Rattle.std.proofs.lemmas.Bool.{cases_Bool}
+use Rattle.sqlite.specs.{Tree.{rowid}, declared.types.Value.TheVariants.{Int, Text}, Order.{Row, column}, Schema.{Schema}, Table.{Table}, Effect.{Database}}
 use Rattle.sqlite.specs.Collation.TheVariants.{Binary}
 use Rattle.sqlite_sql.specs.Ops.{is_null}
-use Rattle.sqlite_schema.specs.declared.schema.Reference.{Reference}
-use Rattle.sqlite_schema.specs.declared.schema.Constraint.TheVariants.{ForeignKey}
+use Rattle.sqlite_schema.specs.{declared.schema.Reference.{Reference}, declared.schema.Constraint.TheVariants.{ForeignKey}}
 use Rattle.sqlite_schema.specs.Rules.{has_parent, is_held, parent_key, agree, equal}
-use Rattle.sqlite_value.specs.declared.keys.Order.{Order}
-use Rattle.sqlite_value.specs.Keys.{first_key}
-use Rattle.sqlite_rules.specs.Lists.{Has}
-use Rattle.sqlite_rules.proofs.RuleLemmas.{keeps_at}
-use Rattle.sqlite_rules.proofs.TableLemmas.{int_is}
-use Rattle.sqlite_keyed.proofs.ListLemmas.{all_from_test}
-use Rattle.sqlite_keyed.proofs.RuleLemmas.{first_of_both}
+use Rattle.sqlite_value.specs.{declared.keys.Order.{Order}, Keys.{first_key}}
+use Rattle.sqlite_rules.{specs.Lists.{Has}, proofs.{RuleLemmas.{keeps_at}, TableLemmas.{int_is}}}
+use Rattle.sqlite_keyed.proofs.{ListLemmas.{all_from_test}, RuleLemmas.{first_of_both}}
 use Rattle.sqlite_tied.specs.Compute.{everything}
-use Rattle.table_access.specs.Columns.{text, text_cmp, whole_at}
-use Rattle.table_access.proofs.Values.{same_ints, same_texts}
-use Rattle.table_access.proofs.Members.{has_map, map_has}
+use Rattle.table_access.{specs.Columns.{text, text_cmp, whole_at}, proofs.{Values.{same_ints, same_texts}, Members.{has_map, map_has}}}
 use Rattle.table_access.proofs.SoundLemmas.{at_has, has_place, text_at}
-use Rattle.std.proofs.lemmas.Bool.{cases_Bool}
 use Rattle.broker_core.specs.declared.command.Version.{Version}
-use Rattle.broker_tables.specs.Schema.{broker_schema, to}
-use Rattle.broker_tables.specs.Holds.{IsBroker, AreVersions}
-use Rattle.broker_tables.proofs.Orders.{exact_texts}
+use Rattle.broker_tables.{specs.{Schema.{broker_schema, to}, Holds.{IsBroker, AreVersions}}, proofs.Orders.{exact_texts}}
 use Rattle.broker_tables.proofs.Placed.{pacticipants, pacticipants_there, versions, versions_there, environments, environments_there, contents, contents_there, results, results_there}
+pub use Rattle.table_access.proofs.Members.{any_has}
 
-to_versions : (p : ℕ) → (o : Order) × (parent_key broker_schema.tables (to p (codes "versions") (codes "number")) ≡ Some (6, 0 ∷ [], o)) × ((first_key o).collation ≡ Binary)
-unfolding everything
-to_versions p = (_, refl, refl)
+-- what REFERENCES names is the column at this place of the table at this tree, which is compared byte by byte
+abbrev LeadsTo : ℕ → List ℕ → List ℕ → ℕ → ℕ → Type 0
+LeadsTo p name key tree at = (o : Order) × (parent_key broker_schema.tables (to p name key) ≡ Some (tree, at ∷ [], o)) × ((first_key o).collation ≡ Binary)
 
-to_environments : (p : ℕ) → (o : Order) × (parent_key broker_schema.tables (to p (codes "environments") (codes "name")) ≡ Some (10, 1 ∷ [], o)) × ((first_key o).collation ≡ Binary)
+leads : (p : ℕ) → LeadsTo p (codes "versions") (codes "number") 6 0 × LeadsTo p (codes "contents") (codes "number") 14 0 × LeadsTo p (codes "results") (codes "number") 17 0
+    × LeadsTo p (codes "environments") (codes "name") 10 1 × LeadsTo p (codes "pacticipants") (codes "name") 4 1
 unfolding everything
-to_environments p = (_, refl, refl)
+leads p = ((_, refl, refl), (_, refl, refl), (_, refl, refl), (_, refl, refl), (_, refl, refl))
 
 or_left : (a b : Bool) → (a || b) ≡ true → a ≡ false → b ≡ true
 or_left true b h e = absurd cc
 or_left false b h e = h
 
--- where a test holds of any member of a list, there is a member of which it holds
-pub any_has : {X : Type 0} (p : X → Bool) (xs : List X) → list_any p xs ≡ true → (x : X) × Has xs x × (p x ≡ true)
-any_has p [] t = absurd cc
-any_has p (x ∷ xs) t = elim (cases_Bool (p x)) [
-  | inl here ↦ (x, inl refl, here)
-  | inr not_here ↦ let later = any_has p xs (or_left (p x) (list_any p xs) t not_here) in (later.0, inr later.1, later.2)
-]
-
-to_pacticipants : (p : ℕ) → (o : Order) × (parent_key broker_schema.tables (to p (codes "pacticipants") (codes "name")) ≡ Some (4, 1 ∷ [], o)) × ((first_key o).collation ≡ Binary)
-unfolding everything
-to_pacticipants p = (_, refl, refl)
-
-to_contents : (p : ℕ) → (o : Order) × (parent_key broker_schema.tables (to p (codes "contents") (codes "number")) ≡ Some (14, 0 ∷ [], o)) × ((first_key o).collation ≡ Binary)
-unfolding everything
-to_contents p = (_, refl, refl)
-
-to_results : (p : ℕ) → (o : Order) × (parent_key broker_schema.tables (to p (codes "results") (codes "number")) ≡ Some (17, 0 ∷ [], o)) × ((first_key o).collation ≡ Binary)
-unfolding everything
-to_results p = (_, refl, refl)
-
 module _ (db : Database) (broker : IsBroker db) (t : Table) (listed : Has db.schema.tables t) (p : ℕ) (r : Row) (has : Has (db.trees t.tree) r) where
   -- a column that REFERENCES a column of a table is equal to that column of one of its rows
-  refers : (name key : List ℕ) (tree at : ℕ) → ((o : Order) × (parent_key broker_schema.tables (to p name key) ≡ Some (tree, at ∷ [], o)) × ((first_key o).collation ≡ Binary)) → Has t.references (to p name key) → is_null (column r p) ≡ false
+  refers : (name key : List ℕ) (tree at : ℕ) → LeadsTo p name key tree at → Has t.references (to p name key) → is_null (column r p) ≡ false
       → (x : Row) × Has (db.trees tree) x × (equal Binary (column x at) (column r p) ≡ true)
   refers name key tree at (order, keyed, binary) among filled =
       let ref : Reference = to p name key in
@@ -80,7 +45,7 @@ module _ (db : Database) (broker : IsBroker db) (t : Table) (listed : Has db.sch
       (found.0, found.1, ap (λ c. equal c (column found.0 at) (column r p)) (sym binary) ∙ first_of_both _ _ found.2)
 
   -- a number in a column that REFERENCES the numbers of a table is the one of a row of it
-  refers_number : (name key : List ℕ) (tree : ℕ) → ((o : Order) × (parent_key broker_schema.tables (to p name key) ≡ Some (tree, 0 ∷ [], o)) × ((first_key o).collation ≡ Binary)) → ((x : Row) → Has (db.trees tree) x → column x 0 ≡ Int (whole_at 0 x))
+  refers_number : (name key : List ℕ) (tree : ℕ) → LeadsTo p name key tree 0 → ((x : Row) → Has (db.trees tree) x → column x 0 ≡ Int (whole_at 0 x))
       → Has t.references (to p name key) → column r p ≡ Int (whole_at p r) → (x : Row) × Has (db.trees tree) x × (whole_at 0 x ≡ whole_at p r)
   refers_number name key tree keyed ids among typed =
       let found = refers name key tree 0 keyed among (ap is_null typed) in
@@ -89,7 +54,7 @@ module _ (db : Database) (broker : IsBroker db) (t : Table) (listed : Has db.sch
       (found.0, found.1, int_cmp-IsAntisymmetric _ _ ((Equal-is (int_cmp (whole_at 0 found.0) (whole_at p r))).0 ints))
 
   -- a text in a column that REFERENCES the names of a table is the name in a row of it
-  refers_name : (name key : List ℕ) (tree : ℕ) → ((o : Order) × (parent_key broker_schema.tables (to p name key) ≡ Some (tree, 1 ∷ [], o)) × ((first_key o).collation ≡ Binary)) → ((x : Row) → Has (db.trees tree) x → column x 1 ≡ Text (text 1 x))
+  refers_name : (name key : List ℕ) (tree : ℕ) → LeadsTo p name key tree 1 → ((x : Row) → Has (db.trees tree) x → column x 1 ≡ Text (text 1 x))
       → Has t.references (to p name key) → column r p ≡ Text (text p r) → (x : Row) × Has (db.trees tree) x × (text 1 x ≡ text p r)
   refers_name name key tree keyed names among typed =
       let found = refers name key tree 1 keyed among (ap is_null typed) in
@@ -104,29 +69,29 @@ module _ (db : Database) (broker : IsBroker db) where
 
   pub refers_version : (t : Table) → Has db.schema.tables t → (p : ℕ) → Has t.references (to p (codes "versions") (codes "number")) → (r : Row) → Has (db.trees t.tree) r → column r p ≡ Int (whole_at p r)
       → (x : Row) × Has (db.trees 6) x × (whole_at 0 x ≡ whole_at p r)
-  refers_version t listed p among r has typed = refers_number db broker t listed p r has (codes "versions") (codes "number") 6 (to_versions p) (ids_of versions (has_place _ 3 versions (versions_there db broker))) among typed
+  refers_version t listed p among r has typed = refers_number db broker t listed p r has (codes "versions") (codes "number") 6 (leads p).0 (ids_of versions (has_place _ 3 versions (versions_there db broker))) among typed
 
   pub refers_content : (t : Table) → Has db.schema.tables t → (p : ℕ) → Has t.references (to p (codes "contents") (codes "number")) → (r : Row) → Has (db.trees t.tree) r → column r p ≡ Int (whole_at p r)
       → (x : Row) × Has (db.trees 14) x × (whole_at 0 x ≡ whole_at p r)
-  refers_content t listed p among r has typed = refers_number db broker t listed p r has (codes "contents") (codes "number") 14 (to_contents p) (ids_of contents (has_place _ 7 contents (contents_there db broker))) among typed
+  refers_content t listed p among r has typed = refers_number db broker t listed p r has (codes "contents") (codes "number") 14 (leads p).1 (ids_of contents (has_place _ 7 contents (contents_there db broker))) among typed
 
   pub refers_result : (t : Table) → Has db.schema.tables t → (p : ℕ) → Has t.references (to p (codes "results") (codes "number")) → (r : Row) → Has (db.trees t.tree) r → column r p ≡ Int (whole_at p r)
       → (x : Row) × Has (db.trees 17) x × (whole_at 0 x ≡ whole_at p r)
-  refers_result t listed p among r has typed = refers_number db broker t listed p r has (codes "results") (codes "number") 17 (to_results p) (ids_of results (has_place _ 9 results (results_there db broker))) among typed
+  refers_result t listed p among r has typed = refers_number db broker t listed p r has (codes "results") (codes "number") 17 (leads p).2 (ids_of results (has_place _ 9 results (results_there db broker))) among typed
 
   environment_names : (x : Row) → Has (db.trees 10) x → column x 1 ≡ Text (text 1 x)
   environment_names x has = text_at db broker.kept.sound environments (has_place _ 5 environments (environments_there db broker)) x has 0 _ refl refl refl refl refl
 
   pub refers_environment : (t : Table) → Has db.schema.tables t → (p : ℕ) → Has t.references (to p (codes "environments") (codes "name")) → (r : Row) → Has (db.trees t.tree) r → column r p ≡ Text (text p r)
       → (x : Row) × Has (db.trees 10) x × (text 1 x ≡ text p r)
-  refers_environment t listed p among r has typed = refers_name db broker t listed p r has (codes "environments") (codes "name") 10 (to_environments p) environment_names among typed
+  refers_environment t listed p among r has typed = refers_name db broker t listed p r has (codes "environments") (codes "name") 10 (leads p).3 environment_names among typed
 
-  pacticipant_names : (x : Row) → Has (db.trees 4) x → column x 1 ≡ Text (text 1 x)
+  pub pacticipant_names : (x : Row) → Has (db.trees 4) x → column x 1 ≡ Text (text 1 x)
   pacticipant_names x has = text_at db broker.kept.sound pacticipants (has_place _ 2 pacticipants (pacticipants_there db broker)) x has 0 _ refl refl refl refl refl
 
   pub refers_pacticipant : (t : Table) → Has db.schema.tables t → (p : ℕ) → Has t.references (to p (codes "pacticipants") (codes "name")) → (r : Row) → Has (db.trees t.tree) r → column r p ≡ Text (text p r)
       → (x : Row) × Has (db.trees 4) x × (text 1 x ≡ text p r)
-  refers_pacticipant t listed p among r has typed = refers_name db broker t listed p r has (codes "pacticipants") (codes "name") 4 (to_pacticipants p) pacticipant_names among typed
+  refers_pacticipant t listed p among r has typed = refers_name db broker t listed p r has (codes "pacticipants") (codes "name") 4 (leads p).4 pacticipant_names among typed
 
 -- ---- the numbers of the versions
 
@@ -136,19 +101,12 @@ pub row_number : {X : Type 0} (f : Row → X) (rows : List Row) (xs : List X) (n
 row_number f [] xs n is r has = absurd has
 row_number f (y ∷ rows) [] n is r has = absurd (let e = is in cc)
 row_number {X} f (y ∷ rows) (x ∷ xs) n is r (inl same) =
-    let e : whole_at 0 y ≡ pos n = ap (λ (l : List (ℤ × X)). first l) is in
-    (n, ap (whole_at 0) same ∙ e, omega arith)
-  where
-    first : List (ℤ × X) → ℤ
-    first [] = pos 0
-    first (p ∷ ps) = p.0
+    let pair : ◌≡◌ {A = ℤ × X} (whole_at 0 y, f y) (pos n, x) = cc in
+    (n, ap (whole_at 0) same ∙ ap (λ (p : ℤ × X). p.0) pair, omega arith)
 row_number {X} f (y ∷ rows) (x ∷ xs) n is r (inr more) =
-    let it = row_number f rows xs (n + 1) (ap (λ (l : List (ℤ × X)). rest l) is) r more in
+    let rest : map {B = ℤ × X} (λ r. (whole_at 0 r, f r)) rows ≡ map (λ e. (pos e.0, e.1)) (enumerate_from (n + 1) xs) = cc in
+    let it = row_number f rows xs (n + 1) rest r more in
     (it.0, it.1, omega (arith, it.2))
-  where
-    rest : List (ℤ × X) → List (ℤ × X)
-    rest [] = []
-    rest (p ∷ ps) = ps
 
 entry_has : {X : Type 0} (n : ℕ) (xs : List X) (e : ℕ × X) → Has (enumerate_from n xs) e → Has xs e.1
 entry_has n [] e has = absurd has

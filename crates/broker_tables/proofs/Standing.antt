@@ -1,34 +1,23 @@
 -- Rows by their keys: whether one stands, after a row is put in or taken out.
-use Rattle.std.proofs.Common.{◌≡◌, List, [], ◌∷◌, ◌++◌, Bool, true, false, cond, not, ◌||◌, refl, sym, ap, ◌∙◌, map, filter, Some, None, Option, Ordering}
-use Rattle.std.specs.Prelude.{is_some, option_map}
-use Rattle.std.specs.List.{AllByRecursion}
-use Rattle.std.specs.Ordering.{eq_by_cmp}
-use Rattle.std.specs.Cmp.{IsTotalOrder}
-use Rattle.std.specs.FinMap.{get, from_entries, get-from_entries, get-remove, IsAntisymmetric}
+use Rattle.std.specs.{Prelude.{is_some, option_map}, List.{AllByRecursion}, Ordering.{eq_by_cmp}, Cmp.{IsTotalOrder}, FinMap.{IsAntisymmetric}}
+use Rattle.std.proofs.Common.{◌≡◌, List, [], ◌∷◌, ◌++◌, Bool, true, false, cond, not, ◌||◌, refl, sym, ap, ◌∙◌, filter, Some, None, Option, Ordering}
 use Rattle.sqlite.specs.Order.{Row}
-use Rattle.table_access.specs.Statements.{IsAdded}
-use Rattle.table_access.proofs.Maps.{take_out}
+use Rattle.table_access.{specs.Statements.{IsAdded}, proofs.Maps.{find_without}}
 use Rattle.broker_tables.specs.Rows.{value_at, stands_at}
 
 module _ {K : Type 0} (R : K → K → Ordering) (key : Row → K) where
   -- what is found by a key tells whether a row stands there
   pub stands_found : {V : Type 0} (value : Row → V) (rows : List Row) (k : K) → is_some (value_at R key value rows k) ≡ stands_at R key rows k
   stands_found value [] k = refl
-  stands_found {V} value (r ∷ rows) k = go (eq_by_cmp R k (key r)) (stands_found value rows k)
-    where
-      go : (b : Bool) → is_some (value_at R key value rows k) ≡ stands_at R key rows k → is_some (cond b (Some (value r)) (value_at R key value rows k)) ≡ (b || stands_at R key rows k)
-      go true later = refl
-      go false later = later
+  stands_found value (r ∷ rows) k =
+      elim (eq_by_cmp R k (key r)) as (λ b. is_some (cond b (Some (value r)) (value_at R key value rows k)) ≡ (b || stands_at R key rows k)) [ true ↦ refl | false ↦ stands_found value rows k ]
 
   -- a part of what is found
   pub value_map : {V W : Type 0} (f : V → W) (value : Row → V) (rows : List Row) (k : K) → option_map f (value_at R key value rows k) ≡ value_at R key (λ r. f (value r)) rows k
   value_map f value [] k = refl
-  value_map {V} {W} f value (r ∷ rows) k = go (eq_by_cmp R k (key r)) (value_map f value rows k)
-    where
-      go : (b : Bool) → option_map f (value_at R key value rows k) ≡ value_at R key (λ r. f (value r)) rows k
-          → option_map f (cond b (Some (value r)) (value_at R key value rows k)) ≡ cond b (Some (f (value r))) (value_at R key (λ r. f (value r)) rows k)
-      go true later = refl
-      go false later = later
+  value_map f value (r ∷ rows) k =
+      elim (eq_by_cmp R k (key r)) as (λ b. option_map f (cond b (Some (value r)) (value_at R key value rows k)) ≡ cond b (Some (f (value r))) (value_at R key (λ x. f (value x)) rows k))
+      [ true ↦ refl | false ↦ value_map f value rows k ]
 
   grouped : (p q r : Bool) → (p || (q || r)) ≡ (q || (p || r))
   grouped true true r = refl
@@ -49,10 +38,7 @@ module _ {K V : Type 0} {R : K → K → Ordering} (o : IsTotalOrder R) (exact :
   -- the rows of one key are taken out
   pub takes_at : (k : K) (p : Row → Bool) (old new : List Row) → AllByRecursion (λ r. p r ≡ eq_by_cmp R k (key r)) old → new ≡ filter (λ r. not (p r)) old
       → (q : K) → value_at R key value new q ≡ cond (eq_by_cmp R q k) None (value_at R key value old q)
-  takes_at k p old new same is q =
-      let entries : List Row → List (K × V) = map (λ r. (key r, value r)) in
-      sym (get-from_entries o (entries new) q) ∙ ap (λ m. get m q) (take_out o exact key value k p old new same is) ∙ get-remove o (from_entries (entries old)) k q
-      ∙ ap (cond (eq_by_cmp R q k) None) (get-from_entries o (entries old) q)
+  takes_at k p old new same is q = ap (λ rows. value_at R key value rows q) is ∙ find_without o exact key value k q p old same
 
 cond_some : {V : Type 0} (b : Bool) (found : Option V) → is_some (cond b None found) ≡ cond b false (is_some found)
 cond_some true found = refl

@@ -1,19 +1,11 @@
 -- That two keys are the same, by the machine's tests and by the orders.
-use Rattle.std.proofs.Common.{◌≡◌, ◌==◌, inl, inr, ℕ, pos, Bool, true, false, ◌&&◌, refl, sym, ap, ◌∙◌, Ordering, Less, Equal, Greater}
-use Rattle.std.specs.Ordering.{eq_by_cmp, is_eq, ordering_then, int_cmp}
-use Rattle.std.specs.Cmp.{eq_by_cmp_equiv, Equal-is, nat_eq_equiv, int_cmp_total}
-use Rattle.std.specs.FinMap.{int_cmp-IsAntisymmetric}
-use Rattle.std.proofs.lemmas.Map.Views.{exact_unsigned_eq}
-use Rattle.std.proofs.lemmas.Bool.{cases_Bool}
-use Rattle.std.specs.Cmp.Lexicographic.{texts_ties}
+use Rattle.std.specs.{Ordering.{eq_by_cmp, int_cmp}, Cmp.{both_ways, eq_by_cmp_equiv, tied_then, Equal-is, int_cmp_total}, FinMap.{int_cmp-IsAntisymmetric}}
+use Rattle.std.{specs.Cmp.Lexicographic.{texts_ties}, proofs.Common.{◌≡◌, ◌==◌, ℕ, pos, Bool, ◌&&◌, sym, ap, ◌∙◌, Ordering}}
+use Rattle.std.proofs.{lemmas.Map.Views.{exact_unsigned_eq}, lemmas.Bool.{eq-eqb}}
 use Rattle.table_access.specs.Columns.{text_cmp, by_both}
 use Rattle.broker_core.specs.Text.{Text, same_text, same_pair}
-
 -- two comparisons are both ties just where the first, with its ties broken by the second, is one
-pub both_eq : (x y : Ordering) → (is_eq x && is_eq y) ≡ is_eq (ordering_then x y)
-both_eq Less y = refl
-both_eq Equal y = refl
-both_eq Greater y = refl
+pub use Rattle.std.specs.Cmp.{tied_then as both_eq}
 
 -- whether two tests both hold depends on their answers alone
 pub two_tests : (x y u v : Bool) → x ≡ u → y ≡ v → (x && y) ≡ (u && v)
@@ -22,7 +14,7 @@ two_tests x y u v e f = λ i. e i && f i
 -- pairs by a test of each part, and by an order of each part
 pub pair_ties : {A B : Type 0} (same_a : A → A → Bool) (same_b : B → B → Bool) (R : A → A → Ordering) (S : B → B → Ordering) (x y : A × B)
     → same_a x.0 y.0 ≡ eq_by_cmp R x.0 y.0 → same_b x.1 y.1 ≡ eq_by_cmp S x.1 y.1 → same_pair same_a same_b x y ≡ eq_by_cmp (by_both R S) x y
-pair_ties same_a same_b R S x y a b = two_tests _ _ _ _ a b ∙ both_eq (R x.0 y.0) (S x.1 y.1)
+pair_ties same_a same_b R S x y a b = two_tests _ _ _ _ a b ∙ tied_then (R x.0 y.0) (S x.1 y.1)
 
 -- pairs of texts, as a grant has them, are the same by the machine's test just where they tie in their order
 pub grant_ties : (x y : Text × Text) → same_pair same_text same_text x y ≡ eq_by_cmp (by_both text_cmp text_cmp) x y
@@ -30,11 +22,6 @@ grant_ties x y = pair_ties same_text same_text text_cmp text_cmp x y (texts_ties
 
 -- numbers are the same by the machine's test and by the order of the columns
 pub nat_ties : (k n : ℕ) → (k == n) ≡ eq_by_cmp int_cmp (pos k) (pos n)
-nat_ties k n = elim (cases_Bool (k == n)) [
-  | inl same ↦ same ∙ sym (ap (λ m. eq_by_cmp int_cmp (pos k) (pos m)) (sym (exact_unsigned_eq k n same)) ∙ (eq_by_cmp_equiv int_cmp_total).refl (pos k))
-  | inr other ↦ other ∙ sym (none other (eq_by_cmp int_cmp (pos k) (pos n)) refl)
-]
-  where
-    none : (k == n) ≡ false → (b : Bool) → eq_by_cmp int_cmp (pos k) (pos n) ≡ b → eq_by_cmp int_cmp (pos k) (pos n) ≡ false
-    none other true hit = absurd (let ints : pos k ≡ pos n = int_cmp-IsAntisymmetric (pos k) (pos n) ((Equal-is (int_cmp (pos k) (pos n))).0 hit) in let nats : k ≡ n = cc in let e : (k == n) ≡ true = ap (λ m. k == m) (sym nats) ∙ nat_eq_equiv.refl k in cc)
-    none other false miss = miss
+nat_ties k n =
+    both_ways _ _ (λ same. ap (λ m. eq_by_cmp int_cmp (pos k) (pos m)) (sym (exact_unsigned_eq k n same)) ∙ (eq_by_cmp_equiv int_cmp_total).refl (pos k))
+    (λ hit. let ints : pos k ≡ pos n = int_cmp-IsAntisymmetric (pos k) (pos n) ((Equal-is (int_cmp (pos k) (pos n))).0 hit) in let nats : k ≡ n = cc in eq-eqb k n nats)

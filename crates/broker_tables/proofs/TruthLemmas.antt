@@ -1,19 +1,11 @@
 -- A column that CHECK makes a truth value.
-use Rattle.std.proofs.Common.{◌≡◌, ◌≤◌, ℕ, ℤ, pos, [], ◌∷◌, Bool, true, false, not, refl, ap, subst, arith, Option, Some, None}
-use Rattle.std.specs.Prelude.{option_map}
-use Rattle.std.specs.Ordering.{is_eq, int_cmp}
-use Rattle.std.specs.Cmp.{Equal-is}
-use Rattle.std.specs.FinMap.{int_cmp-IsAntisymmetric}
-use Rattle.sqlite.specs.Order.{Row, column}
-use Rattle.sqlite.specs.Term.{eval}
-use Rattle.sqlite.specs.declared.types.Value.TheVariants.{Int}
-use Rattle.sqlite_sql.specs.Ops.{binary, is_false, from_truth}
-use Rattle.sqlite_sql.specs.declared.ops.BinaryOp.TheVariants.{Compare, Or}
-use Rattle.sqlite_sql.specs.declared.ops.CompareOp.TheVariants.{Eq}
-use Rattle.sqlite.specs.Collation.TheVariants.{Binary}
+use Rattle.std.specs.{Prelude.{option_map}, Ordering.{is_eq, int_cmp}, Cmp.{Equal-is}, FinMap.{int_cmp-IsAntisymmetric}}
+use Rattle.std.proofs.Common.{◌≡◌, ◌≤◌, ℕ, ℤ, pos, [], ◌∷◌, Bool, true, false, not, refl, sym, ap, subst, arith, Option, Some}
+use Rattle.sqlite.specs.{Order.{Row, column}, Term.{eval}, declared.types.Value.TheVariants.{Int}, Collation.TheVariants.{Binary}}
+use Rattle.sqlite_sql.specs.{Ops.{binary, is_false, from_truth}, declared.ops.BinaryOp.TheVariants.{Compare, Or}, declared.ops.CompareOp.TheVariants.{Eq}}
 use Rattle.sqlite_value.proofs.OrderLemmas.{value_cmp-Int}
-use Rattle.broker_tables.specs.Schema.{is_truth}
-use Rattle.broker_tables.specs.Rows.{mark_of}
+use Rattle.table_access.proofs.ReadLemmas.{option_map_twice}
+use Rattle.broker_tables.specs.{Schema.{is_truth}, Rows.{mark_of}}
 
 equal : (a b : ℤ) → binary (Compare Eq Binary) (Int a) (Int b) ≡ from_truth (Some (is_eq (int_cmp a b)))
 unfolding binary
@@ -40,5 +32,4 @@ is_low row place z is t = go (is_eq (int_cmp z (pos 0))) refl
 
 -- the mark of a truth value, as a column has it
 pub mark_in_column : (o : Option Bool) → option_map (λ t. Int (pos (mark_of t))) o ≡ option_map (λ n. Int (pos n)) (option_map mark_of o)
-mark_in_column None = refl
-mark_in_column (Some t) = refl
+mark_in_column o = sym (option_map_twice (λ n. Int (pos n)) mark_of o)

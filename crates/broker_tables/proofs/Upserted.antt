@@ -1,50 +1,22 @@
 -- INSERT .. ON CONFLICT DO UPDATE of one row into a table of the broker to which no other refers: what it leaves, and why
 -- it fails. If the row suits its table, only as the store fails.
-use Rattle.std.proofs.Common.{◌≡◌, ◌⊎◌, inl, inr, ℕ, ℤ, ◌<◌, ◌^◌, List, [], ◌∷◌, ◌++◌, map, filter, length, slice_get, true, false, not, refl, sym, ap, subst, ◌∙◌, ◌/◌, arith, bytes_eq, Some, Ok}
-use Rattle.std.specs.List.{AllByRecursion}
-use Rattle.std.specs.Ordering.{is_eq}
+use Rattle.std.specs.{List.{AllByRecursion}, Ordering.{is_eq}}
+use Rattle.std.proofs.Common.{◌≡◌, ◌⊎◌, inl, inr, ℕ, ℤ, ◌<◌, ◌≤◌, ◌^◌, List, [], ◌∷◌, ◌++◌, map, filter, length, slice_get, true, false, not, refl, sym, ap, subst, ◌∙◌, ◌/◌, arith, bytes_eq, Some, Ok}
 use Rattle.std.proofs.lemmas.Bool.{lt-ltb}
-use Rattle.sqlite.specs.declared.types.Value.{Value}
-use Rattle.sqlite.specs.declared.types.Value.TheVariants.{Null, Int}
-use Rattle.sqlite.specs.Cast.{cast_row, cast_all}
-use Rattle.sqlite.specs.Command.TheVariants.{InsertOr}
-use Rattle.sqlite.specs.Source.TheVariants.{Values}
-use Rattle.sqlite.specs.Rowids.TheVariants.{Chosen}
-use Rattle.sqlite.specs.Edit.{next_rowid, with_rowid, id_in}
-use Rattle.sqlite.specs.Effect.{value_rows}
-use Rattle.sqlite.specs.Listing.{understood}
-use Rattle.sqlite.specs.Order.{Row, column, value_cmp}
-use Rattle.sqlite.specs.Rows.{shown}
-use Rattle.sqlite.specs.Schema.{Schema}
-use Rattle.sqlite.specs.State.{State, Executes}
-use Rattle.sqlite.specs.Table.{Table}
-use Rattle.sqlite.specs.Term.{Term}
-use Rattle.sqlite.specs.Tree.{IsAscending, rowid}
+use Rattle.sqlite.specs.{declared.types.Value.{Value}, declared.types.Value.TheVariants.{Null, Int}, Cast.{cast_row, cast_all}, Command.TheVariants.{InsertOr}}
+use Rattle.sqlite.specs.{Source.TheVariants.{Values}, Rowids.TheVariants.{Chosen}, Edit.{next_rowid, with_rowid, id_in}, Effect.{value_rows}}
+use Rattle.sqlite.specs.{Listing.{understood}, Order.{Row, column, value_cmp}, Rows.{shown}, Schema.{Schema}, State.{State, Executes}, Table.{Table}}
+use Rattle.sqlite.specs.{Term.{Term}, Tree.{IsAscending, rowid}}
 use Rattle.sqlite_sql.specs.Ops.{fits_i64}
 use Rattle.sqlite_typing.specs.Types.{accepts_terms, accepts_program}
 use Rattle.sqlite_value.specs.Keys.{plain}
-use Rattle.sqlite_schema.specs.declared.command.Conflict.TheVariants.{Abort}
-use Rattle.sqlite_schema.specs.Rules.{agree, guards, has_parent, references_fit}
-use Rattle.sqlite_rules.specs.Keys.{AreConflicts, conflicts}
-use Rattle.sqlite_rules.specs.Lists.{Has}
-use Rattle.sqlite_rules.specs.Steps.{PassAlone}
-use Rattle.table_access.specs.Calls.{fault_of}
-use Rattle.table_access.specs.Sound.{IsNumbered}
-use Rattle.table_access.specs.Statements.{ChangesOnly, IsAdded, shows}
-use Rattle.table_access.proofs.Answered.{is_whole}
-use Rattle.table_access.proofs.Edits.{IsAlone}
-use Rattle.table_access.proofs.SoundLemmas.{has_place, at_has}
-use Rattle.table_access.proofs.Steps.{Means}
-use Rattle.table_access.proofs.Upsert.{setting, Upserted, upsert_leaves}
-use Rattle.table_access.proofs.UpsertRefused.{Takes, key_of, upsert_fails}
-use Rattle.table_access.proofs.Values.{cast_null, cast_kept}
-use Rattle.broker_tables.specs.Schema.{broker_schema}
-use Rattle.broker_tables.specs.Holds.{IsBroker}
-use Rattle.broker_tables.specs.Room.{LeavesAbove, LeaveNumbers}
-use Rattle.broker_tables.proofs.Frames.{meant}
-use Rattle.broker_tables.proofs.Inserted.{plainly, apart, EndsOnly}
-use Rattle.broker_tables.proofs.Placed.{calm}
-use Rattle.broker_tables.proofs.RoomLemmas.{Grows, grows_added, grows_changed, number_for}
+use Rattle.sqlite_schema.specs.{declared.command.Conflict.TheVariants.{Abort}, Rules.{agree, guards, has_parent, references_fit}}
+use Rattle.sqlite_rules.specs.{Keys.{AreConflicts, conflicts}, Lists.{Has}, Steps.{PassAlone}}
+use Rattle.table_access.{specs.{Calls.{fault_of}, Sound.{IsNumbered}, Statements.{ChangesOnly, IsAdded, shows}}, proofs.{Answered.{is_whole}, Edits.{IsAlone}}}
+use Rattle.table_access.proofs.{SoundLemmas.{has_place, at_has}, Steps.{Means}, Storable.{IsShortValue}, Upsert.{setting, Upserted, upsert_leaves}}
+use Rattle.table_access.proofs.{UpsertRefused.{Takes, key_of, upsert_fails}, Values.{cast_null, cast_kept}}
+use Rattle.broker_tables.{specs.{Schema.{broker_schema}, Holds.{IsBroker}, Refusals.{AreShort}, Room.{LeavesAbove, LeaveNumbers}}, proofs.Frames.{meant}}
+use Rattle.broker_tables.proofs.{Inserted.{plainly, apart, storable, EndsOnly}, Placed.{calm}, RoomLemmas.{Grows, grows_added, grows_changed, number_for}}
 
 -- The text, with these parameters, puts one row into the table at this place, or sets columns of the one that has its key.
 -- The row has these columns beside its number, and its key is the one of the table. `refl` finds each field, under
@@ -107,11 +79,12 @@ module _ {at : ℕ} {t : Table} {sql : List ℕ} {params : Row} {target : List �
     upsert_grows (inr some) = grows_changed rows (new.now.trees t.tree) some.0 (rowid some.0 ∷ rest) _ some.1 refl some.3
 
     -- If the table has a number for the row, its columns are as they have to be, and what it refers to is there, it fails
-    -- only as the store fails.
-    pub upsert_ends : LeaveNumbers 1 rows → ((v : Value) → PassAlone (plainly t) ((v ∷ rest) ∷ [])) → ((v : Value) → AllByRecursion (λ ref. has_parent broker_schema.tables old.now.trees (v ∷ rest) ref ≡ true) t.references) → EndsOnly sql params old new
-    upsert_ends room pass parents unlimited fault (error, is, h) =
+    -- only as the store fails, or since one of these texts, which it has, is too long.
+    pub upsert_ends : LeaveNumbers 1 rows → ((v : Value) → PassAlone (plainly t) ((v ∷ rest) ∷ [])) → ((v : Value) → AllByRecursion (λ ref. has_parent broker_schema.tables old.now.trees (v ∷ rest) ref ≡ true) t.references)
+        → (texts : List (List ℕ)) → (AreShort texts → AllByRecursion IsShortValue rest) → 0 < length rest → length rest ≤ 11 → EndsOnly texts sql params old new
+    upsert_ends room pass parents texts short some few unlimited fault (error, is, h) =
         let here : (P : Schema → Type 0) → P broker_schema → P old.now.schema = λ P. subst P (sym broker.schema) in
-        let takes : Takes t.name t.tree t.columns t.key t.primary t.uniques t.orders t.checks t.references sql params old new at target n project puts.terms puts.width rest = record {
+        let takes : Takes t.name t.tree t.columns t.key t.primary t.uniques t.orders t.checks t.references sql params old new at target n project puts.terms puts.width rest (¬ AreShort texts) = record {
           found = there;
           listed = has_place _ at (plainly t) there;
           apart = here (λ s. IsAscending (λ a b. a.tree ≡ b.tree → ⊥) s.tables) apart;
@@ -133,8 +106,9 @@ module _ {at : ℕ} {t : Table} {sql : List ℕ} {params : Row} {target : List �
           changed = changed;
           room = number_for rows room;
           numbers = λ r has. let above = at_has (LeavesAbove 1) rows r room.1 has in ap (λ v. fits_i64 (id_in v)) above.1 ∙ lt-ltb above.0 (2 ^ 63) (let low : above.0 < 2 ^ 63 = omega (arith, above.2) in low);
+          storable = λ z big are. storable old.now broker (plainly t) (has_place _ at (plainly t) there) (Int z ∷ rest) (record { wide = omega (arith, some); narrow = omega (arith, few); short = (tt, short are) }) big;
           pass = pass;
           parents = λ v ref named. here (λ s. has_parent s.tables old.now.trees (v ∷ rest) ref ≡ true) (at_has _ t.references ref (parents v) named);
         } in
-        let it = upsert_fails t.name t.tree t.columns t.key t.primary t.uniques t.orders t.checks t.references sql params old new at target n project puts.terms puts.width rest takes unlimited error h in
+        let it = upsert_fails t.name t.tree t.columns t.key t.primary t.uniques t.orders t.checks t.references sql params old new at target n project puts.terms puts.width rest (¬ AreShort texts) takes unlimited error h in
         record { cause = it.0; fault_is = is ∙ ap fault_of it.1; has = it.2; over = it.3.autocommit; blamed = it.4 }

@@ -1,42 +1,22 @@
 -- The rows of versions, and the pairs that a JOIN by a version's number keeps.
-use Rattle.std.proofs.Common.{true≢false, slice_get, ◌≡◌, inl, inr, ℕ, ℤ, pos, List, [], ◌∷◌, Bool, true, false, ◌&&◌, refl, sym, ap, ◌∙◌, Some, None, Option, Ordering}
-use Rattle.std.specs.Prelude.{option_map, option_and_then, ◌↔◌}
-use Rattle.std.specs.Ordering.{eq_by_cmp, is_eq, int_cmp}
-use Rattle.std.specs.Cmp.{IsTotalOrder, eq_by_cmp_equiv, Equal-is, int_cmp_total}
-use Rattle.std.specs.Cmp.Lexicographic.{nat_list_cmp_total}
+use Rattle.std.specs.{Prelude.{option_map, option_and_then, ◌↔◌}, Ordering.{eq_by_cmp, is_eq, int_cmp}}
+use Rattle.std.specs.{Cmp.{IsTotalOrder, eq_by_cmp_equiv, Equal-is, int_cmp_total}, Cmp.Lexicographic.{nat_list_cmp_total}}
 use Rattle.std.specs.FinMap.{IsAntisymmetric, int_cmp-IsAntisymmetric}
-use Rattle.sqlite.specs.declared.types.Value.{Value}
-use Rattle.sqlite.specs.declared.types.Value.TheVariants.{Int, Text}
-use Rattle.sqlite.specs.Order.{Row, column}
-use Rattle.sqlite.specs.Tree.{IsAscending, rowid}
-use Rattle.sqlite.specs.Term.{Term}
-use Rattle.sqlite.specs.Schema.{Schema}
-use Rattle.sqlite.specs.Collation.TheVariants.{Binary}
-use Rattle.sqlite_sql.specs.declared.ops.BinaryOp.TheVariants.{Compare}
-use Rattle.sqlite_sql.specs.declared.ops.CompareOp.TheVariants.{Eq}
-use Rattle.sqlite_sql.specs.Ops.{binary, is_true}
+use Rattle.std.proofs.Common.{true≢false, slice_get, ◌≡◌, inl, inr, ℕ, ℤ, pos, List, [], ◌∷◌, Bool, true, false, ◌&&◌, refl, sym, ap, ◌∙◌, Some, None, Option, Ordering}
+use Rattle.sqlite.specs.{declared.types.Value.{Value}, declared.types.Value.TheVariants.{Int, Text}, Order.{Row, column}, Tree.{IsAscending, rowid}}
+use Rattle.sqlite.specs.{Term.{Term}, Schema.{Schema}, Collation.TheVariants.{Binary}, Effect.{Database}}
+use Rattle.sqlite_sql.specs.{declared.ops.BinaryOp.TheVariants.{Compare}, declared.ops.CompareOp.TheVariants.{Eq}, Ops.{binary, is_true}}
 use Rattle.sqlite_value.specs.declared.keys.Key.{Key}
-use Rattle.sqlite.specs.Effect.{Database}
-use Rattle.sqlite_rules.specs.Lists.{Has}
-use Rattle.sqlite_rules.proofs.TableLemmas.{int_is}
-use Rattle.table_access.specs.Columns.{text, text_cmp, whole_at, pair_cmp}
-use Rattle.table_access.specs.Sound.{IsNumbered}
-use Rattle.table_access.specs.Statements.{keeps_both, pairs_kept}
-use Rattle.table_access.proofs.Values.{same_ints, same_texts}
-use Rattle.table_access.proofs.SoundLemmas.{at_has, has_place, text_at}
-use Rattle.table_access.proofs.Keys.{ascending_on, apart_by}
-use Rattle.table_access.proofs.Parts.{text_part, agree_last, agree_and, once, numbers_once}
-use Rattle.table_access.proofs.Maps.{find_has, has_find}
-use Rattle.table_access.proofs.Changes.{apart_or_same}
+use Rattle.sqlite_rules.{specs.Lists.{Has}, proofs.TableLemmas.{int_is}}
+use Rattle.table_access.specs.{Columns.{text, text_cmp, whole_at, pair_cmp}, Sound.{IsNumbered}, Statements.{keeps_both, pairs_kept}}
+use Rattle.table_access.proofs.{Values.{same_ints, same_texts}, SoundLemmas.{at_has, has_place, text_at}, Keys.{ascending_on, apart_by}}
+use Rattle.table_access.proofs.{Parts.{text_part, agree_last, agree_and, once, numbers_once}, Maps.{find_has, has_find}, Changes.{apart_or_same}}
 use Rattle.table_access.proofs.Members.{pairs_rise}
-use Rattle.broker_core.specs.declared.command.Version.{Version}
-use Rattle.broker_core.specs.Text.{Text as Words, version}
-use Rattle.broker_tables.specs.Numbers.{number_of}
-use Rattle.broker_tables.specs.Holds.{IsBroker, AreVersions}
-use Rattle.broker_tables.proofs.NumberLemmas.{version_row}
-use Rattle.broker_tables.proofs.Orders.{exact_texts, pairs_total, exact_pair}
-use Rattle.broker_tables.proofs.Placed.{versions, versions_there}
-use Rattle.broker_tables.proofs.Listed.{sorts}
+use Rattle.broker_core.specs.{declared.command.Version.{Version}, Text.{Text as Words, version}}
+use Rattle.broker_tables.{specs.{Numbers.{number_of}, Holds.{IsBroker, AreVersions}}, proofs.NumberLemmas.{version_row}}
+use Rattle.broker_tables.proofs.{Orders.{exact_texts, pairs_total, exact_pair}, Placed.{versions, versions_there}, Listed.{sorts}}
+-- a truth value that can't be true is false
+pub use Rattle.std.proofs.lemmas.Bool.{false_from_ne_true as false_if}
 
 -- ---- tests of WHERE and ON
 
@@ -60,11 +40,6 @@ all_three true true true = (λ h. (refl, refl, refl), λ h. refl)
 all_three true true false = (λ h. absurd cc, λ h. absurd (true≢false (sym h.2)))
 all_three true false c = (λ h. absurd cc, λ h. absurd (true≢false (sym h.1)))
 all_three false b c = (λ h. absurd cc, λ h. absurd (true≢false (sym h.0)))
-
--- a truth value that can't be true is false
-pub false_if : (b : Bool) → (b ≡ true → ⊥) → b ≡ false
-false_if true h = absurd (h refl)
-false_if false h = refl
 
 -- ---- rows by their keys
 
@@ -122,21 +97,3 @@ module _ (db : Database) (broker : IsBroker db) where
   find_version vs v k are known =
       let it = find_has pairs_total exact_pair (λ r. (text 2 r, text 3 r)) (whole_at 0) (v.pacticipant, v.name) (pos k) (db.trees 6) (version_row (db.trees 6) vs v.pacticipant v.name are ∙ ap (option_map pos) known) in
       (it.0, it.1, sym (ap (λ x. x.0) it.2), sym (ap (λ x. x.1) it.2), it.3)
-
-  -- A table by a key, joined with the versions that its rows name: no two pairs tie where those of one version tie
-  -- alone, and the key of a row follows from its version.
-  pub joined_apart : {K : Type 0} {R : K → K → Ordering} (o : IsTotalOrder R) (key : Row → K) (t place : ℕ) (terms : List Term) (params : Row) (order : List (Term × Key)) → IsAscending (λ a b. eq_by_cmp R (key a) (key b) ≡ false) (db.trees t)
-      → ((r v : Row) → Has (db.trees t) r → Has (db.trees 6) v → keeps_both terms params r v ≡ true → whole_at 0 v ≡ whole_at place r)
-      → ((r q v w : Row) → Has (db.trees t) r → Has (db.trees t) q → Has (db.trees 6) v → Has (db.trees 6) w → keeps_both terms params r v ≡ true → keeps_both terms params q w ≡ true
-      → is_eq (sorts order (λ (p : Row × Row). params ∷ p.0 ∷ p.1 ∷ []) (r, v) (q, w)) ≡ true → v ≡ w)
-      → ((r q v : Row) → Has (db.trees t) r → Has (db.trees t) q → Has (db.trees 6) v → keeps_both terms params r v ≡ true → keeps_both terms params q v ≡ true → key r ≡ key q)
-      → IsAscending (λ a b. is_eq (sorts order (λ (p : Row × Row). params ∷ p.0 ∷ p.1 ∷ []) a b) ≡ false) (pairs_kept terms params (db.trees t) (db.trees 6))
-  joined_apart {R = R} o key t place terms params order keys named tie one =
-      pairs_rise (keeps_both terms params) (db.trees 6) (λ a b. is_eq (sorts order (λ (p : Row × Row). params ∷ p.0 ∷ p.1 ∷ []) a b) ≡ false) (db.trees t)
-      (λ r hr. ascending_on _ _ (db.trees 6) (λ v w hv hw apart kv kw.
-      let same : whole_at 0 v ≡ whole_at 0 w = named r v hr hv kv ∙ sym (named r w hr hw kw) in
-      absurd (true≢false (sym (ap (eq_by_cmp int_cmp (whole_at 0 v)) (sym same) ∙ (eq_by_cmp_equiv int_cmp_total).refl (whole_at 0 v)) ∙ apart))) (numbers_once (db.trees 6) versions_numbered))
-      (ascending_on _ _ (db.trees t) (λ r q hr hq apart v w hv hw kv kw. false_if _ (λ tied.
-      let same : v ≡ w = tie r q v w hr hq hv hw kv kw tied in
-      let alike : key r ≡ key q = one r q v hr hq hv kv (ap (keeps_both terms params q) same ∙ kw) in
-      true≢false (sym (ap (eq_by_cmp R (key r)) (sym alike) ∙ (eq_by_cmp_equiv o).refl (key r)) ∙ apart))) keys)

@@ -1,26 +1,14 @@
 -- Texts that make tables or indexes, run one after another.
-use Rattle.std.proofs.Common.{◌≡◌, ℕ, List, [], ◌∷◌, ◌++◌, false, map, fold, take, length, get_or, ◌<◌, ◌+◌, Bor, Ok, Some, slice_get, refl, sym, ap, ap₂, subst, ◌∙◌}
 use Rattle.std.specs.Prelude.{⊤}
-use Rattle.std.proofs.lemmas.List.{map-append, append_assoc, take_more}
-use Rattle.std.proofs.lemmas.List.Sums.{fold-append}
-use Rattle.sqlite.specs.Table.{Table}
-use Rattle.sqlite.specs.Schema.{Schema}
+use Rattle.std.proofs.Common.{◌≡◌, ℕ, List, [], ◌∷◌, ◌++◌, false, map, fold, take, length, get_or, ◌<◌, ◌+◌, Bor, Ok, Some, slice_get, refl, sym, ap, ap₂, subst, ◌∙◌}
+use Rattle.std.proofs.{lemmas.List.{map-append, append_assoc, take_more}, lemmas.List.Sums.{fold-append}}
+use Rattle.sqlite.specs.{Table.{Table}, Schema.{Schema}, Command.TheVariants.{CreateTable, CreateIndex}, Compile.{table_defined_by}, Change.{created}}
+use Rattle.sqlite.{specs.{Does.{lacks_sequence}, Effect.{Database}, State.{State, Executes}, Listing.{understood}}, proofs.Callers.{statement_of}}
 use Rattle.sqlite_schema.specs.declared.schema.Index.{Index}
-use Rattle.sqlite.specs.Command.TheVariants.{CreateTable, CreateIndex}
-use Rattle.sqlite.specs.Compile.{table_defined_by}
 use Rattle.sqlite_resolve.specs.Compile.{index_defined_by}
-use Rattle.sqlite.specs.Change.{created}
-use Rattle.sqlite.specs.Does.{lacks_sequence}
-use Rattle.sqlite.specs.Effect.{Database}
-use Rattle.sqlite.specs.State.{State, Executes}
-use Rattle.sqlite.specs.Listing.{understood}
-use Rattle.sqlite.proofs.Callers.{statement_of}
-use Rattle.table_access.specs.Statements.{Creates, IndexesTable, MakesEach, with_index}
-use Rattle.table_access.proofs.Steps.{Means}
-use Rattle.table_access.proofs.Creation.{makes_one, each_schema, each_then}
+use Rattle.table_access.{specs.Statements.{Creates, IndexesTable, MakesEach, with_index}, proofs.{Steps.{Means}, Creation.{makes_one, each_schema, each_then}}}
 use Rattle.table_access.proofs.Indexing.{indexes_one}
-use Rattle.broker_tables.specs.Schema.{no_schema, schema_of, all_tables}
-use Rattle.broker_tables.specs.Making.{Maker, makes_of, MakesPart, MakesTexts, table_texts, index_texts}
+use Rattle.broker_tables.specs.{Schema.{no_schema, schema_of, all_tables}, Making.{Maker, makes_of, MakesPart, MakesTexts, table_texts, index_texts}}
 
 -- a list of images that has a last one
 last_of : {A B : Type 0} (f : A → B) (bs : List B) (b : B) (all : List A) → bs ++ b ∷ [] ≡ map f all

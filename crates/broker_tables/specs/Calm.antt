@@ -5,7 +5,7 @@ use Rattle.sqlite.specs.State.{State, HasCleanDisk}
 use Rattle.sqlite_trees.specs.declared.store.Store.{Ghosts}
 use Rattle.table_access.specs.declared.StoreFault.{StoreFault}
 use Rattle.table_access.specs.declared.StoreFault.TheVariants.{Memory}
-use Rattle.table_access.specs.Calls.{HasFailed, IsEnded, TellsMemory}
+use Rattle.table_access.specs.Calls.{EndsBy, HasFailed, TellsMemory}
 use Rattle.broker_core.specs.declared.command.Version.{Version}
 use Rattle.broker_core.specs.State.{State as Broker}
 use Rattle.broker_tables.specs.Numbers.{number_of}
@@ -33,13 +33,13 @@ abbrev pub IsCalmFromBetween : {A : Type 0} → State → State → Result A Sto
 IsCalmFromBetween old new r Allows =
     HasCleanDisk new → (s : Broker) → Serves old s → Allows s → IfErr r (HasFailedOrMemory old new)
 
--- Or since a change of its own was refused, which it makes from these states alone: the store failed, or a row was too
--- big for it, if the tables have numbers for its rows.
-abbrev pub FailsFromBetween : {A : Type 0} → State → State → Result A StoreFault → (Broker → Type 0)
+-- Or since a change of its own was refused, which it makes from these states alone: if the tables have numbers for its
+-- rows, the store failed, or a row was too big for it. TooBig is what is so then.
+abbrev pub FailsFromBetween : {A : Type 0} → State → State → Result A StoreFault → Type 0 → (Broker → Type 0)
     → (Broker → Type 0) → Type 0
-FailsFromBetween old new r Allows Changes = HasCleanDisk new → (s : Broker) → Serves old s → Allows s
+FailsFromBetween old new r TooBig Allows Changes = HasCleanDisk new → (s : Broker) → Serves old s → Allows s
     → IfErr r (λ fault. HasFailedOrMemory old new fault
-    ⊎ (Changes s × (HasRoomFor enough old.now → IsEnded old new fault)))
+    ⊎ (Changes s × (HasRoomFor enough old.now → EndsBy TooBig old new fault)))
 
 -- a query, where there may be no room for its answer
 pub record CalmQueriesBetween {A : Type 0} (old new : State) (r : Result A StoreFault) (P : A → Broker → Type 0)
@@ -89,5 +89,5 @@ module _ {X : Type 0} (store : Ghosts X) (old new : Held X) where
   abbrev pub IsCalmFrom : {A : Type 0} → Result A StoreFault → (Broker → Type 0) → Type 0
   IsCalmFrom r Allows = IsCalmFromBetween (state store old) (state store new) r Allows
 
-  abbrev pub FailsFrom : {A : Type 0} → Result A StoreFault → (Broker → Type 0) → (Broker → Type 0) → Type 0
-  FailsFrom r Allows Changes = FailsFromBetween (state store old) (state store new) r Allows Changes
+  abbrev pub FailsFrom : {A : Type 0} → Result A StoreFault → Type 0 → (Broker → Type 0) → (Broker → Type 0) → Type 0
+  FailsFrom r TooBig Allows Changes = FailsFromBetween (state store old) (state store new) r TooBig Allows Changes

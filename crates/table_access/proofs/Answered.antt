@@ -1,39 +1,23 @@
 -- A query whose text is understood, and whose parameters are of the right kinds, fails only as the store fails.
-use Rattle.std.proofs.Common.{◌≡◌, ◌⊎◌, inl, inr, ℕ, zero, suc, take, List, [], ◌∷◌, map, filter, length, slice_get, Bool, true, false, nat_le, ◌==◌, ◌&&◌, Some, None, Option, Ok, Err, Result, refl, sym, ap, subst, subst₂, ◌∙◌, append-nil, ◌<◌, ◌^◌, pos, arith}
-use Rattle.std.specs.List.Sorted.{IsPermutation}
-use Rattle.std.proofs.lemmas.Bool.{leb-true, eqb-true}
-use Rattle.std.proofs.lemmas.List.Sorted.{Contains-permutation, IsPermutation-sym}
+use Rattle.std.specs.{List.Sorted.{IsPermutation}, List.{flat_map}}
+use Rattle.std.proofs.Common.{◌≡◌, ◌⊎◌, inl, inr, ℕ, take, List, [], ◌∷◌, map, filter, length, slice_get, Bool, true, false, nat_le, ◌==◌, ◌&&◌, Some, None, Option, Ok, Err, Result, refl, sym, ap, subst, subst₂, ◌∙◌, append-nil, ◌<◌, ◌^◌, pos, arith, drop}
+use Rattle.std.proofs.{lemmas.Bool.{leb-true, eqb-true}, lemmas.List.Sorted.{Contains-permutation, IsPermutation-sym}, lemmas.List.{take-append-drop}}
 use Rattle.sqlite_keyed.proofs.RuleLemmas.{first_of_both, second_of_both}
-use Rattle.sqlite.specs.Order.{Row, column}
-use Rattle.sqlite.specs.declared.types.Value.TheVariants.{Int}
-use Rattle.sqlite.specs.Tree.{Trees}
-use Rattle.sqlite.specs.Schema.{Schema}
-use Rattle.sqlite.specs.Command.TheVariants.{Select}
-use Rattle.sqlite.specs.Term.{Term, Env, col, eval_all}
-use Rattle.sqlite_sql.specs.Query.{Query, Join, end, inner, left, counted, made, folded, first, has_no_fold, FoldOverflows}
-use Rattle.sqlite_sql.specs.Program.{QueryOverflows}
+use Rattle.sqlite.specs.{Order.{Row, column}, declared.types.Value.TheVariants.{Int}, Tree.{Trees}, Schema.{Schema}, Command.TheVariants.{Select}}
+use Rattle.sqlite.specs.{Term.{Term, Env, col, eval_all}, declared.error.Error.{Error}, Effect.{Database, Answers, RefusesQuery, RefusesToRead}}
+use Rattle.sqlite.specs.{Listing.{understood, IsSourceOf}, State.{State, Shown, FailsToQuery, IsNotRun, IsNoStatement, Fails}}
+use Rattle.sqlite.proofs.Callers.{IsPlain, command_of}
+use Rattle.sqlite_sql.specs.{Query.{Query, Join, end, inner, left, counted, made, folded, first, has_no_fold, FoldOverflows}, Program.{QueryOverflows}}
 use Rattle.sqlite_sql.specs.Group.{Grouping, Overflows}
 use Rattle.sqlite_typing.specs.Types.{accepts_program}
 use Rattle.sqlite_value.specs.declared.keys.Key.{Key}
-use Rattle.sqlite_resolve.specs.declared.compiled.Compiled.{Compiled}
-use Rattle.sqlite_resolve.specs.declared.error.CompileError.{CompileError}
-use Rattle.sqlite.specs.declared.error.Error.{Error}
-use Rattle.std.specs.List.{flat_map}
-use Rattle.sqlite.specs.Effect.{Database, Answers, RefusesQuery, RefusesToRead}
-use Rattle.sqlite.specs.Listing.{understood, IsSourceOf}
-use Rattle.sqlite.specs.State.{State, Shown, FailsToQuery, IsNotRun, IsNoStatement, Fails}
-use Rattle.sqlite.proofs.Callers.{IsPlain, command_of}
-use Rattle.sqlite_rules.specs.Lists.{Has}
-use Rattle.table_access.specs.declared.StoreFault.{StoreFault}
-use Rattle.table_access.specs.declared.StoreFault.TheVariants.{Memory}
-use Rattle.table_access.specs.Calls.{HasFailed, fault_of}
-use Rattle.table_access.specs.Reading.{IsRefusedAs, FailsToRead, FailsToTake, TellsText, TellsNumber, IsTextAt, IsNumberRow}
-use Rattle.table_access.specs.Columns.{whole_at}
+use Rattle.sqlite_resolve.specs.{declared.compiled.Compiled.{Compiled}, declared.error.CompileError.{CompileError}}
+use Rattle.sqlite_rules.{specs.Lists.{Has}, proofs.ListLemmas.{has_front}}
+use Rattle.table_access.specs.{declared.StoreFault.{StoreFault}, declared.StoreFault.TheVariants.{Memory}, Calls.{HasFailed, fault_of}}
+use Rattle.table_access.specs.{Reading.{IsRefusedAs, FailsToRead, FailsToTake, TellsText, TellsNumber, IsTextAt, IsNumberRow}, Columns.{whole_at}}
 use Rattle.table_access.specs.Statements.{from_table, from_both, up_to, keeps, keeps_both, shows}
-use Rattle.table_access.proofs.Members.{has_either, contains_has, has_contains, map_has, filter_has}
-use Rattle.table_access.proofs.Newest.{first_joined}
-use Rattle.table_access.proofs.Joins.{joined}
-use Rattle.table_access.proofs.Steps.{Means, selects}
+use Rattle.table_access.proofs.{Members.{has_either, contains_has, has_contains, map_has, filter_has}, SoundLemmas.{has_place}, Newest.{first_joined}}
+use Rattle.table_access.proofs.{Joins.{joined}, Steps.{Means, selects}}
 
 -- the whole text is one statement, with so many parameters
 abbrev pub is_whole : List ℕ → ℕ → Result Compiled CompileError → Bool
@@ -127,8 +111,7 @@ module _ (sql : List ℕ) (params : Row) (old new : State) (q : Query) (names : 
 
 -- the first row is one of the rows
 pub first_has : (rows : List Row) (row : Row) → slice_get rows 0 ≡ Some row → Has rows row
-first_has [] row is = absurd cc
-first_has (r ∷ rows) row is = inl (let same : r ≡ row = cc in sym same)
+first_has rows = has_place rows 0
 
 -- each is one of the rows in another order
 pub permuted_has : {X : Type 0} (xs ys : List X) (x : X) → IsPermutation xs ys → Has ys x → Has xs x
@@ -145,10 +128,7 @@ shown_of sql params old new t terms project order names means rows row shown has
 
 -- LIMIT shows no other rows
 pub take_has : {X : Type 0} (n : ℕ) (xs : List X) (x : X) → Has (take n xs) x → Has xs x
-take_has zero xs x has = absurd has
-take_has (suc n) [] x has = absurd has
-take_has (suc n) (y ∷ xs) x (inl same) = inl same
-take_has (suc n) (y ∷ xs) x (inr later) = inr (take_has n xs x later)
+take_has n xs x has = has_front xs (take n xs) (drop n xs) x (sym (take-append-drop n xs)) has
 
 -- a row that is shown of two tables is what is shown of a row of each
 flat_map_has : {X Y : Type 0} (f : X → List Y) (xs : List X) (y : Y) → Has (flat_map f xs) y → (x : X) × Has xs x × Has (f x) y
@@ -168,18 +148,3 @@ pub first_pair_shown : (db : Database) (params : Row) (n t u : ℕ) (terms proje
 first_pair_shown db params n t u terms project order rows h row has =
     let all = first_joined db params t u terms project order n rows h in
     pair_shown db params t u terms project order all.0 all.1 row (take_has n all.0 row (subst (λ xs. Has xs row) all.2 has))
-
--- ---- what can be read of a row that is shown of one column
-
-pub number_shown : (params r row : Row) (place : ℕ) → column r place ≡ Int (whole_at place r) → row ≡ shows (col 1 place ∷ []) params r → (n : ℕ) → whole_at place r ≡ pos n → n < 2 ^ 32 → IsNumberRow row
-number_shown params r row place typed is n number low = subst IsNumberRow (sym is) (omega arith, (n, typed ∙ ap Int number, low))
-
-module _ (sql : List ℕ) (params : Row) (old new : State) (t place : ℕ) (terms : List Term) (order : List (Term × Key)) (names : List (List ℕ))
-    (means : Means old.now.schema sql (Select (record { lets = []; body = from_table t terms (col 1 place ∷ []) order }) names)) where
-  -- a number, where each row of the table has a low one there
-  pub number_stands : ((r : Row) → Has (old.now.trees t) r → column r place ≡ Int (whole_at place r)) → ((r : Row) → Has (old.now.trees t) r → (n : ℕ) × (whole_at place r ≡ pos n) × (n < 2 ^ 32))
-      → (rows : List Row) (row : Row) → Shown sql params old new rows → slice_get rows 0 ≡ Some row → IsNumberRow row
-  number_stands numbers low rows row shown head =
-      let it = shown_of sql params old new t terms (col 1 place ∷ []) order names means rows row shown (first_has rows row head) in
-      let n = low it.0 it.1 in
-      number_shown params it.0 row place (numbers it.0 it.1) it.3 n.0 n.1 n.2

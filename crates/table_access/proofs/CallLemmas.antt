@@ -1,29 +1,21 @@
 -- One call on the tables, and one after another.
-use Rattle.std.proofs.Common.{inl, inr, ◌≡◌, ◌∙◌, true, false, IsTrue, refl, sym, ap, arith, Ok, Err, Result, IfOk, IfErr, OnOk, ℕ, List, Option, Some, None, ◌≤◌}
-use Rattle.std.proofs.lemmas.Bool.{cases_Bool}
-use Rattle.sqlite.specs.Order.{Row}
-use Rattle.sqlite.specs.Tree.{Trees}
+use Rattle.std.proofs.Common.{Bool, inl, inr, ◌≡◌, ◌∙◌, true, false, IsTrue, refl, sym, ap, arith, Ok, Err, Result, IfOk, IfErr, OnOk, ℕ, List, Option, Some, None, ◌≤◌}
+use Rattle.std.proofs.lemmas.Bool.{false_from_ne_true}
+use Rattle.sqlite.specs.{Order.{Row}, Tree.{Trees}, declared.error.Error.{Error}}
+use Rattle.sqlite.specs.State.{State, HasCleanDisk, Survives, Shows, Shown, ShowsRows, FailsToQuery, FailsToShow, IsNotRun, CommitsShowing, HasCause}
+use Rattle.sqlite.proofs.StateLemmas.{survives_then}
 use Rattle.sqlite_schema.specs.declared.command.Returning.{Returning}
 use Rattle.sqlite_resolve.specs.declared.compiled.Compiled.{Compiled}
-use Rattle.sqlite.specs.declared.error.Error.{Error}
-use Rattle.sqlite.specs.State.{State, HasCleanDisk, Shows, Shown, ShowsRows, FailsToQuery, FailsToShow, IsNotRun, CommitsShowing, HasCause}
-use Rattle.sqlite.proofs.StateLemmas.{survives_then}
 use Rattle.sqlite_trees.specs.declared.error.StoreError.{StoreError}
 use Rattle.sqlite_trees.specs.declared.error.StoreError.TheVariants.{OutOfMemory, Io, Corrupt, Full, Broken, Unstorable}
-use Rattle.table_access.specs.Unit.{IsLeft}
-use Rattle.table_access.specs.declared.StoreFault.{StoreFault}
-use Rattle.table_access.specs.declared.StoreFault.TheVariants.{Memory, Store}
+use Rattle.table_access.specs.{Unit.{IsLeft}, declared.StoreFault.{StoreFault}, declared.StoreFault.TheVariants.{Memory, Store}}
 use Rattle.table_access.specs.Calls.{KeepsLastCommit, CallsTablesBetween, GoesOn, EndsBy, IsEnded, FailsAs, TellsMemory, CallsStoreBetween, fault_of}
-use Rattle.table_access.proofs.Refusals.{read_told}
-use Rattle.table_access.proofs.Texts.{IsRefused, caused, no_statement_told, command_told}
+use Rattle.table_access.proofs.{Refusals.{read_told}, Texts.{IsRefused, caused, no_statement_told, command_told}}
 
 -- where nothing changed, or the transaction was rolled back, nothing is committed
 pub left_commit : (a b : State) → IsLeft a b → KeepsLastCommit a b
 left_commit a b (inl same) = record { was_open = λ _. same.0.was_open; committed = λ _. same.0.committed_is }
 left_commit a b (inr back) = record { was_open = back.was_open; committed = λ now. (back.undone now).1 }
-
-pub shows_commit : (a b : State) → Shows a b b.now a.committed true → KeepsLastCommit a b
-shows_commit a b same = record { was_open = λ _. same.was_open; committed = λ _. same.committed_is }
 
 rows_inside : (old new : State) (sql : List ℕ) (c : Compiled) (params : Row) (rows : List Row) (returning : Option Returning) → ShowsRows old new sql c params rows returning → IsTrue old.in_transaction → Shows old new new.now old.committed true
 rows_inside old new sql c params rows None h inside =
@@ -48,12 +40,12 @@ query_by sql params old new e (inl (inl h)) = inl (h.1, no_statement_told old sq
 query_by sql params old new e (inl (inr h)) = inr (h.0, h.1, caused old new _ h.0 h.2, h.3, h.4)
 query_by sql params old new e (inr h) = fails_by old new sql h.0 _ e h.0.returning h.2
 
-pub refused_left : (old new : State) (e : Error) → IsRefused old new e → IsLeft old new
+refused_left : (old new : State) (e : Error) → IsRefused old new e → IsLeft old new
 refused_left old new e (inl same) = inl same.0
 refused_left old new e (inr fails) = inr fails.3
 
 -- a statement that is refused leaves the transaction, or the store failed
-pub refused_fails : (old new : State) (e : Error) (fault : StoreFault) → fault ≡ fault_of e → IsRefused old new e → IsTrue old.in_transaction → FailsAs old new fault
+refused_fails : (old new : State) (e : Error) (fault : StoreFault) → fault ≡ fault_of e → IsRefused old new e → IsTrue old.in_transaction → FailsAs old new fault
 refused_fails old new e fault is (inl same) inside = inl (same.0.0.mode ∙ inside, λ _. same.0.0.is_open)
 refused_fails old new e fault is (inr fails) inside = inr (record { cause = fails.0; fault_is = is ∙ ap fault_of fails.1; has = fails.2; over = fails.3.autocommit; blamed = fails.4 })
 
@@ -108,11 +100,8 @@ idle {A} c r P h = record {
     stops (Ok a) inside = tt
     stops (Err e) inside = inl (inside, λ h. h)
 
-was_outside : (a b : State) → (IsTrue a.in_transaction → b.in_transaction ≡ true) → b.in_transaction ≡ false → a.in_transaction ≡ false
-was_outside a b stays outside = elim (cases_Bool a.in_transaction) [ inl in_one ↦ absurd (let e = stays in_one in cc) | inr none ↦ none ]
-
-was_shut : (a b : State) → (IsTrue a.is_open → IsTrue b.is_open) → b.is_open ≡ false → a.is_open ≡ false
-was_shut a b stays shut = elim (cases_Bool a.is_open) [ inl is_open ↦ absurd (let e = stays is_open in cc) | inr none ↦ none ]
+was_false : (a b : Bool) → (IsTrue a → IsTrue b) → b ≡ false → a ≡ false
+was_false a b stays now = false_from_ne_true a (λ was. let e = stays was in cc)
 
 pub commits_then : (a b c : State) → KeepsLastCommit a b → KeepsLastCommit b c → KeepsLastCommit a c
 commits_then a b c one two = record { was_open = λ now. one.was_open (two.was_open now); committed = λ now. two.committed now ∙ one.committed (two.was_open now) }
@@ -120,14 +109,24 @@ commits_then a b c one two = record { was_open = λ now. one.was_open (two.was_o
 -- a cause of a later call is one of both
 has_since : (TooBig : Type 0) (a b c : State) (cause : StoreError) → (IsTrue a.is_open → IsTrue b.is_open) → a.faults ≤ b.faults → HasCause b c TooBig cause → HasCause a c TooBig cause
 has_since TooBig a b c OutOfMemory stays up h = tt
-has_since TooBig a b c Io stays up h = omega (arith, up, h)
-has_since TooBig a b c Corrupt stays up h = omega (arith, up, h)
-has_since TooBig a b c Full stays up h = omega (arith, up, h)
-has_since TooBig a b c Broken stays up h = was_shut a b stays h
+has_since TooBig a b c Broken stays up h = was_false a.is_open b.is_open stays h
 has_since TooBig a b c Unstorable stays up h = h
+has_since TooBig a b c _ stays up h = omega (arith, up, h)
 
 pub ended_since : {TooBig : Type 0} (a b c : State) (e : StoreFault) → GoesOn a b → a.faults ≤ b.faults → EndsBy TooBig b c e → EndsBy TooBig a c e
 ended_since {TooBig} a b c e on up ended = record { cause = ended.cause; fault_is = ended.fault_is; has = has_since TooBig a b c ended.cause on.1 up ended.has; over = ended.over; blamed = ended.blamed }
+
+-- what is so where a row was too big is so of more
+pub caused_more : {A B : Type 0} (a b : State) (cause : StoreError) → (A → B) → HasCause a b A cause → HasCause a b B cause
+caused_more a b OutOfMemory more h = tt
+caused_more a b Io more h = h
+caused_more a b Corrupt more h = h
+caused_more a b Full more h = h
+caused_more a b Broken more h = h
+caused_more a b Unstorable more h = more h
+
+pub ended_with : {A B : Type 0} (a b : State) (e : StoreFault) → (A → B) → EndsBy A a b e → EndsBy B a b e
+ended_with {A} {B} a b e more ended = record { cause = ended.cause; fault_is = ended.fault_is; has = caused_more a b ended.cause more ended.has; over = ended.over; blamed = ended.blamed }
 
 fails_since : (a b c : State) (e : StoreFault) → GoesOn a b → a.faults ≤ b.faults → FailsAs b c e → FailsAs a c e
 fails_since a b c e on up (inl goes) = inl (goes.0, λ h. goes.1 (on.1 h))
@@ -140,7 +139,7 @@ seq {A} {B} old mid new a r P Q R more one two = record {
   goes_on = λ clean inside. let first = one.goes_on (mid_clean clean) inside in goes r first (two.goes_on clean first.0);
   fails = λ clean inside. let first = one.goes_on (mid_clean clean) inside in stops r first (two.fails clean first.0);
   commits = λ clean inside. commits_then old mid new (one.commits (mid_clean clean) inside) (two.commits clean (one.goes_on (mid_clean clean) inside).0);
-  survives = survives_then old mid new _ _ _ (λ _ db h. h) (λ clean db h. was_outside old mid (λ inside. (one.goes_on (mid_clean clean) inside).0) h) one.survives two.survives;
+  survives = survives_then old mid new _ _ _ (λ _ db h. h) (λ clean db h. was_false old.in_transaction mid.in_transaction (λ inside. (one.goes_on (mid_clean clean) inside).0) h) one.survives two.survives;
 }
   where
     mid_clean : HasCleanDisk new → HasCleanDisk mid
@@ -175,6 +174,33 @@ memory_err old new e short clean inside is = short clean inside (let same : e �
 -- nor does one whose failure is told as Store
 pub memory_store : {A : Type 0} (old new : State) (e : StoreFault) → e ≡ Store → TellsMemory {A = A} old new (Err e)
 memory_store old new e store clean inside is = absurd (let clash : Store ≡ Memory = (let same : e ≡ Memory = (let h = is in cc) in sym store ∙ same) in cc)
+
+-- a statement that ran inside the transaction
+pub ran : {A : Type 0} (old new : State) (a : A) (P : A → Type 0) → (HasCleanDisk new → P a) → (HasCleanDisk new → IsTrue old.in_transaction → Shows old new new.now old.committed true) → Survives old new (λ _. old.in_transaction ≡ false)
+    → CallsStoreBetween old new (Ok a) P
+ran old new a P told shows survives = record {
+  call = record {
+    ok = told;
+    goes_on = λ clean inside. let on = shows clean inside in (on.mode, λ _. on.is_open);
+    fails = λ _ _. tt;
+    commits = λ clean inside. let same = shows clean inside in record { was_open = λ _. same.was_open; committed = λ _. same.committed_is };
+    survives = survives;
+  };
+  memory = memory_ok old new a;
+}
+
+-- one that was refused
+pub refused : {A : Type 0} (old new : State) (e : Error) (fault : StoreFault) (P : A → Type 0) → fault ≡ fault_of e → (HasCleanDisk new → IsRefused old new e) → Survives old new (λ _. old.in_transaction ≡ false) → CallsStoreBetween old new (Err fault) P
+refused old new e fault P is why survives = record {
+  call = record {
+    ok = λ _. tt;
+    goes_on = λ _ _. tt;
+    fails = λ clean inside. refused_fails old new e fault is (why clean) inside;
+    commits = λ clean inside. left_commit old new (refused_left old new e (why clean));
+    survives = survives;
+  };
+  memory = λ clean inside short. refused_memory old new e fault is (why clean) (let same : fault ≡ Memory = (let h = short in cc) in same);
+}
 
 -- a statement whose answer has P is one whose answer has Q, where P of an answer gives Q
 pub statement_with : {A : Type 0} (old new : State) (r : Result A StoreFault) (P Q : A → Type 0) → ((a : A) → P a → Q a) → CallsStoreBetween old new r P → CallsStoreBetween old new r Q

@@ -1,20 +1,11 @@
 -- What an upsert of one row makes of the values of the keys.
-use Rattle.std.proofs.Common.{inl, inr, ◌≡◌, ◌⊎◌, ℕ, List, [], ◌∷◌, Bool, true, false, cond, not, refl, ap, ◌∙◌, sym, subst, Some, None, filter, Ordering}
-use Rattle.std.specs.Ordering.{eq_by_cmp, is_eq, ordering_reverse}
-use Rattle.std.proofs.Common.{Less, Option}
-use Rattle.std.specs.Cmp.{tied_itself}
+use Rattle.std.specs.{Ordering.{eq_by_cmp, is_eq, ordering_reverse}, Cmp.{tied_itself, IsTotalOrder, eq_by_cmp_equiv}, FinMap.{find, IsAntisymmetric}}
+use Rattle.std.proofs.Common.{inl, inr, ◌≡◌, ◌⊎◌, ℕ, List, [], ◌∷◌, Bool, true, false, cond, not, refl, ap, ◌∙◌, sym, subst, Some, None, filter, Ordering, Less, Option}
 use Rattle.sqlite_value.proofs.OrderLemmas.{value_cmp_total}
-use Rattle.std.specs.Cmp.{IsTotalOrder, eq_by_cmp_equiv}
-use Rattle.std.specs.FinMap.{find, IsAntisymmetric}
-use Rattle.sqlite.specs.Order.{Row, value_cmp}
-use Rattle.sqlite.specs.Tree.{rowid, IsAscending, IsTable}
-use Rattle.sqlite_rules.specs.Lists.{Has}
-use Rattle.sqlite_rules.specs.Keys.{conflicts, AreConflicts}
+use Rattle.sqlite.specs.{Order.{Row, value_cmp}, Tree.{rowid, IsAscending, IsTable}, Table.{Table}}
+use Rattle.sqlite_rules.specs.{Lists.{Has}, Keys.{conflicts, AreConflicts}}
 use Rattle.sqlite_schema.specs.declared.schema.Index.{Index}
-use Rattle.sqlite.specs.Table.{Table}
-use Rattle.table_access.specs.Statements.{IsAdded}
-use Rattle.table_access.proofs.SoundLemmas.{at_has, all_of}
-use Rattle.table_access.proofs.Removal.{same_filter}
+use Rattle.table_access.{specs.Statements.{IsAdded}, proofs.{SoundLemmas.{at_has, all_of}, Removal.{same_filter}}}
 use Rattle.table_access.proofs.Maps.{entries, AreKeys, puts_at, find_without}
 
 -- two items of a list are one, or one of them stands before the other

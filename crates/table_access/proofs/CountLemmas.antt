@@ -1,6 +1,5 @@
 -- What a count of rows says.
-use Rattle.std.proofs.Common.{◌≡◌, inl, inr, suc, List, [], ◌∷◌, length, filter, Bool, true, false, cond, ◌||◌, nat_lt, refl, arith}
-use Rattle.std.specs.List.{list_any}
+use Rattle.std.{specs.List.{list_any}, proofs.Common.{◌≡◌, inl, inr, suc, List, [], ◌∷◌, length, filter, Bool, true, false, cond, ◌||◌, nat_lt, refl, arith}}
 use Rattle.std.proofs.lemmas.Bool.Decides.{nat_tests}
 use Rattle.sqlite_rules.specs.Lists.{Has}
 

@@ -1,20 +1,11 @@
 -- What CREATE TABLE leaves.
-use Rattle.std.proofs.Common.{◌≡◌, ℕ, List, [], ◌∷◌, ◌++◌, fold, false, Ok, None, refl, sym, ap, subst, ◌∙◌}
-use Rattle.std.specs.List.{AllByRecursion}
-use Rattle.sqlite.specs.Table.{Table}
-use Rattle.sqlite.specs.Schema.{Schema}
-use Rattle.sqlite.specs.Tree.{Trees}
-use Rattle.sqlite.specs.Command.TheVariants.{CreateTable}
-use Rattle.sqlite.specs.Compile.{table_defined_by}
-use Rattle.sqlite.specs.Change.{created, next_tree, KeepsRows}
-use Rattle.sqlite.specs.Effect.{Database}
-use Rattle.sqlite.specs.Does.{Tally, lacks_sequence}
-use Rattle.sqlite.specs.State.{State, Executes, Writes}
-use Rattle.sqlite.specs.Listing.{understood}
-use Rattle.sqlite.proofs.Callers.{statement_of, runs_as}
-use Rattle.table_access.specs.Statements.{Creates, Makes, MakesEach, new_trees}
-use Rattle.table_access.specs.Sound.{IsNumbered, IsKept}
-use Rattle.table_access.proofs.Steps.{Means, went, same_value}
+use Rattle.std.{specs.List.{AllByRecursion}, proofs.Common.{◌≡◌, ℕ, List, [], ◌∷◌, ◌++◌, fold, false, Ok, None, refl, sym, ap, subst, ◌∙◌}}
+use Rattle.sqlite.specs.{Table.{Table}, Schema.{Schema}, Tree.{Trees}, Command.TheVariants.{CreateTable}, Compile.{table_defined_by}}
+use Rattle.sqlite.specs.{Change.{created, next_tree, KeepsRows}, Effect.{Database}, Does.{Tally, lacks_sequence}, State.{State, Executes, Writes}}
+use Rattle.sqlite.{specs.Listing.{understood}, proofs.Callers.{statement_of, runs_as}}
+use Rattle.sqlite_keyed.proofs.ListLemmas.{all-append, all_both}
+use Rattle.table_access.{specs.{Statements.{Creates, Makes, MakesEach, new_trees}, Sound.{IsNumbered, IsKept}}, proofs.Steps.{Means, went, same_value}}
+use Rattle.table_access.proofs.SoundLemmas.{all_of}
 
 pub creates : (sql : List ℕ) (old new : State) (table : Table) (count : ℕ) → Means old.now.schema sql CreateTable → statement_of sql (understood old.now.schema sql) ≡ sql → table_defined_by sql ≡ Ok table
     → lacks_sequence (created old.now.schema table) ≡ false → Executes sql [] old new (Ok count) → Creates old.now new.now table
@@ -37,11 +28,7 @@ creates sql old new table count means whole defined uncounted h =
 
 -- ---- what tables that are made leave
 
-all_append : {X : Type 0} (P : X → Type 0) (xs ys : List X) → AllByRecursion P xs → AllByRecursion P ys → AllByRecursion P (xs ++ ys)
-all_append P [] ys one two = two
-all_append P (x ∷ xs) ys one two = (one.0, all_append P xs ys one.1 two)
-
-all_front : {X : Type 0} (P : X → Type 0) (xs ys : List X) → AllByRecursion P (xs ++ ys) → AllByRecursion P xs
+pub all_front : {X : Type 0} (P : X → Type 0) (xs ys : List X) → AllByRecursion P (xs ++ ys) → AllByRecursion P xs
 all_front P [] ys all = tt
 all_front P (x ∷ xs) ys all = (all.0, all_front P xs ys all.1)
 
@@ -50,8 +37,7 @@ all_back P [] ys all = all
 all_back P (x ∷ xs) ys all = all_back P xs ys all.1
 
 pub keeps_then : (tables : List Table) (a b c : Trees) → KeepsRows tables a b → KeepsRows tables b c → KeepsRows tables a c
-keeps_then [] a b c one two = tt
-keeps_then (t ∷ tables) a b c one two = (two.0 ∙ one.0, keeps_then tables a b c one.1 two.1)
+keeps_then tables a b c = all_both (λ t. b t.tree ≡ a t.tree) (λ t. c t.tree ≡ b t.tree) (λ t. c t.tree ≡ a t.tree) (λ t one two. two ∙ one) tables
 
 -- one after another
 pub each_then : {X : Type 0} (One : Database → Database → X → Type 0) (front back : List X) (old mid new : Database) → MakesEach One front old mid → MakesEach One back mid new → MakesEach One (front ++ back) old new
@@ -72,17 +58,17 @@ each_schema One next law (x ∷ xs) old new h = each_schema One next law xs h.0 
 pub made_schema : (tables : List Table) (old new : Database) → Makes tables old new → new.schema ≡ fold created old.schema tables
 made_schema = each_schema Creates created (λ old new table made. made.schema)
 
--- the tables that were there keep their rows
+-- the tables that were there keep their rows, where each change keeps them, and none takes a table away
+pub each_keeps : {X : Type 0} (One : Database → Database → X → Type 0) → ((old new : Database) (x : X) → One old new x → KeepsRows old.schema.tables old.trees new.trees)
+    → ((old new : Database) (x : X) → One old new x → (later : Trees) → KeepsRows new.schema.tables new.trees later → KeepsRows old.schema.tables new.trees later)
+    → (xs : List X) (old new : Database) → MakesEach One xs old new → KeepsRows old.schema.tables old.trees new.trees
+each_keeps One keeps back [] old new h = all_of _ old.schema.tables (λ t has. ap (λ (db : Database). db.trees t.tree) h)
+each_keeps One keeps back (x ∷ xs) old new h =
+    keeps_then old.schema.tables old.trees h.0.trees new.trees (keeps old h.0 x h.1) (back old h.0 x h.1 new.trees (each_keeps One keeps back xs h.0 new h.2))
+
 pub made_keeps : (tables : List Table) (old new : Database) → Makes tables old new → KeepsRows old.schema.tables old.trees new.trees
-made_keeps [] old new h = same old.schema.tables
-  where
-    same : (ts : List Table) → KeepsRows ts old.trees new.trees
-    same [] = tt
-    same (t ∷ ts) = (ap (λ (db : Database). db.trees t.tree) h, same ts)
-made_keeps (table ∷ tables) old new h =
-    let later : KeepsRows h.0.schema.tables h.0.trees new.trees = made_keeps tables h.0 new h.2 in
-    let front = all_front _ old.schema.tables (record table { tree = next_tree old.schema } ∷ []) (subst (λ (s : Schema). KeepsRows s.tables h.0.trees new.trees) h.1.schema later) in
-    keeps_then old.schema.tables old.trees h.0.trees new.trees h.1.others front
+made_keeps = each_keeps Creates (λ old new table made. made.others) (λ old new table made later rows.
+    all_front _ old.schema.tables (record table { tree = next_tree old.schema } ∷ []) (subst (λ (s : Schema). KeepsRows s.tables new.trees later) made.schema rows))
 
 -- and the new ones have none
 pub made_empty : (tables : List Table) (old new : Database) → Makes tables old new → AllByRecursion (λ tree. new.trees tree ≡ []) (new_trees old.schema tables)
@@ -93,8 +79,7 @@ made_empty (table ∷ tables) old new h =
     (back.0 ∙ h.1.empty, subst (λ schema. AllByRecursion (λ tree. new.trees tree ≡ []) (new_trees schema tables)) h.1.schema (made_empty tables h.0 new h.2))
 
 pub still_numbered : (tables : List Table) (a b : Trees) → KeepsRows tables a b → AllByRecursion (λ t. IsNumbered (a t.tree)) tables → AllByRecursion (λ t. IsNumbered (b t.tree)) tables
-still_numbered [] a b same all = tt
-still_numbered (t ∷ tables) a b same all = (subst IsNumbered (sym same.0) all.0, still_numbered tables a b same.1 all.1)
+still_numbered tables a b = all_both (λ t. b t.tree ≡ a t.tree) (λ t. IsNumbered (a t.tree)) (λ t. IsNumbered (b t.tree)) (λ t same. subst IsNumbered (sym same)) tables
 
 -- all tables obey the schema, and their rows are in the order of their numbers
 pub made_kept : (tables : List Table) (old new : Database) → Makes tables old new → IsKept old → IsKept new
@@ -102,7 +87,7 @@ made_kept [] old new h kept = subst IsKept (sym h) kept
 made_kept (table ∷ tables) old new h kept = made_kept tables h.0 new h.2 (record { sound = h.1.sound; numbered = subst (λ (s : Schema). AllByRecursion (λ t. IsNumbered (h.0.trees t.tree)) s.tables) (sym h.1.schema) rows })
   where
     rows : AllByRecursion (λ t. IsNumbered (h.0.trees t.tree)) (old.schema.tables ++ record table { tree = next_tree old.schema } ∷ [])
-    rows = all_append _ old.schema.tables (record table { tree = next_tree old.schema } ∷ []) (still_numbered old.schema.tables old.trees h.0.trees h.1.others kept.numbered) (subst IsNumbered (sym h.1.empty) (tt, tt), tt)
+    rows = all-append _ old.schema.tables (record table { tree = next_tree old.schema } ∷ []) (still_numbered old.schema.tables old.trees h.0.trees h.1.others kept.numbered) (subst IsNumbered (sym h.1.empty) (tt, tt), tt)
 
 -- one table by its text, over a schema that is written out: each premise but the last two is `refl`
 pub makes_one : (sql : List ℕ) (schema : Schema) (table : Table) → Means schema sql CreateTable → statement_of sql (understood schema sql) ≡ sql → table_defined_by sql ≡ Ok table → lacks_sequence (created schema table) ≡ false

@@ -1,31 +1,15 @@
 -- A DELETE from a table to which no other refers is refused by nothing while the store works.
 use Rattle.std.proofs.Common.{◌≡◌, inl, inr, ℕ, ℤ, List, [], ◌∷◌, length, slice_get, Bool, true, false, not, ◌&&◌, nat_lt, Some, None, Option, Ok, Err, refl, sym, ap, subst}
 use Rattle.std.proofs.lemmas.Bool.{or_right}
-use Rattle.sqlite.specs.Order.{Row}
-use Rattle.sqlite.specs.Tree.{Trees, IsTable, IsAscending}
-use Rattle.sqlite.specs.Schema.{Schema}
-use Rattle.sqlite.specs.Table.{Table}
-use Rattle.sqlite.specs.Term.{Term, col}
-use Rattle.sqlite.specs.Command.TheVariants.{Delete}
-use Rattle.sqlite.specs.Rowids.TheVariants.{Given}
-use Rattle.sqlite_schema.specs.declared.schema.Keys.{Keys}
-use Rattle.sqlite_schema.specs.declared.schema.Column.{Column}
-use Rattle.sqlite_schema.specs.declared.schema.Reference.{Reference}
-use Rattle.sqlite_schema.specs.declared.schema.Among.TheVariants.{All}
-use Rattle.sqlite_schema.specs.declared.schema.Constraint.{Constraint}
-use Rattle.sqlite_schema.specs.declared.program.Program.{Program}
+use Rattle.sqlite.specs.{Order.{Row}, Tree.{Trees, IsTable, IsAscending}, Schema.{Schema}, Table.{Table}, Term.{Term, col}, Command.TheVariants.{Delete}}
+use Rattle.sqlite.specs.{Rowids.TheVariants.{Given}, declared.error.Error.{Error}, Rows.{Written, Task, Edited, Deletes}, Does.{AtPlace, OnRows, Does}}
+use Rattle.sqlite.specs.State.{State, Executes, Fails, mode_of}
+use Rattle.sqlite_schema.specs.{declared.schema.Keys.{Keys}, declared.schema.Column.{Column}, declared.schema.Reference.{Reference}}
+use Rattle.sqlite_schema.specs.{declared.schema.Among.TheVariants.{All}, declared.schema.Constraint.{Constraint}, declared.program.Program.{Program}}
 use Rattle.sqlite_schema.specs.Rules.{Refers, Keeps, references_fit, guards}
 use Rattle.sqlite_value.specs.declared.keys.Order.{Order}
-use Rattle.sqlite_rules.specs.Lists.{Has}
-use Rattle.sqlite_rules.specs.Calls.{ids_of}
-use Rattle.sqlite_rules.specs.Edit.{Edit, edit_of, is_off}
-use Rattle.sqlite_rules.proofs.ListLemmas.{test_from}
-use Rattle.sqlite.specs.declared.error.Error.{Error}
-use Rattle.sqlite.specs.Rows.{Written, Task, Edited, Deletes}
-use Rattle.sqlite.specs.Does.{AtPlace, OnRows, Does}
-use Rattle.sqlite.specs.State.{State, Executes, Fails, mode_of}
-use Rattle.table_access.specs.Statements.{plain_table, from_table, IsCalm}
-use Rattle.table_access.proofs.Edits.{IsAlone, Suits, goes, refers}
+use Rattle.sqlite_rules.{specs.{Lists.{Has}, Calls.{ids_of}, Edit.{Edit, edit_of, is_off}}, proofs.ListLemmas.{test_from}}
+use Rattle.table_access.{specs.Statements.{plain_table, from_table, IsCalm}, proofs.Edits.{IsAlone, Suits, goes, refers}}
 pub use Rattle.table_access.proofs.Edits.{leads_elsewhere}
 use Rattle.table_access.proofs.Answered.{Runs, never_refused}
 use Rattle.table_access.proofs.Refused.{stopped, in_place, change_fails, caused_by}
@@ -51,13 +35,14 @@ module _ (name : List ℕ) (tree : ℕ) (columns : List Column) (key : Option �
   taking db ids = edit_of db here ids Given 0 []
 
   -- it is refused by no rule
-  fine : (schema : Schema) → IsLeaf schema → Has schema.tables here → (keys : Keys) (db : Trees) (ids : List ℤ) → IsTable (db tree) → ((rule : Constraint) → Keeps rule schema db) → Suits schema keys db (taking db ids)
+  fine : (schema : Schema) → IsLeaf schema → Has schema.tables here → (keys : Keys) (db : Trees) (ids : List ℤ) → IsTable (db tree) → ((rule : Constraint) → Keeps rule schema db) → Suits ⊥ schema keys db (taking db ids)
   fine schema leaf listed keys db ids ordered rules = record {
     apart = leaf.apart;
     calm = leaf.calm;
     listed = listed;
     ordered = ordered;
     rules = rules;
+    storable = λ row none. absurd none;
     pass = record { typed = refl; present = refl; checked = refl };
     keyed = refl;
     fits = refl;
@@ -79,11 +64,11 @@ module _ (name : List ℕ) (tree : ℕ) (columns : List Column) (key : Option �
     abbrev task : Task
     task = record { limit = old.step_limit; keys = (mode_of old).keys; schema = old.now.schema; table = here; params = params }
 
-    suits : (ids : List ℤ) → Suits old.now.schema (mode_of old).keys old.now.trees (taking old.now.trees ids)
+    suits : (ids : List ℤ) → Suits ⊥ old.now.schema (mode_of old).keys old.now.trees (taking old.now.trees ids)
     suits ids = fine old.now.schema leaf listed (mode_of old).keys old.now.trees ids ordered rules
 
     goes_on : (ids : List ℤ) (stop : Option Error) → Edited old.now.schema (mode_of old).keys old.now.trees (taking old.now.trees ids) (Err stop) → ⊥
-    goes_on ids stop edited = (goes old.now.schema (mode_of old).keys old.now.trees (taking old.now.trees ids) (suits ids) stop edited).1.1
+    goes_on ids stop edited = (goes ⊥ old.now.schema (mode_of old).keys old.now.trees (taking old.now.trees ids) (suits ids) stop edited).1
 
     deleted : (stop : Option Error) → Deletes task query old.now.trees (Err stop) → ⊥
     deleted None h = elim (stopped None h) [
@@ -99,7 +84,7 @@ module _ (name : List ℕ) (tree : ℕ) (columns : List Column) (key : Option �
     left_sound w h =
         let ids = went h in
         let gone = went ids.2 in
-        subst (λ trees. Refers All old.now.schema trees) (sym (ap (λ (it : Written). it.trees) (same_value gone.2))) (refers old.now.schema (mode_of old).keys old.now.trees (taking old.now.trees (ids_of ids.0)) (suits (ids_of ids.0)) gone.0 gone.1)
+        subst (λ trees. Refers All old.now.schema trees) (sym (ap (λ (it : Written). it.trees) (same_value gone.2))) (refers ⊥ old.now.schema (mode_of old).keys old.now.trees (taking old.now.trees (ids_of ids.0)) (suits (ids_of ids.0)) gone.0 gone.1)
 
     rows_done : (stop : Option Error) → OnRows task (mode_of old) None (Delete at query) old.now.trees (Err stop) → ⊥
     rows_done stop h = elim (stopped stop h) [

@@ -1,42 +1,24 @@
 -- An edit that suits its table is refused by no rule, and leaves only rows that refer to rows that are there.
+use Rattle.std.specs.{List.{AllByRecursion, list_any, list_all}, Ordering.{is_eq, is_ne}, Cmp.{nat_eq_equiv, tied_itself}}
 use Rattle.std.proofs.Common.{◌≡◌, ◌≢◌, ◌⊎◌, inl, inr, ℕ, ℤ, zero, suc, List, [], ◌∷◌, length, Bool, true, false, not, ◌&&◌, ◌||◌, cond, Ordering, Less, Equal, Greater, Some, None, Option, option_map, Ok, Err, refl, sym, ap, subst, ◌∙◌, length-append, ◌==◌, arith}
-use Rattle.std.specs.List.{AllByRecursion, list_any, list_all}
-use Rattle.std.specs.Ordering.{is_eq, is_ne}
-use Rattle.std.specs.Cmp.{nat_eq_equiv, tied_itself}
 use Rattle.std.proofs.lemmas.Bool.{both_ways, false_from_ne_true, and_parts, or_cases, or_left, or_right, cases_eq, eqb-true}
-use Rattle.sqlite.specs.declared.types.Value.TheVariants.{Int}
-use Rattle.sqlite.specs.Order.{Row, value_cmp}
-use Rattle.sqlite.specs.Tree.{Trees, IsTable, IsAscending, rowid, put_row, with_tree}
-use Rattle.sqlite.specs.View.{is_int}
-use Rattle.sqlite.specs.Schema.{Schema}
-use Rattle.sqlite.specs.Table.{Table}
+use Rattle.sqlite.specs.{declared.types.Value.TheVariants.{Int}, Order.{Row, value_cmp}, Tree.{Trees, IsTable, IsAscending, rowid, put_row, with_tree}}
+use Rattle.sqlite.specs.{View.{is_int}, Schema.{Schema}, Table.{Table}, declared.error.Error.{Error}, Rows.{Edited}, Effect.{edit_error}}
+use Rattle.sqlite.proofs.Callers.{one_step}
 use Rattle.sqlite_sql.specs.Ops.{fits_i64, binary, is_true, from_truth}
-use Rattle.sqlite_schema.specs.declared.schema.Keys.{Keys}
-use Rattle.sqlite_schema.specs.declared.schema.Index.{Index}
-use Rattle.sqlite_schema.specs.declared.schema.Reference.{Reference}
-use Rattle.sqlite_schema.specs.declared.schema.Among.TheVariants.{All}
-use Rattle.sqlite_schema.specs.declared.schema.Constraint.{Constraint}
+use Rattle.sqlite_schema.specs.{declared.schema.Keys.{Keys}, declared.schema.Index.{Index}, declared.schema.Reference.{Reference}}
+use Rattle.sqlite_schema.specs.{declared.schema.Among.TheVariants.{All}, declared.schema.Constraint.{Constraint}}
 use Rattle.sqlite_schema.specs.declared.schema.Constraint.TheVariants.{Datatype, NotNull, Check, PrimaryKey, Unique, ForeignKey}
 use Rattle.sqlite_schema.specs.Rules.{Refers, Keeps, ParentKey, agree, differ, clashes, guards, has_parent, has_null, is_held, parent_key}
-use Rattle.sqlite_rules.specs.Lists.{Has}
-use Rattle.sqlite_rules.specs.Keys.{are_unique}
-use Rattle.sqlite_rules.specs.Steps.{PassAlone}
-use Rattle.sqlite_rules.specs.Edit.{Edit, IsRefused, id_in, left_by, edited, taken_by, have_rowids, are_fresh, is_referred, without_all}
-use Rattle.sqlite_rules.specs.Action.{Leads}
-use Rattle.sqlite_rules.specs.declared.error.Refusal.{Refusal}
+use Rattle.sqlite_rules.specs.{Lists.{Has}, Keys.{are_unique}, Steps.{PassAlone}}
+use Rattle.sqlite_rules.specs.Edit.{Edit, IsRefused, IsOversized, id_in, left_by, edited, taken_by, have_rowids, are_fresh, is_referred, without_all}
+use Rattle.sqlite_rules.specs.{Action.{Leads}, declared.error.Refusal.{Refusal}}
 use Rattle.sqlite_rules.specs.declared.error.Refusal.TheVariants.{Violates, Mismatch, NoRowid, BadReference, TooDeep}
 use Rattle.sqlite_rules.proofs.ListLemmas.{some_has, some_from, test_has, test_from}
-use Rattle.sqlite_rules.proofs.RuleLemmas.{Turns, unique_kept, parent_is_table, keeps_at, refers_from, origin}
-use Rattle.sqlite_rules.proofs.EditLemmas.{turns}
+use Rattle.sqlite_rules.proofs.{RuleLemmas.{Turns, unique_kept, parent_is_table, keeps_at, refers_from, origin}, EditLemmas.{turns}}
 use Rattle.sqlite_rules.proofs.TableLemmas.{put_has, int_is}
 use Rattle.sqlite_value.proofs.OrderLemmas.{value_cmp_total}
-use Rattle.sqlite.specs.declared.error.Error.{Error}
-use Rattle.sqlite.specs.Rows.{Edited}
-use Rattle.sqlite.specs.Effect.{edit_error}
-use Rattle.sqlite.proofs.Callers.{one_step}
-use Rattle.table_access.specs.Statements.{IsCalm}
-use Rattle.table_access.proofs.Removal.{calm_works}
-use Rattle.table_access.proofs.SoundLemmas.{all_of}
+use Rattle.table_access.{specs.Statements.{IsCalm}, proofs.{Removal.{calm_works}, SoundLemmas.{all_of}}}
 
 -- no reference leads to the table at this tree
 abbrev pub leads_elsewhere : ℕ → Option ParentKey → Bool
@@ -52,15 +34,17 @@ is_elsewhere tree key h same =
 abbrev pub IsAlone : Schema → ℕ → Type 0
 IsAlone schema tree = list_all (λ t. list_all (λ ref. leads_elsewhere tree (parent_key schema.tables ref)) t.references) schema.tables ≡ true
 
-module _ (schema : Schema) (keys : Keys) (db : Trees) (edit : Edit) where
+module _ (TooBig : Type 0) (schema : Schema) (keys : Keys) (db : Trees) (edit : Edit) where
   -- The database obeys its schema, in which no foreign key acts. The new rows fit the columns, the CHECKs and the keys of
-  -- the table, and what they refer to is there. And none is taken out to which a row may refer.
+  -- the table, and what they refer to is there. None is taken out to which a row may refer. TooBig is what is so where a
+  -- new row can't be stored.
   pub record Suits : Type 0 where
     pub apart : IsAscending (λ a b. a.tree ≡ b.tree → ⊥) schema.tables
     pub calm : IsCalm schema.tables
     pub listed : Has schema.tables edit.table
     pub ordered : IsTable (db edit.table.tree)
     pub rules : (rule : Constraint) → Keeps rule schema db
+    pub storable : (row : Row) → Has edit.news row → IsOversized schema edit.table row → TooBig
     pub pass : PassAlone edit.table edit.news
     pub keyed : have_rowids edit.news ≡ true
     pub fits : list_all (λ r. fits_i64 (id_in (rowid r))) edit.news ≡ true
@@ -84,7 +68,7 @@ module _ (schema : Schema) (keys : Keys) (db : Trees) (edit : Edit) where
         ap (λ b. cond b rows (db t.tree)) (false_from_ne_true (t.tree == edit.table.tree) (λ same. other (eqb-true t.tree edit.table.tree same))))) in
         unique_kept schema db (with_tree db edit.table.tree rows) edit.table _ _ edit.news turn suits.unique (suits.rules Unique)
 
-    pub no_rule : (why : Refusal) → IsRefused schema keys db edit why → ⊥
+    no_rule : (why : Refusal) → IsRefused schema keys db edit why → ⊥
     no_rule (Violates Datatype) h = both_ways _ h suits.pass.typed
     no_rule (Violates NotNull) h = both_ways _ h suits.pass.present
     no_rule (Violates Check) h = both_ways _ h suits.pass.checked
@@ -102,9 +86,9 @@ module _ (schema : Schema) (keys : Keys) (db : Trees) (edit : Edit) where
     settled (suc n) next stop h = omega (arith, ap length h.2, length-append h.0 (h.1 ∷ []))
 
     -- it stops only at a row that is too big
-    pub goes : (stop : Option Error) → Edited schema keys db edit (Err stop) → (stop ≡ None) × ((row : Row) × Has edit.news row)
+    pub goes : (stop : Option Error) → Edited schema keys db edit (Err stop) → (stop ≡ None) × TooBig
     goes stop (why, inl refused, is) = absurd (no_rule refused.0 refused.1)
-    goes stop (why, inr (inl big), is) = let same : why ≡ None = (let h = big.3 in cc) in (is ∙ ap (option_map edit_error) same, (big.0, big.1))
+    goes stop (why, inr (inl big), is) = let same : why ≡ None = (let h = big.3 in cc) in (is ∙ ap (option_map edit_error) same, suits.storable big.0 big.1 big.2)
     goes stop (why, inr (inr went), is) =
         absurd (settled went.2.0 went.0 why (subst (λ stack. Leads schema keys went.2.0 went.0 stack (Err why)) (calm_works schema keys 0 edit.table.tree (taken_by db edit) edit.news suits.calm) went.2.1))
 

@@ -1,11 +1,7 @@
 -- How a transaction ends.
-use Rattle.std.proofs.Common.{◌≡◌, inl, inr, false, IsTrue, Result, sym, subst, ◌∙◌, arith, ap}
-use Rattle.sqlite.specs.Tree.{Trees}
-use Rattle.sqlite.specs.Effect.{Database, IsDatabase}
-use Rattle.sqlite.specs.State.{State, HasCleanDisk, Survives, Commits, IsLive}
-use Rattle.table_access.specs.Unit.{Begins}
-use Rattle.table_access.specs.declared.StoreFault.{StoreFault}
-use Rattle.table_access.specs.Calls.{CallsTablesBetween, KeepsLastCommit}
+use Rattle.std.proofs.Common.{◌≡◌, inl, inr, IsTrue, Result, sym, subst, ◌∙◌, arith, ap}
+use Rattle.sqlite.specs.{Tree.{Trees}, Effect.{Database, IsDatabase}, State.{State, HasCleanDisk, Survives, Commits, IsLive}}
+use Rattle.table_access.specs.{Unit.{Begins}, declared.StoreFault.{StoreFault}, Calls.{CallsTablesBetween, KeepsLastCommit}}
 use Rattle.table_access.specs.Durability.{HoldsDurably, IsOnDisk, HoldsEither}
 
 stored : (P : Database → Type 0) (db : Database) (trees : Trees) → IsDatabase db → P db → trees ≡ db.trees → IsOnDisk P trees
@@ -55,16 +51,6 @@ module _ {A : Type 0} (P : Database → Type 0) (old mid done : State) (r : Resu
           | inr is ↦ inr (stored Q done.now trees (live is_open).0 has is)
         ];
       }
-
-  -- it is rolled back
-  pub undone : (new : State) → (IsTrue new.is_open → (new.in_transaction ≡ false) × (new.now ≡ new.committed)) → KeepsLastCommit done new → HasCleanDisk new → Survives done new (λ _. ⊥) → HoldsDurably P new
-  undone new ended it now_clean t = record {
-    held = λ now.
-        let same = it.committed now ∙ before.committed (it.was_open now) ∙ begun.1.committed_is in
-        let was = keeps.held begun.1.was_open in
-        record { autocommit = (ended now).0; same = (ended now).1; sound = subst IsDatabase (sym same) was.sound; has = subst P (sym same) was.has };
-    left = λ trees may. elim (t.crash now_clean trees may) [ inl dones ↦ left_before trees dones | inr never ↦ absurd never ];
-  }
 
 -- where P is held durably, the connection is as a refused commit from P to any Q leaves it
 pub keeps_unsure : (P Q : Database → Type 0) (c : State) → HoldsDurably P c → HoldsEither P Q c

@@ -1,21 +1,12 @@
 -- What CREATE INDEX leaves.
-use Rattle.std.proofs.Common.{◌≡◌, ◌∷◌, ◌++◌, ℕ, List, [], Ok, Some, None, slice_get, refl, sym, ap, subst, ◌∙◌}
-use Rattle.std.specs.List.{AllByRecursion}
+use Rattle.std.{specs.List.{AllByRecursion}, proofs.Common.{◌≡◌, ◌∷◌, ◌++◌, ℕ, List, [], Ok, Some, None, slice_get, refl, sym, ap, subst, ◌∙◌}}
 use Rattle.sqlite_schema.specs.declared.schema.Index.{Index}
-use Rattle.sqlite.specs.Table.{Table}
-use Rattle.sqlite.specs.Schema.{Schema}
-use Rattle.sqlite.specs.Command.TheVariants.{CreateIndex}
-use Rattle.sqlite_resolve.specs.Compile.{index_defined_by}
-use Rattle.sqlite.specs.Change.{indexed, KeepsRows}
-use Rattle.sqlite.specs.Effect.{Database}
-use Rattle.sqlite.specs.Does.{Tally, AtPlace, Defines, MakesIndex}
-use Rattle.sqlite.specs.State.{State, Executes, Writes, mode_of}
-use Rattle.sqlite.specs.Listing.{understood}
+use Rattle.sqlite.specs.{Table.{Table}, Schema.{Schema}, Command.TheVariants.{CreateIndex}, Change.{indexed, KeepsRows}, Effect.{Database}}
+use Rattle.sqlite.specs.{Does.{Tally, AtPlace, Defines, MakesIndex}, State.{State, Executes, Writes, mode_of}, Listing.{understood}}
 use Rattle.sqlite.proofs.Callers.{statement_of, runs_as}
-use Rattle.table_access.specs.Statements.{Indexes, IndexesTable, MakesIndexes, with_index, indexed_by}
-use Rattle.table_access.specs.Sound.{IsNumbered, IsKept}
-use Rattle.table_access.proofs.Creation.{still_numbered, keeps_then, each_then, each_schema}
-use Rattle.table_access.proofs.Steps.{Means, went, same_value}
+use Rattle.sqlite_resolve.specs.Compile.{index_defined_by}
+use Rattle.table_access.specs.{Statements.{Indexes, IndexesTable, MakesIndexes, with_index, indexed_by}, Sound.{IsNumbered, IsKept}}
+use Rattle.table_access.proofs.{Creation.{still_numbered, each_keeps, each_then, each_schema}, Steps.{Means, went, same_value}}
 
 pub indexes : (sql : List ℕ) (old new : State) (at : ℕ) (table : Table) (index : Index) (count : ℕ) → Means old.now.schema sql (CreateIndex at) → statement_of sql (understood old.now.schema sql) ≡ sql
     → slice_get old.now.schema.tables at ≡ Some table → index_defined_by table sql ≡ Ok index → Executes sql [] old new (Ok count) → Indexes old.now new.now table index
@@ -57,13 +48,7 @@ indexes_schema = each_schema IndexesTable with_index (λ old new one made. made.
 
 -- the tables keep their rows
 pub indexes_keep : (more : List (Table × Index)) (old new : Database) → MakesIndexes more old new → KeepsRows old.schema.tables old.trees new.trees
-indexes_keep [] old new h = same old.schema.tables
-  where
-    same : (ts : List Table) → KeepsRows ts old.trees new.trees
-    same [] = tt
-    same (t ∷ ts) = (ap (λ (db : Database). db.trees t.tree) h, same ts)
-indexes_keep (one ∷ more) old new h =
-    keeps_then old.schema.tables old.trees h.0.trees new.trees h.1.others (subst (λ (s : Schema). KeepsRows s.tables h.0.trees new.trees) h.1.schema (indexes_keep more h.0 new h.2))
+indexes_keep = each_keeps IndexesTable (λ old new one made. made.others) (λ old new one made later. subst (λ (s : Schema). KeepsRows s.tables new.trees later) made.schema)
 
 -- all tables still obey the schema after them, and their rows are in the order of their numbers
 pub indexes_kept : (more : List (Table × Index)) (old new : Database) → MakesIndexes more old new → IsKept old → IsKept new

@@ -1,27 +1,11 @@
 -- SELECT from two tables.
-use Rattle.std.proofs.Common.{◌≡◌, ℕ, List, [], ◌∷◌, ◌++◌, map, filter, true, false, cond, refl, sym, ap, subst₂, ◌∙◌}
-use Rattle.std.specs.List.{flat_map}
-use Rattle.std.specs.List.Sorted.{IsPermutation}
+use Rattle.std.{specs.{List.{flat_map}, List.Sorted.{IsPermutation}}, proofs.Common.{ℕ, List, [], ◌∷◌, map, filter, sym, ap, subst₂, ◌∙◌}}
 use Rattle.std.proofs.lemmas.List.Sorted.{IsPermutation-map}
 use Rattle.sqlite_keyed.proofs.ListLemmas.{map-map, map-flat_map, flat_map_same_on}
-use Rattle.sqlite.specs.declared.types.Value.TheVariants.{Null}
-use Rattle.sqlite.specs.Order.{Row}
-use Rattle.sqlite.specs.Term.{Term, eval_all}
-use Rattle.sqlite.specs.Query.{Query, IsAnswer, output, Output}
-use Rattle.sqlite.specs.Program.{overlay}
-use Rattle.sqlite.specs.Effect.{Database, Answers}
+use Rattle.sqlite.specs.{declared.types.Value.TheVariants.{Null}, Order.{Row}, Term.{Term, eval_all}, Query.{Query, IsAnswer, output, Output}}
+use Rattle.sqlite.specs.{Program.{overlay}, Effect.{Database, Answers}}
 use Rattle.sqlite_value.specs.declared.keys.Key.{Key}
-use Rattle.table_access.specs.Statements.{from_both, keeps_both}
-use Rattle.table_access.proofs.Steps.{bare}
-
-module _ (params : Row) (terms : List Term) (r : Row) where
-  pub second_table : (rows : List Row) → flat_map (λ s. cond (keeps_both terms params r s) ((params ∷ r ∷ s ∷ []) ∷ []) []) rows ≡ map (λ s. params ∷ r ∷ s ∷ []) (filter (keeps_both terms params r) rows)
-  second_table [] = refl
-  second_table (s ∷ rows) =
-      elim (keeps_both terms params r s) as (λ b. cond b ((params ∷ r ∷ s ∷ []) ∷ []) [] ++ flat_map (λ x. cond (keeps_both terms params r x) ((params ∷ r ∷ x ∷ []) ∷ []) []) rows ≡ map (λ x. params ∷ r ∷ x ∷ []) (cond b (s ∷ filter (keeps_both terms params r) rows) (filter (keeps_both terms params r) rows))) [
-        | true ↦ ap (λ more. (params ∷ r ∷ s ∷ []) ∷ more) (second_table rows)
-        | false ↦ second_table rows
-      ]
+use Rattle.table_access.{specs.Statements.{from_both, keeps_both}, proofs.Steps.{bare, kept_rows}}
 
 module _ (db : Database) (params : Row) (t u : ℕ) (terms project : List Term) (order : List (Term × Key)) (rows : List Row) (h : Answers db (record { lets = []; body = from_both t u terms project order }) params rows) where
   abbrev q : Query
@@ -33,7 +17,7 @@ module _ (db : Database) (params : Row) (t u : ℕ) (terms project : List Term) 
   -- for each row of the first table, the rows of the second that WHERE and ON keep
   pub joined : IsPermutation (flat_map (λ r. map (λ s. eval_all project (params ∷ r ∷ s ∷ [])) (filter (keeps_both terms params r) (db.trees u))) (db.trees t)) rows
   joined =
-      let staged = answer.grouped ∙ ap (flat_map _) (bare db.trees t) ∙ flat_map_same_on _ (λ r. map (λ s. params ∷ r ∷ s ∷ []) (filter (keeps_both terms params r) (db.trees u))) (λ r. ap (flat_map _) (bare db.trees u) ∙ second_table params terms r (db.trees u)) (db.trees t) in
+      let staged = answer.grouped ∙ ap (flat_map _) (bare db.trees t) ∙ flat_map_same_on _ (λ r. map (λ s. params ∷ r ∷ s ∷ []) (filter (keeps_both terms params r) (db.trees u))) (λ r. ap (flat_map _) (bare db.trees u) ∙ kept_rows (keeps_both terms params r) (λ s. params ∷ r ∷ s ∷ []) (db.trees u)) (db.trees t) in
       let shown = ap (map (λ (o : Output). o.1)) (answer.distinct ∙ ap (map (output q)) staged) ∙ map-map _ _ _
       ∙ map-flat_map (λ (e : List Row). (output q e).1) (λ (r : Row). map (λ s. params ∷ r ∷ s ∷ []) (filter (keeps_both terms params r) (db.trees u))) (db.trees t)
       ∙ flat_map_same_on _ _ (λ r. map-map (λ (e : List Row). (output q e).1) (λ (s : Row). params ∷ r ∷ s ∷ []) (filter (keeps_both terms params r) (db.trees u))) (db.trees t) in

@@ -8,6 +8,7 @@ pub mod Maps
 pub mod Keys
 pub mod Steps
 pub mod Answered
+pub mod Storable
 pub mod Edits
 pub mod Refused
 pub mod RefusedEnds

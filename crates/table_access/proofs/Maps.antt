@@ -1,33 +1,16 @@
 -- Rows as a finite map.
-use Rattle.std.proofs.Common.{inl, inr, subst, ◌≡◌, ◌+◌, List, [], ◌∷◌, ◌++◌, Bool, true, false, cond, not, refl, ap, ◌∙◌, sym, slice_get, Some, None, arith, length, filter, map, ◌≤◌, Ordering}
-use Rattle.std.specs.List.{AllByRecursion}
-use Rattle.std.specs.Prelude.{option_map, is_some}
-use Rattle.std.specs.Ordering.{eq_by_cmp, is_eq}
-use Rattle.std.specs.declared.cmp.Ordering.TheVariants.{Less, Equal, Greater}
-use Rattle.std.specs.Cmp.{IsTotalOrder, eq_by_cmp_equiv}
-use Rattle.std.specs.List.Sorted.{IsPermutation}
-use Rattle.std.proofs.lemmas.List.Sorted.{length_permutation}
-use Rattle.std.proofs.lemmas.List.{map-append, length-map}
-use Rattle.std.specs.FinMap.{find, get, insert, remove, from_entries, same_map, get-from_entries, get-insert, get-remove, IsAntisymmetric, len, len-empty, len-insert}
-use Rattle.sqlite.proofs.Callers.{one_permutation}
-use Rattle.sqlite.specs.Order.{Row}
-use Rattle.sqlite.specs.Tree.{IsAscending}
+use Rattle.std.specs.{List.{AllByRecursion}, Prelude.{option_map}, Ordering.{eq_by_cmp}, Cmp.{IsTotalOrder, eq_by_cmp_equiv, Equal-is}}
+use Rattle.std.specs.{List.Sorted.{IsPermutation}, FinMap.{find, IsAntisymmetric}}
+use Rattle.std.proofs.Common.{inl, inr, subst, ◌≡◌, List, [], ◌∷◌, ◌++◌, Bool, true, false, cond, not, refl, ap, ◌∙◌, sym, slice_get, Some, None, arith, length, filter, map, ◌≤◌, Ordering}
+use Rattle.std.proofs.{lemmas.List.Sorted.{length_permutation}, lemmas.List.{map-append, length-map}}
+use Rattle.sqlite.{specs.{Order.{Row}, Tree.{IsAscending}}, proofs.Callers.{one_permutation}}
 use Rattle.sqlite_rules.specs.Lists.{Has}
-use Rattle.table_access.proofs.SoundLemmas.{at_has}
-use Rattle.table_access.specs.Statements.{IsAdded}
-
-tied_cmp : (x : Ordering) → is_eq x ≡ true → x ≡ Equal
-tied_cmp Less e = absurd cc
-tied_cmp Equal e = refl
-tied_cmp Greater e = absurd cc
-
-is_nothing : {X : Type 0} (ys : List X) → length ys ≡ 0 → ys ≡ []
-is_nothing [] e = refl
-is_nothing (y ∷ ys) e = absurd (omega arith)
+use Rattle.table_access.{specs.Statements.{IsAdded}, proofs.SoundLemmas.{at_has}}
 
 -- lists of at most one element that are permutations are equal
 pub few_permuted : {X : Type 0} (xs ys : List X) → length xs ≤ 1 → IsPermutation xs ys → ys ≡ xs
-few_permuted [] ys few same = is_nothing ys (length_permutation [] ys same)
+few_permuted [] [] few same = refl
+few_permuted [] (y ∷ ys) few same = absurd (let e = length_permutation [] (y ∷ ys) same in omega (arith, e))
 few_permuted (x ∷ []) ys few same = one_permutation x ys same
 few_permuted (x ∷ y ∷ xs) ys few same = absurd (omega arith)
 
@@ -35,7 +18,7 @@ module _ {K V : Type 0} {R : K → K → Ordering} (o : IsTotalOrder R) (exact :
   abbrev pub entries : List Row → List (K × V)
   entries = map (λ r. (key r, value r))
 
-  pub found : (k : K) (p : Row → Bool) (rows : List Row) → AllByRecursion (λ r. p r ≡ eq_by_cmp R k (key r)) rows → find R k (entries rows) ≡ option_map value (slice_get (filter p rows) 0)
+  found : (k : K) (p : Row → Bool) (rows : List Row) → AllByRecursion (λ r. p r ≡ eq_by_cmp R k (key r)) rows → find R k (entries rows) ≡ option_map value (slice_get (filter p rows) 0)
   found k p [] same = refl
   found k p (r ∷ rows) same =
       elim (p r) as (λ b. p r ≡ b → cond (eq_by_cmp R k (key r)) (Some (value r)) (find R k (entries rows)) ≡ option_map value (slice_get (cond b (r ∷ filter p rows) (filter p rows)) 0)) [
@@ -51,9 +34,6 @@ module _ {K V : Type 0} {R : K → K → Ordering} (o : IsTotalOrder R) (exact :
   find-middle (e ∷ front) back k v q none =
       go (eq_by_cmp R k e.0) refl none (eq_by_cmp R q e.0) refl (eq_by_cmp R q k) refl (λ h. find-middle front back k v q h)
     where
-      rest : Type 0
-      rest = (find R k (front ++ back) ≡ None → find R q (front ++ (k, v) ∷ back) ≡ cond (eq_by_cmp R q k) (Some v) (find R q (front ++ back)))
-
       go : (a : Bool) → eq_by_cmp R k e.0 ≡ a → cond a (Some e.1) (find R k (front ++ back)) ≡ None → (b : Bool) → eq_by_cmp R q e.0 ≡ b → (c : Bool) → eq_by_cmp R q k ≡ c
           → (find R k (front ++ back) ≡ None → find R q (front ++ (k, v) ∷ back) ≡ cond (eq_by_cmp R q k) (Some v) (find R q (front ++ back)))
           → cond b (Some e.1) (find R q (front ++ (k, v) ∷ back)) ≡ cond c (Some v) (cond b (Some e.1) (find R q (front ++ back)))
@@ -61,13 +41,6 @@ module _ {K V : Type 0} {R : K → K → Ordering} (o : IsTotalOrder R) (exact :
       go false ea h true eb true ec later = absurd (let both = joined q k e.0 ec eb in cc)
       go false ea h true eb false ec later = refl
       go false ea h false eb c ec later = later h ∙ ap (λ t. cond t (Some v) (find R q (front ++ back))) ec
-
-  -- a row whose key is new
-  pub put : (old new : List Row) (row : Row) → IsAdded old new row → get (from_entries {R = R} (entries old)) (key row) ≡ None → from_entries {R = R} (entries new) ≡ insert (from_entries (entries old)) (key row) (value row)
-  put old new row it none = same_map o exact _ _ (λ q.
-      let fresh : find R (key row) (entries it.front ++ entries it.back) ≡ None = sym (ap (find R (key row)) (ap entries it.was ∙ map-append _ it.front it.back)) ∙ sym (get-from_entries o (entries old) (key row)) ∙ none in
-      get-from_entries o (entries new) q ∙ ap (find R q) (ap entries it.is ∙ map-append _ it.front (row ∷ it.back)) ∙ find-middle (entries it.front) (entries it.back) (key row) (value row) q fresh
-      ∙ sym (get-insert o (from_entries (entries old)) (key row) (value row) q ∙ ap (cond (eq_by_cmp R q (key row)) (Some (value row))) (get-from_entries o (entries old) q ∙ ap (find R q) (ap entries it.was ∙ map-append _ it.front it.back))))
 
   -- keys that stand once
   abbrev pub AreKeys : List Row → Type 0
@@ -79,30 +52,13 @@ module _ {K V : Type 0} {R : K → K → Ordering} (o : IsTotalOrder R) (exact :
       let test : p x ≡ false = same.0 ∙ (eq_by_cmp_equiv o).congr k (key r) (key x) here ∙ apart.0 in
       rw test (nothing_after k p r rows here same.1 apart.1)
 
-  pub at_most_one : (k : K) (p : Row → Bool) (rows : List Row) → AllByRecursion (λ r. p r ≡ eq_by_cmp R k (key r)) rows → AreKeys rows → length (filter p rows) ≤ 1
+  at_most_one : (k : K) (p : Row → Bool) (rows : List Row) → AllByRecursion (λ r. p r ≡ eq_by_cmp R k (key r)) rows → AreKeys rows → length (filter p rows) ≤ 1
   at_most_one k p [] same apart = omega arith
   at_most_one k p (r ∷ rows) same apart =
       elim (p r) as (λ b. p r ≡ b → length (cond b (r ∷ filter p rows) (filter p rows)) ≤ 1) [
         | true ↦ λ t. let none = nothing_after k p r rows (sym same.0 ∙ t) same.1 apart.0 in rw none (omega arith)
         | false ↦ λ t. at_most_one k p rows same.1 apart.1
       ] refl
-
-  -- what a query by the whole key finds
-  pub looked_up : {S : Type 0} (show : Row → S) (k : K) (p : Row → Bool) (rows : List Row) (out : List S) → AllByRecursion (λ r. p r ≡ eq_by_cmp R k (key r)) rows → AreKeys rows → IsPermutation (map show (filter p rows)) out
-      → (out ≡ map show (filter p rows)) × (get (from_entries {R = R} (entries rows)) k ≡ option_map value (slice_get (filter p rows) 0))
-  looked_up show k p rows out same apart some =
-      (few_permuted (map show (filter p rows)) out (omega (arith, length-map (filter p rows) show, at_most_one k p rows same apart)) some, get-from_entries o (entries rows) k ∙ found k p rows same)
-
-  -- what the first row shows, where the query is by the whole key
-  pub looks_up : {S : Type 0} (show : Row → S) (read : S → V) → ((r : Row) → read (show r) ≡ value r) → (k : K) (p : Row → Bool) (rows : List Row) (out : List S) → AllByRecursion (λ r. p r ≡ eq_by_cmp R k (key r)) rows → AreKeys rows → IsPermutation (map show (filter p rows)) out
-      → option_map read (slice_get out 0) ≡ get (from_entries {R = R} (entries rows)) k
-  looks_up show read reads k p rows out same apart some =
-      let it = looked_up show k p rows out same apart some in
-      ap (λ xs. option_map read (slice_get xs 0)) it.0 ∙ first (filter p rows) ∙ sym it.1
-    where
-      first : (rs : List Row) → option_map read (slice_get (map show rs) 0) ≡ option_map value (slice_get rs 0)
-      first [] = refl
-      first (r ∷ rs) = ap Some (reads r)
 
   tied : (q k x : K) → eq_by_cmp R q x ≡ true → eq_by_cmp R k x ≡ true → eq_by_cmp R q k ≡ true
   tied q k x a b = (eq_by_cmp_equiv o).congr q x k a ∙ (eq_by_cmp_equiv o).symm x k ∙ b
@@ -124,28 +80,18 @@ module _ {K V : Type 0} {R : K → K → Ordering} (o : IsTotalOrder R) (exact :
       go false ea true eb false ec later = ap (λ t. cond t (Some (value r)) (find R q (entries (filter (λ x. not (p x)) rows)))) eb
       go false ea false eb c ec later = ap (λ t. cond t (Some (value r)) (find R q (entries (filter (λ x. not (p x)) rows)))) eb ∙ later ∙ ap (λ t. cond t None (find R q (entries rows))) ec
 
-  -- the rows of one key are taken out
-  pub take_out : (k : K) (p : Row → Bool) (old new : List Row) → AllByRecursion (λ r. p r ≡ eq_by_cmp R k (key r)) old → new ≡ filter (λ r. not (p r)) old → from_entries {R = R} (entries new) ≡ remove (from_entries (entries old)) k
-  take_out k p old new same is = same_map o exact _ _ (λ q.
-      get-from_entries o (entries new) q ∙ ap (λ rows. find R q (entries rows)) is ∙ find_without k q p old same ∙ sym (get-remove o (from_entries (entries old)) k q ∙ ap (cond (eq_by_cmp R q k) None) (get-from_entries o (entries old) q)))
-
-  absent : (k : K) (rows : List Row) → AllByRecursion (λ r. eq_by_cmp R k (key r) ≡ false) rows → find R k (entries rows) ≡ None
-  absent k [] apart = refl
-  absent k (r ∷ rows) apart = ap (λ b. cond b (Some (value r)) (find R k (entries rows))) apart.0 ∙ absent k rows apart.1
-
-  -- as many keys as rows
-  pub count : (rows : List Row) → AreKeys rows → len (from_entries {R = R} (entries rows)) ≡ length rows
-  count [] apart = len-empty R V
-  count (r ∷ rows) apart =
-      len-insert o (from_entries (entries rows)) (key r) (value r) ∙ ap (λ x. cond (is_some x) (len (from_entries {R = R} (entries rows))) (len (from_entries {R = R} (entries rows)) + 1)) (get-from_entries o (entries rows) (key r) ∙ absent (key r) rows apart.0)
-      ∙ omega (arith, count rows apart.1)
-
   -- ---- a table as the function that finds the value of a key
 
   -- where the query is by the whole key, the first row of the answer reads as the value that the key has
   pub looks_up_at : {S : Type 0} (show : Row → S) (read : S → V) → ((r : Row) → read (show r) ≡ value r) → (k : K) (p : Row → Bool) (rows : List Row) (out : List S) → AllByRecursion (λ r. p r ≡ eq_by_cmp R k (key r)) rows → AreKeys rows → IsPermutation (map show (filter p rows)) out
       → option_map read (slice_get out 0) ≡ find R k (entries rows)
-  looks_up_at show read reads k p rows out same apart some = looks_up show read reads k p rows out same apart some ∙ get-from_entries o (entries rows) k
+  looks_up_at show read reads k p rows out same apart some =
+      let one = few_permuted (map show (filter p rows)) out (omega (arith, length-map (filter p rows) show, at_most_one k p rows same apart)) some in
+      ap (λ xs. option_map read (slice_get xs 0)) one ∙ first (filter p rows) ∙ sym (found k p rows same)
+    where
+      first : (rs : List Row) → option_map read (slice_get (map show rs) 0) ≡ option_map value (slice_get rs 0)
+      first [] = refl
+      first (r ∷ rs) = ap Some (reads r)
 
   -- a row whose key is new
   pub puts_at : (old new : List Row) (row : Row) → IsAdded old new row → find R (key row) (entries old) ≡ None → (q : K) → find R q (entries new) ≡ cond (eq_by_cmp R q (key row)) (Some (value row)) (find R q (entries old))
@@ -161,7 +107,7 @@ module _ {K V : Type 0} {R : K → K → Ordering} (o : IsTotalOrder R) (exact :
     where
       go : (b : Bool) → eq_by_cmp R k (key r) ≡ b → cond b (Some (value r)) (find R k (entries rows)) ≡ Some v → (find R k (entries rows) ≡ Some v → (x : Row) × Has rows x × (k ≡ key x) × (value x ≡ v))
           → (x : Row) × Has (r ∷ rows) x × (k ≡ key x) × (value x ≡ v)
-      go true e h more = (r, inl refl, exact k (key r) (tied_cmp (R k (key r)) e), cc)
+      go true e h more = (r, inl refl, exact k (key r) ((Equal-is (R k (key r))).0 e), cc)
       go false e h more = let it = more h in (it.0, inr it.1, it.2, it.3)
 
   -- a key that isn't found is the key of no row

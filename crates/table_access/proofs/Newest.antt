@@ -1,29 +1,16 @@
 -- ORDER BY with LIMIT: the first rows of what the same query shows without it; and the row with the greatest number.
-use Rattle.std.proofs.Common.{◌≡◌, ℕ, pos, List, [], ◌∷◌, ◌++◌, map, filter, take, reverse, false, cond, refl, sym, ap, subst, ◌∙◌, Some, None, Option, slice_get, Less, Greater, is_gt, is_eq}
-use Rattle.std.specs.Prelude.{option_map}
-use Rattle.std.specs.List.{AllByRecursion}
-use Rattle.std.specs.Ordering.{ordering_reverse}
-use Rattle.std.proofs.lemmas.Grind.{reverse_onto}
-use Rattle.sqlite_keyed.specs.Lists.{insert_sorted, sort_by}
-use Rattle.sqlite_keyed.proofs.ListLemmas.{ascending_weaker, ascending-filter, first_taken}
-use Rattle.sqlite_value.proofs.OrderLemmas.{value_cmp_total, then-Equal}
-use Rattle.sqlite_value.specs.declared.keys.Key.{Key}
+use Rattle.std.specs.{Prelude.{option_map}, List.{AllByRecursion}, Ordering.{ordering_reverse}}
+use Rattle.std.proofs.Common.{◌≡◌, ℕ, pos, List, [], ◌∷◌, ◌++◌, map, filter, take, reverse, false, cond, refl, sym, ap, ◌∙◌, Option, slice_get, Less, Greater, is_gt, is_eq}
+use Rattle.std.proofs.{lemmas.Grind.{reverse_onto}, lemmas.Option.{slice_get-map}, lemmas.List.Sorted.{IsPermutation-reverse}}
+use Rattle.sqlite_trees.proofs.ListLemmas.{all-permutation}
+use Rattle.sqlite_keyed.{specs.Lists.{insert_sorted, sort_by}, proofs.ListLemmas.{ascending_weaker, ascending-filter, first_taken, filter_all}}
+use Rattle.sqlite_keyed.proofs.RuleLemmas.{each_true}
+use Rattle.sqlite_value.{specs.declared.keys.Key.{Key}, proofs.OrderLemmas.{value_cmp_total, then-Equal}}
 use Rattle.sqlite_sql.specs.Query.{sort_cmp}
-use Rattle.sqlite.specs.declared.types.Value.TheVariants.{Null, Int}
-use Rattle.sqlite.specs.Order.{Row, column, value_cmp}
-use Rattle.sqlite.specs.Term.{Term, col, eval_all}
-use Rattle.sqlite.specs.Tree.{IsAscending, rowid}
-use Rattle.sqlite.specs.Query.{IsAnswer}
-use Rattle.sqlite.specs.Program.{overlay}
-use Rattle.sqlite.specs.Command.TheVariants.{Select}
-use Rattle.sqlite.specs.Effect.{Database, Answers}
-use Rattle.sqlite.specs.State.{State, Shown}
-use Rattle.table_access.specs.Columns.{whole_at}
-use Rattle.table_access.specs.Sound.{IsNumbered}
-use Rattle.table_access.specs.Statements.{from_table, from_both, pairs_kept, up_to, newest, keeps, shows}
-use Rattle.table_access.proofs.Ordered.{selects_in_order, joins_in_order}
-use Rattle.table_access.proofs.ReadLemmas.{number_found}
-use Rattle.table_access.proofs.Steps.{Means, shown_answers}
+use Rattle.sqlite.specs.{declared.types.Value.TheVariants.{Null, Int}, Order.{Row, column, value_cmp}, Term.{Term, col, eval_all}, Tree.{IsAscending, rowid}}
+use Rattle.sqlite.specs.{Query.{IsAnswer}, Program.{overlay}, Command.TheVariants.{Select}, Effect.{Database, Answers}, State.{State, Shown}}
+use Rattle.table_access.specs.{Columns.{whole_at}, Sound.{IsNumbered}, Statements.{from_table, from_both, pairs_kept, up_to, newest, keeps, shows}}
+use Rattle.table_access.proofs.{Ordered.{selects_in_order, joins_in_order}, ReadLemmas.{number_found, option_map_twice}, Steps.{Means, shown_answers}}
 
 -- ---- LIMIT
 
@@ -49,14 +36,6 @@ first_joined db params t u terms project order n rows h =
     let all = map (λ o. o.1) a.ordered in
     (all, record { typed = h.typed; answer = λ lost. record { staged = a.staged; grouped = a.grouped; kept = a.kept; distinct = a.distinct; ordered = a.ordered; same = a.same; sorted = a.sorted; shown = refl } }, a.shown)
 
--- SELECT project FROM a table JOIN another WHERE terms ORDER BY order LIMIT n, where no two pairs tie
-pub joins_first : (db : Database) (params : Row) (t u : ℕ) (terms project : List Term) (order : List (Term × Key)) (n : ℕ) (rows : List Row) → Answers db (record { lets = []; body = up_to n (from_both t u terms project order) }) params rows
-    → IsAscending (λ a b. is_eq (sort_cmp order (params ∷ a.0 ∷ a.1 ∷ []) (params ∷ b.0 ∷ b.1 ∷ [])) ≡ false) (pairs_kept terms params (db.trees t) (db.trees u))
-    → rows ≡ take n (map (λ p. eval_all project (params ∷ p.0 ∷ p.1 ∷ [])) (sort_by (λ a b. sort_cmp order (params ∷ a.0 ∷ a.1 ∷ []) (params ∷ b.0 ∷ b.1 ∷ [])) (pairs_kept terms params (db.trees t) (db.trees u))))
-joins_first db params t u terms project order n rows h apart =
-    let all = first_joined db params t u terms project order n rows h in
-    all.2 ∙ ap (take n) (joins_in_order db params t u terms project order all.0 all.1 apart)
-
 -- ---- a list that falls, sorted
 
 module _ {X : Type 0} (cmp : X → X → Rattle.std.specs.declared.cmp.Ordering.Ordering) where
@@ -64,18 +43,10 @@ module _ {X : Type 0} (cmp : X → X → Rattle.std.specs.declared.cmp.Ordering.
   goes_last x [] all = refl
   goes_last x (y ∷ ys) all = ap (λ o. cond (is_gt o) (y ∷ insert_sorted cmp x ys) (x ∷ y ∷ ys)) all.0 ∙ ap (λ l. y ∷ l) (goes_last x ys all.1)
 
-  all_end : (P : X → Type 0) (xs : List X) (x : X) → AllByRecursion P xs → P x → AllByRecursion P (xs ++ x ∷ [])
-  all_end P [] x all h = (h, tt)
-  all_end P (y ∷ ys) x all h = (all.0, all_end P ys x all.1 h)
-
-  all_reverse : (P : X → Type 0) (xs : List X) → AllByRecursion P xs → AllByRecursion P (reverse xs)
-  all_reverse P [] all = tt
-  all_reverse P (x ∷ xs) all = subst (AllByRecursion P) (sym (reverse_onto xs x [])) (all_end P (reverse xs) x (all_reverse P xs all.1) all.0)
-
   -- each element stands after all that follow it
   pub turns : (xs : List X) → IsAscending (λ a b. cmp a b ≡ Greater) xs → sort_by cmp xs ≡ reverse xs
   turns [] down = refl
-  turns (x ∷ xs) down = ap (insert_sorted cmp x) (turns xs down.1) ∙ goes_last x (reverse xs) (all_reverse _ xs down.0) ∙ sym (reverse_onto xs x [])
+  turns (x ∷ xs) down = ap (insert_sorted cmp x) (turns xs down.1) ∙ goes_last x (reverse xs) (all-permutation _ xs (reverse xs) (IsPermutation-reverse xs) down.0) ∙ sym (reverse_onto xs x [])
 
 -- ---- the row with the greatest number
 
@@ -92,14 +63,6 @@ module _ (params : Row) where
       selects_first db params t terms project newest n rows h (ascending_weaker _ _ (λ a b e. ap is_eq e) kept down)
       ∙ ap (λ l. take n (map (shows project params) l)) (turns (λ a b. sort_cmp newest (params ∷ a ∷ []) (params ∷ b ∷ [])) kept down)
 
-first_mapped : {A B : Type 0} (f : A → B) (xs : List A) → slice_get (map f xs) 0 ≡ option_map f (slice_get xs 0)
-first_mapped f [] = refl
-first_mapped f (x ∷ xs) = refl
-
-all_kept : (rows : List Row) → filter (keeps [] []) rows ≡ rows
-all_kept [] = refl
-all_kept (r ∷ rows) = ap (λ rs. r ∷ rs) (all_kept rows)
-
 -- SELECT number FROM a table ORDER BY number DESC LIMIT 1, as `number_of` reads it
 pub newest_number : (sql : List ℕ) (old new : State) (t : ℕ) (names : List (List ℕ)) → Means old.now.schema sql (Select (record { lets = []; body = up_to 1 (from_table t [] (col 1 0 ∷ []) newest) }) names) → IsNumbered (old.now.trees t)
     → (rows : List Row) → Shown sql [] old new rows → (found : Option ℕ) → option_map (λ n. Int (pos n)) found ≡ option_map (λ row. column row 0) (slice_get rows 0)
@@ -107,10 +70,6 @@ pub newest_number : (sql : List ℕ) (old new : State) (t : ℕ) (names : List (
 newest_number sql old new t names means numbered rows h found read =
     let all = old.now.trees t in
     let is : rows ≡ take 1 (map (shows (col 1 0 ∷ []) []) (reverse all)) =
-    selects_newest [] old.now t [] (col 1 0 ∷ []) 1 rows numbered (shown_answers sql [] old new _ names means rows h) ∙ ap (λ l. take 1 (map (shows (col 1 0 ∷ []) []) (reverse l))) (all_kept all) in
-    number_found found rows read ∙ ap (λ l. option_map (whole_at 0) (slice_get l 0)) is ∙ ap (option_map (whole_at 0)) (first_taken (map (shows (col 1 0 ∷ []) []) (reverse all)) ∙ first_mapped (shows (col 1 0 ∷ []) []) (reverse all))
-    ∙ twice (slice_get (reverse all) 0)
-  where
-    twice : (o : Option Row) → option_map (whole_at 0) (option_map (shows (col 1 0 ∷ []) []) o) ≡ option_map (whole_at 0) o
-    twice None = refl
-    twice (Some r) = refl
+    selects_newest [] old.now t [] (col 1 0 ∷ []) 1 rows numbered (shown_answers sql [] old new _ names means rows h) ∙ ap (λ l. take 1 (map (shows (col 1 0 ∷ []) []) (reverse l))) (filter_all (keeps [] []) all (each_true all)) in
+    number_found found rows read ∙ ap (λ l. option_map (whole_at 0) (slice_get l 0)) is ∙ ap (option_map (whole_at 0)) (first_taken (map (shows (col 1 0 ∷ []) []) (reverse all)) ∙ slice_get-map (shows (col 1 0 ∷ []) []) (reverse all) 0)
+    ∙ option_map_twice (whole_at 0) (shows (col 1 0 ∷ []) []) (slice_get (reverse all) 0)

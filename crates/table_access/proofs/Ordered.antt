@@ -1,33 +1,21 @@
 -- ORDER BY: where no two rows tie, the answer is the list of what WHERE keeps, sorted.
-use Rattle.std.proofs.Common.{◌≡◌, inl, inr, ℕ, List, [], ◌∷◌, map, filter, true, false, cond, refl, sym, ap, subst, ◌∙◌, Ordering, Less, Equal, Greater, is_gt, is_eq, true≢false}
-use Rattle.std.specs.List.{AllByRecursion, flat_map}
-use Rattle.std.specs.List.Sorted.{IsPermutation, IsSorted, IsStrictlySortedBy}
-use Rattle.std.specs.Prelude.{Contains}
-use Rattle.std.specs.Cmp.{IsTotalOrder}
+use Rattle.std.specs.{List.{AllByRecursion, flat_map}, List.Sorted.{IsPermutation, IsSorted, IsStrictlySortedBy}, Prelude.{Contains}, Cmp.{IsTotalOrder}}
 use Rattle.std.specs.Ordering.{ordering_reverse}
+use Rattle.std.proofs.Common.{◌≡◌, inl, inr, ℕ, List, [], ◌∷◌, map, filter, true, false, cond, refl, sym, ap, subst, ◌∙◌, Ordering, Less, Equal, Greater, is_gt, is_eq, true≢false}
 use Rattle.std.proofs.lemmas.List.Sorted.{Contains-permutation, IsPermutation-sym}
-use Rattle.sqlite_keyed.specs.Lists.{insert_sorted, sort_by}
-use Rattle.sqlite_keyed.proofs.ListLemmas.{map-map, map-flat_map, flat_map_same_on, all_weaker, ascending-map}
+use Rattle.sqlite_keyed.{specs.Lists.{insert_sorted, sort_by}, proofs.ListLemmas.{map-map, map-flat_map, flat_map_same_on, all_weaker, ascending-map}}
 use Rattle.sqlite_keyed.proofs.SortLemmas.{sorted_is-sort_by, sort_by-map, IsPermutation-sort_by}
-use Rattle.sqlite_sql.proofs.QueryLemmas.{output_cmp_total}
-use Rattle.sqlite_sql.specs.Query.{sort_cmp, output_cmp}
+use Rattle.sqlite_sql.{specs.Query.{sort_cmp, output_cmp}, proofs.QueryLemmas.{output_cmp_total}}
 use Rattle.sqlite_value.specs.declared.keys.Key.{Key}
-use Rattle.sqlite.specs.declared.types.Value.TheVariants.{Null}
-use Rattle.sqlite.specs.Order.{Row}
-use Rattle.sqlite.specs.Term.{Term, eval_all}
-use Rattle.sqlite.specs.Tree.{IsAscending}
-use Rattle.sqlite.specs.Query.{Query, IsAnswer, output, Output}
-use Rattle.sqlite.specs.Program.{overlay}
-use Rattle.sqlite.specs.Effect.{Database, Answers}
+use Rattle.sqlite.specs.{declared.types.Value.TheVariants.{Null}, Order.{Row}, Term.{Term, eval_all}, Tree.{IsAscending}}
+use Rattle.sqlite.specs.{Query.{Query, IsAnswer, output, Output}, Program.{overlay}, Effect.{Database, Answers}}
 use Rattle.sqlite_rules.specs.Lists.{Has}
-use Rattle.table_access.specs.Statements.{from_table, from_both, keeps, keeps_both, pairs_kept, shows}
-use Rattle.table_access.proofs.SoundLemmas.{all_of}
-use Rattle.table_access.proofs.Steps.{bare, one_table}
-use Rattle.table_access.proofs.Joins.{second_table}
+use Rattle.table_access.{specs.Statements.{from_table, from_both, keeps, keeps_both, pairs_kept, shows}, proofs.SoundLemmas.{all_of}}
+use Rattle.table_access.proofs.Steps.{bare, kept_rows, outputs}
 
 -- ---- sorted lists
 
-module _ {X : Type 0} (cmp : X → X → Ordering) (total : IsTotalOrder cmp) where
+module _ {X : Type 0} (cmp : X → X → Ordering) where
   all-insert : (P : X → Type 0) (new : X) (xs : List X) → P new → AllByRecursion P xs → AllByRecursion P (insert_sorted cmp new xs)
   all-insert P new [] h all = (h, tt)
   all-insert P new (x ∷ xs) h all = elim (is_gt (cmp new x)) as (λ b. AllByRecursion P (cond b (x ∷ insert_sorted cmp new xs) (new ∷ x ∷ xs))) [ true ↦ (all.0, all-insert P new xs h all.1) | false ↦ (h, all) ]
@@ -36,6 +24,7 @@ module _ {X : Type 0} (cmp : X → X → Ordering) (total : IsTotalOrder cmp) wh
   all-sorted P [] all = tt
   all-sorted P (x ∷ xs) all = all-insert P x _ all.0 (all-sorted P xs all.1)
 
+module _ {X : Type 0} (cmp : X → X → Ordering) (total : IsTotalOrder cmp) where
   rises-insert : (new : X) (xs : List X) → AllByRecursion (λ y. is_eq (cmp new y) ≡ false) xs → IsStrictlySortedBy cmp xs → IsStrictlySortedBy cmp (insert_sorted cmp new xs)
   unfolding IsStrictlySortedBy
   rises-insert new [] apart up = (tt, tt)
@@ -44,13 +33,13 @@ module _ {X : Type 0} (cmp : X → X → Ordering) (total : IsTotalOrder cmp) wh
       go : (o : Ordering) → cmp new x ≡ o → IsStrictlySortedBy cmp (insert_sorted cmp new xs) → IsStrictlySortedBy cmp (cond (is_gt o) (x ∷ insert_sorted cmp new xs) (new ∷ x ∷ xs))
       go Less e more = ((e, all_weaker _ (λ y. cmp new y ≡ Less) (λ y. total.trans new x y e) xs up.0), up)
       go Equal e more = absurd (true≢false (sym (ap is_eq e) ∙ apart.0))
-      go Greater e more = (all-insert _ new xs (total.antisymm x new ∙ ap ordering_reverse e) up.0, more)
+      go Greater e more = (all-insert cmp _ new xs (total.antisymm x new ∙ ap ordering_reverse e) up.0, more)
 
   -- a list with no ties rises, once it is sorted
   pub rises : (xs : List X) → IsAscending (λ a b. is_eq (cmp a b) ≡ false) xs → IsStrictlySortedBy cmp (sort_by cmp xs)
   unfolding IsStrictlySortedBy
   rises [] apart = tt
-  rises (x ∷ xs) apart = rises-insert x _ (all-sorted _ xs apart.0) (rises xs apart.1)
+  rises (x ∷ xs) apart = rises-insert x _ (all-sorted cmp _ xs apart.0) (rises xs apart.1)
 
   -- and it has the same elements
   pub sorted_has : (xs : List X) (x : X) → Contains (sort_by cmp xs) x → Contains xs x
@@ -59,26 +48,6 @@ module _ {X : Type 0} (cmp : X → X → Ordering) (total : IsTotalOrder cmp) wh
   -- an element of the list is one of the sorted list too
   pub has_sorted : (xs : List X) (x : X) → Contains xs x → Contains (sort_by cmp xs) x
   has_sorted xs x = Contains-permutation xs (sort_by cmp xs) x (IsPermutation-sym _ _ (IsPermutation-sort_by cmp total xs))
-
--- orders that agree on the elements sort alike
-module _ {X : Type 0} (R S : X → X → Ordering) where
-  same_insert : (new : X) (xs : List X) → AllByRecursion (λ x. R new x ≡ S new x) xs → insert_sorted R new xs ≡ insert_sorted S new xs
-  same_insert new [] same = refl
-  same_insert new (x ∷ xs) same = ap (λ o. cond (is_gt o) (x ∷ insert_sorted R new xs) (new ∷ x ∷ xs)) same.0 ∙ ap (λ l. cond (is_gt (S new x)) (x ∷ l) (new ∷ x ∷ xs)) (same_insert new xs same.1)
-
-  all-same : (P : X → Type 0) (xs : List X) → AllByRecursion P xs → AllByRecursion P (sort_by S xs)
-  all-same P [] all = tt
-  all-same P (x ∷ xs) all = into x (sort_by S xs) all.0 (all-same P xs all.1)
-    where
-      into : (new : X) (ys : List X) → P new → AllByRecursion P ys → AllByRecursion P (insert_sorted S new ys)
-      into new [] h rest = (h, tt)
-      into new (y ∷ ys) h rest = elim (is_gt (S new y)) as (λ b. AllByRecursion P (cond b (y ∷ insert_sorted S new ys) (new ∷ y ∷ ys))) [ true ↦ (rest.0, into new ys h rest.1) | false ↦ (h, rest) ]
-
-  -- two orders that agree on the elements of a list sort it alike
-  pub same_sort : (xs : List X) → ((a b : X) → Has xs a → Has xs b → R a b ≡ S a b) → sort_by R xs ≡ sort_by S xs
-  same_sort [] same = refl
-  same_sort (x ∷ xs) same =
-      ap (insert_sorted R x) (same_sort xs (λ a b ha hb. same a b (inr ha) (inr hb))) ∙ same_insert x (sort_by S xs) (all-same _ xs (all_of _ xs (λ b has. same x b (inl refl) (inr has))))
 
 -- ---- an answer
 
@@ -100,9 +69,7 @@ pub selects_in_order : (db : Database) (params : Row) (t : ℕ) (terms project :
 selects_in_order db params t terms project order rows h apart =
     let q = from_table t terms project order in
     let answer : IsAnswer q (overlay db.trees []) params rows = h.answer Null in
-    let kept : answer.kept ≡ map (λ r. output q (params ∷ r ∷ [])) (filter (keeps terms params) (db.trees t)) =
-    answer.distinct ∙ ap (map (output q)) (answer.grouped ∙ ap (flat_map (λ r. cond (keeps terms params r) ((params ∷ r ∷ []) ∷ []) [])) (bare db.trees t) ∙ one_table params terms (db.trees t)) ∙ map-map _ _ _ in
-    answer.shown ∙ sorted_answer q answer.kept answer.ordered (filter (keeps terms params) (db.trees t)) (λ r. params ∷ r ∷ []) kept answer.same answer.sorted apart
+    answer.shown ∙ sorted_answer q answer.kept answer.ordered (filter (keeps terms params) (db.trees t)) (λ r. params ∷ r ∷ []) (outputs db params t terms project order rows h) answer.same answer.sorted apart
 
 -- SELECT project FROM a table JOIN another WHERE terms ORDER BY order
 pub joins_in_order : (db : Database) (params : Row) (t u : ℕ) (terms project : List Term) (order : List (Term × Key)) (rows : List Row) → Answers db (record { lets = []; body = from_both t u terms project order }) params rows
@@ -111,7 +78,7 @@ pub joins_in_order : (db : Database) (params : Row) (t u : ℕ) (terms project :
 joins_in_order db params t u terms project order rows h apart =
     let q = from_both t u terms project order in
     let answer : IsAnswer q (overlay db.trees []) params rows = h.answer Null in
-    let staged = answer.grouped ∙ ap (flat_map _) (bare db.trees t) ∙ flat_map_same_on _ (λ r. map (λ s. params ∷ r ∷ s ∷ []) (filter (keeps_both terms params r) (db.trees u))) (λ r. ap (flat_map _) (bare db.trees u) ∙ second_table params terms r (db.trees u)) (db.trees t) in
+    let staged = answer.grouped ∙ ap (flat_map _) (bare db.trees t) ∙ flat_map_same_on _ (λ r. map (λ s. params ∷ r ∷ s ∷ []) (filter (keeps_both terms params r) (db.trees u))) (λ r. ap (flat_map _) (bare db.trees u) ∙ kept_rows (keeps_both terms params r) (λ s. params ∷ r ∷ s ∷ []) (db.trees u)) (db.trees t) in
     let pairs : flat_map (λ r. map (λ s. params ∷ r ∷ s ∷ []) (filter (keeps_both terms params r) (db.trees u))) (db.trees t) ≡ map (λ (p : Row × Row). params ∷ p.0 ∷ p.1 ∷ []) (pairs_kept terms params (db.trees t) (db.trees u)) =
     sym (map-flat_map (λ (p : Row × Row). params ∷ p.0 ∷ p.1 ∷ []) (λ r. map (λ s. (r, s)) (filter (keeps_both terms params r) (db.trees u))) (db.trees t) ∙ flat_map_same_on _ _ (λ r. map-map (λ (p : Row × Row). params ∷ p.0 ∷ p.1 ∷ []) (λ s. (r, s)) (filter (keeps_both terms params r) (db.trees u))) (db.trees t)) in
     let kept : answer.kept ≡ map (λ (p : Row × Row). output q (params ∷ p.0 ∷ p.1 ∷ [])) (pairs_kept terms params (db.trees t) (db.trees u)) = answer.distinct ∙ ap (map (output q)) (staged ∙ pairs) ∙ map-map _ _ _ in

@@ -1,29 +1,14 @@
 -- Keys of any columns: what WHERE and UNIQUE say of them.
-use Rattle.std.proofs.Common.{◌≡◌, ℕ, List, [], ◌∷◌, Bool, true, false, ◌&&◌, refl, ap, ◌∙◌, sym, Ordering}
-use Rattle.std.specs.List.{AllByRecursion}
-use Rattle.std.specs.Ordering.{is_eq, eq_by_cmp, int_cmp}
-use Rattle.std.specs.Cmp.{IsTotalOrder, eq_by_cmp_equiv, tied_then}
-use Rattle.std.proofs.lemmas.Cmp.{then_total, on_total}
-use Rattle.sqlite.specs.declared.types.Value.{Value}
-use Rattle.sqlite.specs.declared.types.Value.TheVariants.{Int, Text}
-use Rattle.sqlite.specs.Order.{Row, column, value_cmp}
-use Rattle.sqlite.specs.Tree.{IsAscending, rowid}
-use Rattle.sqlite.specs.Term.{Term, col, op2}
-use Rattle.sqlite.specs.Collation.TheVariants.{Binary}
-use Rattle.sqlite_sql.specs.declared.ops.BinaryOp.TheVariants.{Compare}
-use Rattle.sqlite_sql.specs.declared.ops.CompareOp.TheVariants.{Eq}
-use Rattle.sqlite_sql.specs.Ops.{binary, is_true}
+use Rattle.std.specs.{List.{AllByRecursion}, Ordering.{is_eq, eq_by_cmp, int_cmp}, Cmp.{IsTotalOrder, eq_by_cmp_equiv, tied_then}}
+use Rattle.std.proofs.{Common.{◌≡◌, ℕ, List, [], ◌∷◌, Bool, true, false, ◌&&◌, refl, ap, ◌∙◌, sym, Ordering}, lemmas.Cmp.{then_total, on_total}}
+use Rattle.sqlite.specs.{declared.types.Value.{Value}, declared.types.Value.TheVariants.{Int, Text}, Order.{Row, column, value_cmp}, Tree.{IsAscending, rowid}}
+use Rattle.sqlite.specs.{Term.{Term, col, op2}, Collation.TheVariants.{Binary}}
+use Rattle.sqlite_sql.specs.{declared.ops.BinaryOp.TheVariants.{Compare}, declared.ops.CompareOp.TheVariants.{Eq}, Ops.{binary, is_true}}
 use Rattle.sqlite_schema.specs.Rules.{agree, equal}
-use Rattle.sqlite_value.specs.Keys.{plain, first_key}
-use Rattle.sqlite_value.proofs.OrderLemmas.{value_cmp-Int, value_cmp-Text}
-use Rattle.sqlite_rules.specs.Lists.{Has}
-use Rattle.sqlite_rules.proofs.TableLemmas.{int_is}
-use Rattle.table_access.specs.Sound.{IsNumbered}
-use Rattle.table_access.specs.Columns.{text, text_cmp, whole_at, by_both}
-use Rattle.table_access.specs.Statements.{keeps}
-use Rattle.table_access.proofs.Values.{same_texts, same_ints}
-use Rattle.table_access.proofs.SoundLemmas.{at_has, all_of}
-use Rattle.table_access.proofs.Keys.{ascending_on}
+use Rattle.sqlite_value.{specs.Keys.{plain, first_key}, proofs.OrderLemmas.{value_cmp-Int, value_cmp-Text}}
+use Rattle.sqlite_rules.{specs.Lists.{Has}, proofs.TableLemmas.{int_is}}
+use Rattle.table_access.{specs.{Sound.{IsNumbered}, Columns.{text, text_cmp, whole_at, by_both}, Statements.{keeps}}, proofs.Values.{same_texts, same_ints}}
+use Rattle.table_access.proofs.{SoundLemmas.{at_has, all_of}, Members.{ascending_on}}
 
 -- A column as a part of a key: it holds values of one type, which SQL compares as the order of that type does.
 pub record Part {K : Type 0} (order : K → K → Ordering) (code : K → Value) (rows : List Row) (place : ℕ) (key : Row → K) : Type 0 where
@@ -43,7 +28,7 @@ whole_part rows place typed = record { typed = typed; tested = same_ints; ordere
 pub number_part : (rows : List Row) → IsNumbered rows → Part int_cmp Int rows 0 (whole_at 0)
 number_part rows numbered = whole_part rows 0 (λ r has. int_is (rowid r) (at_has _ rows r numbered.1 has))
 
-and_true : (b : Bool) → (b && true) ≡ b
+pub and_true : (b : Bool) → (b && true) ≡ b
 and_true true = refl
 and_true false = refl
 

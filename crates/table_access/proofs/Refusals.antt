@@ -1,42 +1,26 @@
 -- A statement that the database refuses, and that leaves the transaction open, is never told as want of memory.
+use Rattle.std.specs.{Prelude.{MatchBool, slice_get, is_some}, Option.{option_to_list}}
 use Rattle.std.proofs.Common.{inl, inr, ◌≡◌, ◌⊎◌, ℕ, ℤ, Bool, true, false, List, [], ◌∷◌, Option, Some, None, option_map, Err, refl, ap, subst, ◌∙◌}
-use Rattle.std.specs.Prelude.{MatchBool, slice_get, is_some}
 use Rattle.sqlite_value.specs.Order.{Row}
 use Rattle.sqlite_trees.specs.Tree.{Trees}
-use Rattle.sqlite_schema.specs.declared.schema.Schema.{Schema}
-use Rattle.sqlite_schema.specs.declared.schema.Table.{Table}
-use Rattle.sqlite_schema.specs.declared.schema.Keys.{Keys}
-use Rattle.sqlite_schema.specs.declared.program.Program.{Program}
-use Rattle.sqlite_schema.specs.declared.command.Source.{Source}
-use Rattle.sqlite_schema.specs.declared.command.Source.TheVariants as source
-use Rattle.sqlite_schema.specs.declared.command.Conflict.{Conflict}
-use Rattle.sqlite_schema.specs.declared.command.Conflict.TheVariants.{Abort, Ignore, Replace}
-use Rattle.sqlite_schema.specs.declared.command.Upsert.{Upsert}
-use Rattle.sqlite_schema.specs.declared.command.Returning.{Returning}
-use Rattle.sqlite_schema.specs.declared.command.Command.{Command}
+use Rattle.sqlite_schema.specs.{declared.schema.Schema.{Schema}, declared.schema.Table.{Table}, declared.schema.Keys.{Keys}, declared.program.Program.{Program}}
+use Rattle.sqlite_schema.specs.{declared.command.Source.{Source}, declared.command.Conflict.{Conflict}}
+use Rattle.sqlite_schema.specs.{declared.command.Conflict.TheVariants.{Abort, Ignore, Replace}, declared.command.Upsert.{Upsert}}
+use Rattle.sqlite_schema.specs.{declared.command.Returning.{Returning}, declared.command.Command.{Command}}
 use Rattle.sqlite_schema.specs.declared.command.Command.TheVariants.{Select, Insert, InsertOr, Update, Delete, CreateTable, CreateIndex, DropTable, DropIndex, Begin, Commit, Rollback, Savepoint, Release, RollbackTo, Nothing, CreateView, DropView, Rows}
-use Rattle.sqlite_schema.specs.declared.schema.Among.{Among}
-use Rattle.sqlite_rules.specs.Edit.{Edit, edit_of}
-use Rattle.sqlite_rules.specs.Calls.{ids_of}
-use Rattle.sqlite_rules.specs.declared.error.Rowids.TheVariants.{Given}
-use Rattle.sqlite_schema.specs.Rules.{Refers}
-use Rattle.std.specs.Option.{option_to_list}
-use Rattle.sqlite_catalog.specs.Change.{without_index, without_view, without_table}
-use Rattle.sqlite_catalog.specs.Calls.{RefusesToDropIndex}
-use Rattle.sqlite_schema.specs.declared.schema.Constraint.TheVariants.{ForeignKey}
-use Rattle.sqlite_rules.specs.declared.error.Refusal.{Refusal}
+use Rattle.sqlite_schema.specs.{declared.schema.Among.{Among}, Rules.{Refers}, declared.schema.Constraint.TheVariants.{ForeignKey}}
+use Rattle.sqlite_rules.specs.{Edit.{Edit, edit_of}, Calls.{ids_of}, declared.error.Rowids.TheVariants.{Given}, declared.error.Refusal.{Refusal}}
 use Rattle.sqlite_rules.specs.declared.error.Refusal.TheVariants.{Violates, Mismatch, NoRowid, BadReference, TooDeep}
-use Rattle.sqlite_catalog.specs.declared.error.Refusal as alter
-use Rattle.sqlite_catalog.specs.declared.error.Refusal.TheVariants as why
-use Rattle.sqlite.specs.declared.error.ErrorCode.TheVariants as code
-use Rattle.sqlite.specs.declared.error.Error.{Error}
-use Rattle.sqlite.specs.declared.error.Error.TheVariants.{SqliteFailure, InvalidQuery}
-use Rattle.sqlite.specs.declared.run.Mode.{Mode}
+use Rattle.sqlite_catalog.specs.{Change.{without_index, without_view, without_table}, Calls.{RefusesToDropIndex}}
+use Rattle.sqlite.specs.{declared.error.Error.{Error}, declared.error.Error.TheVariants.{SqliteFailure, InvalidQuery}, declared.run.Mode.{Mode}}
 use Rattle.sqlite.specs.Effect.{Database, RefusesQuery, RefusesSource, RefusesToRead, RefusesToAlter, IsNoText, edit_error, alter_error}
 use Rattle.sqlite.specs.Rows.{Part, Gives, Refuses, Then, Queried, Sourced, Edited, Written, Task, CounterIn, Counter, CountsIn, Counts, Updates, Deletes, Inserts, Puts, Clears, Resolves, Meets, Upserts, Judged, Tries, TriesEach, InsertsOr, sequence, counting}
 use Rattle.sqlite.specs.Does.{Tally, no_rows, AtPlace, MakesTable, MakesSequence, MakesIndex, MakesView, Leaves, Counted, Defines, Tested, Shows, Returns, Concludes, WritesRows, OnRows, Empties, UncountsIn, HoldWithout, Drops, OnTable, Redefines, Does}
-use Rattle.table_access.specs.Calls.{fault_of}
-use Rattle.table_access.specs.declared.StoreFault.TheVariants.{Store}
+use Rattle.table_access.specs.{Calls.{fault_of}, declared.StoreFault.TheVariants.{Store}}
+use Rattle.sqlite_schema.specs.declared.command.Source.TheVariants as source
+use Rattle.sqlite_catalog.specs.declared.error.Refusal as alter
+use Rattle.sqlite_catalog.specs.declared.error.Refusal.TheVariants as why
+use Rattle.sqlite.specs.declared.error.ErrorCode.TheVariants as code
 
 -- each refusal of this part is told as Store
 record Calm {A : Type 0} (P : Part A) : Type 0 where

@@ -1,57 +1,28 @@
 -- Why a statement that changes rows is refused while the store works; an INSERT of one row: a rule of its table, or a row
 -- that it refers to isn't there.
-use Rattle.std.proofs.Common.{◌≡◌, ◌⊎◌, inl, inr, ℕ, zero, suc, List, [], ◌∷◌, length, slice_get, Bool, true, false, not, ◌&&◌, ◌||◌, Some, None, Option, Ok, Err, Result, refl, sym, ap, subst, subst₂, ◌∙◌, append-nil, length-append, ◌/◌, arith}
 use Rattle.std.specs.Prelude.{⊤, IsSome, is_some}
+use Rattle.std.proofs.Common.{◌≡◌, ◌⊎◌, inl, inr, ℕ, zero, suc, List, [], ◌∷◌, length, slice_get, Bool, true, false, not, ◌&&◌, ◌||◌, Some, None, Option, Ok, Err, Result, refl, sym, ap, subst, subst₂, ◌∙◌, append-nil, length-append, ◌/◌, arith}
 use Rattle.std.proofs.lemmas.Bool.{cases_Bool}
-use Rattle.sqlite.specs.Order.{Row}
-use Rattle.sqlite.specs.Tree.{Trees}
-use Rattle.sqlite.specs.Schema.{Schema}
-use Rattle.sqlite.specs.Table.{Table}
-use Rattle.sqlite.specs.Command.{Command}
-use Rattle.sqlite.specs.Command.TheVariants.{Insert, InsertOr, Delete}
-use Rattle.sqlite.specs.Source.TheVariants.{Values}
-use Rattle.sqlite.specs.Term.{Term}
-use Rattle.sqlite.specs.Rowids.TheVariants.{Chosen}
-use Rattle.sqlite.specs.Edit.{Edit, edit_of}
-use Rattle.sqlite_schema.specs.declared.schema.Keys.{Keys}
-use Rattle.sqlite_schema.specs.declared.schema.Column.{Column}
-use Rattle.sqlite_schema.specs.declared.schema.Reference.{Reference}
-use Rattle.sqlite_value.specs.declared.keys.Order.{Order}
-use Rattle.sqlite_schema.specs.Rules.{Refers}
-use Rattle.sqlite_rules.specs.Edit.{IsRefused}
-use Rattle.sqlite_rules.specs.Action.{Leads}
-use Rattle.sqlite_rules.specs.declared.error.Refusal.{Refusal}
-use Rattle.sqlite_typing.specs.Types.{accepts_terms}
-use Rattle.sqlite.specs.declared.error.Error.{Error}
-use Rattle.sqlite.specs.Effect.{value_rows, edit_error}
-use Rattle.sqlite.specs.Rows.{Written, Task, Edited, Inserts}
-use Rattle.sqlite.specs.Does.{OnRows, AtPlace, WritesRows, Does, due}
-use Rattle.sqlite.specs.Listing.{understood}
+use Rattle.sqlite.specs.{Order.{Row}, Tree.{Trees}, Schema.{Schema}, Table.{Table}, Command.{Command}, Command.TheVariants.{Insert, InsertOr, Delete}}
+use Rattle.sqlite.specs.{Source.TheVariants.{Values}, Term.{Term}, Rowids.TheVariants.{Chosen}, Edit.{Edit, edit_of}, declared.error.Error.{Error}}
+use Rattle.sqlite.specs.{Effect.{value_rows, edit_error, is_query}, Rows.{Written, Task, Edited, Inserts, Sourced, stamped}}
+use Rattle.sqlite.specs.{Does.{OnRows, AtPlace, WritesRows, Does, due}, Listing.{understood}}
 use Rattle.sqlite.specs.State.{State, Executes, ExecutesIn, IsNotRun, IsMisplaced, Fails, HasCause, IsUnchanged, MayChange, shows_rows, is_pragma, text_of, mode_of}
+use Rattle.sqlite.{specs.{Calls.{IsWrite}, Clock.{timed}}, proofs.Callers.{IsPlain, command_of}}
+use Rattle.sqlite_schema.specs.{declared.schema.Keys.{Keys}, declared.schema.Column.{Column}, declared.schema.Reference.{Reference}, Rules.{Refers}}
+use Rattle.sqlite_value.specs.declared.keys.Order.{Order}
+use Rattle.sqlite_rules.specs.{Edit.{IsRefused}, Action.{Leads}, declared.error.Refusal.{Refusal}}
+use Rattle.sqlite_typing.specs.Types.{accepts_terms}
 use Rattle.sqlite_resolve.specs.declared.compiled.Compiled.{Compiled}
 use Rattle.sqlite_trees.specs.declared.error.StoreError.{StoreError}
 use Rattle.sqlite_trees.specs.declared.error.StoreError.TheVariants.{OutOfMemory, Io, Corrupt, Full, Broken, Unstorable}
-use Rattle.sqlite.specs.Effect.{is_query}
-use Rattle.sqlite.specs.Calls.{IsWrite}
-use Rattle.sqlite.specs.Clock.{timed}
-use Rattle.sqlite.proofs.Callers.{IsPlain, command_of}
-use Rattle.table_access.specs.Statements.{plain_table}
-use Rattle.table_access.proofs.Answered.{is_whole, is_statement}
-use Rattle.table_access.proofs.Steps.{Means, no_works}
+use Rattle.table_access.{specs.Statements.{plain_table}, proofs.{Answered.{is_whole, is_statement}, CallLemmas.{caused_more}, Steps.{Means, no_works}}}
 
 -- ---- a statement that changes rows
 
 -- what is so where a row is too big is so of more
 pub caused_by : {A B : Type 0} (old new : State) (e : Error) → (A → B) → Fails old new A e → Fails old new B e
-caused_by {A} {B} old new e more fails = (fails.0, fails.1, go fails.0 fails.2, fails.3, fails.4)
-  where
-    go : (cause : StoreError) → HasCause old new A cause → HasCause old new B cause
-    go OutOfMemory h = tt
-    go Io h = h
-    go Corrupt h = h
-    go Full h = h
-    go Broken h = h
-    go Unstorable h = more h
+caused_by old new e more fails = (fails.0, fails.1, caused_more old new fails.0 more fails.2, fails.3, fails.4)
 
 -- it shows no rows
 none_shown : (a b : Bool) → a ≡ false → b ≡ false → (a || (not false && (b || false))) ≡ true → ⊥
@@ -119,18 +90,6 @@ module _ (name : List ℕ) (tree : ℕ) (columns : List Column) (key : Option �
   abbrev here : Table
   here = plain_table name tree columns key primary uniques orders checks references
 
-  -- an edit that takes no row out is refused by a rule, and by no action of a foreign key
-  edit_refused : (schema : Schema) (keys : Keys) (db : Trees) (rows : List Row) (e : Error) → Edited schema keys db (edit_of db here [] Chosen 0 rows) (Err (Some e))
-      → (why : Refusal) × IsRefused schema keys db (edit_of db here [] Chosen 0 rows) why × (e ≡ edit_error why)
-  edit_refused schema keys db rows e (None, writes, is) = absurd cc
-  edit_refused schema keys db rows e (Some why, inl refused, is) = let same : refused.0 ≡ why = (let h = refused.2 in cc) in (why, subst (IsRefused schema keys db (edit_of db here [] Chosen 0 rows)) same refused.1, (let h = is in cc))
-  edit_refused schema keys db rows e (Some why, inr (inl big), is) = absurd (let h = big.3 in cc)
-  edit_refused schema keys db rows e (Some why, inr (inr went), is) = absurd (settled went.2.0 (subst (λ stack. Leads schema keys went.2.0 went.0 stack (Err (Some why))) (no_works schema keys 0 tree (edit_of db here [] Chosen 0 rows).news) went.2.1))
-    where
-      settled : (n : ℕ) → Leads schema keys n went.0 [] (Err (Some why)) → ⊥
-      settled zero h = let e = h.1 in cc
-      settled (suc n) h = omega (arith, ap length h.2, length-append h.0 (h.1 ∷ []))
-
   module _ (sql : List ℕ) (params : Row) (old new : State) (at : ℕ) (found : slice_get old.now.schema.tables at ≡ Some here) (terms : List Term) (width : ℕ) (means : Means old.now.schema sql (Insert at (Values terms width)))
       (whole : is_whole sql (length params) (understood old.now.schema sql) ≡ true) (typed : accepts_terms terms params ≡ true) (unlimited : old.step_limit ≡ None) where
     abbrev task : Task
@@ -139,39 +98,41 @@ module _ (name : List ℕ) (tree : ℕ) (columns : List Column) (key : Option �
     abbrev edit : Edit
     edit = edit_of old.now.trees here [] Chosen 0 (value_rows params width (length terms / width) terms)
 
-    -- a rule of the table refuses the row, or it refers to a row that isn't there
-    abbrev pub IsUnfit : Error → Type 0
-    IsUnfit e =
-        ((why : Refusal) × IsRefused old.now.schema (mode_of old).keys old.now.trees edit why × (e ≡ edit_error why))
+    -- the row is refused or can't be stored, or it refers to a row that isn't there
+    abbrev pub IsUnfit : Option Error → Type 0
+    IsUnfit stop =
+        Edited old.now.schema (mode_of old).keys old.now.trees edit (Err stop)
         ⊎ ((w : Written) × WritesRows task old.now.trees (Insert at (Values terms width)) (Ok w) × (¬ Refers (due (mode_of old)) old.now.schema w.trees))
 
-    rows_refused : (e : Error) → Inserts task (Values terms width) old.now.trees (Err (Some e)) → IsUnfit e
-    rows_refused e h = elim (stopped (Some e) h) [
-      | inl source ↦ elim source [
-        | inl kind ↦ absurd (let clash = subst (λ ps. accepts_terms terms ps ≡ false) (append-nil params) kind.1 in let e2 : true ≡ false = sym typed ∙ clash in cc)
-        | inr limited ↦ absurd (let some = rw unlimited at limited.1 in cc)
-      ]
-      | inr given ↦ elim (stopped (Some e) given.2) [
+    sourced : (stop : Option Error) → Sourced task.limit old.now (stamped here params) (Values terms width) (Err stop) → ⊥
+    sourced None h = h
+    sourced (Some e) (inl kind) = let clash = subst (λ ps. accepts_terms terms ps ≡ false) (append-nil params) kind.1 in let e2 : true ≡ false = sym typed ∙ clash in cc
+    sourced (Some e) (inr limited) = let some = rw unlimited at limited.1 in cc
+
+    rows_refused : (stop : Option Error) → Inserts task (Values terms width) old.now.trees (Err stop) → IsUnfit stop
+    rows_refused stop h = elim (stopped stop h) [
+      | inl source ↦ absurd (sourced stop source)
+      | inr given ↦ elim (stopped stop given.2) [
         | inl counter ↦ absurd (let h = counter in cc)
-        | inr counted ↦ elim (stopped (Some e) counted.2) [
-          | inl edited ↦ inl (edit_refused old.now.schema (mode_of old).keys old.now.trees _ e (subst (λ rows. Edited old.now.schema (mode_of old).keys old.now.trees (edit_of old.now.trees here [] Chosen 0 rows) (Err (Some e))) (given.1.1 ∙ ap (λ ps. value_rows ps width (length terms / width) terms) (append-nil params)) edited))
-          | inr done ↦ elim (stopped (Some e) done.2) [ inl counts ↦ absurd (let h = counts in cc) | inr last ↦ absurd (let h = last.2 in cc) ]
+        | inr counted ↦ elim (stopped stop counted.2) [
+          | inl edited ↦ inl (subst (λ rows. Edited old.now.schema (mode_of old).keys old.now.trees (edit_of old.now.trees here [] Chosen 0 rows) (Err stop)) (given.1.1 ∙ ap (λ ps. value_rows ps width (length terms / width) terms) (append-nil params)) edited)
+          | inr done ↦ elim (stopped stop done.2) [ inl counts ↦ absurd (let h = counts in cc) | inr last ↦ absurd (let h = last.2 in cc) ]
         ]
       ]
     ]
 
-    row_refused : (e : Error) → OnRows task (mode_of old) None (Insert at (Values terms width)) old.now.trees (Err (Some e)) → IsUnfit e
-    row_refused e h = elim (stopped (Some e) h) [
-      | inl written ↦ rows_refused e written
-      | inr written ↦ elim (stopped (Some e) written.2) [
+    row_refused : (stop : Option Error) → OnRows task (mode_of old) None (Insert at (Values terms width)) old.now.trees (Err stop) → IsUnfit stop
+    row_refused stop h = elim (stopped stop h) [
+      | inl written ↦ rows_refused stop written
+      | inr written ↦ elim (stopped stop written.2) [
         | inl tested ↦ inr (written.0, written.1, tested.0)
-        | inr passed ↦ elim (stopped (Some e) passed.2) [ inl shown ↦ absurd (let h = shown in cc) | inr last ↦ absurd (let h = last.2 in cc) ]
+        | inr passed ↦ elim (stopped stop passed.2) [ inl shown ↦ absurd (let h = shown in cc) | inr last ↦ absurd (let h = last.2 in cc) ]
       ]
     ]
 
     -- an INSERT of one row fails as the store fails, or since the row is unfit
-    pub insert_fails : (e : Error) → Executes sql params old new (Err e) → Fails old new ⊤ e ⊎ IsUnfit e
-    insert_fails e h = elim (change_fails sql params old new (Insert at (Values terms width)) IsUnfit means whole refl refl (λ e is same. absurd (in_place old (Insert at (Values terms width)) refl e is)) (λ text e writes. unfit text e) e h) [ inl fails ↦ inl (caused_by old new e (λ big. tt) fails) | inr is ↦ inr is ]
+    pub insert_fails : (e : Error) → Executes sql params old new (Err e) → Fails old new (IsUnfit None) e ⊎ IsUnfit (Some e)
+    insert_fails e h = elim (change_fails sql params old new (Insert at (Values terms width)) (λ e. IsUnfit (Some e)) means whole refl refl (λ e is same. absurd (in_place old (Insert at (Values terms width)) refl e is)) (λ text e writes. unfit text (Some e)) e h) [ inl fails ↦ inl (caused_by old new e (λ big. unfit big.0 None big.1) fails) | inr is ↦ inr is ]
       where
-        unfit : (text : List ℕ) (e : Error) → Does old.step_limit (mode_of old) params old.now text None (Insert at (Values terms width)) (Err (Some e)) → IsUnfit e
-        unfit text e h = row_refused e (subst (λ o. AtPlace (λ table. OnRows (record task { table = table }) (mode_of old) None (Insert at (Values terms width)) old.now.trees) o (Err (Some e))) found h)
+        unfit : (text : List ℕ) (stop : Option Error) → Does old.step_limit (mode_of old) params old.now text None (Insert at (Values terms width)) (Err stop) → IsUnfit stop
+        unfit text stop h = row_refused stop (subst (λ o. AtPlace (λ table. OnRows (record task { table = table }) (mode_of old) None (Insert at (Values terms width)) old.now.trees) o (Err stop)) found h)

@@ -1,45 +1,10 @@
 -- Why BEGIN, COMMIT and ROLLBACK are refused: the store failed, or they are out of place.
-use Rattle.std.proofs.Common.{◌≡◌, ◌≤◌, inl, inr, [], codes, true, false, IsTrue, Err, refl, ap, sym, subst, arith}
-use Rattle.sqlite.specs.Schema.{Schema}
-use Rattle.sqlite.specs.Command.TheVariants.{Begin, Commit, Rollback}
-use Rattle.sqlite_tied.specs.Compute.{everything}
-use Rattle.sqlite.specs.declared.error.Error.{Error}
-use Rattle.sqlite.specs.Listing.{understood}
+use Rattle.std.proofs.Common.{◌≡◌, ◌≤◌, inl, inr, [], codes, false, IsTrue, Err, refl, ap, sym, subst, arith}
+use Rattle.sqlite.specs.{Command.TheVariants.{Begin, Commit, Rollback}, declared.error.Error.{Error}}
 use Rattle.sqlite.specs.State.{State, Executes, HasCause, IsMisplaced, IsUnchanged, Fails}
-use Rattle.sqlite_trees.specs.declared.error.StoreError.{StoreError}
-use Rattle.sqlite_trees.specs.declared.error.StoreError.TheVariants.{OutOfMemory, Io, Corrupt, Full, Broken, Unstorable}
-use Rattle.sqlite_trees.specs.View.{Tells}
-use Rattle.table_access.specs.Calls.{HasFailed, fault_of}
-use Rattle.table_access.specs.Unit.{FailsToBegin, FailsToCommit, FailsToRollBack, IsIdle}
-use Rattle.table_access.specs.declared.StoreFault.{StoreFault}
-use Rattle.table_access.specs.declared.StoreFault.TheVariants.{Store}
-use Rattle.table_access.proofs.Answered.{is_whole}
-use Rattle.table_access.proofs.Refused.{change_fails, caused_by}
-use Rattle.table_access.proofs.Steps.{Means}
-
-begin_means : (schema : Schema) → Means schema (codes "BEGIN") Begin
-unfolding understood everything
-begin_means schema = record { is = refl; plain = (refl, refl); unlisted = refl }
-
-begin_whole : (schema : Schema) → is_whole (codes "BEGIN") 0 (understood schema (codes "BEGIN")) ≡ true
-unfolding understood everything
-begin_whole schema = refl
-
-commit_means : (schema : Schema) → Means schema (codes "COMMIT") Commit
-unfolding understood everything
-commit_means schema = record { is = refl; plain = (refl, refl); unlisted = refl }
-
-commit_whole : (schema : Schema) → is_whole (codes "COMMIT") 0 (understood schema (codes "COMMIT")) ≡ true
-unfolding understood everything
-commit_whole schema = refl
-
-rollback_means : (schema : Schema) → Means schema (codes "ROLLBACK") Rollback
-unfolding understood everything
-rollback_means schema = record { is = refl; plain = (refl, refl); unlisted = refl }
-
-rollback_whole : (schema : Schema) → is_whole (codes "ROLLBACK") 0 (understood schema (codes "ROLLBACK")) ≡ true
-unfolding understood everything
-rollback_whole schema = refl
+use Rattle.sqlite_trees.specs.{declared.error.StoreError.{StoreError}, declared.error.StoreError.TheVariants.{OutOfMemory, Broken, Unstorable}, View.{Tells}}
+use Rattle.table_access.specs.{Calls.{HasFailed, fault_of}, Unit.{FailsToBegin, FailsToCommit, FailsToRollBack, IsIdle}, declared.StoreFault.{StoreFault}}
+use Rattle.table_access.{specs.declared.StoreFault.TheVariants.{Store}, proofs.{Texts.{begin_is, commit_is, rollback_is}, Refused.{change_fails, caused_by}}}
 
 module _ (old new : State) where
   -- the store failed, which ended the transaction
@@ -60,7 +25,7 @@ module _ (old new : State) where
   pub begin_refused : (e : Error) → Executes (codes "BEGIN") [] old new (Err e) → FailsToBegin old new (fault_of e)
   begin_refused e h = (
     (e, refl, h),
-    elim (change_fails (codes "BEGIN") [] old new Begin IsWithin (begin_means old.now.schema) (begin_whole old.now.schema) refl refl begin_placed (λ text e writes does. absurd writes) e h) [
+    elim (change_fails (codes "BEGIN") [] old new Begin IsWithin (begin_is old.now.schema).0 (begin_is old.now.schema).1 refl refl begin_placed (λ text e writes does. absurd writes) e h) [
       | inl fails ↦ inl (has_failed e (caused_by old new e (λ big. let never = big.1 in cc) fails))
       | inr within ↦ inr within
     ],
@@ -75,7 +40,7 @@ module _ (old new : State) where
   pub commit_refused : (e : Error) → Executes (codes "COMMIT") [] old new (Err e) → FailsToCommit old new (fault_of e)
   commit_refused e h = (
     (e, refl, h),
-    elim (change_fails (codes "COMMIT") [] old new Commit (λ e. old.in_transaction ≡ false) (commit_means old.now.schema) (commit_whole old.now.schema) refl refl (λ e is same. commit_placed e is) (λ text e writes does. absurd writes) e h) [
+    elim (change_fails (codes "COMMIT") [] old new Commit (λ e. old.in_transaction ≡ false) (commit_is old.now.schema).0 (commit_is old.now.schema).1 refl refl (λ e is same. commit_placed e is) (λ text e writes does. absurd writes) e h) [
       | inl fails ↦ inl (has_failed e (caused_by old new e (λ big. let never = big.1 in cc) fails))
       | inr outside ↦ inr outside
     ],
@@ -89,7 +54,7 @@ module _ (old new : State) where
 
   pub rollback_refused : (e : Error) → Executes (codes "ROLLBACK") [] old new (Err e) → IsTrue old.in_transaction → FailsToRollBack old new (fault_of e)
   rollback_refused e h inside =
-      elim (change_fails (codes "ROLLBACK") [] old new Rollback (λ e. old.in_transaction ≡ false) (rollback_means old.now.schema) (rollback_whole old.now.schema) refl refl (λ e is same. rollback_placed e is) (λ text e writes does. absurd writes) e h) [
+      elim (change_fails (codes "ROLLBACK") [] old new Rollback (λ e. old.in_transaction ≡ false) (rollback_is old.now.schema).0 (rollback_is old.now.schema).1 refl refl (λ e is same. rollback_placed e is) (λ text e writes does. absurd writes) e h) [
         | inl fails ↦ ((e, refl, h), (inside, fails.3), has_failed e (caused_by old new e (λ big. let never = big.1 in cc) fails))
         | inr outside ↦ absurd (let clash = outside in cc)
       ]
@@ -99,11 +64,9 @@ module _ (old new : State) where
 -- a cause of an earlier call is one of both
 has_before : (a b c : State) (cause : StoreError) → b.faults ≤ c.faults → HasCause a b ⊥ cause → HasCause a c ⊥ cause
 has_before a b c OutOfMemory up h = tt
-has_before a b c Io up h = omega (arith, up, h)
-has_before a b c Corrupt up h = omega (arith, up, h)
-has_before a b c Full up h = omega (arith, up, h)
 has_before a b c Broken up h = h
 has_before a b c Unstorable up h = h
+has_before a b c _ up h = omega (arith, up, h)
 
 -- a failure that ended the transaction is still one where nothing was left to end
 pub failed_idle : (a b c : State) (f : StoreFault) → HasFailed a b f → b.faults ≤ c.faults → IsIdle b c → HasFailed a c f

@@ -1,45 +1,19 @@
 -- What the schema says of each row.
-use Rattle.std.proofs.Common.{◌≡◌, inl, inr, ℕ, zero, suc, ◌+◌, List, [], ◌∷◌, Bool, true, false, cond, not, ◌&&◌, ◌||◌, refl, ap, ◌∙◌, sym, subst, slice_get, Option, Some, drop, add-one, arith, Less}
-use Rattle.std.specs.List.{AllByRecursion, list_any}
-use Rattle.std.specs.Prelude.{slice_index_or}
-use Rattle.sqlite.specs.declared.types.Value.{Value}
-use Rattle.sqlite.specs.declared.types.Value.TheVariants.{Null, Int, Real, Text, Blob}
-use Rattle.sqlite.specs.Order.{Row, column, value_cmp}
-use Rattle.sqlite.specs.Table.{Table}
-use Rattle.sqlite_schema.specs.declared.schema.Column.{Column}
-use Rattle.sqlite.specs.Kind.TheVariants as kind
-use Rattle.sqlite_schema.specs.declared.schema.Constraint.TheVariants.{Datatype, NotNull, Check}
-use Rattle.sqlite_schema.specs.Names.{is_key}
+use Rattle.std.specs.{Prelude.{slice_index_or}, Ordering.{is_ne}}
+use Rattle.std.proofs.Common.{◌≡◌, inl, inr, ℕ, zero, suc, ◌+◌, List, [], ◌∷◌, true, false, cond, not, ◌&&◌, ◌||◌, refl, ap, ◌∙◌, sym, subst, slice_get, Option, Some, drop, add-one, arith, Less}
+use Rattle.std.proofs.lemmas.Bool.{not-true, false_from_ne_true}
+use Rattle.sqlite.specs.{declared.types.Value.{Value}, declared.types.Value.TheVariants.{Null, Int, Text}, Order.{Row, column, value_cmp}, Table.{Table}}
+use Rattle.sqlite.specs.{View.{is_int}, Edit.{id_in}, Tree.{IsTable, IsAscending, rowid}, Effect.{Database, IsDatabase}}
+use Rattle.sqlite_schema.specs.{declared.schema.Column.{Column}, declared.schema.Constraint.TheVariants.{Datatype, NotNull, Check}, Names.{is_key}}
 use Rattle.sqlite_schema.specs.Rules.{passes_checks, are_typed, are_present, is_of, suits, has_affinity, agree, clashes, differ}
 use Rattle.sqlite_value.specs.declared.keys.Order.{Order}
-use Rattle.sqlite_sql.specs.Ops.{is_null, binary, is_true, from_truth}
-use Rattle.sqlite.specs.View.{is_int}
-use Rattle.sqlite.specs.Edit.{id_in}
-use Rattle.std.specs.Ordering.{is_ne}
-use Rattle.sqlite_rules.proofs.TableLemmas.{int_is}
-use Rattle.sqlite.specs.Tree.{IsTable, IsAscending, rowid}
-use Rattle.sqlite.specs.Effect.{Database, IsDatabase}
-use Rattle.sqlite_rules.specs.Lists.{Has}
-use Rattle.sqlite_rules.proofs.RuleLemmas.{keeps_at}
+use Rattle.sqlite_sql.specs.Ops.{is_null, binary}
+use Rattle.sqlite_rules.{specs.Lists.{Has}, proofs.{TableLemmas.{int_is}, RuleLemmas.{keeps_at}}}
 use Rattle.sqlite_keyed.proofs.RuleLemmas.{first_of_both, second_of_both}
-use Rattle.table_access.specs.Sound.{text_in}
-
--- what holds of all of a list holds of each element
-pub at_has : {X : Type 0} (P : X → Type 0) (xs : List X) (x : X) → AllByRecursion P xs → Has xs x → P x
-at_has P [] x all has = absurd has
-at_has P (y ∷ ys) x all (inl same) = subst P (sym same) all.0
-at_has P (y ∷ ys) x all (inr later) = at_has P ys x all.1 later
-
--- what holds of each element holds of all of the list
-pub all_of : {X : Type 0} (P : X → Type 0) (xs : List X) → ((x : X) → Has xs x → P x) → AllByRecursion P xs
-all_of P [] each = tt
-all_of P (y ∷ ys) each = (each y (inl refl), all_of P ys (λ x has. each x (inr has)))
-
--- what is found at a place of a list is one of its elements
-pub has_place : {X : Type 0} (xs : List X) (at : ℕ) (x : X) → slice_get xs at ≡ Some x → Has xs x
-has_place [] at x e = absurd cc
-has_place (y ∷ ys) zero x e = inl (let same : y ≡ x = cc in sym same)
-has_place (y ∷ ys) (suc at) x e = inr (has_place ys at x e)
+use Rattle.table_access.{specs.Sound.{text_in}, proofs.Values.{told}}
+use Rattle.sqlite.specs.Kind.TheVariants as kind
+-- what holds of all of a list and of each element, what is found at a place, and a test that some element passes
+pub use Rattle.sqlite_rules.proofs.ListLemmas.{all_has as at_has, all_from as all_of, has_got as has_place, some_from as any_of}
 
 -- ---- the columns of a row
 
@@ -72,11 +46,7 @@ present_at key from (d ∷ cs) row zero c present there free needed =
     let test = first_of_both _ _ present in
     let one = subst (λ b. (b || not d.not_null || not (is_null (column row (from + 1)))) ≡ true) here test in
     let two = subst (λ b. (not b || not (is_null (column row (from + 1)))) ≡ true) (ap (λ (e : Column). e.not_null) same ∙ needed) one in
-    subst (λ n. is_null (column row n) ≡ false) (omega arith) (flipped _ two)
-  where
-    flipped : (b : Bool) → not b ≡ true → b ≡ false
-    flipped true e = absurd cc
-    flipped false e = refl
+    subst (λ n. is_null (column row n) ≡ false) (omega arith) (not-true _ two)
 present_at key from (d ∷ cs) row (suc at) c present there free needed =
     subst (λ n. is_null (column row (n + 1)) ≡ false) (sym (shifted from at)) (present_at key (from + 1) cs row at c (second_of_both _ _ present) there (subst (λ n. is_key key n ≡ false) (shifted from at) free) needed)
 
@@ -89,18 +59,12 @@ dropped [] at = none at ∙ sym (none (at + 1))
 dropped (v ∷ vs) at = ap (λ n. slice_index_or (v ∷ vs) n Null) (sym (add-one at))
 
 text_is : (v : Value) → is_of kind.Text v ≡ true → is_null v ≡ false → v ≡ Text (text_in v)
-text_is Null t n = absurd cc
-text_is (Int x) t n = absurd cc
-text_is (Real x) t n = absurd cc
 text_is (Text x) t n = refl
-text_is (Blob x) t n = absurd cc
+text_is _ t n = absurd cc
 
 integer_is : (v : Value) → is_of kind.Integer v ≡ true → is_null v ≡ false → v ≡ Int (id_in v)
-integer_is Null t n = absurd cc
 integer_is (Int x) t n = refl
-integer_is (Real x) t n = absurd cc
-integer_is (Text x) t n = absurd cc
-integer_is (Blob x) t n = absurd cc
+integer_is _ t n = absurd cc
 
 module _ (db : Database) (sound : IsDatabase db) (t : Table) (listed : Has db.schema.tables t) (row : Row) (has : Has (db.trees t.tree) row) (at : ℕ) (c : Column) (there : slice_get t.columns at ≡ Some c)
     (free : is_key t.key at ≡ false) (strict : c.is_strict ≡ true) (needed : c.not_null ≡ true) where
@@ -128,20 +92,6 @@ checks_hold db sound t listed row has = keeps_at Check db.schema db.trees t row 
 
 -- ---- a UNIQUE key stands once
 
--- where an element passes the test, the test over the list tells that some element does
-pub any_of : {X : Type 0} (p : X → Bool) (xs : List X) (x : X) → Has xs x → p x ≡ true → list_any p xs ≡ true
-any_of p [] x has t = absurd has
-any_of p (y ∷ ys) x (inl same) t = rw (← same, t)
-any_of p (y ∷ ys) x (inr later) t = rw (any_of p ys x later t) (right (p y))
-  where
-    right : (b : Bool) → (b || true) ≡ true
-    right true = refl
-    right false = refl
-
-told : (b : Bool) → is_true (from_truth (Some b)) ≡ b
-told true = refl
-told false = refl
-
 differs : (a b : Row) → is_int (rowid a) ≡ true → is_int (rowid b) ≡ true → value_cmp (rowid a) (rowid b) ≡ Less → differ (rowid a) (rowid b) ≡ true
 unfolding binary
 differs a b p q less =
@@ -149,13 +99,9 @@ differs a b p q less =
     let f = int_is (rowid b) q in
     rw (e, f) (told _ ∙ ap is_ne (sym (ap (λ v. value_cmp v (rowid b)) e ∙ ap (value_cmp (Int (id_in (rowid a)))) f) ∙ less))
 
-false_or : (b : Bool) → (b ≡ true → ⊥) → b ≡ false
-false_or true h = absurd (h refl)
-false_or false h = refl
-
 module _ (o : Order) (places : List ℕ) (rows : List Row) (ints : (r : Row) → Has rows r → is_int (rowid r) ≡ true) (unique : (r : Row) → Has rows r → clashes o places rows r ≡ false) where
   no_two : (a b : Row) → Has rows a → Has rows b → value_cmp (rowid a) (rowid b) ≡ Less → agree o places a places b ≡ false
-  no_two a b hasa hasb less = false_or _ (λ same.
+  no_two a b hasa hasb less = false_from_ne_true _ (λ same.
       let two = any_of (λ other. agree o places other places b && differ (rowid other) (rowid b)) rows a hasa (rw (same, differs a b (ints a hasa) (ints b hasb) less)) in
       let one = unique b hasb in
       absurd cc)

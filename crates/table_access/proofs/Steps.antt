@@ -1,62 +1,23 @@
 -- What the statements do, over any schema.
+use Rattle.std.specs.{List.{flat_map, filter_map, AllByRecursion}, List.Sorted.{IsPermutation}, Ordering.{is_eq, match_ordering}}
 use Rattle.std.proofs.Common.{◌≡◌, ◌⊎◌, inl, inr, ℕ, List, [], ◌∷◌, ◌++◌, map, filter, length, slice_get, Bool, true, false, cond, Some, None, Option, Ok, Err, Result, refl, sym, ap, subst, subst₂, ◌∙◌, append-nil, nat_le, ◌^◌, unwrap_or, ◌==◌, ◌&&◌, ◌||◌, not, Ordering, Less, Equal, Greater, ◌/◌, ◌≢◌}
-use Rattle.std.specs.List.{flat_map}
-use Rattle.std.specs.List.Sorted.{IsPermutation}
-use Rattle.std.proofs.lemmas.List.{length-map}
-use Rattle.std.proofs.lemmas.List.Sorted.{IsPermutation-map, length_permutation}
-use Rattle.sqlite_keyed.proofs.ListLemmas.{map-map}
-use Rattle.sqlite.specs.declared.types.Value.TheVariants.{Null}
-use Rattle.sqlite.specs.Order.{Row}
-use Rattle.sqlite.specs.Term.{Term}
-use Rattle.sqlite.specs.Tree.{Trees}
-use Rattle.sqlite.specs.Schema.{Schema}
-use Rattle.sqlite.specs.Command.{Command}
-use Rattle.sqlite.specs.Command.TheVariants.{Select}
-use Rattle.sqlite.specs.Query.{IsAnswer, output, Output}
-use Rattle.sqlite.specs.Program.{overlay}
-use Rattle.sqlite_value.specs.declared.keys.Key.{Key}
-use Rattle.sqlite.specs.Listing.{understood, reads_listing}
-use Rattle.sqlite.specs.State.{State, Shown, ShowsRows, IsUnchanged}
-use Rattle.sqlite.specs.Clock.{timed}
-use Rattle.sqlite.proofs.Callers.{IsPlain, command_of, statement_of, runs_as, reads_as}
-use Rattle.table_access.specs.Statements.{from_table, keeps, shows, IsAdded, ChangesOnly, plain_table}
-use Rattle.std.specs.List.{filter_map, AllByRecursion}
-use Rattle.std.specs.Ordering.{is_eq, match_ordering}
-use Rattle.sqlite_keyed.proofs.ListLemmas.{flat_map_none, IsPermutation-same}
-use Rattle.sqlite.specs.Order.{value_cmp, column}
-use Rattle.sqlite.specs.Tree.{put_row, rowid}
-use Rattle.sqlite.specs.View.{is_int}
-use Rattle.sqlite.specs.Table.{Table}
-use Rattle.sqlite_schema.specs.declared.schema.Reference.{Reference}
-use Rattle.sqlite_schema.specs.declared.schema.Keys.{Keys}
-use Rattle.sqlite_schema.specs.Rules.{ParentKey}
-use Rattle.sqlite_rules.specs.declared.action.Deed.{Deed}
-use Rattle.sqlite_rules.specs.Action.{works, work_by}
-use Rattle.sqlite.specs.Source.TheVariants.{Values}
-use Rattle.sqlite.specs.Command.TheVariants.{Insert, Delete, Update}
-use Rattle.sqlite.specs.Rowids.TheVariants.{Given}
-use Rattle.sqlite_rules.specs.Edit.{taken_by}
-use Rattle.sqlite_rules.specs.Calls.{ids_of}
-use Rattle.sqlite_schema.specs.declared.program.Program.{Program}
-use Rattle.sqlite.specs.Term.{col}
-use Rattle.table_access.specs.Statements.{IsCalm}
-use Rattle.table_access.proofs.Removal.{calm_works, left, numbered_filter}
-use Rattle.sqlite.specs.Edit.{is_taken, with_rowid, edit_of, without_all}
-use Rattle.sqlite.specs.Cast.{cast_row}
-use Rattle.sqlite.specs.Rowids.{Rowids}
-use Rattle.sqlite.specs.Rowids.TheVariants.{Chosen}
-use Rattle.sqlite.specs.Effect.{Database, value_rows, Answers}
-use Rattle.sqlite.specs.Does.{Tally, OnTable, OnRows, AtPlace, WritesRows, Concludes}
-use Rattle.sqlite.specs.Rows.{Written, Task, Inserts, Edited}
-use Rattle.sqlite.specs.declared.run.Mode.{Mode}
+use Rattle.std.proofs.{lemmas.List.{length-map}, lemmas.List.Sorted.{IsPermutation-map, length_permutation}}
+use Rattle.std.proofs.lemmas.Bool.{cases_eq, and_parts, and_right, not-true}
+use Rattle.sqlite_keyed.proofs.{ListLemmas.{map-map, flat_map_none, IsPermutation-same}, RuleLemmas.{first_of_both}}
+use Rattle.sqlite.specs.{declared.types.Value.TheVariants.{Null}, Order.{Row, value_cmp, column}, Term.{Term, col}, Tree.{Trees, put_row, rowid}}
+use Rattle.sqlite.specs.{Schema.{Schema}, Command.{Command}, Command.TheVariants.{Select, Insert, Delete, Update}, Query.{IsAnswer, output, Output}}
+use Rattle.sqlite.specs.{Program.{overlay}, Listing.{understood, reads_listing}, State.{State, Shown, ShowsRows, IsUnchanged, Executes, Writes, mode_of}}
+use Rattle.sqlite.specs.{Clock.{timed}, View.{is_int}, Table.{Table}, Source.TheVariants.{Values}, Rowids.TheVariants.{Given, Chosen}}
+use Rattle.sqlite.specs.{Edit.{is_taken, with_rowid, edit_of, without_all}, Cast.{cast_row}, Rowids.{Rowids}, Effect.{Database, value_rows, Answers}}
+use Rattle.sqlite.specs.{Does.{Tally, OnTable, OnRows, AtPlace, WritesRows, Concludes}, Rows.{Written, Task, Inserts, Updates, Edited}}
+use Rattle.sqlite.{specs.declared.run.Mode.{Mode}, proofs.Callers.{IsPlain, command_of, statement_of, runs_as, reads_as, one_step, through, one_permutation}}
+use Rattle.sqlite_value.specs.{declared.keys.Key.{Key}, declared.keys.Order.{Order}}
+use Rattle.table_access.specs.{Statements.{from_table, keeps, shows, IsAdded, ChangesOnly, plain_table, IsCalm}, Sound.{IsNumbered}}
+use Rattle.table_access.proofs.{Removal.{calm_works, left, numbered_filter}, Values.{either}}
+use Rattle.sqlite_schema.specs.{declared.schema.Reference.{Reference}, declared.schema.Keys.{Keys}, Rules.{ParentKey}, declared.program.Program.{Program}}
 use Rattle.sqlite_schema.specs.declared.schema.Column.{Column}
-use Rattle.sqlite_value.specs.declared.keys.Order.{Order}
-use Rattle.sqlite.specs.State.{Executes, Writes, mode_of}
-use Rattle.table_access.specs.Sound.{IsNumbered}
+use Rattle.sqlite_rules.specs.{declared.action.Deed.{Deed}, Action.{works, work_by}, Edit.{taken_by}, Calls.{ids_of}}
 use Rattle.sqlite_trees.proofs.TreeLemmas.{IsTable-put_row, all-put_row}
-use Rattle.sqlite_keyed.proofs.RuleLemmas.{first_of_both}
-use Rattle.std.proofs.lemmas.Bool.{cases_eq}
-use Rattle.sqlite.proofs.Callers.{one_step, through, one_permutation}
 
 -- what a text means over a schema: each field is found by refl, under `unfolding understood everything`
 pub record Means (schema : Schema) (sql : List ℕ) (command : Command) : Type 0 where
@@ -71,31 +32,26 @@ shown_unchanged sql params old new rows plain h =
     let none = (subst IsPlain h.1.is plain).0 in
     (subst (ShowsRows old new sql h.0 (timed params h.0.formats h.1.now) rows) none h.2).3
 
-module _ (params : Row) (terms : List Term) where
-  pub one_table : (rows : List Row) → flat_map (λ r. cond (keeps terms params r) ((params ∷ r ∷ []) ∷ []) []) rows ≡ map (λ r. params ∷ r ∷ []) (filter (keeps terms params) rows)
-  one_table [] = refl
-  one_table (r ∷ rows) =
-      elim (keeps terms params r) as (λ b. cond b ((params ∷ r ∷ []) ∷ []) [] ++ flat_map (λ x. cond (keeps terms params x) ((params ∷ x ∷ []) ∷ []) []) rows ≡ map (λ x. params ∷ x ∷ []) (cond b (r ∷ filter (keeps terms params) rows) (filter (keeps terms params) rows))) [
-        | true ↦ ap (λ more. (params ∷ r ∷ []) ∷ more) (one_table rows)
-        | false ↦ one_table rows
-      ]
-
-either : {X : Type 0} (b : Bool) (x : X) → cond b x x ≡ x
-either true x = refl
-either false x = refl
+-- what is made of each row that WHERE keeps
+pub kept_rows : {X : Type 0} (keep : Row → Bool) (f : Row → X) (rows : List Row) → flat_map (λ r. cond (keep r) (f r ∷ []) []) rows ≡ map f (filter keep rows)
+kept_rows keep f [] = refl
+kept_rows keep f (r ∷ rows) = elim (keep r) as (λ b. cond b (f r ∷ []) [] ++ flat_map (λ x. cond (keep x) (f x ∷ []) []) rows ≡ map f (cond b (r ∷ filter keep rows) (filter keep rows))) [
+  | true ↦ ap (λ more. f r ∷ more) (kept_rows keep f rows)
+  | false ↦ kept_rows keep f rows
+]
 
 pub bare : (db : Trees) (t : ℕ) → overlay db [] t ≡ db t
 bare db t = ap (λ o. unwrap_or o (db t)) (either (nat_le (2 ^ 31) t) None)
 
 module _ (db : Database) (params : Row) (t : ℕ) (terms project : List Term) (order : List (Term × Key)) (rows : List Row)
     (h : Answers db (record { lets = []; body = from_table t terms project order }) params rows) where
-  answer : IsAnswer (from_table t terms project order) (overlay db.trees []) params rows
+  abbrev answer : IsAnswer (from_table t terms project order) (overlay db.trees []) params rows
   answer = h.answer Null
 
-  outputs : answer.kept ≡ map (λ r. output (from_table t terms project order) (params ∷ r ∷ [])) (filter (keeps terms params) (db.trees t))
+  pub outputs : answer.kept ≡ map (λ r. output (from_table t terms project order) (params ∷ r ∷ [])) (filter (keeps terms params) (db.trees t))
   outputs =
       let q = from_table t terms project order in
-      answer.distinct ∙ ap (map (output q)) (answer.grouped ∙ ap (flat_map (λ r. cond (keeps terms params r) ((params ∷ r ∷ []) ∷ []) [])) (bare db.trees t) ∙ one_table params terms (db.trees t)) ∙ map-map _ _ _
+      answer.distinct ∙ ap (map (output q)) (answer.grouped ∙ ap (flat_map (λ r. cond (keeps terms params r) ((params ∷ r ∷ []) ∷ []) [])) (bare db.trees t) ∙ kept_rows (keeps terms params) (λ r. params ∷ r ∷ []) (db.trees t)) ∙ map-map _ _ _
 
   -- the rows that WHERE keeps are shown, in some order
   pub answered : IsPermutation (map (shows project params) (filter (keeps terms params) (db.trees t))) rows
@@ -127,14 +83,10 @@ went (inr on) = on
 pub same_value : {B E : Type 0} {a b : B} → ◌≡◌ {A = Result B E} (Ok a) (Ok b) → a ≡ b
 same_value e = cc
 
-never : (b : Bool) → (b && false) ≡ false
-never true = refl
-never false = refl
-
 idle : (depth tree : ℕ) (child : Table) (ref : Reference) (deed : Option Deed) (key : Option ParentKey) → work_by depth tree [] child ref deed key ≡ None
 idle depth tree child ref None key = refl
 idle depth tree child ref (Some deed) None = refl
-idle depth tree child ref (Some deed) (Some key) = rw (never (key.0 == tree))
+idle depth tree child ref (Some deed) (Some key) = rw (and_right (key.0 == tree) false refl)
 
 filter_map_none : {A B : Type 0} (f : A → Option B) → ((x : A) → f x ≡ None) → (xs : List A) → filter_map f xs ≡ []
 filter_map_none f none [] = refl
@@ -158,22 +110,15 @@ pub put_numbered : (new : Row) (rows : List Row) → is_int (rowid new) ≡ true
 put_numbered new rows int numbered = (IsTable-put_row new rows numbered.0, all-put_row _ new rows int numbered.1)
 
 pub not_taken : (b c : Bool) → (not b && c) ≡ true → b ≡ false
-not_taken true c h = absurd cc
-not_taken false c h = refl
+not_taken b c h = not-true b (and_parts (not b) c h).0
 
--- what a statement on rows leaves
+-- what a statement on rows leaves, and what it notes: how many rows it wrote or took out
 pub concludes : (task : Task) (mode : Mode) (command : Command) (db : Trees) (tally : Tally) (after : Database) → OnRows task mode None command db (Ok (tally, after))
-    → (w : Written) × WritesRows task db command (Ok w) × (after ≡ record { schema = task.schema; trees = w.trees })
+    → (w : Written) × WritesRows task db command (Ok w) × (after ≡ record { schema = task.schema; trees = w.trees }) × (tally.rows ≡ Some (length w.rows))
 concludes task mode command db tally after h =
     let done = through (WritesRows task db command) (Concludes task mode None) (tally, after) h in
-    (done.0, done.1, ap (λ (p : Tally × Database). p.1) (same_value (went (went done.2).2).2))
-
--- and what it notes: how many rows it wrote or took out
-pub concludes_with : (task : Task) (mode : Mode) (command : Command) (db : Trees) (tally : Tally) (after : Database) → OnRows task mode None command db (Ok (tally, after))
-    → (w : Written) × WritesRows task db command (Ok w) × (tally.rows ≡ Some (length w.rows))
-concludes_with task mode command db tally after h =
-    let done = through (WritesRows task db command) (Concludes task mode None) (tally, after) h in
-    (done.0, done.1, ap (λ (p : Tally × Database). p.0.rows) (same_value (went (went done.2).2).2))
+    let told = same_value (went (went done.2).2).2 in
+    (done.0, done.1, ap (λ (p : Tally × Database). p.1) told, ap (λ (p : Tally × Database). p.0.rows) told)
 
 -- the rows of each table are numbered, where those of one are that changed
 still_numbered : (schema : Schema) (tree : ℕ) (db next : Trees) → (IsNumbered (db tree) → IsNumbered (next tree)) → AllByRecursion (λ t. t.tree ≢ tree → next t.tree ≡ db t.tree) schema.tables
@@ -198,6 +143,11 @@ changes_only old new tree command text params count w schema here others = recor
   marks = w.marks;
 }
 
+-- The row is added to these rows of the table at this tree, which are numbered if the old ones were, and each other table is as it was.
+abbrev pub Added : ℕ → List Row → Row → Schema → Trees → Trees → Type 0
+Added tree rows made schema db next =
+    IsAdded rows (next tree) made × (IsNumbered (db tree) → IsNumbered (next tree)) × AllByRecursion (λ t. t.tree ≢ tree → next t.tree ≡ db t.tree) schema.tables
+
 module _ (name : List ℕ) (tree : ℕ) (columns : List Column) (key : Option ℕ) (primary : List ℕ) (uniques : List (List ℕ)) (orders : List Order) (checks : List Term) (references : List Reference) where
   abbrev here : Table
   here = plain_table name tree columns key primary uniques orders checks references
@@ -215,7 +165,7 @@ module _ (name : List ℕ) (tree : ℕ) (columns : List Column) (key : Option �
 
   -- the edit that puts in one row
   pub put_one : (rowids : Rowids) (schema : Schema) (keys : Keys) (db next : Trees) (row made : Row) → with_rowid rowids (db tree) (cast_row here row) ≡ made → Edited schema keys db (edit_of db here [] rowids 0 (row ∷ [])) (Ok next)
-      → IsAdded (db tree) (next tree) made × (IsNumbered (db tree) → IsNumbered (next tree)) × AllByRecursion (λ t. t.tree ≢ tree → next t.tree ≡ db t.tree) schema.tables
+      → Added tree (db tree) made schema db next
   put_one rowids schema keys db next row made cast h =
       let edit = edit_of db here [] rowids 0 (row ∷ []) in
       let one = one_step schema keys db next edit (no_works schema keys 0 tree edit.news) h in
@@ -223,6 +173,26 @@ module _ (name : List ℕ) (tree : ℕ) (columns : List Column) (key : Option �
         record { front = put.front; back = put.back; was = put.was; is = one.rows ∙ put.is ∙ ap (λ r. put.front ++ r ∷ put.back) cast },
         λ numbered. subst IsNumbered (sym one.rows) (IsTable-put_row _ (db tree) numbered.0, all-put_row _ _ (db tree) (first_of_both _ true one.keyed) numbered.1),
         one.tables,
+      )
+
+  -- an UPDATE of one row takes it out and puts in what SET makes of it
+  pub updated : (limit : Option ℕ) (keys : Keys) (schema : Schema) (given : Row) (terms project : List Term) (with : Row) (db : Trees) (w : Written)
+      → Updates (record { limit = limit; keys = keys; schema = schema; table = here; params = given }) (record { lets = []; body = from_table tree terms (col 1 0 ∷ project) [] }) with db (Ok w) → IsCalm schema.tables → IsNumbered (db tree)
+      → (r made : Row) → filter (keeps terms with) (db tree) ≡ r ∷ [] → cast_row here (shows project with r) ≡ made → Added tree (filter (λ x. not (keeps terms with x)) (db tree)) made schema db w.trees
+  updated limit keys schema given terms project with db w h calm numbered r made found cast =
+      let keep = keeps terms with in
+      let seen = went h in
+      let put = went seen.2 in
+      let one = shown_one (record { schema = schema; trees = db }) with tree terms (col 1 0 ∷ project) [] seen.0 seen.1 r found in
+      let edit = edit_of db here (ids_of (shows (col 1 0 ∷ project) with r ∷ [])) Given 1 (shows (col 1 0 ∷ project) with r ∷ []) in
+      let edited : Edited schema keys db edit (Ok put.0) = subst (λ xs. Edited schema keys db (edit_of db here (ids_of xs) Given 1 xs) (Ok put.0)) one put.1 in
+      let step = one_step schema keys db put.0 edit (calm_works schema keys 0 tree (taken_by db edit) edit.news calm) edited in
+      let rest : without_all (db tree) (ids_of ((column r 0 ∷ []) ∷ [])) ≡ filter (λ x. not (keep x)) (db tree) = left (db tree) numbered keep ((column r 0 ∷ []) ∷ []) (IsPermutation-same _ _ (ap (map (λ x. column x 0 ∷ [])) found)) in
+      let there = put_splits (cast_row here (shows project with r)) (without_all (db tree) (ids_of ((column r 0 ∷ []) ∷ []))) (not_taken _ true step.fresh) in
+      subst (Added tree (filter (λ x. not (keep x)) (db tree)) made schema db) (sym (ap (λ (it : Written). it.trees) (same_value put.2))) (
+        record { front = there.front; back = there.back; was = sym rest ∙ there.was; is = step.rows ∙ there.is ∙ ap (λ x. there.front ++ x ∷ there.back) cast },
+        λ was. subst IsNumbered (sym step.rows) (put_numbered _ _ (first_of_both _ true step.keyed) (subst IsNumbered (sym rest) (numbered_filter (λ x. not (keep x)) (db tree) was))),
+        step.tables,
       )
 
   module _ (sql : List ℕ) (params : Row) (old new : State) (at : ℕ) (found : slice_get old.now.schema.tables at ≡ Some here) where
@@ -243,12 +213,9 @@ module _ (name : List ℕ) (tree : ℕ) (columns : List Column) (key : Option �
         let w = runs_as sql params old new old.now.schema refl command means.is means.plain count h in
         let done = concludes task (mode_of old) command old.now.trees w.tally new.now (on_table command w.tally w.changed) in
         let put = inserted old.step_limit (mode_of old).keys old.now.schema params terms width old.now.trees done.0 done.1 in
-        let edit = put_one Chosen old.now.schema (mode_of old).keys old.now.trees done.0.trees row made cast (subst (λ rows. Edited old.now.schema (mode_of old).keys old.now.trees (edit_of old.now.trees here [] Chosen 0 rows) (Ok done.0.trees)) one put) in
-        let now : done.0.trees ≡ new.now.trees = sym (ap (λ (d : Database). d.trees) done.2) in (
-          changes_only old new tree command (statement_of sql (understood old.now.schema sql)) params count w (ap (λ (d : Database). d.schema) done.2) (subst (λ (next : Trees). IsNumbered (old.now.trees tree) → IsNumbered (next tree)) now edit.1)
-              (subst (λ next. AllByRecursion (λ t. t.tree ≢ tree → next t.tree ≡ old.now.trees t.tree) old.now.schema.tables) now edit.2),
-          subst (λ (next : Trees). IsAdded (old.now.trees tree) (next tree) made) now edit.0,
-        )
+        let now : done.0.trees ≡ new.now.trees = sym (ap (λ (d : Database). d.trees) done.2) in
+        let edit = subst (Added tree (old.now.trees tree) made old.now.schema old.now.trees) now (put_one Chosen old.now.schema (mode_of old).keys old.now.trees done.0.trees row made cast (subst (λ rows. Edited old.now.schema (mode_of old).keys old.now.trees (edit_of old.now.trees here [] Chosen 0 rows) (Ok done.0.trees)) one put)) in
+        (changes_only old new tree command (statement_of sql (understood old.now.schema sql)) params count w (ap (λ (d : Database). d.schema) done.2) edit.1 edit.2, edit.0)
 
     -- where no foreign key acts, a DELETE takes out the rows that WHERE keeps, and changes no other table
     pub deletes : (terms : List Term) → Means old.now.schema sql (Delete at (record { lets = []; body = from_table tree terms (col 1 0 ∷ []) [] })) → IsCalm old.now.schema.tables → IsNumbered (old.now.trees tree) → (count : ℕ) → Executes sql params old new (Ok count)
@@ -278,10 +245,10 @@ module _ (name : List ℕ) (tree : ℕ) (columns : List Column) (key : Option �
         let q : Program = record { lets = []; body = from_table tree terms (col 1 0 ∷ []) [] } in
         let command = Delete at q in
         let w = runs_as sql params old new old.now.schema refl command means.is means.plain count h in
-        let done = concludes_with task (mode_of old) command old.now.trees w.tally new.now (on_table command w.tally w.changed) in
+        let done = concludes task (mode_of old) command old.now.trees w.tally new.now (on_table command w.tally w.changed) in
         let ids = went done.1 in
         let gone = went ids.2 in
-        w.counted ∙ ap (λ o. unwrap_or o 0) done.2 ∙ ap (λ (it : Written). length it.rows) (same_value gone.2) ∙ length-map (ids_of ids.0) _ ∙ length-map ids.0 _
+        w.counted ∙ ap (λ o. unwrap_or o 0) done.3 ∙ ap (λ (it : Written). length it.rows) (same_value gone.2) ∙ length-map (ids_of ids.0) _ ∙ length-map ids.0 _
         ∙ length_permutation _ ids.0 (answered old.now params tree terms (col 1 0 ∷ []) [] ids.0 ids.1) ∙ length-map (filter (keeps terms params) (old.now.trees tree)) _
 
     -- an UPDATE of one row takes it out and puts in what SET makes of it
@@ -289,24 +256,9 @@ module _ (name : List ℕ) (tree : ℕ) (columns : List Column) (key : Option �
         → (r made : Row) → filter (keeps terms params) (old.now.trees tree) ≡ r ∷ [] → cast_row here (shows project params r) ≡ made → (count : ℕ) → Executes sql params old new (Ok count)
         → ChangesOnly tree old new × IsAdded (filter (λ x. not (keeps terms params x)) (old.now.trees tree)) (new.now.trees tree) made
     updates terms project means calm numbered r made found cast count h =
-        let q : Program = record { lets = []; body = from_table tree terms (col 1 0 ∷ project) [] } in
-        let command = Update at q in
-        let rows = old.now.trees tree in
-        let keep = keeps terms params in
+        let command = Update at (record { lets = []; body = from_table tree terms (col 1 0 ∷ project) [] }) in
         let w = runs_as sql params old new old.now.schema refl command means.is means.plain count h in
         let done = concludes task (mode_of old) command old.now.trees w.tally new.now (on_table command w.tally w.changed) in
-        let shown = went done.1 in
-        let put = went shown.2 in
-        let one = shown_one old.now params tree terms (col 1 0 ∷ project) [] shown.0 shown.1 r found in
-        let edit = edit_of old.now.trees here (ids_of (shows (col 1 0 ∷ project) params r ∷ [])) Given 1 (shows (col 1 0 ∷ project) params r ∷ []) in
-        let edited : Edited old.now.schema (mode_of old).keys old.now.trees edit (Ok put.0) = subst (λ xs. Edited old.now.schema (mode_of old).keys old.now.trees (edit_of old.now.trees here (ids_of xs) Given 1 xs) (Ok put.0)) one put.1 in
-        let step = one_step old.now.schema (mode_of old).keys old.now.trees put.0 edit (calm_works old.now.schema (mode_of old).keys 0 tree (taken_by old.now.trees edit) edit.news calm) edited in
-        let now : put.0 ≡ new.now.trees = sym (ap (λ (d : Database). d.trees) done.2 ∙ ap (λ (it : Written). it.trees) (same_value put.2)) in
-        let rest : without_all rows (ids_of ((column r 0 ∷ []) ∷ [])) ≡ filter (λ x. not (keep x)) rows = left rows numbered keep ((column r 0 ∷ []) ∷ []) (IsPermutation-same _ _ (ap (map (λ x. column x 0 ∷ [])) found)) in
-        let there = put_splits (cast_row here (shows project params r)) (without_all rows (ids_of ((column r 0 ∷ []) ∷ []))) (not_taken _ true step.fresh) in
-        let added : IsAdded (filter (λ x. not (keep x)) rows) (put.0 tree) made = record { front = there.front; back = there.back; was = sym rest ∙ there.was; is = step.rows ∙ there.is ∙ ap (λ x. there.front ++ x ∷ there.back) cast } in (
-          changes_only old new tree command (statement_of sql (understood old.now.schema sql)) params count w (ap (λ (d : Database). d.schema) done.2)
-              (λ was. subst (λ (next : Trees). IsNumbered (next tree)) now (subst IsNumbered (sym step.rows) (put_numbered _ _ (first_of_both _ true step.keyed) (subst IsNumbered (sym rest) (numbered_filter (λ x. not (keep x)) rows was)))))
-              (subst (λ next. AllByRecursion (λ t. t.tree ≢ tree → next t.tree ≡ old.now.trees t.tree) old.now.schema.tables) now step.tables),
-          subst (λ (next : Trees). IsAdded (filter (λ x. not (keep x)) rows) (next tree) made) now added,
-        )
+        let edit = subst (Added tree (filter (λ x. not (keeps terms params x)) (old.now.trees tree)) made old.now.schema old.now.trees) (sym (ap (λ (d : Database). d.trees) done.2))
+        (updated old.step_limit (mode_of old).keys old.now.schema params terms project params old.now.trees done.0 done.1 calm numbered r made found cast) in
+        (changes_only old new tree command (statement_of sql (understood old.now.schema sql)) params count w (ap (λ (d : Database). d.schema) done.2) edit.1 edit.2, edit.0)

@@ -1,38 +1,27 @@
 -- What the three texts mean, under any schema.
-use Rattle.std.proofs.Common.{◌≡◌, ◌⊎◌, inl, inr, List, [], ℕ, codes, false, None, Some, Err, refl, sym, ap, subst, ◌∙◌}
-use Rattle.std.specs.Prelude.{⊤}
+use Rattle.std.{specs.Prelude.{⊤}, proofs.Common.{◌≡◌, ◌⊎◌, inl, inr, List, [], ℕ, codes, true, false, None, Some, Err, refl, sym, ap, subst, ◌∙◌}}
 use Rattle.std.proofs.lemmas.Bool.{cases_Bool}
-use Rattle.sqlite.specs.Order.{Row}
-use Rattle.sqlite.specs.Tree.{Trees}
-use Rattle.sqlite.specs.Schema.{Schema}
-use Rattle.sqlite.specs.Command.{Command}
-use Rattle.sqlite.specs.Command.TheVariants.{Begin, Commit, Rollback, Release}
-use Rattle.sqlite_tied.specs.Compute.{everything}
-use Rattle.sqlite.specs.declared.error.Error.{Error}
-use Rattle.sqlite.specs.Listing.{understood}
-use Rattle.sqlite.specs.declared.error.Error.TheVariants.{ExecuteReturnedResults}
-use Rattle.sqlite.specs.Does.{Does}
-use Rattle.sqlite_resolve.specs.declared.compiled.Compiled.{Compiled}
+use Rattle.sqlite.specs.{Order.{Row}, Tree.{Trees}, Schema.{Schema}, Command.{Command}, Command.TheVariants.{Begin, Commit, Rollback, Release}}
+use Rattle.sqlite.specs.{declared.error.Error.{Error}, Listing.{understood}, declared.error.Error.TheVariants.{ExecuteReturnedResults}, Does.{Does}}
 use Rattle.sqlite.specs.State.{State, Executes, ExecutesIn, CommitsBy, MayWrite, MayChange, IsNotRun, IsNoStatement, IsMisplaced, IsUnchanged, Fails, HasCause, shows_rows, mode_of}
-use Rattle.sqlite_trees.specs.declared.error.StoreError.{StoreError}
-use Rattle.sqlite_trees.specs.declared.error.StoreError.TheVariants.{OutOfMemory, Io, Corrupt, Full, Broken, Unstorable}
 use Rattle.sqlite.proofs.Callers.{IsPlain, command_of}
-use Rattle.table_access.specs.Unit.{IsLeft}
-use Rattle.table_access.specs.Calls.{fault_of}
-use Rattle.table_access.specs.declared.StoreFault.TheVariants.{Store}
-use Rattle.table_access.proofs.Refusals.{does_told}
+use Rattle.sqlite_tied.specs.Compute.{everything}
+use Rattle.sqlite_resolve.specs.declared.compiled.Compiled.{Compiled}
+use Rattle.sqlite_trees.specs.{declared.error.StoreError.{StoreError}, declared.error.StoreError.TheVariants.{OutOfMemory, Unstorable}}
+use Rattle.table_access.{specs.{Unit.{IsLeft}, Calls.{fault_of}, declared.StoreFault.TheVariants.{Store}}, proofs.{Refusals.{does_told}, Steps.{Means}}}
+use Rattle.table_access.proofs.Answered.{is_whole}
 
-pub begin_is : (schema : Schema) → (command_of (understood schema (codes "BEGIN")) ≡ Begin) × IsPlain (understood schema (codes "BEGIN"))
+pub begin_is : (schema : Schema) → Means schema (codes "BEGIN") Begin × (is_whole (codes "BEGIN") 0 (understood schema (codes "BEGIN")) ≡ true)
 unfolding understood everything
-begin_is schema = (refl, (refl, refl))
+begin_is schema = (record { is = refl; plain = (refl, refl); unlisted = refl }, refl)
 
-pub commit_is : (schema : Schema) → (command_of (understood schema (codes "COMMIT")) ≡ Commit) × IsPlain (understood schema (codes "COMMIT"))
+pub commit_is : (schema : Schema) → Means schema (codes "COMMIT") Commit × (is_whole (codes "COMMIT") 0 (understood schema (codes "COMMIT")) ≡ true)
 unfolding understood everything
-commit_is schema = (refl, (refl, refl))
+commit_is schema = (record { is = refl; plain = (refl, refl); unlisted = refl }, refl)
 
-pub rollback_is : (schema : Schema) → (command_of (understood schema (codes "ROLLBACK")) ≡ Rollback) × IsPlain (understood schema (codes "ROLLBACK"))
+pub rollback_is : (schema : Schema) → Means schema (codes "ROLLBACK") Rollback × (is_whole (codes "ROLLBACK") 0 (understood schema (codes "ROLLBACK")) ≡ true)
 unfolding understood everything
-rollback_is schema = (refl, (refl, refl))
+rollback_is schema = (record { is = refl; plain = (refl, refl); unlisted = refl }, refl)
 
 -- a statement that was refused changed nothing and is told as Store, or the store failed
 abbrev pub IsRefused : State → State → Error → Type 0
@@ -53,11 +42,8 @@ command_told old c text params e (inr h) = does_told old.step_limit (mode_of old
 -- any cause, whatever a value that is too big is for the statement
 pub caused : (old new : State) (too_big : Type 0) (cause : StoreError) → HasCause old new too_big cause → HasCause old new ⊤ cause
 caused old new too_big OutOfMemory h = tt
-caused old new too_big Io h = h
-caused old new too_big Corrupt h = h
-caused old new too_big Full h = h
-caused old new too_big Broken h = h
 caused old new too_big Unstorable h = tt
+caused old new too_big _ h = h
 
 pub refused_by : (sql : List ℕ) (params : Row) (old new : State) (e : Error) → Executes sql params old new (Err e) → IsRefused old new e
 unfolding ExecutesIn IsNotRun
@@ -73,31 +59,31 @@ pub refused_leaves : (sql : List ℕ) (params : Row) (old new : State) (e : Erro
 refused_leaves sql params old new e h = elim (refused_by sql params old new e h) [ inl same ↦ inl same.0 | inr fails ↦ inr fails.3 ]
 
 -- What a text without parameters commits, by its command.
-pub commits_as : (sql : List ℕ) (old : State) (command : Command) → command_of (understood old.now.schema sql) ≡ command → IsPlain (understood old.now.schema sql) → (db : Trees) → CommitsBy sql [] old db
+commits_as : (sql : List ℕ) (old : State) (command : Command) → Means old.now.schema sql command → (db : Trees) → CommitsBy sql [] old db
     → ((command ≡ Commit) × (db ≡ old.now.trees)) ⊎ (((name : List ℕ) × (command ≡ Release name)) ⊎ ((text : List ℕ) × (params : Row) × MayWrite old None command text params db))
 unfolding CommitsBy
-commits_as sql old command is plain db h =
-    let bare = subst IsPlain h.1.is plain in
-    let same : h.0.command ≡ command = sym (ap command_of h.1.is) ∙ is in
+commits_as sql old command means db h =
+    let bare = subst IsPlain h.1.is means.plain in
+    let same : h.0.command ≡ command = sym (ap command_of h.1.is) ∙ means.is in
     elim h.2 [
       | inl ends ↦ elim ends.0 [ inl c ↦ inl (sym same ∙ c, ends.1) | inr r ↦ inr (inl (r.0, sym same ∙ r.2)) ]
       | inr may ↦ inr (inr (_, _, rw (bare.0, same) at may))
     ]
 
 pub begin_commits : (old : State) (db : Trees) → ¬ CommitsBy (codes "BEGIN") [] old db
-begin_commits old db h = elim (commits_as (codes "BEGIN") old Begin (begin_is old.now.schema).0 (begin_is old.now.schema).1 db h) [
+begin_commits old db h = elim (commits_as (codes "BEGIN") old Begin (begin_is old.now.schema).0 db h) [
   | inl a ↦ let e = a.0 in cc
   | inr b ↦ elim b [ inl c ↦ let e = c.1 in cc | inr w ↦ let e = w.2.3 in cc ]
 ]
 
 pub rollback_commits : (old : State) (db : Trees) → ¬ CommitsBy (codes "ROLLBACK") [] old db
-rollback_commits old db h = elim (commits_as (codes "ROLLBACK") old Rollback (rollback_is old.now.schema).0 (rollback_is old.now.schema).1 db h) [
+rollback_commits old db h = elim (commits_as (codes "ROLLBACK") old Rollback (rollback_is old.now.schema).0 db h) [
   | inl a ↦ let e = a.0 in cc
   | inr b ↦ elim b [ inl c ↦ let e = c.1 in cc | inr w ↦ let e = w.2.3 in cc ]
 ]
 
 pub commit_commits : (old : State) (db : Trees) → CommitsBy (codes "COMMIT") [] old db → db ≡ old.now.trees
-commit_commits old db h = elim (commits_as (codes "COMMIT") old Commit (commit_is old.now.schema).0 (commit_is old.now.schema).1 db h) [
+commit_commits old db h = elim (commits_as (codes "COMMIT") old Commit (commit_is old.now.schema).0 db h) [
   | inl a ↦ a.1
   | inr b ↦ elim b [ inl c ↦ absurd (let e = c.1 in cc) | inr w ↦ absurd (let e = w.2.3 in cc) ]
 ]

@@ -1,60 +1,21 @@
 -- What INSERT .. ON CONFLICT DO UPDATE leaves, of one row.
-use Rattle.std.proofs.Common.{◌≡◌, ◌≢◌, ◌⊎◌, inl, inr, ℕ, ℤ, List, [], ◌∷◌, ◌++◌, map, filter, length, Bool, true, false, not, ◌/◌, Some, None, Option, Ok, refl, sym, ap, subst, subst₂, ◌∙◌, append-nil}
-use Rattle.std.specs.List.{AllByRecursion}
-use Rattle.sqlite.specs.Order.{Row, column}
-use Rattle.sqlite.specs.Term.{Term, col}
-use Rattle.sqlite.specs.Tree.{Trees, rowid}
-use Rattle.sqlite.specs.Schema.{Schema}
-use Rattle.sqlite_schema.specs.declared.schema.Column.{Column}
-use Rattle.sqlite_schema.specs.declared.schema.Reference.{Reference}
-use Rattle.sqlite_schema.specs.declared.schema.Keys.{Keys}
-use Rattle.sqlite_schema.specs.declared.program.Program.{Program}
-use Rattle.sqlite_schema.specs.declared.command.Upsert.{Upsert}
-use Rattle.sqlite_schema.specs.declared.command.Conflict.TheVariants.{Abort}
-use Rattle.sqlite_value.specs.declared.keys.Order.{Order}
-use Rattle.sqlite_rules.specs.Keys.{AreConflicts}
-use Rattle.sqlite.specs.Source.TheVariants.{Values}
-use Rattle.sqlite.specs.Edit.{with_rowid, edit_of, without_all, id_in}
-use Rattle.sqlite.specs.View.{is_int}
-use Rattle.sqlite_rules.specs.Edit.{taken_by}
-use Rattle.sqlite_rules.specs.Calls.{ids_of}
-use Rattle.sqlite_keyed.proofs.ListLemmas.{IsPermutation-same}
-use Rattle.sqlite_keyed.proofs.RuleLemmas.{first_of_both}
-use Rattle.sqlite.proofs.Callers.{one_step}
-use Rattle.table_access.specs.Sound.{IsNumbered}
-use Rattle.table_access.proofs.Removal.{calm_works, left, numbered_filter, same_filter}
-use Rattle.std.proofs.Common.{Ordering, Less, slice_get, ◌&&◌}
-use Rattle.std.specs.Ordering.{is_eq, ordering_reverse}
-use Rattle.std.specs.Cmp.{tied_itself}
-use Rattle.sqlite_value.proofs.OrderLemmas.{value_cmp_total, value_cmp-Int}
-use Rattle.sqlite.specs.Order.{value_cmp}
-use Rattle.sqlite.specs.Tree.{IsTable}
-use Rattle.sqlite_rules.specs.Lists.{Has}
-use Rattle.sqlite_rules.specs.Keys.{conflicts}
-use Rattle.sqlite.specs.declared.types.Value.{Value}
-use Rattle.sqlite.specs.Term.{op2}
-use Rattle.sqlite.specs.Collation.TheVariants.{Binary}
-use Rattle.sqlite_sql.specs.declared.ops.BinaryOp.TheVariants.{Compare}
-use Rattle.sqlite_sql.specs.declared.ops.CompareOp.TheVariants.{Eq}
-use Rattle.sqlite_sql.specs.Ops.{binary, is_true}
-use Rattle.sqlite.specs.Command.TheVariants.{InsertOr}
-use Rattle.sqlite.specs.State.{State, Executes, mode_of}
-use Rattle.sqlite.specs.Does.{AtPlace, OnRows}
-use Rattle.sqlite.specs.Effect.{Database}
-use Rattle.sqlite.proofs.Callers.{runs_as, statement_of}
-use Rattle.sqlite.specs.Listing.{understood}
-use Rattle.sqlite_rules.proofs.TableLemmas.{int_is}
-use Rattle.table_access.proofs.Values.{same_ints}
-use Rattle.table_access.proofs.SoundLemmas.{at_has, all_of}
-use Rattle.table_access.proofs.Steps.{Means, concludes, changes_only}
-use Rattle.sqlite.specs.Cast.{cast_row}
+use Rattle.std.specs.{List.{AllByRecursion}, Ordering.{is_eq, ordering_reverse}, Cmp.{tied_itself}}
+use Rattle.std.proofs.Common.{◌≡◌, ◌≢◌, ◌⊎◌, inl, inr, ℕ, ℤ, List, [], ◌∷◌, ◌++◌, filter, length, true, false, not, ◌/◌, Some, None, Option, Ok, refl, sym, ap, subst, subst₂, ◌∙◌, append-nil, Ordering, Less, slice_get}
+use Rattle.sqlite.specs.{Order.{Row, column, value_cmp}, Term.{Term, col, op2}, Tree.{Trees, rowid, IsTable}, Schema.{Schema}, Source.TheVariants.{Values}}
+use Rattle.sqlite.specs.{Edit.{with_rowid, id_in}, View.{is_int}, declared.types.Value.{Value}, Collation.TheVariants.{Binary}, Command.TheVariants.{InsertOr}}
+use Rattle.sqlite.specs.{State.{State, Executes, mode_of}, Does.{AtPlace, OnRows}, Effect.{Database, value_rows}, Listing.{understood}, Cast.{cast_row}}
 use Rattle.sqlite.specs.Rowids.TheVariants.{Chosen, Given}
-use Rattle.sqlite.specs.Effect.{value_rows}
-use Rattle.sqlite.specs.Rows.{Written, Task, InsertsOr, Tries, TriesEach, Upserts, Puts, Updates, Edited, shown, nothing, count_of}
-use Rattle.sqlite.specs.Table.{Table}
-use Rattle.table_access.specs.Statements.{plain_table, from_table, keeps, shows, IsCalm, IsAdded, ChangesOnly}
-use Rattle.table_access.proofs.Steps.{went, same_value, put_one, put_splits, put_numbered, not_taken, shown_one}
-use Rattle.sqlite.specs.Query.{Query}
+use Rattle.sqlite.specs.{Rows.{Written, Task, InsertsOr, Tries, TriesEach, Upserts, Puts, Updates, shown, nothing, count_of}, Table.{Table}, Query.{Query}}
+use Rattle.sqlite.proofs.Callers.{runs_as, statement_of}
+use Rattle.sqlite_schema.specs.{declared.schema.Column.{Column}, declared.schema.Reference.{Reference}, declared.schema.Keys.{Keys}}
+use Rattle.sqlite_schema.specs.{declared.program.Program.{Program}, declared.command.Upsert.{Upsert}, declared.command.Conflict.TheVariants.{Abort}}
+use Rattle.sqlite_value.{specs.declared.keys.Order.{Order}, proofs.OrderLemmas.{value_cmp_total, value_cmp-Int}}
+use Rattle.sqlite_rules.{specs.{Keys.{AreConflicts, conflicts}, Lists.{Has}}, proofs.TableLemmas.{int_is}}
+use Rattle.sqlite_keyed.proofs.ListLemmas.{filter_none}
+use Rattle.table_access.specs.{Sound.{IsNumbered}, Statements.{plain_table, from_table, keeps, shows, IsCalm, IsAdded, ChangesOnly}}
+use Rattle.table_access.proofs.{Removal.{same_filter}, Parts.{and_true}, Values.{same_ints}, SoundLemmas.{at_has, all_of}}
+use Rattle.table_access.proofs.Steps.{Means, Added, concludes, changes_only, went, same_value, put_one, updated}
+use Rattle.sqlite_sql.specs.{declared.ops.BinaryOp.TheVariants.{Compare}, declared.ops.CompareOp.TheVariants.{Eq}, Ops.{binary, is_true}}
 
 -- WHERE the rowid is this parameter
 abbrev pub by_rowid : ℕ → List Term
@@ -106,42 +67,12 @@ module _ (name : List ℕ) (tree : ℕ) (columns : List Column) (key : Option �
         let trees : w.trees ≡ first.0.trees = ap (λ (it : Written). it.trees) (same_value last.2) ∙ same_value last.1 ∙ ap (λ (p : Written × ℤ). p.0.trees) (same_value first.2) in
         (first.0, trees, tried (with_rowid Chosen (db tree) (cast_row here row)) db first.0 first.1)
 
-    -- an UPDATE of one row takes it out and puts in what SET makes of it
-    pub updated : (terms project : List Term) (with : Row) (db : Trees) (w : Written) → Updates task (record { lets = []; body = from_table tree terms (col 1 0 ∷ project) [] }) with db (Ok w) → IsCalm schema.tables → IsNumbered (db tree)
-        → (r made : Row) → filter (keeps terms with) (db tree) ≡ r ∷ [] → cast_row here (shows project with r) ≡ made
-        → IsAdded (filter (λ x. not (keeps terms with x)) (db tree)) (w.trees tree) made × (IsNumbered (w.trees tree)) × AllByRecursion (λ t. t.tree ≢ tree → w.trees t.tree ≡ db t.tree) schema.tables
-    updated terms project with db w h calm numbered r made found cast =
-        let keep = keeps terms with in
-        let seen = went h in
-        let put = went seen.2 in
-        let one = shown_one (record { schema = schema; trees = db }) with tree terms (col 1 0 ∷ project) [] seen.0 seen.1 r found in
-        let edit = edit_of db here (ids_of (shows (col 1 0 ∷ project) with r ∷ [])) Given 1 (shows (col 1 0 ∷ project) with r ∷ []) in
-        let edited : Edited schema keys db edit (Ok put.0) = subst (λ xs. Edited schema keys db (edit_of db here (ids_of xs) Given 1 xs) (Ok put.0)) one put.1 in
-        let step = one_step schema keys db put.0 edit (calm_works schema keys 0 tree (taken_by db edit) edit.news calm) edited in
-        let now : put.0 ≡ w.trees = sym (ap (λ (it : Written). it.trees) (same_value put.2)) in
-        let rest : without_all (db tree) (ids_of ((column r 0 ∷ []) ∷ [])) ≡ filter (λ x. not (keep x)) (db tree) = left (db tree) numbered keep ((column r 0 ∷ []) ∷ []) (IsPermutation-same _ _ (ap (map (λ x. column x 0 ∷ [])) found)) in
-        let there = put_splits (cast_row here (shows project with r)) (without_all (db tree) (ids_of ((column r 0 ∷ []) ∷ []))) (not_taken _ true step.fresh) in
-        let added : IsAdded (filter (λ x. not (keep x)) (db tree)) (put.0 tree) made = record { front = there.front; back = there.back; was = sym rest ∙ there.was; is = step.rows ∙ there.is ∙ ap (λ x. there.front ++ x ∷ there.back) cast } in (
-          subst (λ (next : Trees). IsAdded (filter (λ x. not (keep x)) (db tree)) (next tree) made) now added,
-          subst (λ (next : Trees). IsNumbered (next tree)) now (subst IsNumbered (sym step.rows) (put_numbered _ _ (first_of_both _ true step.keyed) (subst IsNumbered (sym rest) (numbered_filter (λ x. not (keep x)) (db tree) numbered)))),
-          subst (λ next. AllByRecursion (λ t. t.tree ≢ tree → next t.tree ≡ db t.tree) schema.tables) now step.tables,
-        )
-
     -- a row that is put in
-    pub put : (new made : Row) (db : Trees) (w : Written) → cast_row here new ≡ made → Puts task new db (Ok w)
-        → IsAdded (db tree) (w.trees tree) made × (IsNumbered (db tree) → IsNumbered (w.trees tree)) × AllByRecursion (λ t. t.tree ≢ tree → w.trees t.tree ≡ db t.tree) schema.tables
+    put : (new made : Row) (db : Trees) (w : Written) → cast_row here new ≡ made → Puts task new db (Ok w) → Added tree (db tree) made schema db w.trees
     put new made db w cast h =
         let edit = went h in
-        let it = put_one name tree columns key primary uniques orders checks references Given schema keys db edit.0 new made cast edit.1 in
-        let now : edit.0 ≡ w.trees = sym (ap (λ (it : Written). it.trees) (same_value edit.2)) in (
-          subst (λ (next : Trees). IsAdded (db tree) (next tree) made) now it.0,
-          subst (λ (next : Trees). IsNumbered (db tree) → IsNumbered (next tree)) now it.1,
-          subst (λ next. AllByRecursion (λ t. t.tree ≢ tree → next t.tree ≡ db t.tree) schema.tables) now it.2,
-        )
-
-none_kept : (p : Row → Bool) (rows : List Row) → AllByRecursion (λ x. p x ≡ false) rows → filter p rows ≡ []
-none_kept p [] all = refl
-none_kept p (x ∷ rows) all = rw (all.0, none_kept p rows all.1)
+        subst (Added tree (db tree) made schema db) (sym (ap (λ (it : Written). it.trees) (same_value edit.2)))
+        (put_one name tree columns key primary uniques orders checks references Given schema keys db edit.0 new made cast edit.1)
 
 not_eq : (o : Ordering) → o ≡ Less → is_eq (ordering_reverse o) ≡ false
 not_eq o less = ap (λ x. is_eq (ordering_reverse x)) less
@@ -153,17 +84,13 @@ filter_one (y ∷ ys) up r (inl same) =
     let here_is : is_eq (value_cmp (rowid y) (rowid r)) ≡ true = ap (λ x. is_eq (value_cmp (rowid y) (rowid x))) same ∙ ap is_eq (tied_itself value_cmp_total (rowid y)) in
     let later : AllByRecursion (λ x. is_eq (value_cmp (rowid x) (rowid r)) ≡ false) ys =
     all_of _ ys (λ x has. ap (λ z. is_eq (value_cmp (rowid x) (rowid z))) same ∙ ap is_eq (value_cmp_total.antisymm (rowid x) (rowid y)) ∙ not_eq _ (at_has _ ys x up.0 has)) in
-    rw (here_is, none_kept _ ys later) (ap (λ x. x ∷ []) (sym same))
+    rw (here_is, filter_none _ ys later) (ap (λ x. x ∷ []) (sym same))
 filter_one (y ∷ ys) up r (inr has) =
     let below : is_eq (value_cmp (rowid y) (rowid r)) ≡ false = ap is_eq (at_has _ ys r up.0 has) in
     rw below (filter_one ys up.1 r has)
 
 same_rowids : (a b : Row) → is_int (rowid a) ≡ true → is_int (rowid b) ≡ true → is_true (binary (Compare Eq Binary) (rowid a) (rowid b)) ≡ is_eq (value_cmp (rowid a) (rowid b))
 same_rowids a b p q = subst₂ (λ v w. is_true (binary (Compare Eq Binary) v w) ≡ is_eq (value_cmp v w)) (sym (int_is (rowid a) p)) (sym (int_is (rowid b) q)) (same_ints (id_in (rowid a)) (id_in (rowid b)) ∙ sym (ap is_eq (value_cmp-Int (id_in (rowid a)) (id_in (rowid b)))))
-
-and_true : (b : Bool) → (b && true) ≡ b
-and_true true = refl
-and_true false = refl
 
 module _ (name : List ℕ) (tree : ℕ) (columns : List Column) (key : Option ℕ) (primary : List ℕ) (uniques : List (List ℕ)) (orders : List Order) (checks : List Term) (references : List Reference)
     (sql : List ℕ) (params : Row) (old new : State) (at : ℕ) (target : List ℕ) (n : ℕ) (project : List Term) where
@@ -209,24 +136,20 @@ module _ (name : List ℕ) (tree : ℕ) (columns : List Column) (key : Option �
       let it = upserts name tree columns key primary uniques orders checks references old.step_limit (mode_of old).keys old.now.schema params target update terms width row old.now.trees done.0 one done.1 in
       let trees : it.0.trees ≡ new.now.trees = sym (ap (λ (d : Database). d.trees) done.2 ∙ it.1) in
       let made = with_rowid Chosen (old.now.trees tree) (cast_row row_table row) in
-      let both : Upserted made × IsNumbered (new.now.trees tree) × AllByRecursion (λ t. t.tree ≢ tree → new.now.trees t.tree ≡ old.now.trees t.tree) old.now.schema.tables = elim it.2 [
+      let both : Upserted made × (IsNumbered (old.now.trees tree) → IsNumbered (new.now.trees tree)) × AllByRecursion (λ t. t.tree ≢ tree → new.now.trees t.tree ≡ old.now.trees t.tree) old.now.schema.tables = elim it.2 [
         | inl none ↦
-            let into = put name tree columns key primary uniques orders checks references old.step_limit (mode_of old).keys old.now.schema params target update made (cast_row row_table made) old.now.trees it.0 refl none.1 in (
-              inl (none.0, subst (λ (t : Trees). IsAdded (old.now.trees tree) (t tree) (cast_row row_table made)) trees into.0),
-              subst (λ (t : Trees). IsNumbered (t tree)) trees (into.1 numbered),
-              subst (λ (t : Trees). AllByRecursion (λ x. x.tree ≢ tree → t x.tree ≡ old.now.trees x.tree) old.now.schema.tables) trees into.2,
-            )
+            let into = subst (Added tree (old.now.trees tree) (cast_row row_table made) old.now.schema old.now.trees) trees
+            (put name tree columns key primary uniques orders checks references old.step_limit (mode_of old).keys old.now.schema params target update made (cast_row row_table made) old.now.trees it.0 refl none.1) in
+            (inl (none.0, into.0), into.1, into.2)
         | inr some ↦
             let hit = meets placed numbered some.0 some.1 made some.2 in
             let there_is : rowid some.0 ≡ rowid hit.0 = hit.3 in
             let with = params ++ rowid some.0 ∷ shown row_table made in
-            let changed = updated name tree columns key primary uniques orders checks references old.step_limit (mode_of old).keys old.now.schema params target update (by_rowid n) project with old.now.trees it.0 some.3 calm numbered hit.0
-            (cast_row row_table (shows project with hit.0)) hit.4 refl in
+            let changed = subst (Added tree (filter (λ x. not (keeps (by_rowid n) with x)) (old.now.trees tree)) (cast_row row_table (shows project with hit.0)) old.now.schema old.now.trees) trees
+            (updated name tree columns key primary uniques orders checks references old.step_limit (mode_of old).keys old.now.schema params (by_rowid n) project with old.now.trees it.0 some.3 calm numbered hit.0
+            (cast_row row_table (shows project with hit.0)) hit.4 refl) in
             let others = same_filter (λ x. not (keeps (by_rowid n) with x)) (λ x. not (is_eq (value_cmp (rowid x) (rowid hit.0)))) (old.now.trees tree) (λ x has. ap not (hit.5 x has)) in
-            let stated = subst₂ (λ rest v. IsAdded rest (it.0.trees tree) (cast_row row_table (shows project (params ++ v ∷ shown row_table made) hit.0))) others there_is changed.0 in (
-              inr (hit.0, hit.1, hit.2, subst (λ (t : Trees). IsAdded (filter (λ x. not (is_eq (value_cmp (rowid x) (rowid hit.0)))) (old.now.trees tree)) (t tree) (cast_row row_table (shows project (params ++ rowid hit.0 ∷ shown row_table made) hit.0))) trees stated),
-              subst (λ (t : Trees). IsNumbered (t tree)) trees changed.1,
-              subst (λ (t : Trees). AllByRecursion (λ x. x.tree ≢ tree → t x.tree ≡ old.now.trees x.tree) old.now.schema.tables) trees changed.2,
-            )
+            let stated = subst₂ (λ rest v. IsAdded rest (new.now.trees tree) (cast_row row_table (shows project (params ++ v ∷ shown row_table made) hit.0))) others there_is changed.0 in
+            (inr (hit.0, hit.1, hit.2, stated), changed.1, changed.2)
       ] in
-      (changes_only old new tree command (statement_of sql (understood old.now.schema sql)) params count w (ap (λ (d : Database). d.schema) done.2) (λ _. both.1) both.2, both.0)
+      (changes_only old new tree command (statement_of sql (understood old.now.schema sql)) params count w (ap (λ (d : Database). d.schema) done.2) both.1 both.2, both.0)

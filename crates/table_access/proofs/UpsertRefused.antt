@@ -1,64 +1,31 @@
 -- INSERT .. ON CONFLICT DO UPDATE of one row, over a table to which no other refers, is refused by nothing while the
 -- store works, if the row fits the table and what it refers to is there.
+use Rattle.std.specs.{Prelude.{⊤}, Ordering.{is_eq}}
 use Rattle.std.proofs.Common.{◌≡◌, inl, inr, ℕ, ℤ, List, [], ◌∷◌, ◌++◌, map, filter, length, slice_get, Bool, true, false, not, ◌&&◌, ◌||◌, Some, None, Option, Ok, Err, refl, sym, ap, subst, ◌∙◌, ◌/◌, append-nil, bytes_eq, nat_lt}
-use Rattle.std.specs.Prelude.{⊤}
-use Rattle.std.specs.Ordering.{is_eq}
-use Rattle.std.proofs.lemmas.Slice.Eq.{bytes_eq-Decides}
-use Rattle.std.proofs.lemmas.Bool.{both_ways, false_from_ne_true, and_parts, and_from, or_right, or_cases, not-true}
-use Rattle.sqlite.specs.declared.types.Value.{Value}
-use Rattle.sqlite.specs.declared.types.Value.TheVariants.{Null, Int}
-use Rattle.sqlite.specs.Order.{Row, column, value_cmp}
-use Rattle.sqlite.specs.Tree.{IsAscending, rowid, has_rowid}
-use Rattle.sqlite.specs.Table.{Table}
-use Rattle.sqlite.specs.Term.{Term, col}
-use Rattle.sqlite.specs.Cast.{cast_row, cast_all}
-use Rattle.sqlite.specs.Command.{Command}
-use Rattle.sqlite.specs.Command.TheVariants.{InsertOr}
-use Rattle.sqlite.specs.Source.TheVariants.{Values}
-use Rattle.sqlite.specs.Rowids.TheVariants.{Chosen, Given}
-use Rattle.sqlite.specs.Edit.{next_rowid, without_all, id_in, is_taken, with_rowid}
+use Rattle.std.proofs.{lemmas.Slice.Eq.{bytes_eq-Decides}, lemmas.Bool.{both_ways, false_from_ne_true, and_parts, and_from, or_right, or_cases, not-true}}
+use Rattle.sqlite.specs.{declared.types.Value.{Value}, declared.types.Value.TheVariants.{Null, Int}, Order.{Row, column, value_cmp}}
+use Rattle.sqlite.specs.{Tree.{IsAscending, rowid, has_rowid}, Table.{Table}, Term.{Term, col}, Cast.{cast_row, cast_all}, Command.{Command}}
+use Rattle.sqlite.specs.{Command.TheVariants.{InsertOr}, Source.TheVariants.{Values}, Rowids.TheVariants.{Chosen, Given}}
+use Rattle.sqlite.specs.{Edit.{next_rowid, without_all, id_in, is_taken, with_rowid}, declared.error.Error.{Error}, Effect.{value_rows, Answers}}
+use Rattle.sqlite.specs.Rows.{Written, Task, InsertsOr, Tries, TriesEach, Puts, Updates, Edited, Queried, Sourced, stamped, shown, nothing, count_of}
+use Rattle.sqlite.specs.{Does.{AtPlace, OnRows, Does}, State.{State, Executes, Fails, mode_of}, Listing.{understood}}
 use Rattle.sqlite_sql.specs.Ops.{fits_i64}
 use Rattle.sqlite_typing.specs.Types.{accepts_terms, accepts_program}
-use Rattle.sqlite_value.specs.Keys.{plain}
-use Rattle.sqlite_value.specs.declared.keys.Order.{Order}
-use Rattle.sqlite_schema.specs.declared.schema.Index.{Index}
-use Rattle.sqlite_schema.specs.declared.schema.Column.{Column}
-use Rattle.sqlite_schema.specs.declared.schema.Reference.{Reference}
-use Rattle.sqlite_schema.specs.declared.schema.Among.TheVariants.{All}
-use Rattle.sqlite_schema.specs.declared.schema.Constraint.{Constraint}
+use Rattle.sqlite_value.specs.{Keys.{plain}, declared.keys.Order.{Order}}
+use Rattle.sqlite_schema.specs.{declared.schema.Index.{Index}, declared.schema.Column.{Column}, declared.schema.Reference.{Reference}}
+use Rattle.sqlite_schema.specs.{declared.schema.Among.TheVariants.{All}, declared.schema.Constraint.{Constraint}}
 use Rattle.sqlite_schema.specs.declared.schema.Constraint.TheVariants.{Datatype, NotNull, Check, PrimaryKey, Unique, ForeignKey}
-use Rattle.sqlite_schema.specs.declared.program.Program.{Program}
-use Rattle.sqlite_schema.specs.declared.command.Upsert.{Upsert}
-use Rattle.sqlite_schema.specs.declared.command.Conflict.TheVariants.{Abort}
+use Rattle.sqlite_schema.specs.{declared.program.Program.{Program}, declared.command.Upsert.{Upsert}, declared.command.Conflict.TheVariants.{Abort}}
 use Rattle.sqlite_schema.specs.Rules.{Refers, Keeps, agree, differ, guards, has_parent, references_fit}
-use Rattle.sqlite_rules.specs.Calls.{ids_of}
-use Rattle.sqlite_rules.specs.Lists.{Has}
-use Rattle.sqlite_rules.specs.Keys.{AreConflicts, conflicts, shares}
-use Rattle.sqlite_rules.specs.Steps.{PassAlone, IsJudged}
-use Rattle.sqlite_rules.specs.Edit.{Edit, edit_of, is_off}
-use Rattle.sqlite_rules.specs.declared.error.Refusal.{Refusal}
+use Rattle.sqlite_rules.specs.{Calls.{ids_of}, Lists.{Has}, Keys.{AreConflicts, conflicts, shares}, Steps.{PassAlone, IsJudged}}
+use Rattle.sqlite_rules.specs.{Edit.{Edit, IsOversized, edit_of, is_off}, declared.error.Refusal.{Refusal}}
 use Rattle.sqlite_rules.specs.declared.error.Refusal.TheVariants.{Violates, Mismatch, NoRowid, BadReference, TooDeep}
-use Rattle.sqlite_rules.proofs.ListLemmas.{some_has, some_from, test_has, has_filtered, has_kept}
-use Rattle.sqlite_rules.proofs.RuleLemmas.{keeps_at}
-use Rattle.sqlite_rules.proofs.KeyLemmas.{agree_back, agree_chain}
-use Rattle.sqlite_rules.proofs.TableLemmas.{int_is}
-use Rattle.sqlite_rules.proofs.PlaceLemmas.{next_is_free}
-use Rattle.sqlite.specs.declared.error.Error.{Error}
-use Rattle.sqlite.specs.Effect.{value_rows, Answers}
-use Rattle.sqlite.specs.Rows.{Written, Task, InsertsOr, Tries, TriesEach, Puts, Updates, Edited, shown, nothing, count_of}
-use Rattle.sqlite.specs.Does.{AtPlace, OnRows}
-use Rattle.sqlite.specs.State.{State, Executes, Fails, mode_of}
-use Rattle.sqlite.specs.Listing.{understood}
-use Rattle.table_access.specs.Sound.{IsNumbered}
-use Rattle.table_access.specs.Statements.{plain_table, shows, IsCalm}
-use Rattle.table_access.proofs.Answered.{is_whole, never_refused}
-use Rattle.table_access.proofs.Edits.{Suits, IsAlone, goes, refers, one_unique, differ_is}
-use Rattle.table_access.proofs.Members.{has_map, map_has}
-use Rattle.table_access.proofs.Refused.{stopped, change_fails, caused_by, in_place}
-use Rattle.table_access.proofs.SoundLemmas.{at_has}
-use Rattle.table_access.proofs.Steps.{Means, went, same_value, shown_one}
-use Rattle.table_access.proofs.Upsert.{by_rowid, setting, Either, upserts, meets}
-use Rattle.table_access.proofs.Values.{cast_null, cast_kept}
+use Rattle.sqlite_rules.proofs.{ListLemmas.{some_has, some_from, test_has, has_filtered, has_kept}, RuleLemmas.{keeps_at}, KeyLemmas.{agree_back, agree_chain}}
+use Rattle.sqlite_rules.proofs.{TableLemmas.{int_is}, PlaceLemmas.{next_is_free}}
+use Rattle.table_access.{specs.{Sound.{IsNumbered}, Statements.{plain_table, shows, IsCalm}}, proofs.Answered.{is_whole, never_refused}}
+use Rattle.table_access.proofs.{Edits.{Suits, IsAlone, goes, refers, one_unique, differ_is}, Members.{has_map, map_has}}
+use Rattle.table_access.proofs.{Refused.{stopped, change_fails, caused_by, in_place}, SoundLemmas.{at_has}, Steps.{Means, went, same_value, shown_one}}
+use Rattle.table_access.proofs.{Upsert.{by_rowid, setting, Either, upserts, meets}, Values.{cast_null, cast_kept}}
 
 -- what fits where rows are put in and taken out fits also where none is taken out
 either_way : (a b removes : Bool) → (a && (not true || b)) ≡ true → (a && (not removes || b)) ≡ true
@@ -70,7 +37,7 @@ abbrev pub key_of : Index → Order × List ℕ
 key_of i = (i.order, i.columns)
 
 module _ (name : List ℕ) (tree : ℕ) (columns : List Column) (key : Option ℕ) (primary : List ℕ) (uniques : List (List ℕ)) (orders : List Order) (checks : List Term) (references : List Reference)
-    (sql : List ℕ) (params : Row) (old new : State) (at : ℕ) (target : List ℕ) (n : ℕ) (project terms : List Term) (width : ℕ) (rest : Row) where
+    (sql : List ℕ) (params : Row) (old new : State) (at : ℕ) (target : List ℕ) (n : ℕ) (project terms : List Term) (width : ℕ) (rest : Row) (TooBig : Type 0) where
   abbrev here : Table
   here = plain_table name tree columns key primary uniques orders checks references
 
@@ -90,7 +57,7 @@ module _ (name : List ℕ) (tree : ℕ) (columns : List Column) (key : Option �
 
   -- The database obeys its schema, no reference leads to the table, the target is its one key, and it has a number for the
   -- row. The row has the same columns whether it is put in or is what a row with its key becomes, fits the table, and what
-  -- it refers to is there.
+  -- it refers to is there. TooBig is what is so where it can't be stored.
   pub record Takes : Type 0 where
     pub found : slice_get old.now.schema.tables at ≡ Some here
     pub listed : Has old.now.schema.tables here
@@ -113,6 +80,7 @@ module _ (name : List ℕ) (tree : ℕ) (columns : List Column) (key : Option �
     pub changed : (r : Row) → Has rows r → conflicts (Some target) old.now.schema.indexes here it r ≡ true → shows project (with r) r ≡ rowid r ∷ rest
     pub room : fits_i64 (next_rowid rows) ≡ true
     pub numbers : (r : Row) → Has rows r → fits_i64 (id_in (rowid r)) ≡ true
+    pub storable : (z : ℤ) → IsOversized old.now.schema here (Int z ∷ rest) → TooBig
     pub pass : (v : Value) → PassAlone here ((v ∷ rest) ∷ [])
     pub parents : (v : Value) (ref : Reference) → Has references ref → has_parent old.now.schema.tables old.now.trees (v ∷ rest) ref ≡ true
 
@@ -155,13 +123,14 @@ module _ (name : List ℕ) (tree : ℕ) (columns : List Column) (key : Option �
 
     -- an edit that takes these rows out, and puts the row in with a number that none has that stays
     suited : (ids : List ℤ) (z : ℤ) → fits_i64 z ≡ true → is_taken (without_all rows ids) (Int z ∷ rest) ≡ false → ((r : Row) → Has (without_all rows ids) r → agree plain target r target (Int z ∷ rest) ≡ false)
-        → Suits old.now.schema (mode_of old).keys old.now.trees (record { table = here; gone = ids; news = (Int z ∷ rest) ∷ [] })
+        → Suits TooBig old.now.schema (mode_of old).keys old.now.trees (record { table = here; gone = ids; news = (Int z ∷ rest) ∷ [] })
     suited ids z fits fresh free = record {
       apart = takes.apart;
       calm = takes.calm;
       listed = takes.listed;
       ordered = takes.numbered.0;
       rules = takes.rules;
+      storable = λ row new big. elim new [ inl same ↦ takes.storable z (subst (IsOversized old.now.schema here) same big) | inr none ↦ absurd none ];
       pass = takes.pass (Int z);
       keyed = refl;
       fits = ap (λ b. b && true) fits;
@@ -175,9 +144,9 @@ module _ (name : List ℕ) (tree : ℕ) (columns : List Column) (key : Option �
     abbrev putting : Edit
     putting = edit_of old.now.trees here [] Given 0 (it ∷ [])
 
-    put_suits : AreConflicts (Some target) old.now.schema.indexes here rows it [] → Suits old.now.schema (mode_of old).keys old.now.trees putting
+    put_suits : AreConflicts (Some target) old.now.schema.indexes here rows it [] → Suits TooBig old.now.schema (mode_of old).keys old.now.trees putting
     put_suits none =
-        subst (λ x. Suits old.now.schema (mode_of old).keys old.now.trees (record { table = here; gone = []; news = x ∷ [] })) (sym (cast_kept here it refl takes.cast))
+        subst (λ x. Suits TooBig old.now.schema (mode_of old).keys old.now.trees (record { table = here; gone = []; news = x ∷ [] })) (sym (cast_kept here it refl takes.cast))
         (suited [] (next_rowid rows) takes.room (next_is_free Chosen rows rest takes.numbered.0 takes.numbered.1) (λ r has. false_from_ne_true _ (λ same. none.complete r has (meets_all r same))))
 
     module _ (r : Row) (has : Has rows r) (hit : conflicts (Some target) old.now.schema.indexes here it r ≡ true) where
@@ -202,10 +171,10 @@ module _ (name : List ℕ) (tree : ℕ) (columns : List Column) (key : Option �
       abbrev changing : Edit
       changing = edit_of old.now.trees here (z ∷ []) Given 1 (shows (col 1 0 ∷ project) (with r) r ∷ [])
 
-      change_suits : Suits old.now.schema (mode_of old).keys old.now.trees changing
+      change_suits : Suits TooBig old.now.schema (mode_of old).keys old.now.trees changing
       change_suits =
           let made : cast_row here (shows project (with r) r) ≡ Int z ∷ rest = ap (cast_row here) (takes.changed r has hit ∙ ap (λ v. v ∷ rest) (numbered_by r has)) ∙ cast_kept here (Int z ∷ rest) refl takes.cast in
-          subst (λ x. Suits old.now.schema (mode_of old).keys old.now.trees (record { table = here; gone = z ∷ []; news = x ∷ [] })) (sym made)
+          subst (λ x. Suits TooBig old.now.schema (mode_of old).keys old.now.trees (record { table = here; gone = z ∷ []; news = x ∷ [] })) (sym made)
           (suited (z ∷ []) z (takes.numbers r has) (false_from_ne_true _ (λ taken.
           let y = some_has (λ y. is_eq (value_cmp (rowid y) (Int z))) (without_all rows (z ∷ [])) taken in both_ways _ (other y.0 y.1).1 y.2)) free)
 
@@ -221,29 +190,33 @@ module _ (name : List ℕ) (tree : ℕ) (columns : List Column) (key : Option �
       abbrev clause : Upsert
       clause = record { target = Some target; update = Some update }
 
-      -- an edit that suits is done
-      edits : (edit : Edit) → Suits old.now.schema (mode_of old).keys old.now.trees edit → (e : Error) → Edited old.now.schema (mode_of old).keys old.now.trees edit (Err (Some e)) → ⊥
-      edits edit suits e h = let it = (goes old.now.schema (mode_of old).keys old.now.trees edit suits (Some e) h).0 in cc
+      -- a part that stops, does so at a row that is too big
+      abbrev Stops : Option Error → Type 0
+      Stops stop = (stop ≡ None) × TooBig
 
-      puts : AreConflicts (Some target) old.now.schema.indexes here rows it [] → (e : Error) → Puts task it old.now.trees (Err (Some e)) → ⊥
-      puts none e h = elim (stopped (Some e) h) [ inl edited ↦ edits putting (put_suits none) e edited | inr done ↦ absurd (let h = done.2 in cc) ]
+      puts : AreConflicts (Some target) old.now.schema.indexes here rows it [] → (stop : Option Error) → Puts task it old.now.trees (Err stop) → Stops stop
+      puts none stop h = elim (stopped stop h) [ inl edited ↦ goes TooBig old.now.schema (mode_of old).keys old.now.trees putting (put_suits none) stop edited | inr done ↦ absurd (let h = done.2 in cc) ]
 
       -- what the UPDATE shows of the row that is met makes an edit that suits
       updating : (there : Row) (more : List Row) → AreConflicts (Some target) old.now.schema.indexes here rows it (there ∷ more) → (out : List Row) → Answers old.now update (params ++ rowid there ∷ shown here it) out
-          → Suits old.now.schema (mode_of old).keys old.now.trees (edit_of old.now.trees here (ids_of out) Given 1 out)
+          → Suits TooBig old.now.schema (mode_of old).keys old.now.trees (edit_of old.now.trees here (ids_of out) Given 1 out)
       updating there more some out answers =
           let hit = meets name tree columns key primary uniques orders checks references sql params old new at target n project takes.placed takes.numbered there more it some in
           let one = shown_one old.now (params ++ rowid there ∷ shown here it) tree (by_rowid n) (col 1 0 ∷ project) [] out answers hit.0 hit.4 in
-          subst (λ xs. Suits old.now.schema (mode_of old).keys old.now.trees (edit_of old.now.trees here (ids_of xs) Given 1 xs))
+          subst (λ xs. Suits TooBig old.now.schema (mode_of old).keys old.now.trees (edit_of old.now.trees here (ids_of xs) Given 1 xs))
           (sym (one ∙ ap (λ v. shows (col 1 0 ∷ project) (params ++ v ∷ shown here it) hit.0 ∷ []) hit.3)) (change_suits hit.0 hit.1 hit.2)
 
-      updates : (there : Row) (more : List Row) → AreConflicts (Some target) old.now.schema.indexes here rows it (there ∷ more) → (e : Error) → Updates task update (params ++ rowid there ∷ shown here it) old.now.trees (Err (Some e)) → ⊥
-      updates there more some e h = elim (stopped (Some e) h) [
-        | inl queried ↦
-            let there_is = some.sound there (inl refl) in
-            let number : rowid there ≡ Int (id_in (rowid there_is.0)) = ap rowid there_is.3 ∙ numbered_by there_is.0 there_is.1 in
-            never_refused (params ++ rowid there ∷ shown here it) old.now (setting tree n project) (ap (λ v. accepts_program old.now.schema [] (setting tree n project) (params ++ v ∷ shown here it)) number ∙ takes.typed _) refl old.step_limit unlimited e queried
-        | inr given ↦ elim (stopped (Some e) given.2) [ inl edited ↦ edits _ (updating there more some given.0 given.1) e edited | inr done ↦ absurd (let h = done.2 in cc) ]
+      queried : (there : Row) (more : List Row) → AreConflicts (Some target) old.now.schema.indexes here rows it (there ∷ more) → (stop : Option Error) → Queried task.limit old.now update (params ++ rowid there ∷ shown here it) (Err stop) → ⊥
+      queried there more some None h = h
+      queried there more some (Some e) h =
+          let there_is = some.sound there (inl refl) in
+          let number : rowid there ≡ Int (id_in (rowid there_is.0)) = ap rowid there_is.3 ∙ numbered_by there_is.0 there_is.1 in
+          never_refused (params ++ rowid there ∷ shown here it) old.now (setting tree n project) (ap (λ v. accepts_program old.now.schema [] (setting tree n project) (params ++ v ∷ shown here it)) number ∙ takes.typed _) refl old.step_limit unlimited e h
+
+      updates : (there : Row) (more : List Row) → AreConflicts (Some target) old.now.schema.indexes here rows it (there ∷ more) → (stop : Option Error) → Updates task update (params ++ rowid there ∷ shown here it) old.now.trees (Err stop) → Stops stop
+      updates there more some stop h = elim (stopped stop h) [
+        | inl asked ↦ absurd (queried there more some stop asked)
+        | inr given ↦ elim (stopped stop given.2) [ inl edited ↦ goes TooBig old.now.schema (mode_of old).keys old.now.trees _ (updating there more some given.0 given.1) stop edited | inr done ↦ absurd (let h = done.2 in cc) ]
       ]
 
       judged : (why : Refusal) → IsJudged here it (Some why) → ⊥
@@ -258,32 +231,34 @@ module _ (name : List ℕ) (tree : ℕ) (columns : List Column) (key : Option �
       judged (Violates Unique) h = h
       judged (Violates ForeignKey) h = h
 
-      tried : (e : Error) → Tries task Abort (clause ∷ []) it old.now.trees (Err (Some e)) → ⊥
-      tried e (inl unfit) = both_ways _ unfit.0 takes.room
-      tried e (inr (Some why, is, h)) = judged why is
-      tried e (inr (None, is, ([], none, ([], others, h)))) = puts none e h
-      tried e (inr (None, is, ([], none, (x ∷ more, others, h)))) = puts none e h
-      tried e (inr (None, is, (there ∷ more, some, h))) = updates there more some e h
+      tried : (stop : Option Error) → Tries task Abort (clause ∷ []) it old.now.trees (Err stop) → Stops stop
+      tried stop (inl unfit) = absurd (both_ways _ unfit.0 takes.room)
+      tried stop (inr (Some why, is, h)) = absurd (judged why is)
+      tried stop (inr (None, is, ([], none, ([], others, h)))) = puts none stop h
+      tried stop (inr (None, is, ([], none, (x ∷ more, others, h)))) = puts none stop h
+      tried stop (inr (None, is, (there ∷ more, some, h))) = updates there more some stop h
 
       stored : with_rowid Chosen rows (cast_row here (Null ∷ rest)) ≡ it
       stored = λ i. with_rowid Chosen rows (cast_null i ∷ takes.cast i)
 
-      inserted : (e : Error) → InsertsOr task Abort (clause ∷ []) (Values terms width) old.now.trees (Err (Some e)) → ⊥
-      inserted e h = elim (stopped (Some e) h) [
-        | inl source ↦ elim source [
-          | inl kind ↦ both_ways _ (ap (accepts_terms terms) (sym (append-nil params)) ∙ kind.1) takes.kinds
-          | inr limited ↦ absurd (let some = rw unlimited at limited.1 in cc)
-        ]
-        | inr given ↦ elim (stopped (Some e) given.2) [
+      sourced : (stop : Option Error) → Sourced task.limit old.now (stamped here params) (Values terms width) (Err stop) → ⊥
+      sourced None h = h
+      sourced (Some e) (inl kind) = both_ways _ (ap (accepts_terms terms) (sym (append-nil params)) ∙ kind.1) takes.kinds
+      sourced (Some e) (inr limited) = absurd (let some = rw unlimited at limited.1 in cc)
+
+      inserted : (stop : Option Error) → InsertsOr task Abort (clause ∷ []) (Values terms width) old.now.trees (Err stop) → Stops stop
+      inserted stop h = elim (stopped stop h) [
+        | inl source ↦ absurd (sourced stop source)
+        | inr given ↦ elim (stopped stop given.2) [
           | inl counter ↦ absurd (let h = counter in cc)
-          | inr counted ↦ elim (stopped (Some e) counted.2) [
+          | inr counted ↦ elim (stopped stop counted.2) [
             | inl each ↦
                 let rows_are = given.1.1 ∙ ap (λ ps. value_rows ps width (length terms / width) terms) (append-nil params) ∙ takes.one in
-                elim (stopped (Some e) (subst (λ rs. TriesEach task Abort (clause ∷ []) rs (count_of counted.0) (nothing old.now.trees) (Err (Some e))) rows_are each)) [
-                  | inl one ↦ tried e (subst (λ x. Tries task Abort (clause ∷ []) x old.now.trees (Err (Some e))) stored one)
+                elim (stopped stop (subst (λ rs. TriesEach task Abort (clause ∷ []) rs (count_of counted.0) (nothing old.now.trees) (Err stop)) rows_are each)) [
+                  | inl one ↦ tried stop (subst (λ x. Tries task Abort (clause ∷ []) x old.now.trees (Err stop)) stored one)
                   | inr done ↦ absurd (let h = done.2 in cc)
                 ]
-            | inr done ↦ elim (stopped (Some e) done.2) [ inl counts ↦ absurd (let h = counts in cc) | inr last ↦ absurd (let h = last.2 in cc) ]
+            | inr done ↦ elim (stopped stop done.2) [ inl counts ↦ absurd (let h = counts in cc) | inr last ↦ absurd (let h = last.2 in cc) ]
           ]
         ]
       ]
@@ -296,22 +271,24 @@ module _ (name : List ℕ) (tree : ℕ) (columns : List Column) (key : Option �
           either : (d : Written) → Either name tree columns key primary uniques orders checks references old.step_limit (mode_of old).keys old.now.schema params target update it old.now.trees d → Refers All old.now.schema d.trees
           either d (inl (none, put)) =
               let edited = went put in
-              subst (λ trees. Refers All old.now.schema trees) (sym (ap (λ (w : Written). w.trees) (same_value edited.2))) (refers old.now.schema (mode_of old).keys old.now.trees putting (put_suits none) edited.0 edited.1)
+              subst (λ trees. Refers All old.now.schema trees) (sym (ap (λ (w : Written). w.trees) (same_value edited.2))) (refers TooBig old.now.schema (mode_of old).keys old.now.trees putting (put_suits none) edited.0 edited.1)
           either d (inr (there, more, some, update)) =
               let given = went update in
               let edited = went given.2 in
-              subst (λ trees. Refers All old.now.schema trees) (sym (ap (λ (w : Written). w.trees) (same_value edited.2))) (refers old.now.schema (mode_of old).keys old.now.trees _ (updating there more some given.0 given.1) edited.0 edited.1)
+              subst (λ trees. Refers All old.now.schema trees) (sym (ap (λ (w : Written). w.trees) (same_value edited.2))) (refers TooBig old.now.schema (mode_of old).keys old.now.trees _ (updating there more some given.0 given.1) edited.0 edited.1)
 
-      rows_done : (e : Error) → OnRows task (mode_of old) None command old.now.trees (Err (Some e)) → ⊥
-      rows_done e h = elim (stopped (Some e) h) [
-        | inl written ↦ inserted e written
-        | inr written ↦ elim (stopped (Some e) written.2) [
-          | inl tested ↦ tested.0 (left_sound written.0 written.1)
-          | inr passed ↦ elim (stopped (Some e) passed.2) [ inl shown ↦ absurd (let h = shown in cc) | inr last ↦ absurd (let h = last.2 in cc) ]
+      rows_done : (stop : Option Error) → OnRows task (mode_of old) None command old.now.trees (Err stop) → Stops stop
+      rows_done stop h = elim (stopped stop h) [
+        | inl written ↦ inserted stop written
+        | inr written ↦ elim (stopped stop written.2) [
+          | inl tested ↦ absurd (tested.0 (left_sound written.0 written.1))
+          | inr passed ↦ elim (stopped stop passed.2) [ inl shown ↦ absurd (let h = shown in cc) | inr last ↦ absurd (let h = last.2 in cc) ]
         ]
       ]
 
-      -- it fails only as the store fails, or since a row was too big
-      pub upsert_fails : (e : Error) → Executes sql params old new (Err e) → Fails old new ⊤ e
-      upsert_fails e h = elim (change_fails sql params old new command (λ e. ⊥) takes.means takes.whole refl refl (λ e is same. in_place old command refl e is)
-          (λ text e writes does. rows_done e (subst (λ o. AtPlace (λ table. OnRows (record task { table = table }) (mode_of old) None command old.now.trees) o (Err (Some e))) takes.found does)) e h) [ inl fails ↦ caused_by old new e (λ big. tt) fails | inr never ↦ absurd never ]
+      does : (text : List ℕ) (stop : Option Error) → Does old.step_limit (mode_of old) params old.now text None command (Err stop) → Stops stop
+      does text stop h = rows_done stop (subst (λ o. AtPlace (λ table. OnRows (record task { table = table }) (mode_of old) None command old.now.trees) o (Err stop)) takes.found h)
+
+      -- it fails only as the store fails, or since the row is too big
+      pub upsert_fails : (e : Error) → Executes sql params old new (Err e) → Fails old new TooBig e
+      upsert_fails e h = elim (change_fails sql params old new command (λ e. ⊥) takes.means takes.whole refl refl (λ e is same. in_place old command refl e is) (λ text e writes h. let it = does text (Some e) h in let clash : Some e ≡ None = it.0 in cc) e h) [ inl fails ↦ caused_by old new e (λ big. (does big.0 None big.1).1) fails | inr never ↦ absurd never ]

@@ -1,44 +1,25 @@
 -- A text that writes rows or makes a table or an index commits nothing inside a transaction, whatever the schema is.
-use Rattle.std.proofs.Common.{inl, inr, ◌≡◌, ◌∙◌, ◌==◌, ◌+◌, Option, ℕ, length, Bool, true, false, cond, List, [], Ok, Err, IsTrue, refl, subst}
-use Rattle.std.proofs.lemmas.Bool.{cases_Bool}
-use Rattle.sqlite_ast.specs.declared.Expr.{Expr}
-use Rattle.sqlite_ast.specs.declared.Rows.{Rows}
-use Rattle.sqlite_ast.specs.declared.Upsert.{Upsert}
-use Rattle.sqlite_ast.specs.declared.Conflict.TheVariants as conflict
-use Rattle.sqlite_ast.specs.declared.Statement.{Statement}
-use Rattle.sqlite_ast.specs.declared.CreateTable.{CreateTable as NewTable}
-use Rattle.sqlite_ast.specs.declared.CreateIndex.{CreateIndex as NewIndex}
 use Rattle.std.specs.Option.{option_or}
-use Rattle.std.proofs.Common.{not, ◌&&◌}
-use Rattle.sqlite_schema.specs.Names.{table_named, view_named, index_named}
-use Rattle.sqlite_resolve.specs.declared.error.CompileError.TheVariants.{Unsupported}
-use Rattle.sqlite_resolve.specs.Define as define
-use Rattle.sqlite_ast.specs.declared.Statement.TheVariants as written
-use Rattle.sqlite_syntax.specs.declared.statement.Parsed.{Parsed}
-use Rattle.sqlite_schema.specs.declared.schema.Schema.{Schema}
-use Rattle.sqlite_schema.specs.declared.command.Command.{Command}
+use Rattle.std.proofs.Common.{inl, inr, ◌≡◌, ◌∙◌, ◌==◌, ◌+◌, Option, ℕ, length, Bool, true, false, cond, List, [], Ok, Err, IsTrue, refl, subst, not, ◌&&◌}
+use Rattle.std.proofs.lemmas.Bool.{cases_Bool}
+use Rattle.sqlite_ast.specs.{declared.Expr.{Expr}, declared.Rows.{Rows}, declared.Upsert.{Upsert}, declared.Statement.{Statement}}
+use Rattle.sqlite_ast.specs.{declared.CreateTable.{CreateTable as NewTable}, declared.CreateIndex.{CreateIndex as NewIndex}}
+use Rattle.sqlite_schema.specs.{Names.{table_named, view_named, index_named}, declared.schema.Schema.{Schema}, declared.command.Command.{Command}}
 use Rattle.sqlite_schema.specs.declared.command.Command.TheVariants.{Insert, InsertOr, Update, Delete, CreateTable, CreateIndex, Nothing}
-use Rattle.sqlite_schema.specs.declared.command.Conflict.{Conflict}
-use Rattle.sqlite_schema.specs.declared.command.Source.{Source}
-use Rattle.sqlite_schema.specs.declared.command.Upsert.{Upsert as Clause}
-use Rattle.sqlite_schema.specs.declared.program.Program.{Program}
-use Rattle.sqlite_resolve.specs.declared.compiled.Compiled.{Compiled}
-use Rattle.sqlite_resolve.specs.Lowering.{Checked, and_then}
+use Rattle.sqlite_schema.specs.{declared.command.Conflict.{Conflict}, declared.schema.Table.{Table}, declared.command.Returning.{Returning}}
+use Rattle.sqlite_resolve.specs.{declared.error.CompileError.TheVariants.{Unsupported}, declared.compiled.Compiled.{Compiled}, Lowering.{Checked, and_then}}
 use Rattle.sqlite_resolve.specs.Scope.{Name}
 use Rattle.sqlite_resolve.specs.Compile.{first, compiled, planned, meaning, command, command_by, insert, insert_or, insert_or_abort, update, delete, create_table, create_index, is_reserved, creates, is_attached, with_command, on_table, target, new_rows, small}
-use Rattle.sqlite_resolve.specs.Compile
-use Rattle.sqlite_resolve.specs.Body.{table_at}
-use Rattle.sqlite_resolve.specs.Program.{program}
-use Rattle.sqlite_resolve.specs.Write.{updated, deleted}
-use Rattle.sqlite_resolve.specs.Given.{upserts}
-use Rattle.sqlite_schema.specs.declared.schema.Table.{Table}
-use Rattle.sqlite_schema.specs.declared.command.Returning.{Returning}
-use Rattle.sqlite_schema.specs.declared.command.Conflict.TheVariants as how
+use Rattle.sqlite_resolve.specs.{Body.{table_at}, Program.{program}, Write.{updated, deleted}, Given.{upserts}}
+use Rattle.sqlite_syntax.specs.declared.statement.Parsed.{Parsed}
 use Rattle.table_access.specs.Writes.{writes, IsWriteText}
-use Rattle.sqlite.specs.Order.{Row}
-use Rattle.sqlite.specs.Tree.{Trees}
-use Rattle.sqlite.specs.Listing.{understood, reads_listing, if_select, listing_schema, is_select}
+use Rattle.sqlite.specs.{Order.{Row}, Tree.{Trees}, Listing.{understood, reads_listing, if_select, listing_schema, is_select}}
 use Rattle.sqlite.specs.State.{State, CommitsBy, Executes, ExecutesIn, Runs, Shows, shows_rows}
+use Rattle.sqlite_ast.specs.declared.Conflict.TheVariants as conflict
+use Rattle.sqlite_resolve.specs.Define as define
+use Rattle.sqlite_ast.specs.declared.Statement.TheVariants as written
+use Rattle.sqlite_resolve.specs.Compile
+use Rattle.sqlite_schema.specs.declared.command.Conflict.TheVariants as how
 
 abbrev is_write : Command → Bool
 is_write (Insert at s) = true
@@ -69,32 +50,20 @@ any (Err e) = tt
 on_any : {A B : Type 0} (r : Checked A) (f : A → Checked B) (Q : B → Type 0) → ((a : A) → Yields Q (f a)) → Yields Q (and_then r f)
 on_any r f Q go = then_yields r f (λ _. Unit {0}) Q (any r) (λ a _. go a)
 
-none_insert : (at : ℕ) (s : Source) → Yields EndsNothing (Ok (Insert at s))
-none_insert at s = refl
-
-none_insert_or : (at : ℕ) (way : Conflict) (s : Source) (found : List Clause) → Yields EndsNothing (Ok (InsertOr at way s found))
-none_insert_or at way s found = refl
-
-none_update : (at : ℕ) (p : Program) → Yields EndsNothing (Ok (Update at p))
-none_update at p = refl
-
-none_delete : (at : ℕ) (p : Program) → Yields EndsNothing (Ok (Delete at p))
-none_delete at p = refl
-
 on_table_ends : (schema : Schema) (name : Name) (f : ℕ → Table → Checked Command) → ((at : ℕ) (table : Table) → Yields EndsNothing (f at table)) → Yields EndsNothing (on_table schema name f)
 on_table_ends schema name f go = on_any (target schema name) (λ at. and_then (table_at schema at) (f at)) EndsNothing (λ at. on_any (table_at schema at) (f at) EndsNothing (go at))
 
 insert_ends : (schema : Schema) (base : ℕ) (name : Name) (columns : List Name) (rows : Rows) → Yields EndsNothing (insert schema base name columns rows)
 unfolding insert
 insert_ends schema base name columns rows = on_table_ends schema name (λ at table. and_then (new_rows schema table base columns rows) (λ s. Ok (Insert at s)))
-    (λ at table. on_any (new_rows schema table base columns rows) (λ s. Ok (Insert at s)) EndsNothing (λ s. none_insert at s))
+    (λ at table. on_any (new_rows schema table base columns rows) (λ s. Ok (Insert at s)) EndsNothing (λ s. refl))
 
 insert_or_ends : (schema : Schema) (base : ℕ) (way : Conflict) (name : Name) (columns : List Name) (rows : Rows) (clauses : List Upsert) → Yields EndsNothing (insert_or schema base way name columns rows clauses)
 unfolding insert_or
 insert_or_ends schema base way name columns rows clauses = on_table_ends schema name
     (λ at table. and_then (new_rows schema table base columns rows) (λ s. and_then (upserts schema at table base clauses) (λ found. Ok (InsertOr at way s found))))
     (λ at table. on_any (new_rows schema table base columns rows) (λ s. and_then (upserts schema at table base clauses) (λ found. Ok (InsertOr at way s found))) EndsNothing
-    (λ s. on_any (upserts schema at table base clauses) (λ found. Ok (InsertOr at way s found)) EndsNothing (λ found. none_insert_or at way s found)))
+    (λ s. on_any (upserts schema at table base clauses) (λ found. Ok (InsertOr at way s found)) EndsNothing (λ found. refl)))
 
 insert_or_abort_ends : (schema : Schema) (base : ℕ) (name : Name) (columns : List Name) (rows : Rows) (clauses : List Upsert) → Yields EndsNothing (insert_or_abort schema base name columns rows clauses)
 unfolding insert_or_abort
@@ -107,13 +76,13 @@ update_ends : (schema : Schema) (name : Name) (sets : List (Name × Expr)) (test
 unfolding update
 update_ends schema name sets test = on_table_ends schema name (λ at table. and_then (updated schema at table sets test) (λ d. and_then (program schema [] d) (λ p. Ok (Update at p))))
     (λ at table. on_any (updated schema at table sets test) (λ d. and_then (program schema [] d) (λ p. Ok (Update at p))) EndsNothing
-    (λ d. on_any (program schema [] d) (λ p. Ok (Update at p)) EndsNothing (λ p. none_update at p)))
+    (λ d. on_any (program schema [] d) (λ p. Ok (Update at p)) EndsNothing (λ p. refl)))
 
 delete_ends : (schema : Schema) (name : Name) (test : Option Expr) → Yields EndsNothing (delete schema name test)
 unfolding delete
 delete_ends schema name test = on_table_ends schema name (λ at table. and_then (deleted schema at table test) (λ d. and_then (program schema [] d) (λ p. Ok (Delete at p))))
     (λ at table. on_any (deleted schema at table test) (λ d. and_then (program schema [] d) (λ p. Ok (Delete at p))) EndsNothing
-    (λ d. on_any (program schema [] d) (λ p. Ok (Delete at p)) EndsNothing (λ p. none_delete at p)))
+    (λ d. on_any (program schema [] d) (λ p. Ok (Delete at p)) EndsNothing (λ p. refl)))
 
 created_ends : (b : Bool) → Yields EndsNothing (cond b (Ok CreateTable) (Err Unsupported))
 created_ends true = refl

@@ -1,11 +1,7 @@
 use Rattle.std.proofs.Common.{◌≡◌, ◌∙◌, ◌≤◌, inl, inr, sym, false, is_ok, Ok, Err, Result, OnErr, IfErr, arith}
-use Rattle.sqlite.specs.Held.{state}
-use Rattle.sqlite.specs.State.{State, HasCleanDisk}
-use Rattle.table_access.specs.Calls.{HasFailed, fault_of}
-use Rattle.table_access.specs.Unit.{TellsRollback}
-use Rattle.table_access.specs.declared.StoreFault.{StoreFault}
-use Rattle.table_access.proofs.CallLemmas.{commits_then, left_commit}
-use Rattle.table_access.proofs.RefusedEnds.{failed_idle}
+use Rattle.sqlite.specs.{Held.{state}, State.{State, HasCleanDisk}}
+use Rattle.table_access.specs.{Calls.{HasFailed, fault_of}, Unit.{TellsRollback}, declared.StoreFault.{StoreFault}}
+use Rattle.table_access.proofs.{CallLemmas.{commits_then, left_commit}, RefusedEnds.{failed_idle}}
 use Rattle.table_access.proofs.commit.Goals as goal
 
 -- a rollback after a failure that ended the transaction finds none

@@ -1,18 +1,12 @@
 use Rattle.std.proofs.Common.{Ok, Err, Result, ℕ, OnOk, OnErr, IfErr, [], refl, codes}
-use Rattle.sqlite.specs.State.{State, Executes}
-use Rattle.sqlite.specs.Command.TheVariants.{Begin}
-use Rattle.sqlite.specs.declared.error.Error.{Error}
-use Rattle.sqlite.proofs.Callers.{runs_as}
+use Rattle.sqlite.{specs.{State.{State, Executes}, Command.TheVariants.{Begin}, declared.error.Error.{Error}}, proofs.Callers.{runs_as}}
 use Rattle.sqlite.proofs.StateLemmas.{survives_weaker}
-use Rattle.table_access.specs.Unit.{Begins, IsLeft}
-use Rattle.table_access.specs.Calls.{fault_of}
-use Rattle.table_access.specs.Unit.{FailsToBegin}
-use Rattle.table_access.proofs.Texts.{begin_is, refused_leaves, begin_commits}
+use Rattle.table_access.{specs.{Unit.{Begins, IsLeft, FailsToBegin}, Calls.{fault_of}}, proofs.Texts.{begin_is, refused_leaves, begin_commits}}
 use Rattle.table_access.proofs.RefusedEnds.{begin_refused}
 use Rattle.table_access.proofs.run_begin.Goals as goal
 
 begun : (old new : State) (r : Result ℕ Error) → Executes (codes "BEGIN") [] old new r → OnOk r (Begins old new) × OnErr r (IsLeft old new)
-begun old new (Ok count) h = let is = begin_is old.now.schema in let ran = runs_as (codes "BEGIN") [] old new _ refl Begin is.0 is.1 count h in ((ran.0, ran.1, ran.2, ran.4), tt)
+begun old new (Ok count) h = let means = (begin_is old.now.schema).0 in let ran = runs_as (codes "BEGIN") [] old new _ refl Begin means.is means.plain count h in ((ran.0, ran.1, ran.2, ran.4), tt)
 begun old new (Err e) h = (tt, refused_leaves _ _ old new e h)
 
 why : (old new : State) (r : Result ℕ Error) → Executes (codes "BEGIN") [] old new r → IfErr r (λ e. FailsToBegin old new (fault_of e))

@@ -1,17 +1,12 @@
 use Rattle.std.proofs.Common.{Ok, Err, Result, ℕ, OnOk, OnErr, IfErr, IsTrue, [], refl, codes}
-use Rattle.sqlite.specs.State.{State, Executes, Commits}
-use Rattle.sqlite.specs.Command.TheVariants.{Commit}
-use Rattle.sqlite.specs.declared.error.Error.{Error}
-use Rattle.sqlite.proofs.Callers.{runs_as}
+use Rattle.sqlite.{specs.{State.{State, Executes, Commits}, Command.TheVariants.{Commit}, declared.error.Error.{Error}}, proofs.Callers.{runs_as}}
 use Rattle.sqlite.proofs.StateLemmas.{survives_weaker}
-use Rattle.table_access.specs.Calls.{fault_of}
-use Rattle.table_access.specs.Unit.{IsLeft, FailsToCommit}
-use Rattle.table_access.proofs.Texts.{commit_is, refused_leaves, commit_commits}
+use Rattle.table_access.{specs.{Calls.{fault_of}, Unit.{IsLeft, FailsToCommit}}, proofs.Texts.{commit_is, refused_leaves, commit_commits}}
 use Rattle.table_access.proofs.RefusedEnds.{commit_refused}
 use Rattle.table_access.proofs.run_commit.Goals as goal
 
 committed : (old new : State) (r : Result ℕ Error) → Executes (codes "COMMIT") [] old new r → OnOk r (IsTrue old.in_transaction × Commits old new) × OnErr r (IsLeft old new)
-committed old new (Ok count) h = let is = commit_is old.now.schema in let ran = runs_as (codes "COMMIT") [] old new _ refl Commit is.0 is.1 count h in ((ran.0, (ran.1, ran.2, ran.4)), tt)
+committed old new (Ok count) h = let means = (commit_is old.now.schema).0 in let ran = runs_as (codes "COMMIT") [] old new _ refl Commit means.is means.plain count h in ((ran.0, (ran.1, ran.2, ran.4)), tt)
 committed old new (Err e) h = (tt, refused_leaves _ _ old new e h)
 
 pub returns-clause-done : goal.returns-clause-done

@@ -1,17 +1,12 @@
 use Rattle.std.proofs.Common.{Ok, Err, Result, ℕ, OnOk, IfErr, IsTrue, [], refl, codes}
-use Rattle.sqlite.specs.State.{State, Executes}
-use Rattle.sqlite.specs.Command.TheVariants.{Rollback}
-use Rattle.sqlite.specs.declared.error.Error.{Error}
-use Rattle.sqlite.proofs.Callers.{runs_as}
+use Rattle.sqlite.{specs.{State.{State, Executes}, Command.TheVariants.{Rollback}, declared.error.Error.{Error}}, proofs.Callers.{runs_as}}
 use Rattle.sqlite.proofs.StateLemmas.{survives_weaker}
-use Rattle.table_access.specs.Calls.{fault_of}
-use Rattle.table_access.specs.Unit.{RollsBack, FailsToRollBack}
-use Rattle.table_access.proofs.Texts.{rollback_is, rollback_commits}
+use Rattle.table_access.{specs.{Calls.{fault_of}, Unit.{RollsBack, FailsToRollBack}}, proofs.Texts.{rollback_is, rollback_commits}}
 use Rattle.table_access.proofs.RefusedEnds.{rollback_refused}
 use Rattle.table_access.proofs.run_rollback.Goals as goal
 
 undone : (old new : State) (r : Result ℕ Error) → Executes (codes "ROLLBACK") [] old new r → OnOk r (RollsBack old new)
-undone old new (Ok count) h = let is = rollback_is old.now.schema in let ran = runs_as (codes "ROLLBACK") [] old new _ refl Rollback is.0 is.1 count h in (ran.0, ran.1)
+undone old new (Ok count) h = let means = (rollback_is old.now.schema).0 in let ran = runs_as (codes "ROLLBACK") [] old new _ refl Rollback means.is means.plain count h in (ran.0, ran.1)
 undone old new (Err e) h = tt
 
 why : (old new : State) (r : Result ℕ Error) → Executes (codes "ROLLBACK") [] old new r → IsTrue old.in_transaction → IfErr r (λ e. FailsToRollBack old new (fault_of e))

@@ -1,32 +1,16 @@
 use Rattle.sqlite.proofs.StateLemmas.{survives_weaker}
-use Rattle.table_access.proofs.CallLemmas.{left_commit, shows_commit, shown_inside, query_by, refused_left, refused_fails, refused_memory, memory_ok, shows_outside}
-use Rattle.std.proofs.Common.{◌≡◌}
-use Rattle.table_access.specs.declared.StoreFault.TheVariants.{Memory}
+use Rattle.table_access.proofs.CallLemmas.{ran, refused, shown_inside, query_by, shows_outside}
 use Rattle.table_access.proofs.select.Goals as goal
 
 pub returns-in-Ok-clause-leaves : goal.returns-in-Ok-clause-leaves
-returns-in-Ok-clause-leaves g c = record {
-  call = record {
-    ok = λ clean. c.in-Ok.ensures.ok clean;
-    goes_on = λ clean inside. let on = shown_inside _ _ _ _ _ (c.in-Ok.ensures.ok clean) inside in (on.mode, λ _. on.is_open);
-    fails = λ _ _. tt;
-    commits = λ clean inside. shows_commit _ _ (shown_inside _ _ _ _ _ (c.in-Ok.ensures.ok clean) inside);
-    survives = survives_weaker _ _ _ _ (λ _ db h. shows_outside _ _ _ db h) c.query_all.ensures.survives;
-  };
-  memory = memory_ok _ _ _;
-}
+returns-in-Ok-clause-leaves g c =
+    ran _ _ _ _ c.in-Ok.ensures.ok (λ clean inside. shown_inside _ _ _ _ _ (c.in-Ok.ensures.ok clean) inside)
+    (survives_weaker _ _ _ _ (λ _ db h. shows_outside _ _ _ db h) c.query_all.ensures.survives)
 
 pub returns-in-Err-clause-leaves : goal.returns-in-Err-clause-leaves
-returns-in-Err-clause-leaves g c = record {
-  call = record {
-    ok = λ clean. tt;
-    goes_on = λ clean inside. tt;
-    fails = λ clean inside. refused_fails _ _ _ _ c.fault_of.ensures (query_by _ _ _ _ _ (c.in-Err.ensures.err clean)) inside;
-    commits = λ clean inside. left_commit _ _ (refused_left _ _ _ (query_by _ _ _ _ _ (c.in-Err.ensures.err clean)));
-    survives = survives_weaker _ _ _ _ (λ _ db h. shows_outside _ _ _ db h) c.query_all.ensures.survives;
-  };
-  memory = λ clean inside is. refused_memory _ _ _ c.fault_of.result c.fault_of.ensures (query_by _ _ _ _ _ (c.in-Err.ensures.err clean)) (let same : c.fault_of.result ≡ Memory = (let h = is in cc) in same);
-}
+returns-in-Err-clause-leaves g c =
+    refused _ _ _ _ _ c.fault_of.ensures (λ clean. query_by _ _ _ _ _ (c.in-Err.ensures.err clean))
+    (survives_weaker _ _ _ _ (λ _ db h. shows_outside _ _ _ db h) c.query_all.ensures.survives)
 
 pub returns-in-Err-clause-cause : goal.returns-in-Err-clause-cause
 returns-in-Err-clause-cause g c clean = (c.in-Err.error, c.fault_of.ensures, c.in-Err.ensures.err clean)

@@ -1,9 +1,7 @@
 use Rattle.std.proofs.Common.{Ok, sym, subst}
 use Rattle.sqlite.specs.Held.{state}
 use Rattle.table_access.proofs.CallLemmas.{idle, memory_ok, statement_seq}
-use Rattle.broker_tables.specs.Making.{MakesTexts}
-use Rattle.broker_tables.proofs.Written.{no_texts, text_more, texts_more}
-use Rattle.broker_tables.proofs.Definitions.{tables_defined, indexes_defined}
+use Rattle.broker_tables.{specs.Making.{MakesTexts}, proofs.{Written.{no_texts, text_more, texts_more}, Definitions.{tables_defined, indexes_defined}}}
 use Rattle.broker_tables.proofs.making.make_each.Goals as goal
 
 pub loop-text-init : goal.loop-text-init

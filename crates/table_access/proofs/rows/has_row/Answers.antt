@@ -1,6 +1,4 @@
-use Rattle.std.proofs.Common.{◌≡◌, ◌∙◌, ◌==◌, List, [], ◌∷◌, refl, ap, not, length, slice_get}
-use Rattle.std.specs.Option.{is_some}
-use Rattle.std.proofs.Math.Dec.{eqb-suc-zero}
+use Rattle.std.{specs.Option.{is_some}, proofs.{Common.{◌≡◌, ◌∙◌, ◌==◌, List, [], ◌∷◌, refl, ap, not, length, slice_get}, Math.Dec.{eqb-suc-zero}}}
 use Rattle.sqlite.specs.Held.{state}
 use Rattle.table_access.proofs.CallLemmas.{statement_ok, statement_err}
 use Rattle.table_access.proofs.rows.has_row.Goals as goal

@@ -1,7 +1,6 @@
 use Rattle.std.proofs.Common.{inl, inr, refl, subst, sym, ◌+◌, take}
 use Rattle.sqlite_rules.specs.Lists.{Has}
-use Rattle.table_access.specs.Reading.{AreRead}
-use Rattle.table_access.proofs.ReadLemmas.{has_get, read_turn}
+use Rattle.table_access.{specs.Reading.{AreRead}, proofs.ReadLemmas.{has_get, read_turn}}
 use Rattle.table_access.proofs.rows.read_all.Goals as goal
 
 pub returns-in-Err-clause-cause : goal.returns-in-Err-clause-cause
