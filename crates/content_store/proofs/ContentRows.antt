@@ -1,66 +1,28 @@
 -- The statements on contents.
-use Rattle.std.proofs.Common.{◌≡◌, ◌<◌, ◌^◌, ◌+◌, ℕ, ℤ, pos, cond, codes, List, [], ◌∷◌, ◌++◌, map, filter, length, true, false, Bool, ◌&&◌, ◌||◌, not, Ordering, refl, sym, ap, subst, ◌∙◌, slice_get, unwrap_or, Some, None, Option, Ok, arith, Less}
-use Rattle.std.specs.Prelude.{option_map}
-use Rattle.std.specs.List.{AllByRecursion, enumerate_from, position_or_len, find as first}
-use Rattle.std.specs.Cmp.Lexicographic.{nat_list_cmp_total}
-use Rattle.std.proofs.lemmas.List.{length-map}
-use Rattle.std.specs.Ordering.{eq_by_cmp, int_cmp, is_eq, is_gt}
-use Rattle.std.specs.Cmp.{int_cmp_total, eq_by_cmp_equiv}
-use Rattle.std.specs.FinMap.Entries.{find}
+use Rattle.std.specs.{Prelude.{option_map}, List.{AllByRecursion, enumerate_from, position_or_len, find as first}, Cmp.Lexicographic.{nat_list_cmp_total}}
+use Rattle.std.specs.{Ordering.{eq_by_cmp, int_cmp, is_eq, is_gt}, Cmp.{int_cmp_total, eq_by_cmp_equiv}, FinMap.Entries.{find}}
 use Rattle.std.specs.FinMap.{int_cmp-IsAntisymmetric}
-use Rattle.sqlite.specs.Tree.{IsAscending, rowid}
-use Rattle.sqlite.specs.Edit.{id_in}
-use Rattle.sqlite_keyed.specs.Lists.{insert_sorted, sort_by}
-use Rattle.sqlite_keyed.proofs.ListLemmas.{ascending-filter}
-use Rattle.sqlite_sql.specs.Query.{sort_cmp}
-use Rattle.sqlite_value.specs.declared.keys.Key.{Key}
-use Rattle.sqlite_value.proofs.OrderLemmas.{then-Equal}
-use Rattle.sqlite.specs.declared.types.Value.TheVariants.{Null, Int, Text}
-use Rattle.sqlite.specs.Order.{Row, column, value_cmp}
-use Rattle.sqlite.specs.Term.{Term, col, lit, op2}
-use Rattle.sqlite.specs.Collation.TheVariants.{Binary}
-use Rattle.sqlite_sql.specs.declared.ops.BinaryOp.TheVariants.{Compare}
-use Rattle.sqlite_sql.specs.declared.ops.CompareOp.TheVariants.{Eq}
-use Rattle.sqlite_sql.specs.Ops.{binary, is_true}
-use Rattle.sqlite.specs.Edit.{with_rowid}
-use Rattle.sqlite.specs.Rowids.TheVariants.{Chosen}
-use Rattle.sqlite.specs.Cast.{cast_all, cast_row}
-use Rattle.sqlite.specs.Table.{Table}
-use Rattle.sqlite.specs.Effect.{Database}
-use Rattle.sqlite.specs.State.{State, Shown, Executes}
-use Rattle.sqlite.specs.Listing.{understood}
-use Rattle.sqlite_rules.specs.Lists.{Has}
-use Rattle.sqlite_rules.proofs.TableLemmas.{int_is}
+use Rattle.std.proofs.Common.{◌≡◌, ◌<◌, ◌^◌, ◌+◌, ℕ, ℤ, pos, cond, codes, List, [], ◌∷◌, ◌++◌, map, filter, length, true, false, Bool, ◌||◌, not, Ordering, refl, sym, ap, subst, ◌∙◌, slice_get, unwrap_or, Some, None, Option, Ok, arith, Less}
+use Rattle.std.proofs.{lemmas.List.{length-map, map-append}, lemmas.Bool.{ltb-true, lt-ltb}}
+use Rattle.sqlite.specs.{Tree.{IsAscending, rowid}, Edit.{id_in, with_rowid}, declared.types.Value.TheVariants.{Null, Int, Text}}
+use Rattle.sqlite.specs.{Order.{Row, column, value_cmp}, Term.{Term, col, lit, op2}, Collation.TheVariants.{Binary}, Rowids.TheVariants.{Chosen}}
+use Rattle.sqlite.specs.{Cast.{cast_all, cast_row}, Table.{Table}, Effect.{Database}, State.{State, Shown, Executes}, Listing.{understood}}
+use Rattle.sqlite_keyed.{specs.Lists.{insert_sorted, sort_by}, proofs.ListLemmas.{ascending-filter, map-map}}
+use Rattle.sqlite_sql.specs.{Query.{sort_cmp}, declared.ops.BinaryOp.TheVariants.{Compare}, declared.ops.CompareOp.TheVariants.{Eq}}
+use Rattle.sqlite_value.{specs.declared.keys.Key.{Key}, proofs.OrderLemmas.{then-Equal}}
+use Rattle.sqlite_rules.{specs.{Lists.{Has}, Edit.{is_taken}}, proofs.TableLemmas.{int_is}}
 use Rattle.sqlite_tied.specs.Compute.{everything}
-use Rattle.table_access.specs.Columns.{text, text_cmp, whole_at}
-use Rattle.table_access.specs.Statements.{from_table, up_to, newest, keeps, shows}
-use Rattle.table_access.specs.Sound.{IsNumbered}
-use Rattle.table_access.proofs.Values.{same_ints, cast_null, cast_int}
-use Rattle.table_access.proofs.Steps.{answered}
-use Rattle.table_access.proofs.Newest.{newest_number}
-use Rattle.table_access.proofs.Ordered.{selects_in_order}
-use Rattle.table_access.proofs.Keys.{ascending_on, by_text}
-use Rattle.table_access.proofs.Maps.{looks_up_at}
-use Rattle.table_access.proofs.Parts.{numbers_once}
+use Rattle.table_access.specs.{Columns.{text, text_cmp, whole_at}, Statements.{from_table, up_to, newest, keeps, shows}, Sound.{IsNumbered}}
+use Rattle.table_access.proofs.{Values.{cast_null, cast_int}, Steps.{answered}, Newest.{newest_number}, Ordered.{selects_in_order}}
+use Rattle.table_access.proofs.{Keys.{ascending_on, by_text}, Maps.{looks_up_at}, Parts.{numbers_once, number_part, where_last}}
 use Rattle.table_access.proofs.SoundLemmas.{text_at, has_place, at_has, all_of}
-use Rattle.broker_tables.specs.Schema.{broker_schema}
-use Rattle.broker_tables.specs.Numbers.{numbered}
-use Rattle.broker_tables.specs.Holds.{IsBroker, Holds, with_digest}
-use Rattle.broker_core.specs.State.{State as Broker}
-use Rattle.broker_core.specs.Limit.{has_room}
-use Rattle.std.proofs.lemmas.Bool.{ltb-true, lt-ltb}
-use Rattle.sqlite_rules.specs.Edit.{is_taken}
-use Rattle.broker_tables.proofs.Inserted.{EndsOnly, Puts, inserted, insert_ends, next_counted}
-use Rattle.broker_tables.proofs.Newest.{newest as newest_count}
-use Rattle.broker_tables.proofs.Asked.{Asked, IsShown}
-use Rattle.broker_tables.proofs.Frames.{meant, frame_of, Frame, is_other, still_broker}
-use Rattle.broker_tables.specs.Rows.{rows_of}
-use Rattle.broker_tables.proofs.Placed.{contents, contents_there}
-use Rattle.broker_core.specs.Text.{same_text}
+use Rattle.broker_tables.specs.{Schema.{broker_schema}, Numbers.{numbered}, Holds.{IsBroker, Holds, with_digest}, Rows.{rows_of}}
+use Rattle.broker_tables.proofs.{Inserted.{EndsOnly, Puts, inserted, insert_ends, next_counted}, Newest.{newest as newest_count}, Asked.{Asked, IsShown}}
+use Rattle.broker_tables.proofs.{Frames.{meant, frame_of, Frame, is_other, still_broker}, Placed.{contents, contents_there}, NextRow.{next_row}}
+use Rattle.broker_tables.proofs.ByNumber.{by_number}
+use Rattle.broker_core.specs.{State.{State as Broker}, Limit.{has_room}, Text.{same_text}}
 use Rattle.content_store.specs.Contents.{ContentsBy, AreContentsBy, with_digest_by, text_in, is_among, found_in, IsPut}
 use Rattle.content_store.proofs.TextNumbers.{same_is, none_before, with_new}
-use Rattle.broker_tables.proofs.NextRow.{next_row}
-use Rattle.broker_tables.proofs.ByNumber.{by_number}
 
 module _ (db : Database) (broker : IsBroker db) where
   pub numbered_rows : IsNumbered (db.trees 14)
@@ -103,28 +65,17 @@ numbers_from m texts = map (λ e. (pos e.0, e.1)) (enumerate_from m texts)
 
 -- the row of a number has its text
 bodies : (digest : List ℕ → List ℕ) (rows : List Row) (texts : List (List ℕ)) → AreContentsBy digest texts rows → map {B = ℤ × List ℕ} (λ r. (whole_at 0 r, text 3 r)) rows ≡ numbers_from 1 texts
-bodies digest rows texts is = sym (turned rows) ∙ ap (map turn) is ∙ without 1 texts
+bodies digest rows texts is = sym (map-map turn (λ r. (whole_at 0 r, (text 2 r, text 3 r))) rows) ∙ ap (map turn) is ∙ without 1 texts
   where
     turn : ℤ × (List ℕ × List ℕ) → ℤ × List ℕ
     turn e = (e.0, e.1.1)
-
-    turned : (rs : List Row) → map turn (map {B = ℤ × (List ℕ × List ℕ)} (λ r. (whole_at 0 r, (text 2 r, text 3 r))) rs) ≡ map {B = ℤ × List ℕ} (λ r. (whole_at 0 r, text 3 r)) rs
-    turned [] = refl
-    turned (r ∷ rs) = ap (λ more. (whole_at 0 r, text 3 r) ∷ more) (turned rs)
 
     without : (m : ℕ) (ts : List (List ℕ)) → map turn (map (λ e. (pos e.0, e.1)) (enumerate_from m (map (with_digest_by digest) ts))) ≡ numbers_from m ts
     without m [] = refl
     without m (t ∷ ts) = ap (λ more. (pos m, t) ∷ more) (without (m + 1) ts)
 
 by_id : (db : Database) (broker : IsBroker db) (z : ℤ) → AllByRecursion (λ r. keeps (op2 (Compare Eq Binary) (col 1 0) (col 0 0) ∷ []) (Int z ∷ []) r ≡ eq_by_cmp int_cmp z (whole_at 0 r)) (db.trees 14)
-by_id db broker z = all_of _ (db.trees 14) (λ r has. and_true _ ∙ test r has)
-  where
-    and_true : (b : Bool) → (b && true) ≡ b
-    and_true true = refl
-    and_true false = refl
-
-    test : (r : Row) → Has (db.trees 14) r → is_true (binary (Compare Eq Binary) (column r 0) (Int z)) ≡ eq_by_cmp int_cmp z (whole_at 0 r)
-    test r has = ap (λ v. is_true (binary (Compare Eq Binary) v (Int z))) (ids db broker r has) ∙ same_ints (whole_at 0 r) z ∙ (eq_by_cmp_equiv int_cmp_total).symm (whole_at 0 r) z
+by_id db broker z = all_of _ (db.trees 14) (where_last int_cmp_total (db.trees 14) 0 (whole_at 0) (number_part (db.trees 14) (numbered_rows db broker)) (Int z ∷ []) 0 z refl)
 
 pub body_found : (digest : List ℕ → List ℕ) (z : ℤ) (n : ℕ) → z ≡ pos n → (db : Database) (rows : List Row) (texts : List (List ℕ)) → ContentsBy digest db texts → IsShown (stored z) db rows
     → option_map (text 0) (slice_get rows 0) ≡ text_in texts n
@@ -175,6 +126,10 @@ candidates dg db rows broker h =
     up : IsAscending (λ a b. by_query a b ≡ Less) kept
     up = ascending-filter (λ a b. by_query a b ≡ Less) (keeps of_digest (Text dg ∷ [])) (db.trees 14) (ascending_on _ _ (db.trees 14) (λ a b ha hb less. then-Equal (value_cmp (column a 0) (column b 0)) ∙ less) (numbered_rows db broker).0)
 
+mapped_twice : {X Y Z : Type 0} (f : Y → Z) (g : X → Y) (o : Option X) → option_map f (option_map g o) ≡ option_map (λ x. f (g x)) o
+mapped_twice f g None = refl
+mapped_twice f g (Some x) = refl
+
 module _ (digest : List ℕ → List ℕ) (body dg : List ℕ) (is : digest body ≡ dg) where
   abbrev Entry : Type 0
   Entry = ℤ × (List ℕ × List ℕ)
@@ -196,10 +151,15 @@ module _ (digest : List ℕ → List ℕ) (body dg : List ℕ) (is : digest body
   abbrev place : List (List ℕ) → ℕ
   place texts = position_or_len (same_text body) texts
 
+  abbrev has_text : Row → Bool
+  has_text row = same_text body (text 1 row)
+
   -- of the rows with its digest, the first that has the text is the one of its number
+  abbrev Finds : ℕ → List Row → List (List ℕ) → Type 0
+  Finds m kept texts = (option_map (whole_at 0) (first has_text (map shown kept)) ≡ cond (is_among texts body) (Some (pos (place texts + m))) None)
+
   first_from : (m : ℕ) (p : Row → Bool) (rows : List Row) (texts : List (List ℕ)) → AllByRecursion (λ r. p r ≡ eq_by_cmp text_cmp dg (text 2 r)) rows
-      → map entry rows ≡ map {B = Entry} (λ e. (pos e.0, e.1)) (enumerate_from m (map (with_digest_by digest) texts))
-      → option_map (whole_at 0) (first (λ row. same_text body (text 1 row)) (map shown (filter p rows))) ≡ cond (is_among texts body) (Some (pos (place texts + m))) None
+      → map entry rows ≡ map {B = Entry} (λ e. (pos e.0, e.1)) (enumerate_from m (map (with_digest_by digest) texts)) → Finds m (filter p rows) texts
   first_from m p [] [] tests h = refl
   first_from m p [] (t ∷ texts) tests h = absurd (let e = h in cc)
   first_from m p (r ∷ rows) [] tests h = absurd (let e = h in cc)
@@ -211,42 +171,25 @@ module _ (digest : List ℕ → List ℕ) (body dg : List ℕ) (is : digest body
       hits : same_text body (text 3 r) ≡ same_text body t
       hits = ap (λ (e : Entry). same_text body e.1.1) one
 
-      go : (a : Bool) → p r ≡ a → (b : Bool) → same_text body t ≡ b
-          → option_map (whole_at 0) (first (λ row. same_text body (text 1 row)) (map shown (filter p rows))) ≡ cond (is_among texts body) (Some (pos (place texts + (m + 1)))) None
-          → option_map (whole_at 0) (first (λ row. same_text body (text 1 row)) (map shown (cond a (r ∷ filter p rows) (filter p rows)))) ≡ cond (same_text body t || is_among texts body) (Some (pos (place (t ∷ texts) + m))) None
-      go true e true f later =
-          ap (λ x. option_map (whole_at 0) (cond x (Some (shown r)) (first (λ row. same_text body (text 1 row)) (map shown (filter p rows))))) (hits ∙ f)
-          ∙ ap Some (ap (λ (x : Entry). x.0) one ∙ ap pos (let same : m ≡ 0 + m = omega arith in same)) ∙ sym (ap (λ x. cond (x || is_among texts body) (Some (pos (cond (not x) (1 + place texts) 0 + m))) None) f)
+      next : place texts + (m + 1) ≡ 1 + place texts + m
+      next = omega arith
+
+      go : (a : Bool) → p r ≡ a → (b : Bool) → same_text body t ≡ b → Finds (m + 1) (filter p rows) texts → Finds m (cond a (r ∷ filter p rows) (filter p rows)) (t ∷ texts)
+      go true e true f later = rw (hits, f) (ap Some (ap (λ (x : Entry). x.0) one ∙ ap pos (let same : m ≡ 0 + m = omega arith in same)))
       go false e true f later =
           absurd (let same : digest t ≡ dg = ap digest (sym (same_is body t f)) ∙ is in
           let tied : eq_by_cmp text_cmp dg (text 2 r) ≡ true = ap (eq_by_cmp text_cmp dg) (ap (λ (x : Entry). x.1.0) one ∙ same) ∙ (eq_by_cmp_equiv nat_list_cmp_total).refl dg in
           let clash : true ≡ false = sym tied ∙ sym tests.0 ∙ e in cc)
-      go true e false f later =
-          ap (λ x. option_map (whole_at 0) (cond x (Some (shown r)) (first (λ row. same_text body (text 1 row)) (map shown (filter p rows))))) (hits ∙ f) ∙ skip f later
-        where
-          skip : same_text body t ≡ false → option_map (whole_at 0) (first (λ row. same_text body (text 1 row)) (map shown (filter p rows))) ≡ cond (is_among texts body) (Some (pos (place texts + (m + 1)))) None
-              → option_map (whole_at 0) (first (λ row. same_text body (text 1 row)) (map shown (filter p rows))) ≡ cond (same_text body t || is_among texts body) (Some (pos (place (t ∷ texts) + m))) None
-          skip f later = later ∙ ap (λ k. cond (is_among texts body) (Some (pos k)) None) (let same : place texts + (m + 1) ≡ 1 + place texts + m = omega arith in same)
-              ∙ sym (ap (λ x. cond (x || is_among texts body) (Some (pos (cond (not x) (1 + place texts) 0 + m))) None) f)
-      go false e false f later =
-          later ∙ ap (λ k. cond (is_among texts body) (Some (pos k)) None) (let same : place texts + (m + 1) ≡ 1 + place texts + m = omega arith in same)
-          ∙ sym (ap (λ x. cond (x || is_among texts body) (Some (pos (cond (not x) (1 + place texts) 0 + m))) None) f)
+      go true e false f later = rw (hits, f, ← next) later
+      go false e false f later = rw (f, ← next) later
 
   pub number_found : (db : Database) (rows : List Row) (texts : List (List ℕ)) (found : Option ℕ) → ContentsBy digest db texts → IsShown (sharing dg) db rows
       → option_map (λ n. Int (pos n)) found ≡ option_map (λ row. column row 0) (first (λ row. same_text body (text 1 row)) rows) → found ≡ found_in texts body
   number_found db rows texts found held h read =
-      named found (is_among texts body) (twice found ∙ ap (option_map id_in) read ∙ inner (first (λ row. same_text body (text 1 row)) rows)
-      ∙ ap (λ rs. option_map (whole_at 0) (first (λ row. same_text body (text 1 row)) rs)) (candidates dg db rows held.broker h)
+      named found (is_among texts body) (sym (mapped_twice id_in (λ n. Int (pos n)) found) ∙ ap (option_map id_in) read ∙ mapped_twice id_in (λ row. column row 0) (first has_text rows)
+      ∙ ap (λ rs. option_map (whole_at 0) (first has_text rs)) (candidates dg db rows held.broker h)
       ∙ first_from 1 (keeps of_digest (Text dg ∷ [])) (db.trees 14) texts (by_text (db.trees 14) 2 dg (digests db held.broker)) held.are)
     where
-      twice : (x : Option ℕ) → option_map pos x ≡ option_map id_in (option_map (λ n. Int (pos n)) x)
-      twice None = refl
-      twice (Some n) = refl
-
-      inner : (x : Option Row) → option_map id_in (option_map (λ row. column row 0) x) ≡ option_map (whole_at 0) x
-      inner None = refl
-      inner (Some r) = refl
-
       named : (x : Option ℕ) (b : Bool) → option_map pos x ≡ cond b (Some (pos (place texts + 1))) None → x ≡ cond b (Some (place texts + 1)) None
       named None true e = absurd cc
       named None false e = refl
@@ -271,10 +214,6 @@ others_kept : (name : List ℕ) (ts : List Table) (old new : Database) → AllBy
 others_kept name [] old new all = tt
 others_kept name (t ∷ ts) old new all = (λ apart. all.0 (ap (λ b. not (b || false)) apart), others_kept name ts old new all.1)
 
-digests_grow : (digest : List ℕ → List ℕ) (texts : List (List ℕ)) (body : List ℕ) → map (with_digest_by digest) texts ++ (digest body, body) ∷ [] ≡ map (with_digest_by digest) (texts ++ body ∷ [])
-digests_grow digest [] body = refl
-digests_grow digest (t ∷ texts) body = ap (λ more. (digest t, t) ∷ more) (digests_grow digest texts body)
-
 pub content_put : (digest : List ℕ → List ℕ) (number : ℕ) (dg body : List ℕ) → digest body ≡ dg → (old new : State) (count : ℕ) (texts : List (List ℕ)) → ContentsBy digest old.now texts → is_among texts body ≡ false → number ≡ length texts + 1
     → Executes put_sql (Int (pos number) ∷ Text dg ∷ Text body ∷ []) old new (Ok count) → IsPut digest body texts number old.now new.now
 content_put digest number dg body by old new count texts held free is h =
@@ -285,7 +224,7 @@ content_put digest number dg body by old new count texts held free is h =
     let entry : Row → List ℕ × List ℕ = λ r. (text 2 r, text 3 r) in
     let rows : AreContentsBy digest (texts ++ body ∷ []) (new.now.trees 14) =
     next_row entry (map (with_digest_by digest) texts) (old.now.trees 14) (new.now.trees 14) made held.are (numbered_rows new.now broker) (ap pos (is ∙ ap (λ k. k + 1) (sym (length-map texts (with_digest_by digest))))) it.1
-    ∙ ap (λ d. numbered (map (with_digest_by digest) texts ++ (d, body) ∷ [])) (sym by) ∙ ap numbered (digests_grow digest texts body) in
+    ∙ ap (λ d. numbered (map (with_digest_by digest) texts ++ (d, body) ∷ [])) (sym by) ∙ ap numbered (sym (map-append (with_digest_by digest) texts (body ∷ []))) in
     record {
       number_is = is ∙ ap (λ k. k + 1) (sym (none_before texts body free));
       contents = subst (ContentsBy digest new.now) (sym (with_new texts body free)) (record { broker = broker; are = rows });
@@ -293,8 +232,8 @@ content_put digest number dg body by old new count texts held free is h =
       same = λ there. absurd (let clash : true ≡ false = sym there ∙ free in cc);
     }
 
--- where the number is the next one, and low, it fails only as the store fails
-pub content_ends : (number : ℕ) (dg body : List ℕ) (old new : State) (s : Broker) → Holds old.now s → number ≡ length s.contents + 1 → has_room s.contents ≡ true → EndsOnly put_sql (Int (pos number) ∷ Text dg ∷ Text body ∷ []) old new
+-- where the number is the next one, and low, it fails only as the store fails, or since one of its texts is too long
+pub content_ends : (number : ℕ) (dg body : List ℕ) (old new : State) (s : Broker) → Holds old.now s → number ≡ length s.contents + 1 → has_room s.contents ≡ true → EndsOnly (dg ∷ body ∷ []) put_sql (Int (pos number) ∷ Text dg ∷ Text body ∷ []) old new
 content_ends number dg body old new s held is room =
     let rows = old.now.trees 14 in
     let few : length s.contents < 1000000000 = ltb-true (length s.contents) 1000000000 room in
@@ -306,4 +245,4 @@ content_ends number dg body old new s held is room =
       fresh = subst (λ n. is_taken rows (Int (pos n) ∷ Null ∷ Text dg ∷ Text body ∷ []) ≡ false) (sym (is ∙ ap (λ k. k + 1) (sym (length-map s.contents with_digest)))) next;
       free = tt;
       parents = tt;
-    })
+    }) (dg ∷ body ∷ []) (λ are. record { wide = omega arith; narrow = omega arith; short = (tt, (tt, are)) })

@@ -1,23 +1,12 @@
 -- The calls on contents, where all were stored by SHA-256 and the database holds a state of the broker.
+use Rattle.std.specs.{Prelude.{⊤}, List.{AllByRecursion}}
 use Rattle.std.proofs.Common.{◌≡◌, ℕ, Option, Some, None, List, [], ◌∷◌, ◌++◌, map, Bool, true, false, not, ◌||◌, cond, codes, refl, sym, ◌∙◌, Result, arith}
-use Rattle.std.specs.Prelude.{⊤}
-use Rattle.std.specs.List.{AllByRecursion}
-use Rattle.sqlite.specs.Table.{Table}
-use Rattle.sqlite.specs.Effect.{Database}
-use Rattle.sqlite.specs.State.{State}
+use Rattle.sqlite.specs.{Table.{Table}, Effect.{Database}, State.{State}}
 use Rattle.sha2.specs.Sha256.{sha256}
-use Rattle.table_access.specs.declared.StoreFault.{StoreFault}
-use Rattle.table_access.specs.Calls.{CallsTablesBetween, CallsStoreBetween}
-use Rattle.table_access.proofs.CallLemmas.{call_with, statement_with}
-use Rattle.broker_core.specs.Text.{Text, same_text}
-use Rattle.broker_core.specs.State.{State as Broker}
-use Rattle.broker_core.specs.Change.{is_stored, content_number, stored}
-use Rattle.broker_tables.specs.Schema.{broker_schema}
-use Rattle.broker_tables.specs.Rows.{rows_of}
-use Rattle.broker_tables.specs.Holds.{Holds, HoldsAfter, IsRead, QueriesBetween, ChangesAndAnswersBetween}
-use Rattle.broker_tables.proofs.Frames.{Frame, is_other, contents_change}
-use Rattle.broker_tables.proofs.QueryLemmas.{stays_held}
-use Rattle.broker_tables.proofs.RoomLemmas.{takes_none, after_one}
+use Rattle.table_access.{specs.{declared.StoreFault.{StoreFault}, Calls.{CallsTablesBetween, CallsStoreBetween}}, proofs.CallLemmas.{call_with, statement_with}}
+use Rattle.broker_core.specs.{Text.{Text, same_text}, State.{State as Broker}, Change.{is_stored, content_number, stored}}
+use Rattle.broker_tables.specs.{Schema.{broker_schema}, Rows.{rows_of}, Holds.{Holds, HoldsAfter, IsRead, QueriesBetween, ChangesAndAnswersBetween}}
+use Rattle.broker_tables.proofs.{Frames.{Frame, is_other, contents_change}, QueryLemmas.{stays_held}, RoomLemmas.{takes_none, after_one}}
 use Rattle.content_store.specs.Contents.{hex_of, ContentsBy, IsReadBy, IsReadByAny, IsPut, IsPutIfRoom, StoresIfRoom}
 
 -- what a state says of contents is that they are stored by SHA-256
@@ -36,11 +25,7 @@ reads_held old new r P = call_with old new r _ _ (λ a read. read_held old new P
 -- ---- a text is put
 
 is_apart : (name other : List ℕ) → is_other (other ∷ []) name ≡ true → same_text name other ≡ false
-is_apart name other h = go (same_text name other) h
-  where
-    go : (b : Bool) → not (b || false) ≡ true → b ≡ false
-    go true e = absurd cc
-    go false e = refl
+is_apart name other h = elim (same_text name other) as (λ b. not (b || false) ≡ true → b ≡ false) [ true ↦ λ e. absurd cc | false ↦ λ e. refl ] h
 
 named : (name : List ℕ) (ts : List Table) (old new : Database) → AllByRecursion (λ t. same_text t.name name ≡ false → rows_of new t.name ≡ rows_of old t.name) ts → AllByRecursion (λ n. is_other (name ∷ []) n ≡ true → rows_of new n ≡ rows_of old n) (map (λ t. t.name) ts)
 named name [] old new all = tt

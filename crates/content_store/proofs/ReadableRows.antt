@@ -1,17 +1,9 @@
 -- The rows of contents can be read back, if the state that the database holds can.
 use Rattle.std.proofs.Common.{◌≡◌, refl, ℕ, ℤ, List, [], ◌∷◌, arith}
-use Rattle.sqlite.specs.Order.{Row, column}
-use Rattle.sqlite.specs.declared.types.Value.TheVariants.{Text as SqlText}
-use Rattle.sqlite.specs.Term.{col}
-use Rattle.sqlite.specs.Effect.{Database}
+use Rattle.sqlite.specs.{Order.{Row, column}, declared.types.Value.TheVariants.{Text as SqlText}, Term.{col}, Effect.{Database}}
 use Rattle.sqlite_rules.specs.Lists.{Has}
-use Rattle.table_access.specs.Columns.{text, whole_at}
-use Rattle.table_access.specs.Reading.{IsTextAt, IsNumberRow}
-use Rattle.table_access.specs.Statements.{shows}
-use Rattle.table_access.proofs.SoundLemmas.{text_at, has_place}
-use Rattle.broker_tables.specs.Holds.{IsBroker}
-use Rattle.broker_tables.proofs.Asked.{EachReads, of_table, of_first}
-use Rattle.broker_tables.proofs.ReadableRows.{content_low, body_utf8, number_cell}
+use Rattle.table_access.{specs.{Columns.{text, whole_at}, Reading.{IsTextAt, IsNumberRow}, Statements.{shows}}, proofs.SoundLemmas.{text_at, has_place}}
+use Rattle.broker_tables.{specs.Holds.{IsBroker}, proofs.{Asked.{EachReads, of_table, of_first}, ReadableRows.{content_low, body_utf8, number_cell}}}
 use Rattle.broker_tables.proofs.Placed.{contents, contents_there}
 use Rattle.content_store.proofs.ContentRows.{ids, project, stored, highest, sharing}
 

@@ -1,13 +1,9 @@
 -- Texts and their numbers.
+use Rattle.std.specs.{List.{position_or_len}, Cmp.{eq_by_cmp_equiv, Equal-is}, Cmp.Lexicographic.{texts_ties, nat_list_cmp_total}}
 use Rattle.std.proofs.Common.{◌≡◌, ◌<◌, ◌↔◌, ℕ, cond, List, [], ◌∷◌, ◌++◌, length, true, false, true≢false, Bool, IsTrue, ◌||◌, refl, sym, ap, subst, ◌∙◌, arith}
-use Rattle.std.proofs.lemmas.Bool.Decides.{nat_tests}
-use Rattle.std.specs.Prelude.{nat_lt}
-use Rattle.std.specs.List.{position_or_len}
-use Rattle.std.specs.Cmp.{eq_by_cmp_equiv, Equal-is}
-use Rattle.std.specs.Cmp.Lexicographic.{texts_ties, nat_list_cmp_total}
+use Rattle.std.proofs.lemmas.Bool.{lt-ltb, le-ltb}
 use Rattle.table_access.specs.Columns.{text_cmp}
-use Rattle.broker_core.specs.Text.{Text, same_text}
-use Rattle.broker_core.specs.Limit.{limit, HasRoom, has_room}
+use Rattle.broker_core.specs.{Text.{Text, same_text}, Limit.{limit, HasRoom, has_room}}
 use Rattle.broker_tables.proofs.Orders.{exact_texts}
 use Rattle.content_store.specs.Contents.{is_among, with_text}
 
@@ -34,13 +30,7 @@ with_new texts body e = ap (λ b. cond b texts (texts ++ body ∷ [])) e
 
 -- ---- the limit
 
-test_lt : (m k : ℕ) → m < k → nat_lt m k ≡ true
-test_lt m k h = grind (arith, nat_tests)
-
-test_ge : (m k : ℕ) → ¬ (m < k) → nat_lt m k ≡ false
-test_ge m k h = grind (arith, nat_tests)
-
 -- whether there is room for one more, by their count
 pub room_is : {X : Type 0} (xs : List X) (count : ℕ) (b : Bool) → IsTrue b ↔ HasRoom count → count ≡ length xs → has_room xs ≡ b
-room_is xs count true h is = test_lt (length xs) limit (subst (λ n. n < limit) is (h.0 refl))
-room_is xs count false h is = test_ge (length xs) limit (λ low. true≢false (sym (h.1 (subst (λ n. n < limit) (sym is) low))))
+room_is xs count true h is = lt-ltb (length xs) limit (subst (λ n. n < limit) is (h.0 refl))
+room_is xs count false h is = le-ltb (length xs) limit (let high : ¬ (count < limit) = (λ low. true≢false (sym (h.1 low))) in omega (arith, high, is))

@@ -1,5 +1,5 @@
 //! The normal texts of pacts, each once under its number, beside its digest.
-ghost use Rattle.std.specs.Prelude.{◌≡◌, [], true, false, pos, List, ℕ, IfOk, IfErr, length, option_map, string_bytes};
+ghost use Rattle.std.specs.Prelude.{◌≡◌, [], ◌∷◌, true, false, pos, List, ℕ, IfOk, IfErr, length, option_map, string_bytes};
 ghost use Rattle.std.specs.List.{find as first};
 ghost use Rattle.sqlite.specs.Order.{column};
 ghost use Rattle.sqlite.specs.declared.types.Value.TheVariants.{Int};
@@ -11,7 +11,7 @@ ghost use Rattle.broker_core.specs.Limit.{has_room};
 ghost use Rattle.broker_core.specs.Text.{Text, same_text};
 ghost use Rattle.broker_tables.specs.Calm.{IsCalm, IsCalmInPlace};
 ghost use Rattle.broker_tables.specs.Readable.{IsReadable};
-ghost use Rattle.broker_tables.specs.Refusals.{IsCalmIf};
+ghost use Rattle.broker_tables.specs.Refusals.{IsCalmStoring};
 ghost use Rattle.content_store.specs.Contents.{StaysBroker, IsNextContent, hex_of, is_among, found_in, IsTextOf, TellsUnreadable, IsReadBy, IsReadByAny, IsPutBy, IsPutUnder, IsNewBy, IsNewAfter, IsNewIfRoom, IsPutIfRoom, CanBeAdded, FailsToAdd};
 
 use crate::digester::{Digester, digest_digits};
@@ -138,7 +138,7 @@ fn put_under<'a, S: Alter>(
     ensures call { CallsStore S.Store conn.old conn.new result
         (λ _ old new. (by : Text → Text) → by body.now ≡ digest.now →
         IsPutUnder by body.now old new number) }
-    ensures calm { IsCalmIf S.Store conn.old conn.new result [] (IsNextContent number) }
+    ensures calm { IsCalmStoring S.Store conn.old conn.new result [] (digest.now ∷ body.now ∷ []) (IsNextContent number) }
 {
     change(
         conn,
@@ -157,7 +157,7 @@ fn add_after<S: Alter>(
     ensures call { CallsStore S.Store conn.old conn.new result
         (λ number old new. (by : Text → Text) → by body.now ≡ digest.now →
         IsNewAfter by body.now count old new number) }
-    ensures calm { IsCalmIf S.Store conn.old conn.new result []
+    ensures calm { IsCalmStoring S.Store conn.old conn.new result [] (digest.now ∷ body.now ∷ [])
         (λ s. (count ≡ length s.contents) × (has_room s.contents ≡ true)) }
 {
     let Some(number) = next_number(count) else {
@@ -172,7 +172,7 @@ fn add<S: Alter>(conn: &mut Connection<S>, digest: &[u8], body: &str) -> Result<
     ensures call { CallsStore S.Store conn.old conn.new result
         (λ number old new. (by : Text → Text) → by body.now ≡ digest.now →
         IsNewBy by body.now old new number) }
-    ensures calm { IsCalmIf S.Store conn.old conn.new result []
+    ensures calm { IsCalmStoring S.Store conn.old conn.new result [] (digest.now ∷ body.now ∷ [])
         (λ s. IsReadable s × (has_room s.contents ≡ true)) }
 {
     let count = done!(content_count(conn));
@@ -188,7 +188,7 @@ fn add_if_room<S: Alter>(
     ensures call { CallsStore S.Store conn.old conn.new result
         (λ found old new. (by : Text → Text) → by body.now ≡ digest.now →
         IsNewIfRoom by body.now old new found) }
-    ensures calm { IsCalmIf S.Store conn.old conn.new result [] IsReadable }
+    ensures calm { IsCalmStoring S.Store conn.old conn.new result [] (digest.now ∷ body.now ∷ []) IsReadable }
     ensures rowless { (by : Text → Text) → FailsToAdd S.Store conn.old conn.new by result
         (λ texts. has_room texts ≡ true) }
 {
@@ -213,7 +213,7 @@ pub fn put<S: Alter, D: Digester>(
 ) -> Result<u64, StoreFault>
     ensures call { CallsStore S.Store conn.old conn.new result
         (λ number old new. IsPutBy (hex_of D.digest_of) body.now old new number) }
-    ensures calm { IsCalmIf S.Store conn.old conn.new result []
+    ensures calm { IsCalmStoring S.Store conn.old conn.new result [] (body.now ∷ [])
         (λ s. IsReadable s × (has_room s.contents ≡ true)) }
     ensures rowless { FailsToAdd S.Store conn.old conn.new (hex_of D.digest_of) result
         (λ texts. is_among texts body.now ≡ false) }
@@ -240,7 +240,7 @@ pub fn put_if_room<S: Alter, D: Digester>(
 ) -> Result<Option<u32>, StoreFault>
     ensures call { CallsStore S.Store conn.old conn.new result
         (λ found old new. IsPutIfRoom (hex_of D.digest_of) body.now old new found) }
-    ensures calm { IsCalmIf S.Store conn.old conn.new result [] IsReadable }
+    ensures calm { IsCalmStoring S.Store conn.old conn.new result [] (body.now ∷ []) IsReadable }
     ensures rowless { FailsToAdd S.Store conn.old conn.new (hex_of D.digest_of) result (CanBeAdded body.now) }
 {
     let digest = digest_digits(digester, body.as_bytes());

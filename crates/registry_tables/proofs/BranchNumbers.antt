@@ -1,62 +1,34 @@
--- The query for the numbers of the versions on a branch.
-use Rattle.std.proofs.Common.{◌≡◌, ℕ, ℤ, pos, codes, List, [], ◌∷◌, map, Bool, true, false, cond, nat_lt, ◌&&◌, refl, sym, ap, subst, ◌∙◌, Some, None, Option, Ordering, Less, Equal, Greater, inl, inr, arith}
-use Rattle.std.specs.Prelude.{option_map, Contains, ◌==◌}
-use Rattle.std.specs.Option.{option_map_or}
-use Rattle.std.specs.List.{AllByRecursion}
-use Rattle.std.specs.List.Sorted.{IsStrictlySortedBy}
-use Rattle.std.specs.Ordering.{eq_by_cmp, is_eq, int_cmp, nat_cmp, flip_args, on}
-use Rattle.std.specs.Cmp.{IsTotalOrder, int_cmp_total, on_total, back_total, eq_by_cmp_equiv, Equal-is}
-use Rattle.std.specs.Cmp.Lexicographic.{nat_list_cmp_total}
-use Rattle.std.specs.FinMap.{int_cmp-IsAntisymmetric}
-use Rattle.sqlite.specs.Tree.{IsAscending, rowid}
-use Rattle.sqlite.specs.Edit.{id_in}
-use Rattle.sqlite.specs.declared.types.Value.TheVariants.{Int, Text}
-use Rattle.sqlite.specs.Order.{Row, column, value_cmp}
-use Rattle.sqlite.specs.Term.{Term, col, op2, eval_all}
-use Rattle.sqlite.specs.Collation.TheVariants.{Binary}
-use Rattle.sqlite_sql.specs.declared.ops.BinaryOp.TheVariants.{Compare}
-use Rattle.sqlite_sql.specs.declared.ops.CompareOp.TheVariants.{Eq}
-use Rattle.sqlite_sql.specs.Ops.{binary, is_true}
-use Rattle.sqlite_sql.specs.Query.{sort_cmp}
-use Rattle.sqlite_value.specs.declared.keys.Key.{Key}
-use Rattle.sqlite_value.proofs.OrderLemmas.{value_cmp-Int, then-Equal}
-use Rattle.sqlite.specs.Effect.{Database}
-use Rattle.sqlite.specs.Listing.{understood}
+-- The queries for the numbers of the versions on a branch: for all of them, and for the greatest below another.
+use Rattle.std.specs.{Prelude.{option_map, Contains, ◌↔◌, ⊤}, List.Sorted.{IsStrictlySortedBy}, Ordering.{eq_by_cmp, is_eq, is_lt, int_cmp, nat_cmp, flip_args}}
+use Rattle.std.specs.Cmp.{int_cmp_total, eq_by_cmp_equiv, Equal-is, nat_cmp_is}
+use Rattle.std.proofs.Common.{◌≡◌, ◌<◌, ◌<ℤ◌, inl, inr, ℕ, pos, codes, List, [], ◌∷◌, take, Bool, true, false, true≢false, ◌&&◌, refl, sym, ap, subst, ◌∙◌, slice_get, Some, None, Option, Ordering, Less, Equal, Greater, arith}
+use Rattle.std.proofs.{lemmas.Cmp.{ranked}, lemmas.Int.{ints}}
+use Rattle.sqlite.specs.{Tree.{IsAscending}, Edit.{id_in}, declared.types.Value.TheVariants.{Int, Text}, Order.{Row, column, value_cmp}}
+use Rattle.sqlite.specs.{Term.{Term, col, op2, eval_all}, Collation.TheVariants.{Binary}, Effect.{Database, Answers}, Listing.{understood}}
+use Rattle.sqlite_sql.specs.{declared.ops.BinaryOp.TheVariants.{Compare}, declared.ops.CompareOp.TheVariants.{Eq, Lt}, Ops.{binary, is_true}}
+use Rattle.sqlite_value.{specs.declared.keys.Key.{Key}, proofs.OrderLemmas.{value_cmp-Int, then-Equal}}
 use Rattle.sqlite_rules.specs.Lists.{Has}
-use Rattle.sqlite_rules.proofs.TableLemmas.{int_is}
-use Rattle.sqlite_keyed.specs.Lists.{sort_by}
-use Rattle.sqlite_keyed.proofs.RuleLemmas.{first_of_both, second_of_both}
+use Rattle.sqlite_keyed.proofs.{KeyedLemmas.{lt_from_Less, Less-from_lt}, RuleLemmas.{first_of_both, second_of_both}}
 use Rattle.sqlite_tied.specs.Compute.{everything}
-use Rattle.table_access.specs.Columns.{text, text_cmp, whole_at, by_both}
-use Rattle.table_access.specs.Statements.{from_both, keeps_both}
-use Rattle.table_access.proofs.Values.{same_texts, same_ints}
-use Rattle.table_access.proofs.Keys.{ascending_on}
-use Rattle.table_access.proofs.Maps.{find_has, has_find}
-use Rattle.table_access.proofs.Members.{contains_has, has_contains, has_map, map_has, pairs, has_pair, pair_has, pairs_rise, rises_map}
-use Rattle.table_access.proofs.Ordered.{joins_in_order, same_sort, rises, sorted_has, has_sorted}
-use Rattle.table_access.proofs.Parts.{numbers_once}
-use Rattle.table_access.proofs.SoundLemmas.{at_has, any_of}
-use Rattle.broker_core.specs.Listing.{Lists}
-use Rattle.broker_core.specs.Text.{version}
-use Rattle.broker_core.specs.State.{State as Broker}
-use Rattle.broker_tables.specs.Rows.{stands_at}
-use Rattle.broker_tables.specs.Numbers.{number_of}
-use Rattle.broker_tables.specs.Holds.{Holds, IsBroker}
-use Rattle.table_access.specs.Reading.{IsNumberRow}
-use Rattle.broker_tables.proofs.Asked.{Asked, IsShown, EachReads, of_both}
-use Rattle.broker_tables.proofs.ReadableRows.{number_cell}
-use Rattle.broker_tables.proofs.Orders.{exact_texts, pairs_total, exact_pair, marked_total, exact_marked}
-use Rattle.broker_tables.proofs.NumberLemmas.{version_row}
-use Rattle.broker_tables.proofs.References.{any_has}
-use Rattle.registry_tables.specs.Registry.{IsBranchNumber}
-use Rattle.registry_tables.proofs.VersionRows as of_versions
-use Rattle.registry_tables.proofs.BranchRows as of_branches
-use Rattle.registry_tables.proofs.BranchRows.{key}
+use Rattle.table_access.specs.{Columns.{text, text_cmp, whole_at, by_both}, Reading.{AreRead, IsNumberRow}}
+use Rattle.table_access.{specs.Statements.{from_both, up_to, keeps_both, pairs_kept}, proofs.{Answered.{pair_shown}, Keys.{ascending_on}}}
+use Rattle.table_access.proofs.{Newest.{first_joined}, Parts.{numbers_once}, SoundLemmas.{any_of, at_has}}
+use Rattle.table_access.proofs.{Members.{contains_has, pair_has, has_pair, pairs_rise}, Values.{less_ints}}
+use Rattle.broker_core.{specs.{Listing.{Lists}, State.{State as Broker}, Text.{version}}, proofs.Lists.{contains_none, contains_cases, contains_here}}
+use Rattle.broker_tables.{specs.Holds.{Holds}, proofs.{Asked.{Asked, IsShown, EachReads, of_both, of_first_both}, Listed.{sorts, lists_join}}}
+use Rattle.broker_tables.proofs.{Orders.{marked_total, exact_marked}, ReadableRows.{number_cell, version_low}, References.{any_has}}
+use Rattle.broker_tables.proofs.VersionRows.{versions_numbered, version_number, owners, row_number, find_version, whole_test, text_test, all_three}
+use Rattle.registry_tables.{specs.Registry.{IsBranchNumber, IsNewestBelow}, proofs.BranchRows.{key, is_on, numbers as branch_numbers, names, keys}}
 
-abbrev pub terms : List Term
+-- ON b.version_number = v.number WHERE v.pacticipant = ?1 AND b.branch = ?2
+abbrev terms : List Term
 terms = op2 (Compare Eq Binary) (col 2 1) (col 1 0) ∷ op2 (Compare Eq Binary) (col 1 2) (col 0 0) ∷ op2 (Compare Eq Binary) (col 2 2) (col 0 1) ∷ []
 
-abbrev pub order : List (Term × Key)
+-- .. AND v.number < ?3
+abbrev below_terms : List Term
+below_terms = op2 (Compare Eq Binary) (col 2 1) (col 1 0) ∷ op2 (Compare Eq Binary) (col 1 2) (col 0 0) ∷ op2 (Compare Eq Binary) (col 2 2) (col 0 1) ∷ op2 (Compare Lt Binary) (col 1 0) (col 0 2) ∷ []
+
+abbrev order : List (Term × Key)
 order = (col 1 0, record { collation = Binary; descending = true }) ∷ []
 
 pub numbers : (p b : List ℕ)
@@ -65,208 +37,171 @@ pub numbers : (p b : List ℕ)
 unfolding understood everything
 numbers p b = record { names = _; means = record { is = refl; plain = (refl, refl); unlisted = refl }; runs = record { whole = refl; typed = refl; sumless = refl } }
 
+pub below : (p b : List ℕ) (k : ℕ)
+    → Asked (codes "SELECT v.number FROM versions v JOIN branches b ON b.version_number = v.number WHERE v.pacticipant = ?1 AND b.branch = ?2 AND v.number < ?3 ORDER BY v.number DESC LIMIT 1")
+    (Text p ∷ Text b ∷ Int (pos k) ∷ []) (up_to 1 (from_both 6 8 below_terms (col 1 0 ∷ []) order))
+unfolding understood everything
+below p b k = record { names = _; means = record { is = refl; plain = (refl, refl); unlisted = refl }; runs = record { whole = refl; typed = refl; sumless = refl } }
+
 -- where the versions are few enough, the numbers can be read
 pub numbers_reads : (p b : List ℕ) (db : Database) → EachReads (numbers p b) db IsNumberRow
 numbers_reads p b db s held readable =
-    of_both (numbers p b) db _ (λ v x hv hx kept. number_cell (eval_all (col 1 0 ∷ []) ([] ∷ v ∷ x ∷ [])) 0 (whole_at 0 v) (omega arith) (of_versions.ids db held.broker v hv) (of_versions.low db s held readable v hv))
+    of_both (numbers p b) db _ (λ v x hv hx kept. number_cell (eval_all (col 1 0 ∷ []) ([] ∷ v ∷ x ∷ [])) 0 (whole_at 0 v) (omega arith) (version_number db held.broker v hv) (version_low db s held readable v hv))
 
--- ---- lists of numbers
+pub below_reads : (p b : List ℕ) (k : ℕ) (db : Database) → EachReads (below p b k) db IsNumberRow
+below_reads p b k db s held readable =
+    of_first_both (below p b k) db _ (λ v x hv hx kept. number_cell (eval_all (col 1 0 ∷ []) ([] ∷ v ∷ x ∷ [])) 0 (whole_at 0 v) (omega arith) (version_number db held.broker v hv) (version_low db s held readable v hv))
 
-unmapped : (xs : List ℕ) → IsStrictlySortedBy (flip_args int_cmp) (map pos xs) → IsStrictlySortedBy (flip_args nat_cmp) xs
-unfolding IsStrictlySortedBy
-unmapped [] up = tt
-unmapped (x ∷ xs) up = (each xs up.0, unmapped xs up.1)
-  where
-    less : (a b : ℕ) → int_cmp (pos a) (pos b) ≡ Less → nat_cmp a b ≡ Less
-    less a b h = go (nat_lt a b) (nat_lt b a) (a == b) h
-      where
-        go : (t u e : Bool) → cond t Less (cond u Greater Equal) ≡ Less → cond t Less (cond e Equal Greater) ≡ Less
-        go true u e h = refl
-        go false true e h = absurd cc
-        go false false e h = absurd cc
+-- a row shows this number
+abbrev IsNumber : Row → ℕ → Type 0
+IsNumber row n = (column row 0 ≡ Int (pos n))
 
-    each : (ys : List ℕ) → AllByRecursion (λ y. int_cmp y (pos x) ≡ Less) (map pos ys) → AllByRecursion (λ y. nat_cmp y x ≡ Less) ys
-    each [] all = tt
-    each (y ∷ ys) all = (less y x all.0, each ys all.1)
-
-pair_ascending : {X : Type 0} (R S : X → X → Type 0) (xs : List X) → ((a b : X) → Has xs a → Has xs b → R a b → S a b) → IsAscending R xs → IsAscending S xs
-pair_ascending R S [] each up = tt
-pair_ascending R S (x ∷ xs) each up = (all xs up.0 (λ b has. each x b (inl refl) (inr has)), pair_ascending R S xs (λ a b ha hb. each a b (inr ha) (inr hb)) up.1)
-  where
-    all : (ys : List _) → AllByRecursion (R x) ys → ((b : _) → Has ys b → R x b → S x b) → AllByRecursion (S x) ys
-    all [] h one = tt
-    all (y ∷ ys) h one = (one y (inl refl) h.0, all ys h.1 (λ b has. one b (inr has)))
-
--- ---- the pairs that the query keeps
-
-module _ (db : Database) (broker : IsBroker db) (p b : List ℕ) where
-  abbrev pub params : Row
-  params = Text p ∷ Text b ∷ []
-
-  pub ids : (r : Row) → Has (db.trees 6) r → column r 0 ≡ Int (whole_at 0 r)
-  ids r has = int_is (rowid r) (at_has _ (db.trees 6) r (of_versions.numbered_rows db broker).1 has)
-
-  test : (r s : Row) → Has (db.trees 6) r → Has (db.trees 8) s → keeps_both terms params r s ≡ (is_eq (int_cmp (whole_at 1 s) (whole_at 0 r)) && (is_eq (text_cmp (text 2 r) p) && (is_eq (text_cmp (text 2 s) b) && true)))
-  test r s hr hs = λ i. one i && (two i && (three i && true))
-    where
-      one : is_true (binary (Compare Eq Binary) (column s 1) (column r 0)) ≡ is_eq (int_cmp (whole_at 1 s) (whole_at 0 r))
-      one = ap (λ v. is_true (binary (Compare Eq Binary) v (column r 0))) ((of_branches.numbers db broker).typed s hs) ∙ ap (λ v. is_true (binary (Compare Eq Binary) (Int (whole_at 1 s)) v)) (ids r hr) ∙ same_ints (whole_at 1 s) (whole_at 0 r)
-
-      two : is_true (binary (Compare Eq Binary) (column r 2) (Text p)) ≡ is_eq (text_cmp (text 2 r) p)
-      two = ap (λ v. is_true (binary (Compare Eq Binary) v (Text p))) (of_versions.owners db broker r hr) ∙ same_texts (text 2 r) p
-
-      three : is_true (binary (Compare Eq Binary) (column s 2) (Text b)) ≡ is_eq (text_cmp (text 2 s) b)
-      three = ap (λ v. is_true (binary (Compare Eq Binary) v (Text b))) ((of_branches.names db broker).typed s hs) ∙ same_texts (text 2 s) b
-
-  agrees : (r s : Row) → Has (db.trees 6) r → Has (db.trees 8) s → keeps_both terms params r s ≡ true → (whole_at 1 s ≡ whole_at 0 r) × (text 2 r ≡ p) × (text 2 s ≡ b)
-  agrees r s hr hs kept =
-      let t : (is_eq (int_cmp (whole_at 1 s) (whole_at 0 r)) && (is_eq (text_cmp (text 2 r) p) && (is_eq (text_cmp (text 2 s) b) && true))) ≡ true = sym (test r s hr hs) ∙ kept in
-      let u : (is_eq (text_cmp (text 2 r) p) && (is_eq (text_cmp (text 2 s) b) && true)) ≡ true = second_of_both _ _ t in
-      let w : (is_eq (text_cmp (text 2 s) b) && true) ≡ true = second_of_both _ _ u in (
-        int_cmp-IsAntisymmetric (whole_at 1 s) (whole_at 0 r) ((Equal-is (int_cmp (whole_at 1 s) (whole_at 0 r))).0 (first_of_both _ _ t)),
-        exact_texts (text 2 r) p ((Equal-is (text_cmp (text 2 r) p)).0 (first_of_both _ _ u)),
-        exact_texts (text 2 s) b ((Equal-is (text_cmp (text 2 s) b)).0 (first_of_both _ _ w)),
-      )
-
-  both_kept : (r s : Row) → Has (db.trees 6) r → Has (db.trees 8) s → whole_at 1 s ≡ whole_at 0 r → text 2 r ≡ p → text 2 s ≡ b → keeps_both terms params r s ≡ true
-  both_kept r s hr hs number owner branch = test r s hr hs ∙ (λ i. x i && (y i && (z i && true)))
-    where
-      x : is_eq (int_cmp (whole_at 1 s) (whole_at 0 r)) ≡ true
-      x = ap (λ n. is_eq (int_cmp n (whole_at 0 r))) number ∙ (eq_by_cmp_equiv int_cmp_total).refl (whole_at 0 r)
-
-      y : is_eq (text_cmp (text 2 r) p) ≡ true
-      y = ap (λ t. is_eq (text_cmp t p)) owner ∙ (eq_by_cmp_equiv nat_list_cmp_total).refl p
-
-      z : is_eq (text_cmp (text 2 s) b) ≡ true
-      z = ap (λ t. is_eq (text_cmp t b)) branch ∙ (eq_by_cmp_equiv nat_list_cmp_total).refl b
-
-  abbrev pub by_query : Row × Row → Row × Row → Ordering
-  by_query a c = sort_cmp order (params ∷ a.0 ∷ a.1 ∷ []) (params ∷ c.0 ∷ c.1 ∷ [])
-
-  abbrev pub number : Row × Row → ℤ
-  number q = whole_at 0 q.0
-
-  abbrev pub by_number : Row × Row → Row × Row → Ordering
-  by_number = on number (flip_args int_cmp)
-
-  same_order : (a c : Row × Row) → Has (db.trees 6) a.0 → Has (db.trees 6) c.0 → by_query a c ≡ by_number a c
-  same_order a c ha hc =
-      then-Equal (value_cmp (column c.0 0) (column a.0 0)) ∙ ap (λ v. value_cmp v (column a.0 0)) (ids c.0 hc) ∙ ap (value_cmp (Int (whole_at 0 c.0))) (ids a.0 ha) ∙ value_cmp-Int (whole_at 0 c.0) (whole_at 0 a.0)
-
-  pub total : IsTotalOrder by_number
-  total = on_total number (back_total int_cmp_total)
-
-  -- the pairs that a query keeps which asks for this, and maybe for more
-  module _ (keep : Row → Row → Bool) (asks : (r s : Row) → keep r s ≡ true → keeps_both terms params r s ≡ true) where
-    abbrev pub kept_pairs : List (Row × Row)
-    kept_pairs = pairs keep (db.trees 8) (db.trees 6)
-
-    apart : IsAscending (λ a c. is_eq (by_number a c) ≡ false) kept_pairs
-    apart = pairs_rise keep (db.trees 8) (λ a c. is_eq (by_number a c) ≡ false) (db.trees 6) inner outer
-      where
-        inner : (x : Row) → Has (db.trees 6) x → IsAscending (λ y z. keep x y ≡ true → keep x z ≡ true → is_eq (by_number (x, y) (x, z)) ≡ false) (db.trees 8)
-        inner x hx = ascending_on _ _ (db.trees 8) (λ y z hy hz differ ky kz.
-            let one = agrees x y hx hy (asks x y ky) in
-            let two = agrees x z hx hz (asks x z kz) in
-            let same : key y ≡ key z = λ i. ((one.0 ∙ sym two.0) i, (one.2 ∙ sym two.2) i) in
-            let tied : eq_by_cmp (by_both int_cmp text_cmp) (key y) (key z) ≡ true = ap (eq_by_cmp (by_both int_cmp text_cmp) (key y)) (sym same) ∙ (eq_by_cmp_equiv marked_total).refl (key y) in
-            absurd (let clash : true ≡ false = sym tied ∙ differ in cc)) (of_branches.keys db broker)
-
-        outer : IsAscending (λ x w. (y z : Row) → Has (db.trees 8) y → Has (db.trees 8) z → keep x y ≡ true → keep w z ≡ true → is_eq (by_number (x, y) (w, z)) ≡ false) (db.trees 6)
-        outer = ascending_on _ _ (db.trees 6) (λ x w hx hw differ y z hy hz ky kz. (eq_by_cmp_equiv int_cmp_total).symm (whole_at 0 w) (whole_at 0 x) ∙ differ) (numbers_once (db.trees 6) (of_versions.numbered_rows db broker))
-
-    pub from_rows : (q : Row × Row) → Has kept_pairs q → Has (db.trees 6) q.0 × Has (db.trees 8) q.1 × (keep q.0 q.1 ≡ true)
-    from_rows q has = pair_has keep (db.trees 8) (db.trees 6) q has
-
-    pub sorted : sort_by by_query kept_pairs ≡ sort_by by_number kept_pairs
-    sorted = same_sort by_query by_number kept_pairs (λ a c ha hc. same_order a c (from_rows a ha).0 (from_rows c hc).0)
-
-    pub apart_too : IsAscending (λ a c. is_eq (by_query a c) ≡ false) kept_pairs
-    apart_too = pair_ascending _ _ kept_pairs (λ a c ha hc h. ap is_eq (same_order a c (from_rows a ha).0 (from_rows c hc).0) ∙ h) apart
-
-    -- by falling numbers, each once
-    pub falls : IsStrictlySortedBy by_number (sort_by by_number kept_pairs)
-    falls = rises by_number total kept_pairs apart
-
--- ---- the rows of a version on the branch
-
-pub exact_pos : (n k : ℕ) → pos n ≡ pos k → n ≡ k
-exact_pos n k e = cc
-
-exact_number : (o : Option ℕ) (n : ℕ) → option_map pos o ≡ Some (pos n) → o ≡ Some n
-exact_number None n e = absurd cc
-exact_number (Some k) n e = let same : k ≡ n = cc in ap Some same
+-- the row of a version of the pacticipant, and one that puts this version on the branch
+abbrev IsPair : List ℕ → List ℕ → Row → Row → Type 0
+IsPair p b r x = (whole_at 1 x ≡ whole_at 0 r) × (text 2 r ≡ p) × (text 2 x ≡ b)
 
 module _ (db : Database) (s : Broker) (held : Holds db s) (p b : List ℕ) where
-  pub from_pair : (r x : Row) → Has (db.trees 6) r → Has (db.trees 8) x → keeps_both terms (params db held.broker p b) r x ≡ true → (n : ℕ) → pos n ≡ whole_at 0 r → IsBranchNumber s p b n
-  from_pair r x hr hx kept n is =
-      let agree = agrees db held.broker p b r x hr hx kept in
+  numbered : (r : Row) → Has (db.trees 6) r → (n : ℕ) × (whole_at 0 r ≡ pos n)
+  numbered r has = let it = row_number db held.broker s.versions held.versions r has in (it.0, it.2)
+
+  keeps : (more r x : Row) → Has (db.trees 6) r → Has (db.trees 8) x → (keeps_both terms (Text p ∷ Text b ∷ more) r x ≡ true) ↔ IsPair p b r x
+  keeps more r x hr hx =
+      let all = all_three (is_true (binary (Compare Eq Binary) (column x 1) (column r 0))) (is_true (binary (Compare Eq Binary) (column r 2) (Text p))) (is_true (binary (Compare Eq Binary) (column x 2) (Text b))) in
+      let number = whole_test (column x 1) (column r 0) _ _ ((branch_numbers db held.broker).typed x hx) (version_number db held.broker r hr) in
+      let owner = text_test (column r 2) (Text p) _ p (owners db held.broker r hr) refl in
+      let branch = text_test (column x 2) (Text b) _ b ((names db held.broker).typed x hx) refl in
+      (λ kept. let it = all.0 kept in (number.0 it.0, owner.0 it.1, branch.0 it.2), λ is. all.1 (number.1 is.0, owner.1 is.1, branch.1 is.2))
+
+  -- a pair stands for a number on the branch
+  sound_pair : (r x : Row) → Has (db.trees 6) r → Has (db.trees 8) x → IsPair p b r x → (n : ℕ) → whole_at 0 r ≡ pos n → IsBranchNumber s p b n
+  sound_pair r x hr hx pair n is =
+      let it = row_number db held.broker s.versions held.versions r hr in
       let v = version (text 2 r) (text 3 r) in
-      let numbered : option_map pos (number_of s.versions v) ≡ Some (pos n) =
-      sym (version_row (db.trees 6) s.versions (text 2 r) (text 3 r) held.versions) ∙ has_find pairs_total exact_pair (λ r. (text 2 r, text 3 r)) (whole_at 0) (db.trees 6) r (of_versions.keys db held.broker) hr ∙ ap Some (sym is) in
-      let number_is : number_of s.versions v ≡ Some n = exact_number (number_of s.versions v) n numbered in
-      let stands : stands_at (by_both int_cmp text_cmp) key (db.trees 8) (pos n, b) ≡ true =
-      any_of (λ r. eq_by_cmp (by_both int_cmp text_cmp) (pos n, b) (key r)) (db.trees 8) x hx
-      (ap (eq_by_cmp (by_both int_cmp text_cmp) (pos n, b)) (λ i. ((agree.0 ∙ sym is) i, agree.2 i)) ∙ (eq_by_cmp_equiv marked_total).refl (pos n, b)) in
-      let on_it : s.branches (v, b) ≡ true =
-      sym (held.branches v b) ∙ ap (λ o. option_map_or (λ k. stands_at (by_both int_cmp text_cmp) key (db.trees 8) (pos k, b)) o false) number_is ∙ stands in
-      (v, number_is, agree.1, on_it)
+      let same : it.0 ≡ n = (let ints : pos it.0 ≡ pos n = sym it.2 ∙ is in cc) in
+      let stands : is_on (db.trees 8) b (Some it.0) ≡ true =
+      any_of (λ r. eq_by_cmp (by_both int_cmp text_cmp) (pos it.0, b) (key r)) (db.trees 8) x hx
+      (ap (eq_by_cmp (by_both int_cmp text_cmp) (pos it.0, b)) (λ i. ((pair.0 ∙ it.2) i, pair.2 i)) ∙ (eq_by_cmp_equiv marked_total).refl (pos it.0, b)) in
+      (v, it.1 ∙ ap Some same, pair.1, sym (held.branches v b) ∙ ap (is_on (db.trees 8) b) it.1 ∙ stands)
 
-  pub to_pair : (n : ℕ) → IsBranchNumber s p b n → (q : Row × Row) × Has (db.trees 6) q.0 × Has (db.trees 8) q.1 × (keeps_both terms (params db held.broker p b) q.0 q.1 ≡ true) × (whole_at 0 q.0 ≡ pos n)
-  to_pair n (v, is_number, owner, on_it) =
-      let row = find_has pairs_total exact_pair (λ r. (text 2 r, text 3 r)) (whole_at 0) (v.pacticipant, v.name) (pos n) (db.trees 6)
-      (version_row (db.trees 6) s.versions v.pacticipant v.name held.versions ∙ ap (option_map pos) is_number) in
-      let stands : stands_at (by_both int_cmp text_cmp) key (db.trees 8) (pos n, b) ≡ true =
-      sym (ap (λ o. option_map_or (λ k. stands_at (by_both int_cmp text_cmp) key (db.trees 8) (pos k, b)) o false) is_number) ∙ held.branches v b ∙ on_it in
-      let other = any_has (λ r. eq_by_cmp (by_both int_cmp text_cmp) (pos n, b) (key r)) (db.trees 8) stands in
-      let same : (pos n, b) ≡ key other.0 = exact_marked (pos n, b) (key other.0) ((Equal-is (by_both int_cmp text_cmp (pos n, b) (key other.0))).0 other.2) in
-      let kept = both_kept db held.broker p b row.0 other.0 row.1 other.1 (sym (ap (λ (k : ℤ × List ℕ). k.0) same) ∙ sym row.3) (sym (ap (λ (k : List ℕ × List ℕ). k.0) row.2) ∙ owner) (sym (ap (λ (k : ℤ × List ℕ). k.1) same)) in
-      ((row.0, other.0), row.1, other.1, kept, row.3)
+  -- and each such number has a pair
+  whole_pair : (n : ℕ) → IsBranchNumber s p b n → (q : Row × Row) × Has (db.trees 6) q.0 × Has (db.trees 8) q.1 × IsPair p b q.0 q.1 × (whole_at 0 q.0 ≡ pos n)
+  whole_pair n (v, is, owner, on) =
+      let r = find_version db held.broker s.versions v n held.versions is in
+      let stands : is_on (db.trees 8) b (Some n) ≡ true = sym (ap (is_on (db.trees 8) b) is) ∙ held.branches v b ∙ on in
+      let x = any_has (λ r. eq_by_cmp (by_both int_cmp text_cmp) (pos n, b) (key r)) (db.trees 8) stands in
+      let same : (pos n, b) ≡ key x.0 = exact_marked (pos n, b) (key x.0) ((Equal-is (by_both int_cmp text_cmp (pos n, b) (key x.0))).0 x.2) in
+      ((r.0, x.0), r.1, x.1, (sym (ap (λ k. k.0) same) ∙ sym r.4, r.2 ∙ owner, sym (ap (λ k. k.1) same)), r.4)
 
-wholes : (items : List ℕ) → map id_in (map (λ n. Int (pos n)) items) ≡ map pos items
-wholes [] = refl
-wholes (n ∷ items) = ap (λ more. pos n ∷ more) (wholes items)
+  -- a query that keeps such pairs of some numbers lists these numbers
+  module _ (terms : List Term) (params : Row) (Low : ℕ → Type 0)
+      (kept : (r x : Row) → Has (db.trees 6) r → Has (db.trees 8) x → (n : ℕ) → whole_at 0 r ≡ pos n → (keeps_both terms params r x ≡ true) ↔ (IsPair p b r x × Low n)) where
+    abbrev env : Row × Row → List Row
+    env q = params ∷ q.0 ∷ q.1 ∷ []
 
-firsts : (p b : List ℕ) (qs : List (Row × Row)) → map id_in (map (λ r. column r 0) (map (λ (q : Row × Row). eval_all (col 1 0 ∷ []) ((Text p ∷ Text b ∷ []) ∷ q.0 ∷ q.1 ∷ [])) qs)) ≡ map (λ (q : Row × Row). whole_at 0 q.0) qs
-firsts p b [] = refl
-firsts p b (q ∷ qs) = ap (λ more. whole_at 0 q.0 ∷ more) (firsts p b qs)
+    agrees : (r x : Row) → Has (db.trees 6) r → Has (db.trees 8) x → keeps_both terms params r x ≡ true → IsPair p b r x
+    agrees r x hr hx h = let n = numbered r hr in ((kept r x hr hx n.0 n.1).0 h).0
 
-pub numbers_listed : (p b : List ℕ) (db : Database) (rows : List Row) (items : List ℕ) (s : Broker) → Holds db s → IsShown (numbers p b) db rows → map (λ n. Int (pos n)) items ≡ map (λ r. column r 0) rows
-    → Lists (flip_args nat_cmp) (IsBranchNumber s p b) items
-numbers_listed p b db rows items s held h read = record { sorted = unmapped items rising; exactly = λ n. (there n, back n) }
+    by_number : (a c : Row × Row) → Has (db.trees 6) a.0 → Has (db.trees 6) c.0 → sorts order env a c ≡ int_cmp (whole_at 0 c.0) (whole_at 0 a.0)
+    by_number a c ha hc =
+        then-Equal (value_cmp (column c.0 0) (column a.0 0)) ∙ (λ i. value_cmp (version_number db held.broker c.0 hc i) (version_number db held.broker a.0 ha i)) ∙ value_cmp-Int (whole_at 0 c.0) (whole_at 0 a.0)
+
+    apart : IsAscending (λ a c. is_eq (sorts order env a c) ≡ false) (pairs_kept terms params (db.trees 6) (db.trees 8))
+    apart = pairs_rise (keeps_both terms params) (db.trees 8) (λ a c. is_eq (sorts order env a c) ≡ false) (db.trees 6)
+        (λ x hx. ascending_on _ _ (db.trees 8) (λ y z hy hz differ ky kz.
+        let one = agrees x y hx hy ky in
+        let two = agrees x z hx hz kz in
+        let same : key y ≡ key z = λ i. ((one.0 ∙ sym two.0) i, (one.2 ∙ sym two.2) i) in
+        absurd (true≢false (sym (ap (eq_by_cmp (by_both int_cmp text_cmp) (key y)) (sym same) ∙ (eq_by_cmp_equiv marked_total).refl (key y)) ∙ differ))) (keys db held.broker))
+        (ascending_on _ _ (db.trees 6) (λ x w hx hw differ y z hy hz ky kz. ap is_eq (by_number (x, y) (w, z) hx hw) ∙ (eq_by_cmp_equiv int_cmp_total).symm (whole_at 0 w) (whole_at 0 x) ∙ differ)
+        (numbers_once (db.trees 6) (versions_numbered db held.broker)))
+
+    rows_of_pair : (q : Row × Row) → Has (pairs_kept terms params (db.trees 6) (db.trees 8)) q → Has (db.trees 6) q.0 × Has (db.trees 8) q.1 × (keeps_both terms params q.0 q.1 ≡ true)
+    rows_of_pair = pair_has (keeps_both terms params) (db.trees 8) (db.trees 6)
+
+    listed : (rows : List Row) (items : List ℕ) → Answers db (record { lets = []; body = from_both 6 8 terms (col 1 0 ∷ []) order }) params rows → AreRead IsNumber rows items → Lists (flip_args nat_cmp) (λ n. IsBranchNumber s p b n × Low n) items
+    listed = lists_join db params terms (col 1 0 ∷ []) order IsNumber (flip_args nat_cmp) (λ n. IsBranchNumber s p b n × Low n) 6 8 apart
+        (λ a c x y ha hc is_x is_y less.
+        let low : pos y <ℤ pos x = lt_from_Less (pos y) (pos x)
+        ((λ i. int_cmp (id_in (sym is_y i)) (id_in (sym is_x i))) ∙ sym (by_number a c (rows_of_pair a ha).0 (rows_of_pair c hc).0) ∙ less) in
+        sym (nat_cmp_is y x Less (omega (arith, ints))))
+        (λ q n has is.
+        let it = rows_of_pair q has in
+        let both = (kept q.0 q.1 it.0 it.1 n (ap id_in is)).0 it.2 in
+        (sound_pair q.0 q.1 it.0 it.1 both.0 n (ap id_in is), both.1))
+        (λ n on.
+        let it = whole_pair n on.0 in
+        (it.0, has_pair (keeps_both terms params) (db.trees 8) (db.trees 6) it.0.0 it.0.1 it.1 it.2 ((kept it.0.0 it.0.1 it.1 it.2 n it.4).1 (it.3, on.1)), λ y is. (let same : pos y ≡ pos n = sym (ap id_in is) ∙ it.4 in cc)))
+
+-- ---- all of them
+
+pub numbers_listed : (p b : List ℕ) (db : Database) (rows : List Row) (items : List ℕ) (s : Broker) → Holds db s → IsShown (numbers p b) db rows → AreRead IsNumber rows items → Lists (flip_args nat_cmp) (IsBranchNumber s p b) items
+numbers_listed p b db rows items s held h read =
+    let list = listed db s held p b terms (Text p ∷ Text b ∷ []) (λ n. ⊤) (λ r x hr hx n is. let it = keeps db s held p b [] r x hr hx in (λ kept. (it.0 kept, tt), λ both. it.1 both.0)) rows items h read in
+    record { sorted = list.sorted; exactly = λ n. (λ in_list. ((list.exactly n).0 in_list).0, λ on. (list.exactly n).1 (on, tt)) }
+
+-- ---- the greatest below another
+
+last_test : (x y z t : Bool) → (x && (y && (z && (t && true)))) ≡ ((x && (y && (z && true))) && t)
+last_test true true true true = refl
+last_test true true true false = refl
+last_test true true false t = refl
+last_test true false z t = refl
+last_test false y z t = refl
+
+low_test : (n k : ℕ) → (is_lt (int_cmp (pos n) (pos k)) ≡ true) ↔ (n < k)
+low_test n k = (go (int_cmp (pos n) (pos k)) refl, λ low. ap is_lt (Less-from_lt (pos n) (pos k) (omega (arith, ints))))
   where
-    keep : Row → Row → Bool
-    keep = keeps_both terms (Text p ∷ Text b ∷ [])
+    go : (o : Ordering) → int_cmp (pos n) (pos k) ≡ o → is_lt o ≡ true → n < k
+    go Less is h = let low : pos n <ℤ pos k = lt_from_Less (pos n) (pos k) is in omega (arith, ints)
+    go Equal is h = absurd cc
+    go Greater is h = absurd cc
 
-    itself : (r x : Row) → keep r x ≡ true → keep r x ≡ true
-    itself r x kept = kept
+numbers_read : (rows : List Row) → ((row : Row) → Has rows row → (n : ℕ) × IsNumber row n) → (items : List ℕ) × AreRead IsNumber rows items
+numbers_read [] each = ([], tt)
+numbers_read (r ∷ rows) each =
+    let more = numbers_read rows (λ row has. each row (inr has)) in
+    let first = each r (inl refl) in
+    (first.0 ∷ more.0, (first.1, more.1))
 
-    in_order : List (Row × Row)
-    in_order = sort_by (by_number db held.broker p b) (kept_pairs db held.broker p b keep itself)
+module _ (s : Broker) (p b : List ℕ) (k : ℕ) where
+  -- the first of the list is the greatest
+  newest : (found : Option ℕ) (rows : List Row) (items : List ℕ) → AreRead IsNumber rows items → option_map (λ n. Int (pos n)) found ≡ option_map (λ r. column r 0) (slice_get (take 1 rows) 0)
+      → Lists (flip_args nat_cmp) (λ n. IsBranchNumber s p b n × (n < k)) items → IsNewestBelow s p b k found
+  unfolding IsStrictlySortedBy
+  newest None [] [] read first list = λ n on. let high : ¬ (n < k) = (λ low. contains_none n ((list.exactly n).1 (on, low))) in omega (arith, high)
+  newest None [] (m ∷ items) read first list = absurd read
+  newest None (r ∷ rows) items read first list = absurd cc
+  newest (Some n) [] items read first list = absurd cc
+  newest (Some n) (r ∷ rows) [] read first list = absurd read
+  newest (Some n) (r ∷ rows) (m ∷ items) read first list =
+      let same : n ≡ m = (let values : Int (pos n) ≡ column r 0 = cc in let ints : Int (pos n) ≡ Int (pos m) = values ∙ read.0 in cc) in
+      let it = (list.exactly n).0 (subst (Contains (m ∷ items)) (sym same) (contains_here m items)) in (
+        it.0,
+        it.1,
+        λ j on low. elim (contains_cases m items j ((list.exactly j).1 (on, low))) [
+          | inl is ↦ omega (arith, is, same)
+          | inr later ↦ let less : j < m = ranked j m Less (sym (at_has _ items j list.sorted.0 (contains_has items j later))) in omega (arith, less, same)
+        ],
+      )
 
-    is : rows ≡ map (λ (q : Row × Row). eval_all (col 1 0 ∷ []) ((Text p ∷ Text b ∷ []) ∷ q.0 ∷ q.1 ∷ [])) (sort_by (by_query db held.broker p b) (kept_pairs db held.broker p b keep itself))
-    is = joins_in_order db (Text p ∷ Text b ∷ []) 6 8 terms (col 1 0 ∷ []) order rows h (apart_too db held.broker p b keep itself)
-
-    ints : map pos items ≡ map (number db held.broker p b) in_order
-    ints = sym (wholes items) ∙ ap (map id_in) (read ∙ ap (map (λ r. column r 0)) is) ∙ firsts p b _ ∙ ap (map (number db held.broker p b)) (sorted db held.broker p b keep itself)
-
-    rising : IsStrictlySortedBy (flip_args int_cmp) (map pos items)
-    rising = subst (IsStrictlySortedBy (flip_args int_cmp)) (sym ints) (rises_map (by_number db held.broker p b) (flip_args int_cmp) (number db held.broker p b) (λ a c less. less) _ (falls db held.broker p b keep itself))
-
-    there : (n : ℕ) → Contains items n → IsBranchNumber s p b n
-    there n contains =
-        let one : Has (map pos items) (pos n) = has_map pos items n (contains_has items n contains) in
-        let q = map_has (number db held.broker p b) in_order (pos n) (subst (λ xs. Has xs (pos n)) ints one) in
-        let among : Has (kept_pairs db held.broker p b keep itself) q.0 = contains_has _ q.0 (sorted_has (by_number db held.broker p b) (total db held.broker p b) (kept_pairs db held.broker p b keep itself) q.0 (has_contains in_order q.0 q.1)) in
-        let stand = from_rows db held.broker p b keep itself q.0 among in
-        from_pair db s held p b q.0.0 q.0.1 stand.0 stand.1 stand.2 n q.2
-
-    back : (n : ℕ) → IsBranchNumber s p b n → Contains items n
-    back n on_branch =
-        let q = to_pair db s held p b n on_branch in
-        let among : Has (kept_pairs db held.broker p b keep itself) q.0 = has_pair keep (db.trees 8) (db.trees 6) q.0.0 q.0.1 q.1 q.2 q.3 in
-        let listed : Has in_order q.0 = contains_has in_order q.0 (has_sorted (by_number db held.broker p b) (total db held.broker p b) (kept_pairs db held.broker p b keep itself) q.0 (has_contains _ q.0 among)) in
-        let whole : Has (map pos items) (pos n) = subst (λ xs. Has xs (pos n)) (sym ints) (subst (Has _) q.4 (has_map (number db held.broker p b) in_order q.0 listed)) in
-        let item = map_has pos items (pos n) whole in
-        let nat : n ≡ item.0 = exact_pos n item.0 item.2 in
-        has_contains items n (subst (Has items) (sym nat) item.1)
+pub below_found : (p b : List ℕ) (k : ℕ) (db : Database) (rows : List Row) (found : Option ℕ) (s : Broker) → Holds db s → IsShown (below p b k) db rows
+    → option_map (λ n. Int (pos n)) found ≡ option_map (λ r. column r 0) (slice_get rows 0) → IsNewestBelow s p b k found
+below_found p b k db rows found s held h read =
+    let params : Row = Text p ∷ Text b ∷ Int (pos k) ∷ [] in
+    let all = first_joined db params 6 8 below_terms (col 1 0 ∷ []) order 1 rows h in
+    let items = numbers_read all.0 (λ row has.
+    let it = pair_shown db params 6 8 below_terms (col 1 0 ∷ []) order all.0 all.1 row has in
+    let n = numbered db s held p b it.0 it.2 in
+    (n.0, ap (λ x. column x 0) it.4 ∙ version_number db held.broker it.0 it.2 ∙ ap Int n.1)) in
+    newest s p b k found all.0 items.0 items.1 (read ∙ ap (λ l. option_map (λ r. column r 0) (slice_get l 0)) all.2)
+    (listed db s held p b below_terms params (λ n. n < k) kept all.0 items.0 all.1 items.1)
+  where
+    kept : (r x : Row) → Has (db.trees 6) r → Has (db.trees 8) x → (n : ℕ) → whole_at 0 r ≡ pos n → (keeps_both below_terms (Text p ∷ Text b ∷ Int (pos k) ∷ []) r x ≡ true) ↔ (IsPair p b r x × (n < k))
+    kept r x hr hx n is =
+        let pair = keeps db s held p b (Int (pos k) ∷ []) r x hr hx in
+        let low = is_true (binary (Compare Lt Binary) (column r 0) (Int (pos k))) in
+        let split = last_test (is_true (binary (Compare Eq Binary) (column x 1) (column r 0))) (is_true (binary (Compare Eq Binary) (column r 2) (Text p))) (is_true (binary (Compare Eq Binary) (column x 2) (Text b))) low in
+        let tested : low ≡ is_lt (int_cmp (pos n) (pos k)) = ap (λ v. is_true (binary (Compare Lt Binary) v (Int (pos k)))) (version_number db held.broker r hr ∙ ap Int is) ∙ less_ints (pos n) (pos k) in (
+          λ h. let both = sym split ∙ h in (pair.0 (first_of_both _ low both), (low_test n k).0 (sym tested ∙ second_of_both _ low both)),
+          λ both. split ∙ (λ i. pair.1 both.0 i && (tested ∙ (low_test n k).1 both.1) i),
+        )

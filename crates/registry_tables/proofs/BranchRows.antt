@@ -1,54 +1,30 @@
 -- The statements on branches.
-use Rattle.std.proofs.Common.{◌≡◌, inl, ℕ, ℤ, pos, codes, List, [], ◌∷◌, Bool, true, false, cond, ◌&&◌, ◌||◌, refl, sym, ap, ◌∙◌, slice_get, Some, None, Option, Ok, arith}
-use Rattle.std.specs.Prelude.{option_map, is_some}
-use Rattle.std.specs.Option.{option_map_or}
-use Rattle.std.specs.Ordering.{eq_by_cmp, int_cmp}
-use Rattle.std.specs.Cmp.{int_cmp_total}
+use Rattle.std.specs.{Prelude.{option_map, is_some}, Option.{option_map_or}, Ordering.{eq_by_cmp, int_cmp}, Cmp.{int_cmp_total}}
 use Rattle.std.specs.Cmp.Lexicographic.{nat_list_cmp_total, texts_ties}
-use Rattle.sqlite.specs.Tree.{IsAscending}
-use Rattle.sqlite.specs.Edit.{next_rowid, with_rowid}
-use Rattle.sqlite.specs.Rowids.TheVariants.{Chosen}
-use Rattle.sqlite.specs.declared.types.Value.TheVariants.{Null, Int, Text}
-use Rattle.sqlite.specs.Order.{Row}
-use Rattle.sqlite.specs.Cast.{cast}
-use Rattle.sqlite.specs.Kind.TheVariants.{Integer}
-use Rattle.sqlite.specs.Term.{col, lit}
-use Rattle.sqlite.specs.Cast.{cast_row}
-use Rattle.sqlite.specs.Schema.{Schema}
-use Rattle.sqlite.specs.Effect.{Database}
-use Rattle.sqlite.specs.State.{State, Executes}
-use Rattle.sqlite.specs.Listing.{understood}
+use Rattle.std.proofs.Common.{◌≡◌, inl, ℕ, ℤ, pos, codes, List, [], ◌∷◌, Bool, true, false, cond, ◌&&◌, ◌||◌, refl, sym, ap, ◌∙◌, slice_get, Some, None, Option, Ok, arith}
+use Rattle.sqlite.specs.{Tree.{IsAscending}, Edit.{next_rowid, with_rowid}, Rowids.TheVariants.{Chosen}, declared.types.Value.TheVariants.{Null, Int, Text}}
+use Rattle.sqlite.specs.{Order.{Row}, Cast.{cast, cast_row}, Kind.TheVariants.{Integer}, Term.{col, lit}, Schema.{Schema}, Effect.{Database}}
+use Rattle.sqlite.specs.{State.{State, Executes}, Listing.{understood}}
 use Rattle.sqlite_rules.specs.Lists.{Has}
 use Rattle.sqlite_tied.specs.Compute.{everything}
-use Rattle.table_access.specs.Columns.{text, text_cmp, whole_at, by_both}
-use Rattle.table_access.specs.Statements.{from_table, by_two, keeps}
-use Rattle.table_access.proofs.Values.{cast_null, cast_int}
-use Rattle.table_access.proofs.Steps.{answered}
-use Rattle.table_access.proofs.Maps.{looks_up_at}
-use Rattle.table_access.proofs.Keys.{apart_by}
+use Rattle.table_access.{specs.{Columns.{text, text_cmp, whole_at, by_both}, Statements.{from_table, by_two, keeps}}, proofs.Values.{cast_null, cast_int}}
+use Rattle.table_access.proofs.{Steps.{answered}, Maps.{looks_up_at}, Keys.{apart_by}}
 use Rattle.table_access.proofs.Parts.{Part, text_part, whole_part, is_param, where_last, where_and, all_where, agree_last, agree_and, once}
 use Rattle.table_access.proofs.SoundLemmas.{text_at, whole_in, has_place}
-use Rattle.broker_core.specs.declared.command.Version.{Version}
-use Rattle.broker_core.specs.Text.{put_at, same_text, same_version, same_pair}
-use Rattle.broker_core.specs.State.{State as Broker}
-use Rattle.broker_tables.specs.Rows.{stands_at}
-use Rattle.broker_tables.specs.Numbers.{number_of}
-use Rattle.broker_tables.specs.Holds.{Holds, HoldsAfter, IsBroker}
-use Rattle.broker_tables.proofs.Asked.{Asked, IsShown, NoneFor, of_table}
-use Rattle.broker_tables.proofs.Frames.{frame_of, branches_change}
-use Rattle.broker_tables.proofs.Orders.{marked_total, exact_marked}
-use Rattle.broker_tables.proofs.Ties.{both_eq, two_tests}
-use Rattle.broker_tables.proofs.NumberLemmas.{number_ties, version_unknown}
-use Rattle.sqlite_keyed.proofs.RuleLemmas.{first_of_both}
-use Rattle.broker_tables.proofs.NoVersion.{no_row}
-use Rattle.broker_tables.proofs.Standing.{stands_found, stands_put}
-use Rattle.broker_tables.proofs.Placed.{branches, branches_there}
-use Rattle.broker_tables.specs.Refusals.{HaveNumbers}
-use Rattle.broker_tables.proofs.RoomLemmas.{after_one, grows_added, number_for}
+use Rattle.broker_core.specs.{declared.command.Version.{Version}, Text.{put_at, same_text, same_version, same_pair}, State.{State as Broker}}
+use Rattle.broker_tables.specs.{Rows.{stands_at}, Numbers.{number_of}, Holds.{Holds, HoldsAfter, IsBroker}, Refusals.{HaveNumbers}}
+use Rattle.broker_tables.proofs.{Asked.{Asked, IsShown, NoneFor, of_table}, Frames.{frame_of, branches_change}, Orders.{marked_total, exact_marked}}
+use Rattle.broker_tables.proofs.{Ties.{both_eq, two_tests}, NumberLemmas.{number_ties, version_unknown}, NoVersion.{no_row}}
+use Rattle.broker_tables.proofs.{Standing.{stands_found, stands_put}, Placed.{branches, branches_there}, RoomLemmas.{after_one, grows_added, number_for}}
 use Rattle.broker_tables.proofs.Inserted.{EndsOnly, Puts, inserted, next_ends, new_text, new_whole, free_two, version_there}
+use Rattle.sqlite_keyed.proofs.RuleLemmas.{first_of_both}
 
 abbrev pub key : Row → ℤ × List ℕ
 key r = (whole_at 1 r, text 2 r)
+
+-- whether a row puts the version with this number on the branch
+abbrev pub is_on : List Row → List ℕ → Option ℕ → Bool
+is_on rows b number = option_map_or (λ n. stands_at (by_both int_cmp text_cmp) key rows (pos n, b)) number false
 
 module _ (db : Database) (broker : IsBroker db) where
   pub numbers : Part int_cmp Int (db.trees 8) 1 (whole_at 1)
@@ -87,7 +63,7 @@ on_found n b db rows s v held is h =
     (all_where (by_both int_cmp text_cmp) (db.trees 8) key (pos n, b) (by_two 1 2) (Int (pos n) ∷ Text b ∷ []) (by_key db held.broker n b)) (keys db held.broker)
     (answered db _ 8 _ _ _ rows h))
     ∙ stands_found (by_both int_cmp text_cmp) key (text 2) (db.trees 8) (pos n, b)
-    ∙ sym (ap (λ o. option_map_or (λ k. stands_at (by_both int_cmp text_cmp) key (db.trees 8) (pos k, b)) o false) is) ∙ held.branches v b
+    ∙ sym (ap (is_on (db.trees 8) b) is) ∙ held.branches v b
 
 -- ---- a version is put on a branch
 
@@ -114,27 +90,23 @@ module _ (n : ℕ) (b : List ℕ) (old new : State) (s : Broker) (v : Version) (
       let it = inserted add_sql (Int (pos n) ∷ Text b ∷ []) old new held.broker branches 4 (branches_there old.now held.broker) _ made (add_puts n b) stored count h in
       let frame = frame_of (codes "branches" ∷ []) 8 refl old new held.broker it.0 in
       after_one 2 (omega arith) (codes "branches") old new _ frame (λ counted. grows_added _ _ made it.1 refl)
-      (branches_change old.now new.now s _ held frame (λ w c. each w c (number_of s.versions w) refl
-      (λ k. stands_put (by_both int_cmp text_cmp) key (old.now.trees 8) (new.now.trees 8) made it.1 (pos k, c))))
+      (branches_change old.now new.now s _ held frame (λ w c.
+      each w c (number_of s.versions w) refl (λ k. stands_put (by_both int_cmp text_cmp) key (old.now.trees 8) (new.now.trees 8) made it.1 (pos k, c))
+      ∙ ap (cond (same_version w v && same_text c b) true) (held.branches w c)))
     where
       each : (w : Version) (c : List ℕ) (o : Option ℕ) → number_of s.versions w ≡ o
-          → ((k : ℕ) → stands_at (by_both int_cmp text_cmp) key (new.now.trees 8) (pos k, c) ≡ (eq_by_cmp (by_both int_cmp text_cmp) (pos k, c) (pos n, b) || stands_at (by_both int_cmp text_cmp) key (old.now.trees 8) (pos k, c)))
-          → option_map_or (λ k. stands_at (by_both int_cmp text_cmp) key (new.now.trees 8) (pos k, c)) (number_of s.versions w) false ≡ put_at (same_pair same_version same_text) s.branches (v, b) true (w, c)
-      each w c None e put =
-          let was : s.branches (w, c) ≡ false = sym (held.branches w c) ∙ ap (λ o. option_map_or (λ k. stands_at (by_both int_cmp text_cmp) key (old.now.trees 8) (pos k, c)) o false) e in
-          ap (λ o. option_map_or (λ k. stands_at (by_both int_cmp text_cmp) key (new.now.trees 8) (pos k, c)) o false) e
-          ∙ sym (ap (λ t. cond (t && same_text c b) true (s.branches (w, c))) (version_unknown s.versions w v n e is) ∙ was)
+          → ((k : ℕ) → is_on (new.now.trees 8) c (Some k) ≡ (eq_by_cmp (by_both int_cmp text_cmp) (pos k, c) (pos n, b) || is_on (old.now.trees 8) c (Some k)))
+          → is_on (new.now.trees 8) c o ≡ cond (same_version w v && same_text c b) true (is_on (old.now.trees 8) c o)
+      each w c None e put = sym (ap (λ t. cond (t && same_text c b) true false) (version_unknown s.versions w v n e is))
       each w c (Some k) e put =
-          let was : stands_at (by_both int_cmp text_cmp) key (old.now.trees 8) (pos k, c) ≡ s.branches (w, c) = sym (ap (λ o. option_map_or (λ m. stands_at (by_both int_cmp text_cmp) key (old.now.trees 8) (pos m, c)) o false) e) ∙ held.branches w c in
           let same : (same_version w v && same_text c b) ≡ eq_by_cmp (by_both int_cmp text_cmp) (pos k, c) (pos n, b) =
           two_tests (same_version w v) (same_text c b) (eq_by_cmp int_cmp (pos k) (pos n)) (eq_by_cmp text_cmp c b) (number_ties s.versions w v k n e is) (texts_ties c b) ∙ both_eq (int_cmp (pos k) (pos n)) (text_cmp c b) in
-          ap (λ o. option_map_or (λ m. stands_at (by_both int_cmp text_cmp) key (new.now.trees 8) (pos m, c)) o false) e ∙ put k
-          ∙ either (eq_by_cmp (by_both int_cmp text_cmp) (pos k, c) (pos n, b)) (stands_at (by_both int_cmp text_cmp) key (old.now.trees 8) (pos k, c)) ∙ (λ i. cond (sym same i) true (was i))
+          put k ∙ either (eq_by_cmp (by_both int_cmp text_cmp) (pos k, c) (pos n, b)) (is_on (old.now.trees 8) c (Some k)) ∙ ap (λ t. cond t true (is_on (old.now.trees 8) c (Some k))) (sym same)
 
-  -- it fails only as the store fails
-  pub branch_ends : HaveNumbers (codes "branches" ∷ []) old.now → s.branches (v, b) ≡ false → EndsOnly add_sql (Int (pos n) ∷ Text b ∷ []) old new
+  -- it fails only as the store fails, or since the name is too long
+  pub branch_ends : HaveNumbers (codes "branches" ∷ []) old.now → s.branches (v, b) ≡ false → EndsOnly (b ∷ []) add_sql (Int (pos n) ∷ Text b ∷ []) old new
   branch_ends room off =
       let free : stands_at (by_both int_cmp text_cmp) key (old.now.trees 8) (pos n, b) ≡ false = sym (ap (λ o. option_map_or (λ k. stands_at (by_both int_cmp text_cmp) key (old.now.trees 8) (pos k, b)) o false) is) ∙ held.branches v b ∙ off in
       next_ends add_sql (Int (pos n) ∷ Text b ∷ []) old new held.broker branches 4 (branches_there old.now held.broker) _ _ (add_puts n b) stored (number_for _ room.0) (record { typed = refl; present = refl; checked = refl })
       (free_two (old.now.trees 8) made int_cmp_total 1 (whole_at 1) (new_whole (old.now.trees 8) made 1 (numbers old.now held.broker).typed refl) marked_total nat_list_cmp_total 2 (text 2) (new_text (old.now.trees 8) made 2 (names old.now held.broker).typed refl) free, tt)
-      (version_there old.now s held made 1 v n is refl, tt)
+      (version_there old.now s held made 1 v n is refl, tt) (b ∷ []) (λ are. (tt, are)) (omega arith) (omega arith)

@@ -1,35 +1,17 @@
 -- The statement that sets the format in meta's row.
-use Rattle.std.proofs.Common.{◌≡◌, ℕ, ℤ, pos, codes, List, [], ◌∷◌, not, inl, filter, true, refl, sym, ap, subst, ◌∙◌, slice_get, Some, Ok}
 use Rattle.std.specs.List.{AllByRecursion}
-use Rattle.sqlite.specs.Tree.{rowid}
-use Rattle.sqlite.specs.View.{is_int}
-use Rattle.sqlite.specs.Edit.{id_in}
-use Rattle.sqlite.specs.Cast.{cast, cast_row}
-use Rattle.sqlite.specs.Kind.TheVariants as kind
-use Rattle.sqlite.specs.declared.types.Value.TheVariants.{Null, Int}
-use Rattle.sqlite.specs.Order.{Row, column}
-use Rattle.sqlite.specs.Term.{Term, col, lit}
-use Rattle.sqlite.specs.Command.{Command}
-use Rattle.sqlite.specs.Command.TheVariants.{Update}
-use Rattle.sqlite.specs.Schema.{Schema}
-use Rattle.sqlite.specs.State.{State, Executes}
-use Rattle.sqlite.specs.Listing.{understood}
-use Rattle.sqlite_rules.specs.Lists.{Has}
-use Rattle.sqlite_rules.proofs.TableLemmas.{int_is}
+use Rattle.std.proofs.Common.{◌≡◌, ℕ, ℤ, pos, codes, List, [], ◌∷◌, not, inl, filter, true, refl, sym, ap, subst, ◌∙◌, slice_get, Some, Ok}
+use Rattle.sqlite.specs.{Tree.{rowid}, View.{is_int}, Edit.{id_in}, Cast.{cast, cast_row}, declared.types.Value.TheVariants.{Null, Int}, Order.{Row, column}}
+use Rattle.sqlite.specs.{Term.{Term, col, lit}, Command.{Command}, Command.TheVariants.{Update}, Schema.{Schema}, State.{State, Executes}, Listing.{understood}}
+use Rattle.sqlite_rules.{specs.Lists.{Has}, proofs.TableLemmas.{int_is}}
 use Rattle.sqlite_tied.specs.Compute.{everything}
-use Rattle.table_access.specs.Columns.{text, whole_at}
-use Rattle.table_access.specs.Sound.{IsNumbered, text_in}
-use Rattle.table_access.specs.Statements.{from_table, keeps, shows, IsCalm}
-use Rattle.table_access.proofs.Values.{cast_int}
-use Rattle.table_access.proofs.Steps.{Means, updates}
-use Rattle.table_access.proofs.SoundLemmas.{text_at, has_place}
+use Rattle.table_access.{specs.{Columns.{text, whole_at}, Sound.{IsNumbered, text_in}, Statements.{from_table, keeps, shows, IsCalm}}, proofs.Values.{cast_int}}
+use Rattle.table_access.proofs.{Steps.{Means, updates}, SoundLemmas.{text_at, has_place}}
 use Rattle.broker_core.specs.State.{State as Broker}
-use Rattle.broker_tables.specs.Schema.{schema_of, all_tables}
-use Rattle.broker_tables.specs.Holds.{IsMeta, format}
-use Rattle.broker_tables.specs.Former.{HoldsUnmarked, former_format, added_tables}
-use Rattle.broker_tables.proofs.Former.{KeepsOthers, format_told}
-use Rattle.broker_tables.proofs.Placed.{meta, all_calm}
+use Rattle.broker_tables.specs.{Schema.{schema_of, all_tables}, Holds.{IsMeta, format}, Former.{HoldsUnmarked, former_format, added_tables}}
+use Rattle.broker_tables.proofs.{Former.{KeepsOthers, format_told}, Placed.{meta, all_calm}}
 use Rattle.registry_tables.proofs.MetaRow.{alone}
+use Rattle.sqlite.specs.Kind.TheVariants as kind
 
 abbrev pub set_sql : List ℕ
 set_sql = codes "UPDATE meta SET format = 2"

@@ -1,43 +1,27 @@
 -- A new grant is refused by no rule of its table, if there is a number for its row; and that one is taken back is refused
 -- by nothing.
-use Rattle.std.proofs.Common.{◌≡◌, List, [], ◌∷◌, ℕ, Bool, true, false, refl, sym, ap, subst, ◌∙◌, None, codes}
-use Rattle.std.specs.List.{list_all}
-use Rattle.std.specs.Cmp.Lexicographic.{nat_list_cmp_total}
-use Rattle.sqlite.specs.declared.types.Value.TheVariants.{Int, Text}
-use Rattle.sqlite.specs.Edit.{next_rowid}
-use Rattle.sqlite.specs.Term.{col}
-use Rattle.sqlite.specs.Schema.{Schema}
-use Rattle.sqlite.specs.Listing.{understood}
-use Rattle.sqlite.specs.State.{State}
+use Rattle.std.specs.{List.{list_all}, Cmp.Lexicographic.{nat_list_cmp_total}}
+use Rattle.std.proofs.Common.{◌≡◌, List, [], ◌∷◌, ℕ, Bool, true, false, refl, sym, ap, subst, ◌∙◌, None, codes, arith}
+use Rattle.sqlite.specs.{declared.types.Value.TheVariants.{Int, Text}, Edit.{next_rowid}, Term.{col}, Schema.{Schema}, Listing.{understood}, State.{State}}
 use Rattle.sqlite_schema.specs.Rules.{parent_key, references_fit}
 use Rattle.sqlite_tied.specs.Compute.{everything}
-use Rattle.table_access.specs.declared.StoreFault.{StoreFault}
-use Rattle.table_access.specs.Calls.{HasFailed, FailsToRun, fault_of}
-use Rattle.table_access.specs.Columns.{text}
-use Rattle.table_access.specs.Statements.{IsCalm, from_table, by_two}
-use Rattle.table_access.proofs.Answered.{Runs}
-use Rattle.table_access.proofs.Deleted.{IsLeaf, leads_elsewhere, delete_fails}
+use Rattle.table_access.specs.{declared.StoreFault.{StoreFault}, Calls.{HasFailed, FailsToRun, fault_of}, Columns.{text}}
+use Rattle.table_access.{specs.Statements.{IsCalm, from_table, by_two}, proofs.{Answered.{Runs}, Deleted.{IsLeaf, leads_elsewhere, delete_fails}}}
 use Rattle.table_access.proofs.SoundLemmas.{has_place, at_has}
 use Rattle.broker_core.specs.State.{State as Broker}
-use Rattle.broker_tables.specs.Schema.{broker_schema}
-use Rattle.broker_tables.specs.Holds.{Holds}
-use Rattle.broker_tables.proofs.Frames.{meant, runs_here}
-use Rattle.broker_tables.proofs.Orders.{pairs_total}
-use Rattle.broker_tables.proofs.Placed.{grants, grants_there, calm}
-use Rattle.registry_tables.specs.Registry.{AddsGrant}
-use Rattle.broker_tables.specs.Refusals.{HaveNumbers}
-use Rattle.broker_tables.proofs.RoomLemmas.{number_for}
+use Rattle.broker_tables.{specs.{Schema.{broker_schema}, Holds.{Holds}, Refusals.{HaveNumbers}}, proofs.{Frames.{meant, runs_here}, Orders.{pairs_total}}}
+use Rattle.broker_tables.proofs.{Placed.{grants, grants_there, calm}, RoomLemmas.{number_for}}
 use Rattle.broker_tables.proofs.Inserted.{EndsOnly, apart, next_ends, new_text, free_two, team_there, environment_there}
-use Rattle.registry_tables.proofs.GrantRows.{names, places, add_sql, add_puts, add_stored, remove_sql, remove_text}
+use Rattle.registry_tables.{specs.Registry.{AddsGrant}, proofs.GrantRows.{names, places, add_sql, add_puts, add_stored, remove_sql, remove_text}}
 
--- a new grant fails only as the store fails
-pub grant_ends : (team e : List ℕ) (old new : State) (s t : Broker) → Holds old.now s → HaveNumbers (codes "grants" ∷ []) old.now → AddsGrant team e s t → EndsOnly add_sql (Text team ∷ Text e ∷ []) old new
+-- a new grant fails only as the store fails, or since one of its names is too long
+pub grant_ends : (team e : List ℕ) (old new : State) (s t : Broker) → Holds old.now s → HaveNumbers (codes "grants" ∷ []) old.now → AddsGrant team e s t → EndsOnly (team ∷ e ∷ []) add_sql (Text team ∷ Text e ∷ []) old new
 grant_ends team e old new s t held numbers next =
     let rows = old.now.trees 12 in
     let made = Int (next_rowid rows) ∷ Text team ∷ Text e ∷ [] in
     next_ends add_sql (Text team ∷ Text e ∷ []) old new held.broker grants 6 (grants_there old.now held.broker) _ _ (add_puts team e) (add_stored rows team e) (number_for _ numbers.0) (record { typed = refl; present = refl; checked = refl })
     (free_two rows made nat_list_cmp_total 1 (text 1) (new_text rows made 1 (names old.now held.broker) refl) pairs_total nat_list_cmp_total 2 (text 2) (new_text rows made 2 (places old.now held.broker) refl) (held.grants team e ∙ next.2), tt)
-    (team_there old.now s held made 1 team next.0 refl, (environment_there old.now s held made 2 e next.1 refl, tt))
+    (team_there old.now s held made 1 team next.0 refl, (environment_there old.now s held made 2 e next.1 refl, tt)) (team ∷ e ∷ []) (λ are. are) (omega arith) (omega arith)
 
 -- ---- that a grant is taken back fails only as the store fails
 

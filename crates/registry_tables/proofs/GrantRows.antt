@@ -1,40 +1,18 @@
 -- The statements on grants.
+use Rattle.std.specs.{Prelude.{option_map, is_some}, Ordering.{eq_by_cmp}}
 use Rattle.std.proofs.Common.{◌≡◌, ℕ, codes, List, [], ◌∷◌, true, false, Bool, refl, sym, ap, ◌∙◌, cond, ◌||◌, slice_get, None, Ok, arith}
-use Rattle.std.specs.Prelude.{option_map, is_some}
-use Rattle.std.specs.Ordering.{eq_by_cmp}
-use Rattle.sqlite.specs.Tree.{IsAscending}
-use Rattle.sqlite.specs.Edit.{next_rowid, with_rowid}
-use Rattle.sqlite.specs.Rowids.TheVariants.{Chosen}
-use Rattle.sqlite.specs.declared.types.Value.TheVariants.{Null, Int, Text}
-use Rattle.sqlite.specs.Order.{Row, column}
-use Rattle.sqlite.specs.Term.{col, lit}
-use Rattle.sqlite.specs.Cast.{cast_row}
-use Rattle.sqlite.specs.Command.{Command}
-use Rattle.sqlite.specs.Command.TheVariants.{Delete}
-use Rattle.sqlite.specs.Schema.{Schema}
-use Rattle.sqlite.specs.Effect.{Database}
-use Rattle.sqlite.specs.State.{State, Executes}
-use Rattle.sqlite.specs.Listing.{understood}
+use Rattle.sqlite.specs.{Tree.{IsAscending}, Edit.{next_rowid, with_rowid}, Rowids.TheVariants.{Chosen}, declared.types.Value.TheVariants.{Null, Int, Text}}
+use Rattle.sqlite.specs.{Order.{Row, column}, Term.{col, lit}, Cast.{cast_row}, Command.{Command}, Command.TheVariants.{Delete}, Schema.{Schema}}
+use Rattle.sqlite.specs.{Effect.{Database}, State.{State, Executes}, Listing.{understood}}
 use Rattle.sqlite_rules.specs.Lists.{Has}
 use Rattle.sqlite_tied.specs.Compute.{everything}
-use Rattle.table_access.specs.Columns.{text, pair_cmp}
-use Rattle.table_access.specs.Statements.{from_table, by_two, keeps}
-use Rattle.table_access.proofs.Values.{cast_null}
-use Rattle.table_access.proofs.Steps.{Means, answered, deletes}
-use Rattle.table_access.proofs.Maps.{looks_up_at}
-use Rattle.table_access.proofs.Keys.{apart_by, pair_keys, by_pair}
+use Rattle.table_access.{specs.{Columns.{text, pair_cmp}, Statements.{from_table, by_two, keeps}}, proofs.Values.{cast_null}}
+use Rattle.table_access.proofs.{Steps.{Means, answered, deletes}, Maps.{looks_up_at}, Keys.{apart_by, pair_keys, by_pair}}
 use Rattle.table_access.proofs.SoundLemmas.{text_at, has_place, at_has}
-use Rattle.broker_core.specs.Text.{put_at, same_text, same_pair}
-use Rattle.broker_core.specs.State.{State as Broker}
-use Rattle.broker_tables.specs.Schema.{broker_schema}
-use Rattle.broker_tables.specs.Holds.{Holds, HoldsAfter, IsBroker}
-use Rattle.broker_tables.proofs.Asked.{Asked, IsShown}
-use Rattle.broker_tables.proofs.Frames.{meant, frame_of, grants_change}
-use Rattle.broker_tables.proofs.Orders.{pairs_total, exact_pair}
-use Rattle.broker_tables.proofs.Ties.{grant_ties}
-use Rattle.broker_tables.proofs.Standing.{stands_found, stands_put, stands_out}
-use Rattle.broker_tables.proofs.Placed.{grants, grants_there, calm}
-use Rattle.broker_tables.proofs.Inserted.{Puts, inserted}
+use Rattle.broker_core.specs.{Text.{put_at, same_text, same_pair}, State.{State as Broker}}
+use Rattle.broker_tables.{specs.{Schema.{broker_schema}, Holds.{Holds, HoldsAfter, IsBroker}}, proofs.Asked.{Asked, IsShown}}
+use Rattle.broker_tables.proofs.{Frames.{meant, frame_of, grants_change}, Orders.{pairs_total, exact_pair}, Ties.{grant_ties}}
+use Rattle.broker_tables.proofs.{Standing.{stands_found, stands_put, stands_out}, Placed.{grants, grants_there, calm}, Inserted.{Puts, inserted}}
 use Rattle.broker_tables.proofs.RoomLemmas.{after_one, grows_added, grows_kept}
 
 module _ (db : Database) (broker : IsBroker db) where

@@ -8,8 +8,8 @@ pub mod BranchRows
 pub mod EnvironmentRows
 pub mod MetaRow
 pub mod FormatText
+pub mod FormatRuns
 pub mod FoundFormat
 pub mod BranchNumbers
-pub mod BranchBelow
 pub mod FormatRow
 mod MarkText

@@ -1,31 +1,14 @@
 -- The one row of meta.
-use Rattle.std.proofs.Common.{◌≡◌, ◌≢◌, ℕ, pos, codes, List, [], ◌∷◌, ◌++◌, fold, refl, sym, ap, subst, ◌∙◌, slice_get, Some, Ok, arith}
 use Rattle.std.specs.List.{AllByRecursion}
-use Rattle.sqlite.specs.Edit.{with_rowid}
-use Rattle.sqlite.specs.Rowids.TheVariants.{Chosen}
-use Rattle.sqlite.specs.Cast.{cast, cast_all}
-use Rattle.sqlite.specs.Kind.TheVariants.{Integer}
-use Rattle.sqlite.specs.Change.{created}
-use Rattle.sqlite.specs.declared.types.Value.TheVariants.{Null, Int, Text}
-use Rattle.sqlite.specs.Order.{Row}
-use Rattle.sqlite.specs.Term.{col, lit}
-use Rattle.sqlite.specs.Source.TheVariants.{Values}
-use Rattle.sqlite.specs.Command.{Command}
-use Rattle.sqlite.specs.Command.TheVariants.{Insert}
-use Rattle.sqlite.specs.Schema.{Schema}
-use Rattle.sqlite.specs.Effect.{Database}
-use Rattle.sqlite.specs.State.{State, Executes}
-use Rattle.sqlite.specs.Listing.{understood}
+use Rattle.std.proofs.Common.{◌≡◌, ◌≢◌, ℕ, pos, codes, List, [], ◌∷◌, ◌++◌, fold, map, false, refl, sym, ap, subst, ◌∙◌, slice_get, Some, Ok, arith}
+use Rattle.sqlite.specs.{Edit.{with_rowid}, Rowids.TheVariants.{Chosen}, Cast.{cast, cast_all}, Kind.TheVariants.{Integer}, Change.{created}}
+use Rattle.sqlite.specs.{declared.types.Value.TheVariants.{Null, Int, Text}, Order.{Row}, Table.{Table}, Term.{col, lit}, Source.TheVariants.{Values}}
+use Rattle.sqlite.specs.{Command.{Command}, Command.TheVariants.{Insert}, Schema.{Schema}, Effect.{Database}, State.{State, Executes}, Listing.{understood}}
 use Rattle.sqlite_tied.specs.Compute.{everything}
-use Rattle.table_access.specs.Statements.{Makes, IsAdded, new_trees}
-use Rattle.table_access.proofs.Creation.{made_schema, made_empty, made_kept}
-use Rattle.table_access.proofs.Values.{cast_null, cast_int}
+use Rattle.table_access.{specs.Statements.{Makes, IsAdded, new_trees}, proofs.{Creation.{made_schema, made_empty, made_kept}, Values.{cast_null, cast_int}}}
 use Rattle.table_access.proofs.Steps.{Means, inserts}
-use Rattle.broker_tables.specs.Schema.{schema_of, registry_part}
-use Rattle.broker_tables.specs.Making.{IsBlank, HasTables}
-use Rattle.broker_tables.specs.Holds.{IsMeta}
-use Rattle.broker_tables.proofs.Opening.{blank_kept}
-use Rattle.broker_tables.proofs.Placed.{meta}
+use Rattle.broker_core.specs.Text.{same_text}
+use Rattle.broker_tables.{specs.{Schema.{schema_of, registry_part}, Making.{IsBlank, HasTables}, Holds.{IsMeta}}, proofs.{Opening.{blank_kept}, Placed.{meta}}}
 use Rattle.registry_tables.specs.Registry.{PutsMeta}
 
 abbrev pub put_sql : List ℕ
@@ -62,6 +45,12 @@ meta_put n digest old new count h is kept none =
       ((λ other. absurd (let e = other in cc)), ((λ _. all.1.0 (omega arith)), ((λ _. all.1.1.0 (omega arith)), ((λ _. all.1.1.1.0 (omega arith)), ((λ _. all.1.1.1.1.0 (omega arith)), ((λ _. all.1.1.1.1.1.0 (omega arith)), ((λ _. all.1.1.1.1.1.1.0 (omega arith)), tt))))))),
     )
 
+-- tables that were empty, but for this one, and stayed so
+empty_still : (mid new : Database) (ts : List Table) → AllByRecursion (λ t. same_text t.name (codes "meta") ≡ false → new.trees t.tree ≡ mid.trees t.tree) ts → AllByRecursion (λ tree. mid.trees tree ≡ []) (map (λ t. t.tree) ts)
+    → AllByRecursion (λ t. same_text t.name (codes "meta") ≡ false → new.trees t.tree ≡ []) ts
+empty_still mid new [] same none = tt
+empty_still mid new (t ∷ ts) same none = (λ other. same.0 other ∙ none.0, empty_still mid new ts same.1 none.1)
+
 pub has_registry : (n : ℕ) (digest : List ℕ) (old mid new : Database) → IsBlank old → Makes registry_part old mid → PutsMeta n digest mid new → HasTables registry_part n digest new
 has_registry n digest old mid new blank makes puts =
     let schema : mid.schema ≡ schema_of registry_part = made_schema registry_part old mid makes ∙ ap (λ s. fold created s registry_part) blank.schema in
@@ -72,20 +61,5 @@ has_registry n digest old mid new blank makes puts =
       schema = put.0 ∙ schema;
       kept = put.1;
       meta = put.2;
-      empty = (
-        (λ other. absurd (let e = other in cc)),
-        (
-          (λ o. same.1.0 o ∙ none.1.0),
-          (
-            (λ o. same.1.1.0 o ∙ none.1.1.0),
-            (
-              (λ o. same.1.1.1.0 o ∙ none.1.1.1.0),
-              (
-                (λ o. same.1.1.1.1.0 o ∙ none.1.1.1.1.0),
-                ((λ o. same.1.1.1.1.1.0 o ∙ none.1.1.1.1.1.0), ((λ o. same.1.1.1.1.1.1.0 o ∙ none.1.1.1.1.1.1.0), tt)),
-              ),
-            ),
-          ),
-        ),
-      );
+      empty = empty_still mid new (schema_of registry_part).tables same none;
     }

@@ -1,32 +1,15 @@
 -- The query on meta.
-use Rattle.std.proofs.Common.{◌≡◌, inl, inr, ℕ, codes, List, [], ◌∷◌, IsTrue, Some, refl, sym, ap, subst, ◌∙◌, slice_get, filter, map, arith}
-use Rattle.std.specs.Prelude.{option_map, IsUtf8}
-use Rattle.std.specs.List.Sorted.{IsPermutation}
-use Rattle.std.proofs.lemmas.List.Sorted.{length_permutation}
-use Rattle.sqlite.proofs.Callers.{one_permutation}
-use Rattle.sqlite.specs.Order.{Row, column}
-use Rattle.sqlite.specs.declared.types.Value.TheVariants.{Text}
+use Rattle.std.specs.{Prelude.{option_map, IsUtf8}, List.Sorted.{IsPermutation}}
+use Rattle.std.proofs.Common.{◌≡◌, inl, inr, ℕ, codes, List, [], ◌∷◌, IsTrue, Some, None, refl, sym, ap, subst, ◌∙◌, slice_get, filter, map, arith, ℤ}
+use Rattle.sqlite.specs.{Order.{Row, column}, declared.types.Value.TheVariants.{Text}, Schema.{Schema}, Term.{col}, Effect.{Database}, State.{State}}
+use Rattle.sqlite.{specs.Listing.{understood}, proofs.Callers.{one_permutation}}
 use Rattle.sqlite_rules.specs.Lists.{Has}
-use Rattle.table_access.proofs.SoundLemmas.{text_at, has_place}
-use Rattle.broker_tables.proofs.Placed.{meta}
-use Rattle.sqlite.specs.Schema.{Schema}
-use Rattle.sqlite.specs.Term.{col}
-use Rattle.sqlite.specs.Effect.{Database}
-use Rattle.sqlite.specs.State.{State}
-use Rattle.sqlite.specs.Listing.{understood}
+use Rattle.table_access.specs.{declared.StoreFault.{StoreFault}, declared.StoreFault.TheVariants.{Memory}, Calls.{IsEnded}}
+use Rattle.table_access.{specs.{Reading.{FailsToTake, TellsText, IsTextAt}, Columns.{text}, Statements.{from_table, keeps, shows}}, proofs.Maps.{few_permuted}}
+use Rattle.table_access.proofs.{SoundLemmas.{text_at, has_place}, Steps.{answered}, CallLemmas.{query_by, refused_memory}}
+use Rattle.broker_tables.{specs.Holds.{Holds, IsBroker, IsMeta, format}, proofs.{Placed.{meta}, Asked.{Asked, IsShown, FirstReads, is_answer, text_reads}}}
 use Rattle.sqlite_tied.specs.Compute.{everything}
-use Rattle.table_access.specs.declared.StoreFault.{StoreFault}
-use Rattle.table_access.specs.declared.StoreFault.TheVariants.{Memory}
-use Rattle.table_access.specs.Calls.{IsEnded}
-use Rattle.table_access.specs.Reading.{FailsToTake, TellsText, IsTextAt}
-use Rattle.table_access.specs.Columns.{text}
-use Rattle.table_access.specs.Statements.{from_table, keeps, shows}
-use Rattle.table_access.proofs.Steps.{answered}
-use Rattle.table_access.proofs.CallLemmas.{query_by, refused_memory}
 use Rattle.broker_core.specs.State.{State as Broker}
-use Rattle.broker_tables.specs.Holds.{Holds, IsBroker, IsMeta, format}
-use Rattle.std.proofs.Common.{ℤ}
-use Rattle.broker_tables.proofs.Asked.{Asked, IsShown, FirstReads, is_answer, text_reads}
 
 digests : (db : Database) → IsBroker db → (r : Row) → Has (db.trees 0) r → column r 3 ≡ Text (text 3 r)
 digests db broker r has = text_at db broker.kept.sound meta (has_place _ 0 meta (ap (λ (c : Schema). slice_get c.tables 0) broker.schema)) r has 2 _ refl refl refl refl refl
@@ -55,11 +38,8 @@ office_reads db s held readable = text_reads office db (digests db held.broker) 
     subst IsUtf8 (sym same) readable.office)
 
 -- where meta has no row, only the store is ever out of memory
-no_first : (out : List Row) (row : Row) → IsPermutation {X = Row} [] out → slice_get out 0 ≡ Some row → ⊥
-no_first [] row same first = absurd cc
-no_first (r ∷ out) row same first = let none = length_permutation [] (r ∷ out) same in absurd (omega (arith, none))
-
 pub no_office : (old new : State) (fault : StoreFault) → IsBroker old.now → old.now.trees 0 ≡ [] → FailsToTake TellsText office_sql [] old new fault → IsTrue old.in_transaction → fault ≡ Memory → IsEnded old new Memory
 no_office old new fault broker none (inl refused) inside is = refused_memory old new refused.0 fault refused.1 (query_by office_sql [] old new refused.0 refused.2) is
 no_office old new fault broker none (inr (rows, shown, row, first, tells)) inside is =
-    absurd (no_first rows row (subst (λ xs. IsPermutation (map (shows (col 1 3 ∷ []) []) (filter (keeps [] []) xs)) rows) none (answered old.now [] 0 [] _ [] rows (is_answer office old new broker rows shown))) first)
+    let empty : rows ≡ [] = few_permuted [] rows (omega arith) (subst (λ xs. IsPermutation (map (shows (col 1 3 ∷ []) []) (filter (keeps [] []) xs)) rows) none (answered old.now [] 0 [] _ [] rows (is_answer office old new broker rows shown))) in
+    absurd (let clash : None ≡ Some row = ap (λ xs. slice_get xs 0) (sym empty) ∙ first in cc)

@@ -1,44 +1,20 @@
 -- The statements on pacticipants.
+use Rattle.std.specs.{Prelude.{option_map, is_some}, Cmp.Lexicographic.{nat_list_cmp_total, texts_ties}, Ordering.{eq_by_cmp}}
 use Rattle.std.proofs.Common.{◌≡◌, ℕ, codes, List, [], ◌∷◌, false, refl, sym, ap, ◌∙◌, cond, slice_get, Some, None, Ok, arith}
-use Rattle.std.specs.Prelude.{option_map, is_some}
-use Rattle.std.specs.Cmp.Lexicographic.{nat_list_cmp_total, texts_ties}
-use Rattle.std.specs.Ordering.{eq_by_cmp}
-use Rattle.sqlite.specs.Tree.{IsAscending}
-use Rattle.sqlite.specs.Edit.{next_rowid, with_rowid}
-use Rattle.sqlite.specs.Rowids.TheVariants.{Chosen}
-use Rattle.sqlite.specs.declared.types.Value.TheVariants.{Null, Int, Text}
-use Rattle.sqlite.specs.Order.{Row, column}
-use Rattle.sqlite.specs.Term.{col, op2, lit}
-use Rattle.sqlite.specs.Collation.TheVariants.{Binary}
-use Rattle.sqlite_sql.specs.declared.ops.BinaryOp.TheVariants.{Compare}
-use Rattle.sqlite_sql.specs.declared.ops.CompareOp.TheVariants.{Eq}
-use Rattle.sqlite.specs.Cast.{cast_row}
-use Rattle.sqlite.specs.Schema.{Schema}
-use Rattle.sqlite.specs.Effect.{Database}
-use Rattle.sqlite.specs.State.{State, Executes}
-use Rattle.sqlite.specs.Listing.{understood}
+use Rattle.sqlite.specs.{Tree.{IsAscending}, Edit.{next_rowid, with_rowid}, Rowids.TheVariants.{Chosen}, declared.types.Value.TheVariants.{Null, Int, Text}}
+use Rattle.sqlite.specs.{Order.{Row, column}, Term.{col, op2, lit}, Collation.TheVariants.{Binary}, Cast.{cast_row}, Schema.{Schema}, Effect.{Database}}
+use Rattle.sqlite.specs.{State.{State, Executes}, Listing.{understood}}
+use Rattle.sqlite_sql.specs.{declared.ops.BinaryOp.TheVariants.{Compare}, declared.ops.CompareOp.TheVariants.{Eq}}
 use Rattle.sqlite_rules.specs.Lists.{Has}
 use Rattle.sqlite_tied.specs.Compute.{everything}
-use Rattle.table_access.specs.Columns.{text, text_cmp}
-use Rattle.table_access.specs.Statements.{from_table}
-use Rattle.table_access.proofs.Values.{cast_null}
-use Rattle.table_access.proofs.Steps.{answered}
-use Rattle.table_access.proofs.Maps.{looks_up_at, puts_at}
-use Rattle.table_access.proofs.Keys.{apart_by, text_keys, by_text}
-use Rattle.table_access.proofs.SoundLemmas.{text_at, has_place}
-use Rattle.broker_core.specs.Text.{put_at, same_text}
-use Rattle.broker_core.specs.State.{State as Broker}
-use Rattle.table_access.specs.Reading.{IsTextAt}
-use Rattle.broker_tables.specs.Holds.{Holds, HoldsAfter, IsBroker}
-use Rattle.broker_tables.proofs.Asked.{Asked, IsShown, FirstShown, FirstReads, text_reads}
-use Rattle.broker_tables.proofs.Frames.{frame_of, pacticipants_change}
-use Rattle.broker_tables.proofs.Orders.{exact_texts}
-use Rattle.broker_tables.proofs.Placed.{pacticipants, pacticipants_there}
-use Rattle.broker_tables.proofs.Standing.{stands_found}
-use Rattle.registry_tables.specs.Registry.{AddsPacticipant}
-use Rattle.broker_tables.specs.Refusals.{HaveNumbers}
-use Rattle.broker_tables.proofs.RoomLemmas.{after_one, grows_added, number_for}
+use Rattle.table_access.{specs.{Columns.{text, text_cmp}, Statements.{from_table}, Reading.{IsTextAt}}, proofs.{Values.{cast_null}, Steps.{answered}}}
+use Rattle.table_access.proofs.{Maps.{looks_up_at, puts_at}, Keys.{apart_by, text_keys, by_text}, SoundLemmas.{text_at, has_place}}
+use Rattle.broker_core.specs.{Text.{put_at, same_text}, State.{State as Broker}}
+use Rattle.broker_tables.specs.{Holds.{Holds, HoldsAfter, IsBroker}, Refusals.{HaveNumbers}}
+use Rattle.broker_tables.proofs.{Asked.{Asked, IsShown, FirstShown, FirstReads, text_reads}, Frames.{frame_of, pacticipants_change}, Orders.{exact_texts}}
+use Rattle.broker_tables.proofs.{Placed.{pacticipants, pacticipants_there}, Standing.{stands_found}, RoomLemmas.{after_one, grows_added, number_for}}
 use Rattle.broker_tables.proofs.Inserted.{EndsOnly, Puts, inserted, next_ends, new_text, free_one, team_there}
+use Rattle.registry_tables.specs.Registry.{AddsPacticipant}
 
 module _ (db : Database) (broker : IsBroker db) where
   names : (r : Row) → Has (db.trees 4) r → column r 1 ≡ Text (text 1 r)
@@ -92,9 +68,9 @@ module _ (p team : List ℕ) (old new : State) (s : Broker) (held : Holds old.no
       (pacticipants_change old.now new.now s _ held frame (λ q.
       puts_at nat_list_cmp_total exact_texts (text 1) (text 2) (old.now.trees 4) (new.now.trees 4) made it.1 (held.pacticipants p ∙ free) q ∙ (λ i. cond (sym (texts_ties q p) i) (Some team) (held.pacticipants q i))))
 
-  -- it fails only as the store fails
-  pub pacticipant_ends : HaveNumbers (codes "pacticipants" ∷ []) old.now → (t : Broker) → AddsPacticipant p team s t → EndsOnly add_sql (Text p ∷ Text team ∷ []) old new
+  -- it fails only as the store fails, or since one of its names is too long
+  pub pacticipant_ends : HaveNumbers (codes "pacticipants" ∷ []) old.now → (t : Broker) → AddsPacticipant p team s t → EndsOnly (p ∷ team ∷ []) add_sql (Text p ∷ Text team ∷ []) old new
   pacticipant_ends numbers t next =
       next_ends add_sql (Text p ∷ Text team ∷ []) old new held.broker pacticipants 2 (pacticipants_there old.now held.broker) _ _ (add_puts p team) stored (number_for _ numbers.0) (record { typed = refl; present = refl; checked = refl })
       (free_one (old.now.trees 4) made nat_list_cmp_total 1 (text 1) (new_text (old.now.trees 4) made 1 (names old.now held.broker) refl) (sym (stands_found text_cmp (text 1) (text 2) (old.now.trees 4) p) ∙ ap is_some (held.pacticipants p ∙ next.0)), tt)
-      (team_there old.now s held made 2 team next.1 refl, tt)
+      (team_there old.now s held made 2 team next.1 refl, tt) (p ∷ team ∷ []) (λ are. are) (omega arith) (omega arith)

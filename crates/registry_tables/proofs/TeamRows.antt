@@ -1,46 +1,20 @@
 -- The statements on teams.
+use Rattle.std.specs.{Prelude.{option_map, is_some}, Cmp.Lexicographic.{nat_list_cmp_total, texts_ties}, Ordering.{eq_by_cmp}}
 use Rattle.std.proofs.Common.{◌≡◌, ℕ, codes, List, [], ◌∷◌, false, refl, sym, subst, ap, ◌∙◌, cond, slice_get, Some, None, Ok, MatchOption, Option, arith}
-use Rattle.std.specs.Prelude.{option_map, is_some}
-use Rattle.std.specs.Cmp.Lexicographic.{nat_list_cmp_total, texts_ties}
-use Rattle.std.specs.Ordering.{eq_by_cmp}
-use Rattle.sqlite.specs.Tree.{IsAscending}
-use Rattle.sqlite.specs.Edit.{next_rowid, with_rowid}
-use Rattle.sqlite.specs.Rowids.TheVariants.{Chosen}
-use Rattle.sqlite.specs.declared.types.Value.TheVariants.{Null, Int, Text}
-use Rattle.sqlite.specs.Order.{Row, column}
-use Rattle.sqlite.specs.Term.{col, op2, lit}
-use Rattle.sqlite.specs.Collation.TheVariants.{Binary}
-use Rattle.sqlite_sql.specs.declared.ops.BinaryOp.TheVariants.{Compare}
-use Rattle.sqlite_sql.specs.declared.ops.CompareOp.TheVariants.{Eq}
-use Rattle.sqlite.specs.Cast.{cast_row}
-use Rattle.sqlite.specs.Schema.{Schema}
-use Rattle.sqlite.specs.Effect.{Database}
-use Rattle.sqlite.specs.State.{State, Executes}
-use Rattle.sqlite.specs.Listing.{understood}
+use Rattle.sqlite.specs.{Tree.{IsAscending}, Edit.{next_rowid, with_rowid}, Rowids.TheVariants.{Chosen}, declared.types.Value.TheVariants.{Null, Int, Text}}
+use Rattle.sqlite.specs.{Order.{Row, column}, Term.{col, op2, lit}, Collation.TheVariants.{Binary}, Cast.{cast_row}, Schema.{Schema}, Effect.{Database}}
+use Rattle.sqlite.specs.{State.{State, Executes}, Listing.{understood}}
+use Rattle.sqlite_sql.specs.{declared.ops.BinaryOp.TheVariants.{Compare}, declared.ops.CompareOp.TheVariants.{Eq}}
 use Rattle.sqlite_rules.specs.Lists.{Has}
 use Rattle.sqlite_tied.specs.Compute.{everything}
-use Rattle.table_access.specs.Columns.{text, text_cmp}
-use Rattle.table_access.specs.Statements.{from_table}
-use Rattle.table_access.proofs.Values.{cast_null}
-use Rattle.table_access.proofs.Steps.{answered}
-use Rattle.table_access.proofs.Maps.{looks_up_at, puts_at, other_way, no_other_way}
-use Rattle.table_access.proofs.Keys.{apart_by, text_keys, by_text}
-use Rattle.table_access.proofs.SoundLemmas.{text_at, has_place}
-use Rattle.broker_core.specs.Text.{put_at, same_text}
-use Rattle.broker_core.specs.State.{State as Broker}
-use Rattle.broker_core.specs.Laws.{TeamsDiffer}
-use Rattle.table_access.specs.Reading.{IsTextAt}
-use Rattle.broker_tables.specs.Rows.{value_at}
-use Rattle.broker_tables.specs.Holds.{Holds, HoldsAfter, IsBroker}
-use Rattle.broker_tables.proofs.Asked.{Asked, IsShown, FirstShown, FirstReads, text_reads}
-use Rattle.broker_tables.proofs.Frames.{frame_of, teams_change}
-use Rattle.broker_tables.proofs.Orders.{exact_texts}
-use Rattle.broker_tables.proofs.Placed.{teams, teams_there}
-use Rattle.broker_tables.proofs.Standing.{stands_found}
-use Rattle.registry_tables.specs.Registry.{AddsTeam}
-use Rattle.broker_tables.specs.Refusals.{HaveNumbers}
-use Rattle.broker_tables.proofs.RoomLemmas.{after_one, grows_added, number_for}
+use Rattle.table_access.{specs.{Columns.{text, text_cmp}, Statements.{from_table}, Reading.{IsTextAt}}, proofs.{Values.{cast_null}, Steps.{answered}}}
+use Rattle.table_access.proofs.{Maps.{looks_up_at, puts_at, other_way, no_other_way}, Keys.{apart_by, text_keys, by_text}, SoundLemmas.{text_at, has_place}}
+use Rattle.broker_core.specs.{Text.{put_at, same_text}, State.{State as Broker}, Laws.{TeamsDiffer}}
+use Rattle.broker_tables.specs.{Rows.{value_at}, Holds.{Holds, HoldsAfter, IsBroker}, Refusals.{HaveNumbers}}
+use Rattle.broker_tables.proofs.{Asked.{Asked, IsShown, FirstShown, FirstReads, text_reads}, Frames.{frame_of, teams_change}, Orders.{exact_texts}}
+use Rattle.broker_tables.proofs.{Placed.{teams, teams_there}, Standing.{stands_found}, RoomLemmas.{after_one, grows_added, number_for}}
 use Rattle.broker_tables.proofs.Inserted.{EndsOnly, Puts, inserted, next_ends, new_text, free_one}
+use Rattle.registry_tables.specs.Registry.{AddsTeam}
 
 module _ (db : Database) (broker : IsBroker db) where
   names : (r : Row) → Has (db.trees 1) r → column r 1 ≡ Text (text 1 r)
@@ -149,10 +123,11 @@ module _ (team digest : List ℕ) (old new : State) (s : Broker) (held : Holds o
   unknown none None is = refl
   unknown none (Some other) is = absurd (none other (sym (held.teams other) ∙ other_way nat_list_cmp_total exact_texts nat_list_cmp_total exact_texts (text 1) (text 2) (old.now.trees 1) other digest (team_keys old.now held.broker) is))
 
-  -- it fails only as the store fails
-  pub team_ends : HaveNumbers (codes "teams" ∷ []) old.now → (t : Broker) → AddsTeam team digest s t → EndsOnly add_sql (Text team ∷ Text digest ∷ []) old new
+  -- it fails only as the store fails, or since one of its texts is too long
+  pub team_ends : HaveNumbers (codes "teams" ∷ []) old.now → (t : Broker) → AddsTeam team digest s t → EndsOnly (team ∷ digest ∷ []) add_sql (Text team ∷ Text digest ∷ []) old new
   team_ends numbers t next =
       let free_name = sym (stands_found text_cmp (text 1) (text 2) (old.now.trees 1) team) ∙ ap is_some (held.teams team ∙ next.0) in
       let free_digest = sym (stands_found text_cmp (text 2) (text 1) (old.now.trees 1) digest) ∙ unknown next.1 _ refl in
       next_ends add_sql (Text team ∷ Text digest ∷ []) old new held.broker teams 1 (teams_there old.now held.broker) _ _ (add_puts team digest) stored (number_for _ numbers.0) (record { typed = refl; present = refl; checked = refl })
       (free_one (old.now.trees 1) made nat_list_cmp_total 1 (text 1) (new_text (old.now.trees 1) made 1 (names old.now held.broker) refl) free_name, (free_one (old.now.trees 1) made nat_list_cmp_total 2 (text 2) (new_text (old.now.trees 1) made 2 (digests old.now held.broker) refl) free_digest, tt)) tt
+      (team ∷ digest ∷ []) (λ are. are) (omega arith) (omega arith)

@@ -1,17 +1,17 @@
 -- What tells that a database is a broker's, and the format of its tables.
-use Rattle.std.specs.Prelude.{◌≡◌, ◌≢◌, ◌⊎◌, ◌<◌, ◌^◌, ℕ, pos, [], ◌∷◌, List, map, length, slice_get, option_and_then, Option, Some, MatchOption, IsSomeAnd}
+use Rattle.std.specs.Prelude.{◌≡◌, ◌≢◌, ◌⊎◌, ◌<◌, ◌^◌, ◌==◌, ℕ, pos, [], ◌∷◌, List, find, map, length, slice_get, option_and_then, Option, Some, None, MatchOption, IsSomeAnd, Result, IfErr}
 use Rattle.std.specs.List.{AllByRecursion, AllZip}
 use Rattle.sqlite.specs.Table.{Table}
 use Rattle.sqlite.specs.Schema.{Schema}
 use Rattle.sqlite.specs.Order.{Row, column}
 use Rattle.sqlite.specs.declared.types.Value.TheVariants.{Int}
 use Rattle.sqlite.specs.Effect.{Database}
-use Rattle.sqlite.specs.State.{State}
+use Rattle.sqlite.specs.State.{State, HasCleanDisk}
 use Rattle.sqlite_schema.specs.Names.{table_named}
 use Rattle.sqlite_schema.specs.declared.schema.Column.{Column}
 use Rattle.table_access.specs.declared.StoreFault.{StoreFault}
 use Rattle.table_access.specs.declared.StoreFault.TheVariants.{Store}
-use Rattle.table_access.specs.Reading.{IsRefusedAs}
+use Rattle.table_access.specs.Calls.{HasFailed}
 use Rattle.broker_tables.specs.Schema.{meta}
 use Rattle.broker_tables.specs.Former.{former_format, former_tables}
 
@@ -54,10 +54,22 @@ HasNoFormat db = (table : Table) × (table_of meta.name db.schema ≡ Some table
     × ((row : Row) × (db.trees table.tree ≡ row ∷ [])
     × ((n : ℕ) → column row 2 ≡ Int (pos n) → ¬ (n < 2 ^ 32)))
 
--- why no format is told: a query was refused, or there is no number
+-- The table is like meta, and the first table with its tree is another one, of which a query has the columns. Each tree
+-- of a store is one object of its list, so that no two tables have one; but no clause of a connection says that.
+abbrev pub SharesTree : Database → Type 0
+SharesTree db = (table : Table) × (table_of meta.name db.schema ≡ Some table) × IsMetaTable table
+    × (find (λ t. t.tree == table.tree) db.schema.tables ≢ Some table)
+
+-- Why no format is told: the store failed, there is no number, or two tables have one tree. Nothing else that a schema
+-- may have refuses the query: no view of that name, no column that is computed, no collation, no other columns or keys.
 abbrev pub FailsToFind : State → State → StoreFault → Type 0
 FailsToFind old new fault =
-    ((question : List ℕ) × IsRefusedAs question [] old new fault) ⊎ ((fault ≡ Store) × HasNoFormat old.now)
+    HasFailed old new fault ⊎ ((fault ≡ Store) × (HasNoFormat old.now ⊎ SharesTree old.now))
+
+-- without a limit of steps it fails for this alone
+abbrev pub FailsOnlyFor : {A : Type 0} → State → State → Result A StoreFault → (State → State → StoreFault → Type 0)
+    → Type 0
+FailsOnlyFor old new r Cause = HasCleanDisk new → old.step_limit ≡ None → IfErr r (Cause old new)
 
 -- ---- the tables of format 1
 

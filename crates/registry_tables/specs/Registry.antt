@@ -11,6 +11,7 @@ use Rattle.sqlite.specs.Effect.{Database}
 use Rattle.table_access.specs.Sound.{IsKept}
 use Rattle.broker_tables.specs.Numbers.{number_of}
 use Rattle.broker_tables.specs.Schema.{schema_of, registry_part}
+use Rattle.broker_tables.specs.Readable.{IsReadable}
 use Rattle.broker_tables.specs.Rows.{rows_of}
 use Rattle.broker_tables.specs.Holds.{Holds, IsMeta}
 
@@ -64,6 +65,14 @@ AllowsVersion v s = (is_known s v ≡ false) × IsTrue (is_some (s.pacticipants 
 -- and the number is the next
 abbrev pub AllowsVersionAs : ℕ → Version → State → Type 0
 AllowsVersionAs number v s = AllowsVersion v s × (number ≡ length s.versions + 1)
+
+-- the environment is there and isn't strict
+abbrev pub IsLenient : Text → State → Type 0
+IsLenient e s = (m : Marks) × (s.environments e ≡ Some m) × (m.strict ≡ false)
+
+-- a version is allowed, and how many there are can be read back
+abbrev pub CanAddVersion : Version → State → Type 0
+CanAddVersion v s = IsReadable s × AllowsVersion v s
 
 -- the version stands last and has the next number, which is the one that is answered; it is on no branch
 abbrev pub AddsVersion : Version → ℕ → State → State → Type 0

@@ -47,7 +47,7 @@ pub fn add_branch<S: Alter>(
     branch: &str,
 ) -> Result<(), StoreFault>
     ensures changes { Changes S.Store conn.old conn.new result (AddsBranch number branch.now) }
-    ensures calm { IsCalmChange S.Store conn.old conn.new result (codes "branches" ∷ [])
+    ensures calm { IsCalmChange S.Store conn.old conn.new result (codes "branches" ∷ []) (branch.now ∷ [])
         (AddsBranch number branch.now) }
 {
     change(

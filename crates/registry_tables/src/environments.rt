@@ -7,8 +7,8 @@ ghost use Rattle.broker_tables.specs.Holds.{Changes, ChangesTaking};
 ghost use Rattle.broker_tables.specs.Rows.{mark_of};
 ghost use Rattle.broker_tables.specs.Calm.{CalmQueriesInPlace};
 ghost use Rattle.registry_tables.specs.Marks.{TellsMark, FitsMark};
-ghost use Rattle.broker_tables.specs.Refusals.{IsCalmIf, IsCalmChange};
-ghost use Rattle.registry_tables.specs.Registry.{AddsEnvironment, KeepsStrict, marks, MakesStrict};
+ghost use Rattle.broker_tables.specs.Refusals.{IsCalmStoring, IsCalmChange};
+ghost use Rattle.registry_tables.specs.Registry.{AddsEnvironment, IsLenient, KeepsStrict, marks, MakesStrict};
 
 use broker_core::command::Marks;
 use broker_tables::truth_of;
@@ -111,7 +111,7 @@ fn put_environment<S: Alter>(
         (AddsEnvironment environment.now (marks gated false)) }
     ensures strict { HasCleanDisk (state S.Store conn.new) → IfOk result
         (λ _. KeepsStrict environment.now (state S.Store conn.old).now (state S.Store conn.new).now) }
-    ensures calm { IsCalmChange S.Store conn.old conn.new result (codes "environments" ∷ [])
+    ensures calm { IsCalmChange S.Store conn.old conn.new result (codes "environments" ∷ []) (environment.now ∷ [])
         (AddsEnvironment environment.now (marks gated false)) }
 {
     let mark = number_for(gated);
@@ -125,8 +125,8 @@ fn put_environment<S: Alter>(
 /// Makes an environment strict.
 fn put_strict<S: Alter>(conn: &mut Connection<S>, environment: &str) -> Result<(), StoreFault>
     ensures changes { ChangesTaking S.Store conn.old conn.new 1 result (MakesStrict environment.now) }
-    ensures calm { IsCalmIf S.Store conn.old conn.new result (codes "strict_environments" ∷ [])
-        (λ s. (m : MarksModel) × (s.environments environment.now ≡ Some m) × (m.strict ≡ false)) }
+    ensures calm { IsCalmStoring S.Store conn.old conn.new result (codes "strict_environments" ∷ []) (environment.now ∷ [])
+        (IsLenient environment.now) }
 {
     change(
         conn,
@@ -147,7 +147,7 @@ pub fn add_environment<S: Alter>(
 ) -> Result<(), StoreFault>
     ensures changes { Changes S.Store conn.old conn.new result (AddsEnvironment environment.now (marks gated strict)) }
     ensures calm { IsCalmChange S.Store conn.old conn.new result (codes "environments" ∷ codes "strict_environments" ∷ [])
-        (AddsEnvironment environment.now (marks gated strict)) }
+        (environment.now ∷ []) (AddsEnvironment environment.now (marks gated strict)) }
 {
     done!(put_environment(conn, environment, gated));
     if strict {

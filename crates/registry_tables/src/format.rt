@@ -2,12 +2,12 @@
 ghost use Rattle.std.specs.Prelude.{◌≡◌, ◌≢◌, ◌↔◌, ◌∷◌, [], IsTrue, IfOk, IfErr, MatchOption, IsSomeAnd, Some, None, pos, map, length};
 ghost use Rattle.sqlite.specs.Held.{state};
 ghost use Rattle.sqlite.specs.Order.{Row as SqlRow, column};
-ghost use Rattle.sqlite.specs.State.{HasCleanDisk};
+ghost use Rattle.sqlite.specs.State.{IsLive};
 ghost use Rattle.sqlite.specs.declared.types.Value.TheVariants.{Int};
 ghost use Rattle.table_access.specs.Calls.{CallsStore};
 ghost use Rattle.table_access.specs.Reading.{IsNumberRow};
 ghost use Rattle.broker_tables.specs.Schema.{meta};
-ghost use Rattle.registry_tables.specs.Format.{AreLike, IsMetaTable, Finds, FailsToFind, table_of};
+ghost use Rattle.registry_tables.specs.Format.{AreLike, IsMetaTable, Finds, FailsToFind, FailsOnlyFor, table_of};
 
 use sqlite::{Alter, Connection, Row};
 use sqlite_schema::schema::{Column, Kind, Schema, Table};
@@ -54,7 +54,8 @@ fn is_meta(table: &Table) -> bool
 
 /// Whether the table of that name is `meta`, wherever it is.
 fn is_marked<S: Alter>(conn: &Connection<S>) -> bool
-    ensures { IsTrue result ↔ IsSomeAnd (table_of meta.name (state S.Store conn.now).now.schema) IsMetaTable }
+    ensures marked { IsTrue result ↔ IsSomeAnd (table_of meta.name (state S.Store conn.now).now.schema) IsMetaTable }
+    ensures live { IsLive (state S.Store conn.now) }
 {
     match table_named(conn.schema(), b"meta") {
         Some(table) => is_meta(table),
@@ -80,14 +81,13 @@ fn one_number(rows: &[Row]) -> Result<Option<u32>, StoreFault>
 /// wherever it is and however it is declared. Nothing changes.
 ///
 /// # Errors
-/// `StoreFault::Memory` if the database has no memory; `StoreFault::Store` if it refused the query or holds no number
-/// there, and only then.
+/// `StoreFault::Memory` if the database has no memory; `StoreFault::Store` if it failed or holds no number there, and, if
+/// no query has a limit of steps, only then.
 pub fn format_of<S: Alter>(conn: &mut Connection<S>) -> Result<Option<u32>, StoreFault>
     ensures finds { CallsStore S.Store conn.old conn.new result
         (λ found old new. Finds old.now found
         × (new.now ≡ old.now)) }
-    ensures cause { HasCleanDisk (state S.Store conn.new) →
-        IfErr result (FailsToFind (state S.Store conn.old) (state S.Store conn.new)) }
+    ensures cause { FailsOnlyFor (state S.Store conn.old) (state S.Store conn.new) result FailsToFind }
 {
     if !is_marked(conn) {
         return Ok(None);

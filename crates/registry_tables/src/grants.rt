@@ -37,7 +37,7 @@ pub fn add_grant<S: Alter>(
     environment: &str,
 ) -> Result<(), StoreFault>
     ensures changes { Changes S.Store conn.old conn.new result (AddsGrant team.now environment.now) }
-    ensures calm { IsCalmChange S.Store conn.old conn.new result (codes "grants" ∷ [])
+    ensures calm { IsCalmChange S.Store conn.old conn.new result (codes "grants" ∷ []) (team.now ∷ environment.now ∷ [])
         (AddsGrant team.now environment.now) }
 {
     change(

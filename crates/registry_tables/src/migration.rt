@@ -1,13 +1,12 @@
 //! The tables of a broker of format 1, as they become today's.
-ghost use Rattle.std.specs.Prelude.{◌≡◌, ◌∷◌, [], IfErr};
+ghost use Rattle.std.specs.Prelude.{◌≡◌, ◌∷◌, []};
 ghost use Rattle.sqlite.specs.Held.{state};
-ghost use Rattle.sqlite.specs.State.{HasCleanDisk};
 ghost use Rattle.table_access.specs.Calls.{CallsStore};
 ghost use Rattle.broker_core.specs.State.{State as Broker};
 ghost use Rattle.broker_tables.specs.Schema.{checked_results};
 ghost use Rattle.broker_tables.specs.Holds.{format};
 ghost use Rattle.broker_tables.specs.Former.{HoldsUnmarked, former_format, added_tables};
-ghost use Rattle.registry_tables.specs.Format.{FindsFormer, FailsToFind};
+ghost use Rattle.registry_tables.specs.Format.{FindsFormer, FailsToFind, FailsOnlyFor};
 
 use crate::format::format_of;
 use crate::former::has_former_tables;
@@ -24,8 +23,7 @@ pub fn format_to_migrate<S: Alter>(conn: &mut Connection<S>) -> Result<Option<u3
     ensures finds { CallsStore S.Store conn.old conn.new result
         (λ found old new. FindsFormer old.now found
         × (new.now ≡ old.now)) }
-    ensures cause { HasCleanDisk (state S.Store conn.new) →
-        IfErr result (FailsToFind (state S.Store conn.old) (state S.Store conn.new)) }
+    ensures cause { FailsOnlyFor (state S.Store conn.old) (state S.Store conn.new) result FailsToFind }
 {
     match done!(format_of(conn)) {
         Some(1) => Ok(if has_former_tables(conn) {

@@ -39,7 +39,7 @@ pub fn add_pacticipant<S: Alter>(
     team: &str,
 ) -> Result<(), StoreFault>
     ensures changes { Changes S.Store conn.old conn.new result (AddsPacticipant pacticipant.now team.now) }
-    ensures calm { IsCalmChange S.Store conn.old conn.new result (codes "pacticipants" ∷ [])
+    ensures calm { IsCalmChange S.Store conn.old conn.new result (codes "pacticipants" ∷ []) (pacticipant.now ∷ team.now ∷ [])
         (AddsPacticipant pacticipant.now team.now) }
 {
     change(

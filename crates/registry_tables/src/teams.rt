@@ -70,7 +70,7 @@ pub fn add_team<S: Alter>(
     digest: &str,
 ) -> Result<(), StoreFault>
     ensures changes { Changes S.Store conn.old conn.new result (AddsTeam team.now digest.now) }
-    ensures calm { IsCalmChange S.Store conn.old conn.new result (codes "teams" ∷ [])
+    ensures calm { IsCalmChange S.Store conn.old conn.new result (codes "teams" ∷ []) (team.now ∷ digest.now ∷ [])
         (AddsTeam team.now digest.now) }
 {
     change(

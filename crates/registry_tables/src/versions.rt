@@ -1,13 +1,12 @@
 //! Versions of pacticipants, and their numbers.
-ghost use Rattle.std.specs.Prelude.{◌≡◌, [], length, is_some};
+ghost use Rattle.std.specs.Prelude.{◌≡◌, [], ◌∷◌, length, is_some};
 ghost use Rattle.broker_core.specs.Text.{version as version_named};
 ghost use Rattle.broker_core.specs.Request.{is_known};
 ghost use Rattle.broker_tables.specs.Numbers.{number_of as number_in};
 ghost use Rattle.broker_tables.specs.Holds.{Changes, ChangesAndAnswers};
 ghost use Rattle.broker_tables.specs.Calm.{CalmQueriesInPlace};
-ghost use Rattle.broker_tables.specs.Readable.{IsReadable};
-ghost use Rattle.broker_tables.specs.Refusals.{IsCalmIf};
-ghost use Rattle.registry_tables.specs.Registry.{AllowsVersion, AllowsVersionAs, AddsVersion, PutsVersion};
+ghost use Rattle.broker_tables.specs.Refusals.{IsCalmStoring};
+ghost use Rattle.registry_tables.specs.Registry.{AllowsVersion, AllowsVersionAs, CanAddVersion, AddsVersion, PutsVersion};
 
 use broker_tables::next_number;
 use sqlite::{Alter, Connection, params};
@@ -59,7 +58,7 @@ fn put_version<S: Alter>(
 ) -> Result<(), StoreFault>
     ensures changes { Changes S.Store conn.old conn.new result
         (PutsVersion number (version_named pacticipant.now version.now)) }
-    ensures calm { IsCalmIf S.Store conn.old conn.new result []
+    ensures calm { IsCalmStoring S.Store conn.old conn.new result [] (pacticipant.now ∷ version.now ∷ [])
         (AllowsVersionAs number (version_named pacticipant.now version.now)) }
 {
     change(
@@ -83,7 +82,7 @@ pub fn add_version_as<S: Alter>(
     ensures changes { ChangesAndAnswers S.Store conn.old conn.new result
         (AllowsVersionAs number (version_named pacticipant.now version.now))
         (λ _. AddsVersion (version_named pacticipant.now version.now) number) }
-    ensures calm { IsCalmIf S.Store conn.old conn.new result []
+    ensures calm { IsCalmStoring S.Store conn.old conn.new result [] (pacticipant.now ∷ version.now ∷ [])
         (AllowsVersionAs number (version_named pacticipant.now version.now)) }
 {
     put_version(conn, number, pacticipant, version)
@@ -101,8 +100,8 @@ pub fn add_version<S: Alter>(
     ensures changes { ChangesAndAnswers S.Store conn.old conn.new result
         (AllowsVersion (version_named pacticipant.now version.now))
         (AddsVersion (version_named pacticipant.now version.now)) }
-    ensures calm { IsCalmIf S.Store conn.old conn.new result []
-        (λ s. IsReadable s × AllowsVersion (version_named pacticipant.now version.now) s) }
+    ensures calm { IsCalmStoring S.Store conn.old conn.new result [] (pacticipant.now ∷ version.now ∷ [])
+        (CanAddVersion (version_named pacticipant.now version.now)) }
 {
     let count = done!(version_count(conn));
     let Some(number) = next_number(count) else {

@@ -1,11 +1,8 @@
 use Rattle.std.proofs.Common.{◌≡◌, ℕ, List, Ok, Err, Some, None, true, false, sym, subst, ◌∙◌}
 use Rattle.sqlite.specs.Held.{state}
 use Rattle.table_access.proofs.CallLemmas.{statement_ok, statement_seq}
-use Rattle.broker_core.specs.Text.{Text}
-use Rattle.broker_core.specs.Limit.{has_room}
-use Rattle.content_store.specs.Contents.{ContentsBy, IsPut, is_among}
-use Rattle.content_store.proofs.TextNumbers.{room_is}
-use Rattle.content_store.proofs.CalmPuts.{counted, calm_then}
+use Rattle.broker_core.specs.{Text.{Text}, Limit.{has_room}}
+use Rattle.content_store.{specs.Contents.{ContentsBy, IsPut, is_among}, proofs.{TextNumbers.{room_is}, CalmPuts.{counted, calm_then}}}
 use Rattle.content_store.proofs.contents.add_if_room.Goals as goal
 
 pub returns-in-Ok-add_after-clause-call : goal.returns-in-Ok-add_after-clause-call
@@ -37,5 +34,5 @@ pub returns-in-Err-add_after-clause-calm : goal.returns-in-Err-add_after-clause-
 returns-in-Err-add_after-clause-calm g c =
     let old = state g.S.Store c.args.conn.now in
     let mid = state g.S.Store c.content_count.new.conn in
-    calm_then {B = ℕ} old mid (state g.S.Store c.add_after.new.conn) c.in-Ok.value (Err c.in-Err-add_after.fault) _ _ _ _ c.in-Ok.ensures.call c.in-Err-add_after.ensures.call
+    calm_then {B = ℕ} old mid (state g.S.Store c.add_after.new.conn) c.in-Ok.value (Err c.in-Err-add_after.fault) _ _ _ _ _ c.in-Ok.ensures.call c.in-Err-add_after.ensures.call
     (λ read s held allowed. let told = counted old mid c.in-Ok.value read s held in ((told.0, room_is s.contents c.in-Ok.value c.room.result c.room.ensures told.0 ∙ c.if-room.true), told.1)) c.in-Err-add_after.ensures.calm

@@ -2,8 +2,7 @@ use Rattle.std.proofs.Common.{◌∙◌}
 use Rattle.sqlite.specs.Held.{state}
 use Rattle.table_access.proofs.CallLemmas.{statement_ok}
 use Rattle.broker_tables.proofs.Asked.{still, why_number}
-use Rattle.content_store.proofs.ContentRows.{highest, contents_counted}
-use Rattle.content_store.proofs.ReadableRows.{highest_reads}
+use Rattle.content_store.proofs.{ContentRows.{highest, contents_counted}, ReadableRows.{highest_reads}}
 use Rattle.content_store.proofs.contents.content_count.Goals as goal
 
 pub returns-clause-call : goal.returns-clause-call

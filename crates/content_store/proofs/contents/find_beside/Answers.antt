@@ -2,8 +2,7 @@ use Rattle.std.proofs.lemmas.Result.{IfOk-weaker, IfErr-weaker}
 use Rattle.sqlite.specs.Held.{state}
 use Rattle.table_access.proofs.CallLemmas.{statement_result}
 use Rattle.broker_tables.proofs.Asked.{is_answer, still, why_refused}
-use Rattle.content_store.proofs.ContentRows.{sharing, number_found}
-use Rattle.content_store.proofs.ReadableRows.{sharing_reads}
+use Rattle.content_store.proofs.{ContentRows.{sharing, number_found}, ReadableRows.{sharing_reads}}
 use Rattle.content_store.proofs.contents.find_beside.Goals as goal
 
 pub returns-clause-call : goal.returns-clause-call

@@ -1,12 +1,8 @@
-use Rattle.std.proofs.Common.{ℕ, pos, ◌≤◌, ◌^◌, ◌∙◌, sym, subst, w64, SFits, refl, None, Ok, arith}
-use Rattle.std.proofs.lemmas.Int.{to_z-of_z}
+use Rattle.std.proofs.{Common.{ℕ, pos, ◌≤◌, ◌^◌, ◌∙◌, sym, subst, w64, SFits, refl, None, Ok, arith}, lemmas.Int.{to_z-of_z}}
 use Rattle.sqlite.specs.Held.{state}
-use Rattle.table_access.proofs.Answered.{first_has}
-use Rattle.table_access.proofs.CallLemmas.{call_with, idle}
-use Rattle.broker_tables.proofs.Asked.{is_answer, still, why_text}
-use Rattle.broker_tables.proofs.QueryLemmas.{calm_by}
-use Rattle.content_store.proofs.ContentRows.{stored, body_found}
-use Rattle.content_store.proofs.ReadableRows.{stored_reads}
+use Rattle.table_access.proofs.{Answered.{first_has}, CallLemmas.{call_with, idle}}
+use Rattle.broker_tables.proofs.{Asked.{is_answer, still, why_text}, QueryLemmas.{calm_by}}
+use Rattle.content_store.proofs.{ContentRows.{stored, body_found}, ReadableRows.{stored_reads}}
 use Rattle.content_store.proofs.contents.get.Goals as goal
 
 -- a number that fits is below 2^63

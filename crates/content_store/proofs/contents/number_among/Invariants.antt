@@ -1,5 +1,4 @@
-use Rattle.std.proofs.Common.{◌≡◌, drop}
-use Rattle.std.specs.List.{find as first}
+use Rattle.std.{specs.List.{find as first}, proofs.Common.{◌≡◌, drop}}
 use Rattle.table_access.specs.Columns.{text}
 use Rattle.broker_core.specs.Text.{same_text}
 use Rattle.content_store.proofs.contents.number_among.Given as goal

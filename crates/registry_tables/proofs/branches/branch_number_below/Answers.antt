@@ -1,5 +1,5 @@
 use Rattle.broker_tables.proofs.Asked.{looks_up}
-use Rattle.registry_tables.proofs.BranchBelow.{below, below_found, below_reads}
+use Rattle.registry_tables.proofs.BranchNumbers.{below, below_found, below_reads}
 use Rattle.registry_tables.proofs.branches.branch_number_below.Goals as goal
 
 pub returns : goal.returns

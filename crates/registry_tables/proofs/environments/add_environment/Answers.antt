@@ -1,17 +1,9 @@
-use Rattle.std.proofs.Common.{◌≡◌, refl, sym, ap, subst, ◌∙◌, Some, true, false, Ok, arith}
-use Rattle.std.proofs.lemmas.Result.{IfErr-weaker}
-use Rattle.sqlite.specs.State.{HasCleanDisk}
-use Rattle.sqlite.specs.Held.{state}
-use Rattle.broker_core.specs.declared.command.Marks.{Marks}
-use Rattle.broker_core.specs.Text.{put_at, same_text}
-use Rattle.broker_core.specs.State.{State}
+use Rattle.std.proofs.{Common.{◌≡◌, refl, sym, ap, subst, ◌∙◌, Some, true, false, Ok, arith}, lemmas.Result.{IfErr-weaker}}
+use Rattle.sqlite.specs.{State.{HasCleanDisk}, Held.{state}}
+use Rattle.broker_core.specs.{declared.command.Marks.{Marks}, Text.{put_at, same_text}, State.{State}}
 use Rattle.table_access.proofs.CallLemmas.{statement_with, statement_seq, ended_since}
-use Rattle.broker_tables.specs.Holds.{HoldsAfter}
-use Rattle.broker_tables.specs.Room.{LeaveNumbers}
-use Rattle.broker_tables.proofs.RoomLemmas.{takes_more, takes_then}
-use Rattle.registry_tables.specs.Registry.{marks}
-use Rattle.broker_tables.specs.Refusals.{HoldsOpen}
-use Rattle.registry_tables.proofs.EnvironmentRows.{put_both, there_now}
+use Rattle.broker_tables.{specs.{Holds.{HoldsAfter}, Room.{LeaveNumbers}, Refusals.{HoldsOpen}}, proofs.RoomLemmas.{takes_more, takes_then}}
+use Rattle.registry_tables.{specs.Registry.{marks}, proofs.EnvironmentRows.{put_both, there_now}}
 use Rattle.registry_tables.proofs.environments.add_environment.Goals as goal
 
 pub returns-then-strict-clause-changes : goal.returns-then-strict-clause-changes

@@ -1,6 +1,5 @@
 use Rattle.std.proofs.Common.{arith, Some, None, inl, inr, refl}
-use Rattle.sqlite.specs.Held.{state}
-use Rattle.sqlite.specs.State.{HasCleanDisk}
+use Rattle.sqlite.specs.{Held.{state}, State.{HasCleanDisk}}
 use Rattle.registry_tables.proofs.environments.marks_of.Goals as goal
 
 pub returns-in-Ok-is_strict-clause-mark : goal.returns-in-Ok-is_strict-clause-mark

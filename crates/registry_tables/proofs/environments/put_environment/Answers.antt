@@ -1,5 +1,4 @@
-use Rattle.std.proofs.Common.{refl, sym, subst}
-use Rattle.std.proofs.lemmas.Result.{IfOk-weaker, IfErr-weaker}
+use Rattle.std.proofs.{Common.{refl, sym, subst}, lemmas.Result.{IfOk-weaker, IfErr-weaker}}
 use Rattle.sqlite.specs.Held.{state}
 use Rattle.sqlite_tied.specs.Compute.{everything}
 use Rattle.table_access.proofs.CallLemmas.{statement_with}

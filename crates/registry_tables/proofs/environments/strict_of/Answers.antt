@@ -1,5 +1,4 @@
-use Rattle.std.proofs.Common.{ap}
-use Rattle.std.specs.Prelude.{is_some}
+use Rattle.std.{specs.Prelude.{is_some}, proofs.Common.{ap}}
 use Rattle.registry_tables.proofs.environments.strict_of.Goals as goal
 
 pub returns-in-Some-clause-mark : goal.returns-in-Some-clause-mark

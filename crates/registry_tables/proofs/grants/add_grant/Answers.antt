@@ -1,11 +1,9 @@
-use Rattle.std.proofs.Common.{refl, sym, subst}
-use Rattle.std.proofs.lemmas.Result.{IfErr-weaker}
+use Rattle.std.proofs.{Common.{refl, sym, subst}, lemmas.Result.{IfErr-weaker}}
 use Rattle.sqlite.specs.Held.{state}
 use Rattle.sqlite_tied.specs.Compute.{everything}
 use Rattle.table_access.proofs.CallLemmas.{statement_with}
 use Rattle.broker_tables.specs.Holds.{HoldsAfter}
-use Rattle.registry_tables.proofs.GrantRows.{grant_added}
-use Rattle.registry_tables.proofs.GrantRefusals.{grant_ends}
+use Rattle.registry_tables.proofs.{GrantRows.{grant_added}, GrantRefusals.{grant_ends}}
 use Rattle.registry_tables.proofs.grants.add_grant.Goals as goal
 
 pub change-requires : goal.change-requires

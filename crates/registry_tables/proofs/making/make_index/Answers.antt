@@ -1,11 +1,7 @@
 use Rattle.std.proofs.Common.{refl, take, drop}
-use Rattle.sqlite.specs.Held.{state}
 use Rattle.sqlite_tied.specs.Compute.{everything}
-use Rattle.table_access.proofs.CallLemmas.{statement_with}
-use Rattle.table_access.specs.Statements.{IndexesTable}
-use Rattle.table_access.proofs.Creation.{each_single}
-use Rattle.broker_tables.specs.Schema.{versions_by_pacticipant}
-use Rattle.broker_tables.specs.Making.{index_texts}
+use Rattle.table_access.{specs.Statements.{IndexesTable}, proofs.{CallLemmas.{statement_with}, Creation.{each_single}}}
+use Rattle.broker_tables.specs.{Schema.{versions_by_pacticipant}, Making.{index_texts}}
 use Rattle.registry_tables.proofs.making.make_index.Goals as goal
 
 pub make_each-requires : goal.make_each-requires
@@ -14,6 +10,4 @@ make_each-requires g c = (refl, tt)
 
 pub returns : goal.returns
 returns g c =
-    let old = state g.S.Store c.args.conn.now in
-    let new = state g.S.Store c.make_each.new.conn in
-    statement_with old new c.make_each.result _ _ (λ _ made is. each_single IndexesTable versions_by_pacticipant old.now new.now (made.1 (take 3 index_texts) (take 1 (drop 3 index_texts)) (drop 4 index_texts) refl refl is)) c.make_each.ensures
+    statement_with _ _ c.make_each.result _ _ (λ _ made is. each_single IndexesTable versions_by_pacticipant _ _ (made.1 (take 3 index_texts) (take 1 (drop 3 index_texts)) (drop 4 index_texts) refl refl is)) c.make_each.ensures

@@ -1,5 +1,4 @@
 use Rattle.std.proofs.Common.{refl}
-use Rattle.sqlite.specs.Held.{state}
 use Rattle.sqlite_tied.specs.Compute.{everything}
 use Rattle.table_access.proofs.CallLemmas.{statement_with}
 use Rattle.registry_tables.proofs.MetaRow.{meta_put}
@@ -11,6 +10,4 @@ change-requires g c = refl
 
 pub returns : goal.returns
 returns g c =
-    let old = state g.S.Store c.args.conn.now in
-    let new = state g.S.Store c.change.new.conn in
-    statement_with old new c.change.result _ _ (λ _ h. meta_put c.args.format c.args.digest.now old new h.0 h.1) (rw (c.params-to_sql.ensures, c.params-to_sql-2.ensures) at c.change.ensures.leaves)
+    statement_with _ _ c.change.result _ _ (λ _ h. meta_put c.args.format c.args.digest.now _ _ h.0 h.1) (rw (c.params-to_sql.ensures, c.params-to_sql-2.ensures) at c.change.ensures.leaves)

@@ -1,6 +1,5 @@
 use Rattle.std.proofs.Common.{◌≡◌, inr, sym, subst, true, false, Some, None}
-use Rattle.sqlite.specs.Held.{state}
-use Rattle.sqlite.specs.Effect.{Database}
+use Rattle.sqlite.specs.{Held.{state}, Effect.{Database}}
 use Rattle.table_access.proofs.CallLemmas.{statement_ok}
 use Rattle.registry_tables.specs.Format.{Finds, HasFormerTables}
 use Rattle.registry_tables.proofs.migration.format_to_migrate.Goals as goal

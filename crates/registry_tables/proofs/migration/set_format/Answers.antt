@@ -1,5 +1,4 @@
 use Rattle.std.proofs.Common.{refl}
-use Rattle.sqlite.specs.Held.{state}
 use Rattle.sqlite_tied.specs.Compute.{everything}
 use Rattle.table_access.proofs.CallLemmas.{statement_with}
 use Rattle.registry_tables.proofs.FormatRow.{format_set}
@@ -10,7 +9,4 @@ unfolding everything
 change-requires g c = refl
 
 pub returns : goal.returns
-returns g c =
-    let old = state g.S.Store c.args.conn.now in
-    let new = state g.S.Store c.change.new.conn in
-    statement_with old new c.change.result _ _ (λ _ h s held. format_set old new h.0 s held h.1) c.change.ensures.leaves
+returns g c = statement_with _ _ c.change.result _ _ (λ _ h s held. format_set _ _ h.0 s held h.1) c.change.ensures.leaves

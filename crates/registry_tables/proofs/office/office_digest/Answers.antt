@@ -1,8 +1,7 @@
 use Rattle.std.proofs.Common.{◌≡◌, Some, None, ◌∙◌, refl, string_bytes}
 use Rattle.sqlite.specs.Held.{state}
 use Rattle.table_access.proofs.CallLemmas.{memory_ok, memory_store}
-use Rattle.broker_tables.proofs.QueryLemmas.{read_ok, read_err, read_never}
-use Rattle.broker_tables.proofs.Asked.{is_answer, still, why_text}
+use Rattle.broker_tables.proofs.{QueryLemmas.{read_ok, read_err, read_never}, Asked.{is_answer, still, why_text}}
 use Rattle.registry_tables.proofs.OfficeRows.{office, office_found, office_reads, no_office}
 use Rattle.registry_tables.proofs.office.office_digest.Goals as goal
 

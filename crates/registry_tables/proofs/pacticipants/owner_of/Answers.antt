@@ -1,5 +1,4 @@
-use Rattle.std.proofs.Common.{◌∙◌}
-use Rattle.std.proofs.lemmas.Result.{IfErr-weaker}
+use Rattle.std.proofs.{Common.{◌∙◌}, lemmas.Result.{IfErr-weaker}}
 use Rattle.broker_tables.proofs.Asked.{looks_up_text, why_unread}
 use Rattle.registry_tables.proofs.PacticipantRows.{owner, owner_found, owner_reads, owner_missing}
 use Rattle.registry_tables.proofs.pacticipants.owner_of.Goals as goal

@@ -1,5 +1,4 @@
-use Rattle.std.proofs.Common.{ap, sym, ◌∙◌, slice_get}
-use Rattle.std.specs.Option.{is_some}
+use Rattle.std.{specs.Option.{is_some}, proofs.Common.{ap, sym, ◌∙◌, slice_get}}
 use Rattle.sqlite_keyed.proofs.SliceLemmas.{is_some-map}
 use Rattle.table_access.specs.Columns.{text}
 use Rattle.broker_tables.proofs.Asked.{looks_for}

@@ -1,5 +1,4 @@
-use Rattle.std.proofs.Common.{sym, subst, string_bytes}
-use Rattle.std.proofs.lemmas.Result.{IfErr-weaker}
+use Rattle.std.proofs.{Common.{sym, subst, string_bytes}, lemmas.Result.{IfErr-weaker}}
 use Rattle.broker_tables.proofs.Asked.{looks_up_text, why_unread}
 use Rattle.registry_tables.proofs.TeamRows.{holder, holder_found, holder_reads, holder_missing, IsTeamOf, by_view}
 use Rattle.registry_tables.proofs.teams.team_of_digest.Goals as goal

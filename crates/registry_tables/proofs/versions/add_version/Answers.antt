@@ -1,11 +1,8 @@
 use Rattle.std.proofs.Common.{◌+◌, ap, subst, ◌∙◌, Ok}
 use Rattle.sqlite.specs.Held.{state}
-use Rattle.broker_core.specs.Text.{version as version_named}
-use Rattle.broker_core.specs.State.{State}
-use Rattle.broker_tables.specs.Holds.{Holds, HoldsAfter}
-use Rattle.broker_tables.specs.Room.{TakesRoom}
+use Rattle.broker_core.specs.{Text.{version as version_named}, State.{State}}
+use Rattle.broker_tables.{specs.{Holds.{Holds, HoldsAfter}, Room.{TakesRoom}}, proofs.QueryLemmas.{in_store, stays_held}}
 use Rattle.table_access.proofs.CallLemmas.{statement_seq, statement_ok}
-use Rattle.broker_tables.proofs.QueryLemmas.{in_store, stays_held}
 use Rattle.registry_tables.specs.Registry.{AllowsVersionAs, AddsVersion}
 use Rattle.registry_tables.proofs.versions.add_version.Goals as goal
 

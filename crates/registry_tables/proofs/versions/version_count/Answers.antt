@@ -1,6 +1,5 @@
 use Rattle.std.proofs.Common.{◌∙◌}
-use Rattle.broker_tables.proofs.Asked.{still, why_number}
-use Rattle.broker_tables.proofs.QueryLemmas.{looked_ok, looked_err}
+use Rattle.broker_tables.proofs.{Asked.{still, why_number}, QueryLemmas.{looked_ok, looked_err}}
 use Rattle.registry_tables.proofs.VersionRows.{highest, highest_reads, versions_counted}
 use Rattle.registry_tables.proofs.versions.version_count.Goals as goal
 
