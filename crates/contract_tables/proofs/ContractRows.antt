@@ -1,48 +1,31 @@
--- The statements on contracts.
-use Rattle.std.proofs.Common.{◌≡◌, arith, ◌≤◌, length, IsTrue, ℕ, ℤ, pos, codes, List, [], ◌∷◌, Bool, true, false, cond, ◌&&◌, refl, sym, ap, ◌∙◌, slice_get, Some, None, Option, Ok}
-use Rattle.std.specs.Prelude.{option_map, option_and_then, is_some}
-use Rattle.std.specs.Ordering.{eq_by_cmp, int_cmp}
-use Rattle.std.specs.Cmp.{int_cmp_total}
+-- The rows of contracts: by their keys, listed by a version and by a content, and one more.
+use Rattle.std.specs.{Prelude.{option_map, option_and_then, is_some, ◌↔◌}, Ordering.{eq_by_cmp, int_cmp, nat_cmp, ordering_then}, Cmp.{int_cmp_total}}
 use Rattle.std.specs.Cmp.Lexicographic.{nat_list_cmp_total, texts_ties}
-use Rattle.sqlite.specs.Tree.{IsAscending}
-use Rattle.sqlite.specs.Edit.{next_rowid, with_rowid}
-use Rattle.sqlite.specs.Rowids.TheVariants.{Chosen}
-use Rattle.sqlite.specs.Cast.{cast_row}
-use Rattle.sqlite.specs.declared.types.Value.TheVariants.{Null, Int, Text}
-use Rattle.sqlite.specs.Order.{Row, column}
-use Rattle.sqlite.specs.Term.{col, lit}
-use Rattle.sqlite.specs.Schema.{Schema}
-use Rattle.sqlite.specs.Effect.{Database}
-use Rattle.sqlite.specs.State.{State, Executes}
-use Rattle.sqlite.specs.Listing.{understood}
+use Rattle.std.proofs.Common.{◌≡◌, arith, ◌≤◌, length, IsTrue, ℕ, ℤ, pos, codes, List, [], ◌∷◌, Bool, true, false, cond, ◌&&◌, refl, sym, ap, ◌∙◌, slice_get, Some, None, Option, Ok}
+use Rattle.std.proofs.lemmas.Bool.{and_left}
+use Rattle.sqlite.specs.{Tree.{IsAscending}, Edit.{id_in, next_rowid, with_rowid}, Rowids.TheVariants.{Chosen}, Cast.{cast_row}, Effect.{Database}}
+use Rattle.sqlite.specs.{State.{State, Executes}, Collation.TheVariants.{Binary}, Listing.{understood}, declared.types.Value.TheVariants.{Null, Int, Text}}
+use Rattle.sqlite.specs.{Order.{Row, column, value_cmp}, Term.{Term, col, lit, op2}, Schema.{Schema}}
 use Rattle.sqlite_rules.specs.Lists.{Has}
 use Rattle.sqlite_tied.specs.Compute.{everything}
-use Rattle.table_access.specs.Columns.{text, text_cmp, whole_at, by_both}
-use Rattle.table_access.specs.Statements.{from_table, by_two, keeps}
-use Rattle.table_access.proofs.Values.{cast_null, cast_int}
-use Rattle.table_access.proofs.Steps.{answered}
-use Rattle.table_access.proofs.Maps.{looks_up_at, puts_at}
-use Rattle.table_access.proofs.Keys.{apart_by}
+use Rattle.sqlite_sql.specs.{declared.ops.BinaryOp.TheVariants.{Compare}, declared.ops.CompareOp.TheVariants.{Eq}}
+use Rattle.sqlite_value.{specs.Keys.{ascending}, proofs.OrderLemmas.{value_cmp-Text}}
+use Rattle.table_access.specs.{Columns.{text, text_cmp, whole_at, by_both}, Sound.{IsNumbered, text_in, whole}}
+use Rattle.table_access.{specs.{Statements.{from_table, from_both, by_two, keeps, keeps_both}, Reading.{AreRead}}, proofs.Values.{cast_null, cast_int}}
+use Rattle.table_access.proofs.{Steps.{answered}, Maps.{looks_up_at, puts_at, find_has, has_find}, Keys.{apart_by}}
 use Rattle.table_access.proofs.Parts.{Part, text_part, whole_part, is_param, where_last, where_and, all_where, agree_last, agree_and, once}
-use Rattle.table_access.proofs.SoundLemmas.{text_at, whole_in, has_place}
-use Rattle.table_access.proofs.ReadLemmas.{number_found}
-use Rattle.broker_core.specs.declared.command.Version.{Version}
-use Rattle.broker_core.specs.Text.{put_at, same_text, same_version, same_pair}
-use Rattle.broker_core.specs.State.{State as Broker}
-use Rattle.broker_tables.specs.Rows.{value_at}
-use Rattle.broker_tables.specs.Numbers.{number_of}
-use Rattle.broker_tables.specs.Holds.{Holds, HoldsAfter, IsBroker}
-use Rattle.broker_tables.proofs.Frames.{frame_of, contracts_change}
-use Rattle.broker_tables.proofs.Orders.{marked_total, exact_marked}
-use Rattle.broker_tables.proofs.Ties.{both_eq, two_tests}
-use Rattle.broker_tables.proofs.NumberLemmas.{number_ties, version_unknown}
-use Rattle.broker_tables.proofs.Placed.{contracts, contracts_there}
-use Rattle.broker_tables.specs.Refusals.{HaveNumbers}
-use Rattle.broker_tables.proofs.Asked.{Asked, IsShown}
-use Rattle.broker_tables.proofs.Standing.{stands_found}
-use Rattle.broker_tables.proofs.RoomLemmas.{after_one, grows_added, number_for}
+use Rattle.table_access.proofs.{SoundLemmas.{at_has, text_at, whole_in, has_place}, ReadLemmas.{number_found}}
+use Rattle.broker_core.specs.{Text.{Text as Words, version, put_at, same_text, same_version, same_pair}, declared.command.Version.{Version}, Listing.{Lists}}
+use Rattle.broker_core.specs.{Machine.{version_cmp}, State.{State as Broker}}
+use Rattle.broker_tables.specs.{Rows.{value_at}, Numbers.{number_of}, Holds.{Holds, HoldsAfter, IsBroker}, Refusals.{HaveNumbers}}
+use Rattle.broker_tables.proofs.VersionRows.{whole_test, text_test, version_number, versions_numbered, owners, names, row_number, find_version, one_row, by_number, same_version as one_version}
+use Rattle.broker_tables.proofs.{Frames.{frame_of, contracts_change}, Orders.{marked_total, exact_marked, exact_texts, exact_pair}, Ties.{both_eq, two_tests}}
+use Rattle.broker_tables.proofs.{Standing.{stands_found}, RoomLemmas.{after_one, grows_added, number_for}, NumberLemmas.{number_ties, version_unknown}}
+use Rattle.broker_tables.proofs.{Placed.{contracts, contracts_there}, Asked.{Asked, IsShown}}
 use Rattle.broker_tables.proofs.Inserted.{EndsOnly, Puts, inserted, next_ends, new_text, new_whole, free_two, version_there, pacticipant_there}
+use Rattle.contract_tables.specs.{declared.listings.Contract.{Contract}, Listings.{contract_cmp, IsContractRow, IsConsumerRow}}
 use Rattle.contract_tables.proofs.ReferredRows.{leads, number_there, has_content}
+use Rattle.contract_tables.proofs.ItemLists.{and_tests, last_test, last_text, first_less, list_rows, list_pairs}
 
 abbrev pub key : Row → ℤ × List ℕ
 key r = (whole_at 1 r, text 2 r)
@@ -52,6 +35,9 @@ abbrev pub content_at : List Row → ℕ → List ℕ → Option ℤ
 content_at rows n p = value_at (by_both int_cmp text_cmp) key (whole_at 3) rows (pos n, p)
 
 module _ (db : Database) (broker : IsBroker db) where
+  pub contracts_numbered : IsNumbered (db.trees 15)
+  contracts_numbered = at_has _ db.schema.tables contracts broker.kept.numbered (has_place _ 8 contracts (contracts_there db broker))
+
   pub numbers : Part int_cmp Int (db.trees 15) 1 (whole_at 1)
   numbers = whole_part (db.trees 15) 1 (λ r has. whole_in db broker.kept.sound contracts (has_place _ 8 contracts (contracts_there db broker)) r has 0 _ refl refl refl refl refl)
 
@@ -73,18 +59,26 @@ module _ (db : Database) (broker : IsBroker db) where
 
 -- ---- the content of a contract
 
-pub content : (n : ℕ) (p : List ℕ)
-    → Asked (codes "SELECT content FROM contracts WHERE version_number = ?1 AND provider = ?2")
+pub content : (n : ℕ) (p : List ℕ) → Asked (codes "SELECT content FROM contracts WHERE version_number = ?1 AND provider = ?2")
     (Int (pos n) ∷ Text p ∷ []) (from_table 15 (by_two 1 2) (col 1 3 ∷ []) [])
 unfolding understood everything
 content n p = record { names = _; means = record { is = refl; plain = (refl, refl); unlisted = refl }; runs = record { whole = refl; typed = refl; sumless = refl } }
 
+pub map_twice : {A B C : Type 0} (f : A → B) (g : B → C) (o : Option A) → option_map g (option_map f o) ≡ option_map (λ a. g (f a)) o
+map_twice f g None = refl
+map_twice f g (Some a) = refl
+
+pub map_cond : {A B : Type 0} (f : A → B) (b : Bool) (a : A) (o : Option A) → option_map f (cond b (Some a) o) ≡ cond b (Some (f a)) (option_map f o)
+map_cond f true a o = refl
+map_cond f false a o = refl
+
+pub whole_pos : (o : Option ℕ) → option_map whole (option_map pos o) ≡ o
+whole_pos None = refl
+whole_pos (Some n) = refl
+
 -- numbers are equal where the columns hold the same
 pub named : (a b : Option ℕ) → option_map pos a ≡ option_map pos b → a ≡ b
-named None None e = refl
-named None (Some n) e = absurd cc
-named (Some k) None e = absurd cc
-named (Some k) (Some n) e = let ints : pos k ≡ pos n = cc in let nats : k ≡ n = cc in ap Some nats
+named a b e = sym (whole_pos a) ∙ ap (option_map whole) e ∙ whole_pos b
 
 -- what the state has is what the row has
 pub held_content : (db : Database) (s : Broker) (v : Version) (n : ℕ) (p : List ℕ) → Holds db s → number_of s.versions v ≡ Some n → content_at (db.trees 15) n p ≡ option_map pos (s.contracts (v, p))
@@ -99,6 +93,111 @@ content_found n p db s v held is rows h found read = named found (s.contracts (v
     (answered db _ 15 _ _ _ rows h)
     ∙ held_content db s v n p held is
     )
+
+module _ (db : Database) (s : Broker) (held : Holds db s) (v : Version) (n : ℕ) (is : number_of s.versions v ≡ Some n) where
+  -- a row of the version tells its contract
+  pub row_content : (r : Row) (p : List ℕ) (content : ℕ) → Has (db.trees 15) r → whole_at 1 r ≡ pos n → text 2 r ≡ p → whole_at 3 r ≡ pos content
+      → s.contracts (v, p) ≡ Some content
+  row_content r p content has number provider told = named (s.contracts (v, p)) (Some content) (
+      sym (held_content db s v n p held is) ∙ ap (value_at (by_both int_cmp text_cmp) key (whole_at 3) (db.trees 15)) (λ i. (sym number i, sym provider i))
+      ∙ has_find marked_total exact_marked key (whole_at 3) (db.trees 15) r (keys db held.broker) has ∙ ap Some told
+      )
+
+  -- and its contract is told by a row of it
+  pub content_row : (p : List ℕ) (content : ℕ) → s.contracts (v, p) ≡ Some content
+      → (r : Row) × Has (db.trees 15) r × (whole_at 1 r ≡ pos n) × (text 2 r ≡ p) × (whole_at 3 r ≡ pos content)
+  content_row p content there =
+      let all = held_content db s v n p held is ∙ ap (option_map pos) there in
+      let it = find_has marked_total exact_marked key (whole_at 3) (pos n, p) (pos content) (db.trees 15) all in
+      (it.0, it.1, sym (ap (λ k. k.0) it.2), sym (ap (λ k. k.1) it.2), it.3)
+
+-- ---- the contracts of a version
+
+abbrev pub terms : List Term
+terms = is_param 1 0 ∷ []
+
+abbrev pub project : List Term
+project = col 1 3 ∷ col 1 2 ∷ []
+
+pub own : (n : ℕ) → Asked (codes "SELECT content, provider FROM contracts WHERE version_number = ?1 ORDER BY provider")
+    (Int (pos n) ∷ []) (from_table 15 terms project ((col 1 2, ascending Binary) ∷ []))
+unfolding understood everything
+own n = record { names = _; means = record { is = refl; plain = (refl, refl); unlisted = refl }; runs = record { whole = refl; typed = refl; sumless = refl } }
+
+module _ (db : Database) (s : Broker) (held : Holds db s) (v : Version) (n : ℕ) (is : number_of s.versions v ≡ Some n) where
+  abbrev Is : Contract → Type 0
+  Is c = (s.contracts (v, c.provider) ≡ Some c.content)
+
+  pub contracts_listed : (rows : List Row) (items : List Contract) → IsShown (own n) db rows → AreRead IsContractRow rows items → Lists contract_cmp Is items
+  contracts_listed = list_rows db IsContractRow contract_cmp Is exact_texts (λ c. c.provider)
+      (λ x y. first_less (text_cmp x.provider y.provider) (nat_cmp x.content y.content)) (own n) (λ r. whole_at 1 r ≡ pos n) (contracts_numbered db held.broker)
+      (λ r has. last_test (whole_test (column r 1) (Int (pos n)) (whole_at 1 r) (pos n) ((numbers db held.broker).typed r has) refl)) (record {
+        key = text 2;
+        sorted = λ a b one two. last_text (column a 2) (column b 2) (text 2 a) (text 2 b)
+            ((providers db held.broker).typed a one.0) ((providers db held.broker).typed b two.0);
+        one = λ a b one two same. one_row marked_total key (db.trees 15) (keys db held.broker) a b one.0 two.0 (λ i. ((one.1 ∙ sym two.1) i, same i));
+        read = λ r x read. ap text_in read.1;
+        sound = λ r x it read. row_content db s held v n is r x.provider x.content it.0 it.1 (ap text_in read.1) (ap id_in read.0);
+        complete = λ x there.
+            let r = content_row db s held v n is x.provider x.content there in
+            (r.0, (r.1, r.2), λ y read i. record { provider = (sym (ap text_in read.1) ∙ r.3) i; content = whole ((sym (ap id_in read.0) ∙ r.4) i) });
+      })
+
+-- ---- the consumers that have a contract of a content with a provider
+
+abbrev pub users_terms : List Term
+users_terms = op2 (Compare Eq Binary) (col 2 0) (col 1 1) ∷ op2 (Compare Eq Binary) (col 1 3) (col 0 0) ∷ op2 (Compare Eq Binary) (col 1 2) (col 0 1) ∷ []
+
+abbrev pub users_project : List Term
+users_project = col 2 2 ∷ col 2 3 ∷ []
+
+pub users : (n : ℕ) (p : Words)
+    → Asked (codes "SELECT v.pacticipant, v.version FROM contracts c JOIN versions v ON v.number = c.version_number WHERE c.content = ?1 AND c.provider = ?2 ORDER BY v.pacticipant, v.version")
+    (Int (pos n) ∷ Text p ∷ []) (from_both 15 6 users_terms users_project ((col 2 2, ascending Binary) ∷ (col 2 3, ascending Binary) ∷ []))
+unfolding understood everything
+users n p = record { names = _; means = record { is = refl; plain = (refl, refl); unlisted = refl }; runs = record { whole = refl; typed = refl; sumless = refl } }
+
+module _ (db : Database) (s : Broker) (held : Holds db s) (content : ℕ) (p : Words) where
+  abbrev IsKept : Row → Row → Type 0
+  IsKept c v = (whole_at 0 v ≡ whole_at 1 c) × ((whole_at 3 c ≡ pos content) × (text 2 c ≡ p))
+
+  -- what ON and WHERE test
+  joined : (c v : Row) → Has (db.trees 15) c → Has (db.trees 6) v → (keeps_both users_terms (Int (pos content) ∷ Text p ∷ []) c v ≡ true) ↔ IsKept c v
+  joined c v hc hv =
+      and_tests (whole_test (column v 0) (column c 1) (whole_at 0 v) (whole_at 1 c) (version_number db held.broker v hv) ((numbers db held.broker).typed c hc))
+      (and_tests (whole_test (column c 3) (Int (pos content)) (whole_at 3 c) (pos content) (contents db held.broker c hc) refl)
+      (last_test (text_test (column c 2) (Text p) (text 2 c) p ((providers db held.broker).typed c hc) refl)))
+
+  abbrev IsUser : Version → Type 0
+  IsUser w = (s.contracts (w, p) ≡ Some content)
+
+  pub users_listed : (rows : List Row) (items : List Version) → IsShown (users content p) db rows → AreRead IsConsumerRow rows items → Lists version_cmp IsUser items
+  users_listed = list_pairs db IsConsumerRow version_cmp IsUser exact_pair (λ w. (w.pacticipant, w.name))
+      (λ x y less. less) (users content p) IsKept (contracts_numbered db held.broker) (versions_numbered db held.broker) joined (record {
+        key = λ q. (text 2 q.1, text 3 q.1);
+        sorted = λ a b one two.
+            let last = last_text (column a.1 3) (column b.1 3) (text 3 a.1) (text 3 b.1) (names db held.broker a.1 one.1) (names db held.broker b.1 two.1) in
+            let first = (λ i. value_cmp (owners db held.broker a.1 one.1 i) (owners db held.broker b.1 two.1 i)) ∙ value_cmp-Text (text 2 a.1) (text 2 b.1) in
+            λ i. ordering_then (first i) (last i);
+        one = λ a b one two same.
+            let same_row : a.1 ≡ b.1 = one_version db held.broker a.1 b.1 one.1 two.1 (ap (λ k. k.0) same) (ap (λ k. k.1) same) in
+            let number : whole_at 1 a.0 ≡ whole_at 1 b.0 = sym one.2.0 ∙ ap (whole_at 0) same_row ∙ two.2.0 in
+            let keyed : key a.0 ≡ key b.0 = λ i. (number i, (one.2.1.1 ∙ sym two.2.1.1) i) in
+            λ i. (one_row marked_total key (db.trees 15) (keys db held.broker) a.0 b.0 one.0 two.0 keyed i, same_row i);
+        read = λ q x read i. (text_in (read.0 i), text_in (read.1 i));
+        sound = λ q x it read.
+            let at = row_number db held.broker s.versions held.versions q.1 it.1 in
+            let is : number_of s.versions x ≡ Some at.0 = (λ i. number_of s.versions (version (text_in (sym read.0 i)) (text_in (sym read.1 i)))) ∙ at.1 in
+            row_content db s held x at.0 is q.0 p content it.0 (sym it.2.0 ∙ at.2) it.2.1.1 it.2.1.0;
+        complete = λ x there.
+            let at = by_number (number_of s.versions x) (λ k. content_at (db.trees 15) k p) (pos content) (held.contracts x p ∙ ap (option_map pos) there) in
+            let c = content_row db s held x at.0 at.1 p content there in
+            let v = find_version db held.broker s.versions x at.0 held.versions at.1 in (
+              (c.0, v.0),
+              (c.1, v.1, (v.4 ∙ sym c.2, (c.4, c.3))),
+              λ y read i. record { pacticipant = (sym (ap text_in read.0) ∙ v.2) i; name = (sym (ap text_in read.1) ∙ v.3) i },
+            );
+      })
 
 -- ---- a contract is put in
 
@@ -132,26 +231,26 @@ module _ (n : ℕ) (p : List ℕ) (content : ℕ) (old new : State) (s : Broker)
       let put = puts_at marked_total exact_marked key (whole_at 3) rows (new.now.trees 15) made it.1 none in
       let frame = frame_of (codes "contracts" ∷ []) 15 refl old new held.broker it.0 in
       after_one 2 (omega arith) (codes "contracts") old new _ frame (λ counted. grows_added rows (new.now.trees 15) made it.1 refl)
-      (contracts_change old.now new.now s _ held frame (λ w q. each w q (number_of s.versions w) refl (λ k. put (pos k, q))))
+      (contracts_change old.now new.now s _ held frame (λ w q.
+      each w q (number_of s.versions w) refl (λ k. put (pos k, q)) ∙ sym (map_cond pos (same_version w v && same_text q p) content (s.contracts (w, q)))))
     where
-      each : (w : Version) (q : List ℕ) (o : Option ℕ) → number_of s.versions w ≡ o
-          → ((k : ℕ) → content_at (new.now.trees 15) k q ≡ cond (eq_by_cmp (by_both int_cmp text_cmp) (pos k, q) (pos n, p)) (Some (pos content)) (content_at (old.now.trees 15) k q))
-          → option_and_then (λ k. content_at (new.now.trees 15) k q) (number_of s.versions w) ≡ option_map pos (put_at (same_pair same_version same_text) s.contracts (v, p) (Some content) (w, q))
-      each w q None e put =
-          ap (option_and_then (λ k. content_at (new.now.trees 15) k q)) e ∙ sym (ap (option_and_then (λ k. content_at (old.now.trees 15) k q)) e) ∙ held.contracts w q
-          ∙ sym (ap (λ t. option_map pos (cond (t && same_text q p) (Some content) (s.contracts (w, q)))) (version_unknown s.versions w v n e is))
-      each w q (Some k) e put =
-          let same : (same_version w v && same_text q p) ≡ eq_by_cmp (by_both int_cmp text_cmp) (pos k, q) (pos n, p) =
-          two_tests (same_version w v) (same_text q p) (eq_by_cmp int_cmp (pos k) (pos n)) (eq_by_cmp text_cmp q p) (number_ties s.versions w v k n e is) (texts_ties q p) ∙ both_eq (int_cmp (pos k) (pos n)) (text_cmp q p) in
-          ap (option_and_then (λ m. content_at (new.now.trees 15) m q)) e ∙ put k ∙ go (eq_by_cmp (by_both int_cmp text_cmp) (pos k, q) (pos n, p)) (held_content old.now s w k q held e)
-          ∙ sym (ap (λ b. option_map pos (cond b (Some content) (s.contracts (w, q)))) same)
-        where
-          go : (b : Bool) → content_at (old.now.trees 15) k q ≡ option_map pos (s.contracts (w, q)) → cond b (Some (pos content)) (content_at (old.now.trees 15) k q) ≡ option_map pos (cond b (Some content) (s.contracts (w, q)))
-          go true was = refl
-          go false was = was
+      after : Bool → Option ℤ → Option ℤ
+      after b was = cond b (Some (pos content)) was
 
-  -- it fails only as the store fails
-  pub contract_ends : HaveNumbers (codes "contracts" ∷ []) old.now → IsTrue (is_some (s.pacticipants p)) → 1 ≤ content → content ≤ length s.contents → EndsOnly add_sql params old new
+      each : (w : Version) (q : List ℕ) (o : Option ℕ) → number_of s.versions w ≡ o
+          → ((k : ℕ) → content_at (new.now.trees 15) k q ≡ after (eq_by_cmp (by_both int_cmp text_cmp) (pos k, q) (pos n, p)) (content_at rows k q))
+          → option_and_then (λ k. content_at (new.now.trees 15) k q) (number_of s.versions w)
+          ≡ after (same_version w v && same_text q p) (option_map pos (s.contracts (w, q)))
+      each w q None e put =
+          let apart = and_left (same_version w v) (same_text q p) (version_unknown s.versions w v n e is) in
+          let was = sym (ap (option_and_then (λ k. content_at (old.now.trees 15) k q)) e) ∙ held.contracts w q in
+          ap (option_and_then (λ k. content_at (new.now.trees 15) k q)) e ∙ (λ i. after (sym apart i) (was i))
+      each w q (Some k) e put =
+          let same = two_tests _ _ _ _ (number_ties s.versions w v k n e is) (texts_ties q p) ∙ both_eq (int_cmp (pos k) (pos n)) (text_cmp q p) in
+          ap (option_and_then (λ m. content_at (new.now.trees 15) m q)) e ∙ put k ∙ (λ i. after (sym same i) (held_content old.now s w k q held e i))
+
+  -- it fails only as the store fails, or since the name is too long
+  pub contract_ends : HaveNumbers (codes "contracts" ∷ []) old.now → IsTrue (is_some (s.pacticipants p)) → 1 ≤ content → content ≤ length s.contents → EndsOnly (p ∷ []) add_sql params old new
   contract_ends room known low high =
       next_ends add_sql params old new held.broker contracts 8 (contracts_there old.now held.broker) _ _ (add_puts n p content) stored (number_for rows room.0) (record { typed = refl; present = refl; checked = refl }) (
         free_two rows made int_cmp_total 1 (whole_at 1) (new_whole rows made 1 (numbers old.now held.broker).typed refl) marked_total nat_list_cmp_total 2 (text 2) (new_text rows made 2 (providers old.now held.broker).typed refl)
@@ -159,3 +258,4 @@ module _ (n : ℕ) (p : List ℕ) (content : ℕ) (old new : State) (s : Broker)
         tt,
       )
       (version_there old.now s held made 1 v n is refl, (pacticipant_there old.now s held made 2 p known refl, (number_there _ old.now made 3 content refl (leads 3).0 (has_content old.now s held content low high), tt)))
+      (p ∷ []) (λ are. (tt, (are.0, (tt, tt)))) (omega arith) (omega arith)

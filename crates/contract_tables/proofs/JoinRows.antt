@@ -1,17 +1,11 @@
 -- The rows that a JOIN shows, in whatever order: one of each pair that it keeps.
-use Rattle.std.proofs.Common.{◌≡◌, ℕ, List, [], ◌∷◌, map, filter, sym, subst, ◌∙◌}
-use Rattle.std.specs.List.{flat_map}
-use Rattle.std.specs.List.Sorted.{IsPermutation}
+use Rattle.std.{specs.{List.{flat_map}, List.Sorted.{IsPermutation}}, proofs.Common.{◌≡◌, ℕ, List, [], ◌∷◌, map, filter, sym, subst, ◌∙◌}}
 use Rattle.std.proofs.lemmas.List.Sorted.{Contains-permutation, IsPermutation-sym}
-use Rattle.sqlite.specs.Order.{Row}
-use Rattle.sqlite.specs.Term.{Term, eval_all}
-use Rattle.sqlite.specs.Effect.{Database, Answers}
+use Rattle.sqlite.specs.{Order.{Row}, Term.{Term, eval_all}, Effect.{Database, Answers}}
 use Rattle.sqlite_keyed.proofs.ListLemmas.{map-map, map-flat_map, flat_map_same_on}
 use Rattle.sqlite_rules.specs.Lists.{Has}
 use Rattle.sqlite_value.specs.declared.keys.Key.{Key}
-use Rattle.table_access.specs.Statements.{from_both, keeps_both, pairs_kept}
-use Rattle.table_access.proofs.Joins.{joined}
-use Rattle.table_access.proofs.Members.{contains_has, has_contains, has_map, map_has}
+use Rattle.table_access.{specs.Statements.{from_both, keeps_both, pairs_kept}, proofs.{Joins.{joined}, Members.{contains_has, has_contains, has_map, map_has}}}
 
 module _ (db : Database) (params : Row) (t u : ℕ) (terms project : List Term) (order : List (Term × Key)) (rows : List Row) (h : Answers db (record { lets = []; body = from_both t u terms project order }) params rows) where
   abbrev kept : List (Row × Row)

@@ -1,39 +1,67 @@
--- The last row that passes a test stands at the place of its number.
-use Rattle.std.proofs.Common.{◌≡◌, ◌⊎◌, ◌==◌, ◌+◌, ◌-◌, inl, inr, ℕ, suc, List, [], ◌∷◌, filter, Bool, true, false, ◌&&◌, cond, sym, ap, ◌∙◌, slice_get, Some, None, Option, arith}
-use Rattle.std.specs.Prelude.{if◌then◌else◌}
-use Rattle.std.specs.List.{last_or, enumerate_from}
-use Rattle.std.proofs.lemmas.Bool.{ne_eqb}
-use Rattle.broker_core.specs.State.{State as Broker, Verification, last_row, latest_result}
-use Rattle.broker_core.specs.Text.{same_version}
-use Rattle.broker_core.specs.declared.command.Version.{Version}
+-- The last row that passes a test stands at the place of its number; and the last one after one more row.
+use Rattle.std.specs.{Prelude.{option_map, if◌then◌else◌}, List.{last_or, enumerate_from}}
+use Rattle.std.proofs.Common.{◌≡◌, ◌⊎◌, ◌==◌, ◌+◌, ◌-◌, inl, inr, ℕ, suc, List, [], ◌∷◌, ◌++◌, length, filter, Bool, true, false, ◌&&◌, cond, refl, sym, ap, ◌∙◌, slice_get, Some, None, Option, arith}
+use Rattle.std.proofs.{lemmas.Bool.{ne_eqb, cond-false}, lemmas.List.Elements.{filter-append}}
+use Rattle.sqlite_rules.specs.Lists.{Has}
+use Rattle.table_access.proofs.Members.{filter_has}
+use Rattle.broker_core.specs.{State.{State as Broker, Verification, last_row, latest_result}, Text.{same_version}, declared.command.Version.{Version}}
 use Rattle.contract_tables.specs.Verified.{result_with}
 
-module _ {X : Type 0} (test : X → Bool) where
-  abbrev Place : ℕ → List X → ℕ × X → Type 0
-  Place n rows e = (i : ℕ) × (e.0 ≡ n + i) × (slice_get rows i ≡ Some e.1)
+last_has : {X : Type 0} (o : Option X) (xs : List X) (x : X) → last_or o xs ≡ Some x → (o ≡ Some x) ⊎ Has xs x
+last_has o [] x is = inl is
+last_has o (y ∷ xs) x is = elim (last_has (Some y) xs x is) [ inl same ↦ inr (inl (let it : y ≡ x = cc in sym it)) | inr there ↦ inr (inr there) ]
 
-  found_from : (o : Option (ℕ × X)) (n : ℕ) (rows : List X) (e : ℕ × X) → last_or o (filter (λ e. test e.1) (enumerate_from n rows)) ≡ Some e → (o ≡ Some e) ⊎ Place n rows e
-  found_from o n [] e is = inl is
-  found_from o n (y ∷ rows) e is = go (test y) is (λ p found. found_from p (n + 1) rows e found)
-    where
-      later : Place (n + 1) rows e → Place n (y ∷ rows) e
-      later p = (suc p.0, p.1 ∙ (let same : n + 1 + p.0 ≡ n + suc p.0 = omega arith in same), p.2)
+-- an entry of a numbered list is the element at the place of its number
+placed : {X : Type 0} (n : ℕ) (rows : List X) (e : ℕ × X) → Has (enumerate_from n rows) e → (i : ℕ) × (e.0 ≡ n + i) × (slice_get rows i ≡ Some e.1)
+placed n [] e has = absurd has
+placed {X} n (y ∷ rows) e (inl same) = (0, ap (λ (z : ℕ × X). z.0) same ∙ (let it : n ≡ n + 0 = omega arith in it), ap (λ (z : ℕ × X). Some z.1) (sym same))
+placed n (y ∷ rows) e (inr later) = let at = placed (n + 1) rows e later in (suc at.0, at.1 ∙ (let it : n + 1 + at.0 ≡ n + suc at.0 = omega arith in it), at.2)
 
-      here : Some (n, y) ≡ Some e → Place n (y ∷ rows) e
-      here same = let eq : ◌≡◌ {A = ℕ × X} (n, y) e = cc in (0, sym (ap (λ (z : ℕ × X). z.0) eq) ∙ (let zero_is : n ≡ n + 0 = omega arith in zero_is), ap (λ (z : ℕ × X). Some z.1) eq)
+pub last_stands : {X : Type 0} (test : X → Bool) (rows : List X) (e : ℕ × X) → last_row test rows ≡ Some e
+    → (if e.0 == 0 then None else slice_get rows (e.0 - 1)) ≡ Some e.1
+last_stands test rows e is = elim (last_has None (filter (λ e. test e.1) (enumerate_from 1 rows)) e is) [
+  | inl wrong ↦ absurd cc
+  | inr there ↦
+      let at = placed 1 rows e (filter_has (λ e. test e.1) (enumerate_from 1 rows) e there).0 in
+      let place : e.0 - 1 ≡ at.0 = omega (arith, at.1) in
+      cond-false (e.0 == 0) None (slice_get rows (e.0 - 1)) (ne_eqb e.0 0 (λ none. omega (arith, none, at.1))) ∙ ap (slice_get rows) place ∙ at.2
+]
 
-      go : (b : Bool) → last_or o (cond b ((n, y) ∷ filter (λ e. test e.1) (enumerate_from (n + 1) rows)) (filter (λ e. test e.1) (enumerate_from (n + 1) rows))) ≡ Some e
-          → ((p : Option (ℕ × X)) → last_or p (filter (λ e. test e.1) (enumerate_from (n + 1) rows)) ≡ Some e → (p ≡ Some e) ⊎ Place (n + 1) rows e)
-          → (o ≡ Some e) ⊎ Place n (y ∷ rows) e
-      go true found more = elim (more (Some (n, y)) found) [ inl same ↦ inr (here same) | inr there ↦ inr (later there) ]
-      go false found more = elim (more o found) [ inl same ↦ inl same | inr there ↦ inr (later there) ]
+-- ---- one more row
 
-  pub last_stands : (rows : List X) (e : ℕ × X) → last_row test rows ≡ Some e → (if e.0 == 0 then None else slice_get rows (e.0 - 1)) ≡ Some e.1
-  last_stands rows e is = elim (found_from None 1 rows e is) [
-    | inl wrong ↦ absurd (cc)
-    | inr there ↦ ap (λ b. cond b None (slice_get rows (e.0 - 1))) (ne_eqb e.0 0 (λ none. omega (arith, none, there.1))) ∙ ap (slice_get rows) (let place : e.0 - 1 ≡ there.0 = omega (arith, there.1) in place) ∙ there.2
-  ]
+numbers_pushed : {X : Type 0} (n : ℕ) (rows : List X) (x : X) → enumerate_from n (rows ++ x ∷ []) ≡ enumerate_from n rows ++ (n + length rows, x) ∷ []
+numbers_pushed n [] x = ap (λ k. (k, x) ∷ []) (let e : n ≡ n + 0 = omega arith in e)
+numbers_pushed n (y ∷ rows) x =
+    let count : n + 1 + length rows ≡ n + length (y ∷ rows) = omega arith in
+    ap (λ more. (n, y) ∷ more) (numbers_pushed (n + 1) rows x ∙ ap (λ k. enumerate_from (n + 1) rows ++ (k, x) ∷ []) count)
+
+last_of_more : {X : Type 0} (b : Bool) (o : Option X) (xs : List X) (x : X) → last_or o (xs ++ cond b (x ∷ []) []) ≡ cond b (Some x) (last_or o xs)
+last_of_more true o [] x = refl
+last_of_more false o [] x = refl
+last_of_more b o (y ∷ xs) x = last_of_more b (Some y) xs x
+
+-- it is the last that passes, where it passes
+pub last_pushed : {X : Type 0} (test : X → Bool) (rows : List X) (x : X)
+    → last_row test (rows ++ x ∷ []) ≡ cond (test x) (Some (length rows + 1, x)) (last_row test rows)
+last_pushed test rows x =
+    ap (λ es. last_or None (filter (λ e. test e.1) es)) (numbers_pushed 1 rows x)
+    ∙ ap (last_or None) (filter-append (λ e. test e.1) (enumerate_from 1 rows) ((1 + length rows, x) ∷ []))
+    ∙ last_of_more (test x) None (filter (λ e. test e.1) (enumerate_from 1 rows)) (1 + length rows, x)
+    ∙ ap (λ k. cond (test x) (Some (k, x)) (last_row test rows)) (let e : 1 + length rows ≡ length rows + 1 = omega arith in e)
+
+-- ---- the latest result
 
 -- the latest result is the one with its number
 pub latest_with : (s : Broker) (content : ℕ) (v : Version) (e : ℕ × Verification) → latest_result s content v ≡ Some e → result_with s e.0 ≡ Some e.1
 latest_with s content v e is = last_stands (λ r. r.content == content && same_version r.version v) s.results e is
+
+-- what is told of a result, with the mark whether the broker checked it, which is looked up by its number
+pub with_mark : {A B : Type 0} (s : Broker) (o : Option (ℕ × Verification)) (f : ℕ × Verification → A) (tell : A → Bool → B) (number : A → ℕ)
+    (a : A) (checked : Bool) → ((e : ℕ × Verification) → o ≡ Some e → (result_with s e.0 ≡ Some e.1) × (number (f e) ≡ e.0)) → Some a ≡ option_map f o
+    → ((r : Verification) → result_with s (number a) ≡ Some r → checked ≡ r.checked) → Some (tell a checked) ≡ option_map (λ e. tell (f e) e.1.checked) o
+with_mark s None f tell number a checked stands row mark = absurd cc
+with_mark s (Some e) f tell number a checked stands row mark =
+    let same : a ≡ f e = cc in
+    let it = stands e refl in
+    let checked_is = mark e.1 (ap (result_with s) (ap number same ∙ it.1) ∙ it.0) in
+    λ i. Some (tell (same i) (checked_is i))

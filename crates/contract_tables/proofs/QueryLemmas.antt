@@ -2,13 +2,10 @@
 -- holds.
 use Rattle.std.proofs.Common.{◌≡◌, refl, Ok, Err, Result, IfOk, IfErr}
 use Rattle.sqlite.specs.State.{State}
-use Rattle.table_access.specs.declared.StoreFault.{StoreFault}
-use Rattle.table_access.specs.declared.StoreFault.TheVariants.{Memory}
-use Rattle.table_access.specs.Calls.{CallsTablesBetween, CallsStoreBetween}
+use Rattle.table_access.specs.{declared.StoreFault.{StoreFault}, declared.StoreFault.TheVariants.{Memory}, Calls.{CallsTablesBetween}}
 use Rattle.table_access.proofs.CallLemmas.{seq, then_ok, then_stop, idle, memory_ok}
 use Rattle.broker_core.specs.State.{State as Broker}
-use Rattle.broker_tables.specs.Holds.{IsRead}
-use Rattle.broker_tables.specs.Calm.{CalmQueriesBetween, CalmQueriesInPlaceBetween}
+use Rattle.broker_tables.specs.{Holds.{IsRead}, Calm.{CalmQueriesBetween, CalmQueriesInPlaceBetween}}
 use Rattle.broker_tables.proofs.QueryLemmas.{both_read, in_calm, query_seq, query_ok, query_stop}
 
 -- a query after another, about the same state
@@ -24,10 +21,6 @@ pub computed : {A B : Type 0} (old new : State) (a : A) (r : Result B StoreFault
 computed old new a (Ok b) P L R more is one = then_ok old new a b (IsRead old new P) (IsRead old new R) (λ first s held. let f = first s held in (more s f.0 b is, f.1)) one
 computed old new a (Err e) P L R more is one = then_stop old new a e (IsRead old new P) (IsRead old new R) one
 
--- an answer that needs no statement
-pub known : {A : Type 0} (now : State) (a : A) (P : A → Broker → Type 0) → ((s : Broker) → P a s) → CallsStoreBetween now now (Ok a) (IsRead now now P)
-known now a P told = record { call = idle now (Ok a) (IsRead now now P) (λ s held. (told s, refl)); memory = memory_ok now now a }
-
 -- ---- the same of queries that fail only as the store fails
 
 pub calm_then : {A B : Type 0} (old mid new : State) (a : A) (r : Result B StoreFault) (P : A → Broker → Type 0) (Q R : B → Broker → Type 0) → ((s : Broker) → P a s → (b : B) → Q b s → R b s)
@@ -39,5 +32,7 @@ pub calm_computed : {A B : Type 0} (old new : State) (a : A) (r : Result B Store
 calm_computed old new a (Ok b) P L R more is room one = query_ok old new a b P R (λ first s held. let f = first s held in (more s f.0 b is, f.1)) one
 calm_computed old new a (Err e) P L R more is room one = query_stop old new a e P R room one
 
+-- an answer that needs no statement
 pub calm_known : {A : Type 0} (now : State) (a : A) (P : A → Broker → Type 0) → ((s : Broker) → P a s) → CalmQueriesInPlaceBetween now now (Ok a) P
-calm_known now a P told = in_calm now now (Ok a) P (known now a P told) (λ clean s here. tt)
+calm_known now a P told =
+    in_calm now now (Ok a) P (record { call = idle now (Ok a) (IsRead now now P) (λ s held. (told s, refl)); memory = memory_ok now now a }) (λ clean s here. tt)

@@ -1,38 +1,25 @@
--- The rows of each query of these tables can be read, if the state that the database holds can.
-use Rattle.std.proofs.Common.{◌≡◌, ◌∙◌, ◌<◌, ◌≤◌, inl, inr, ℕ, pos, List, [], ◌∷◌, Option, Some, None, refl, ap, slice_get, arith}
+-- The rows of each query of these tables can be read, if the state that the database holds can; and there is none for a
+-- number that no version has.
 use Rattle.std.specs.Prelude.{option_map, IsSomeAnd}
-use Rattle.std.specs.Option.{option_map_or}
-use Rattle.sqlite.specs.declared.types.Value.{Value}
-use Rattle.sqlite.specs.declared.types.Value.TheVariants.{Int}
-use Rattle.sqlite.specs.Order.{Row, column}
-use Rattle.sqlite.specs.Edit.{id_in}
-use Rattle.sqlite.specs.Term.{col, eval_all}
-use Rattle.sqlite.specs.Effect.{Database}
-use Rattle.sqlite_rules.specs.Lists.{Has}
-use Rattle.sqlite_rules.proofs.TableLemmas.{int_is}
-use Rattle.table_access.specs.Columns.{text, whole_at}
-use Rattle.table_access.specs.Reading.{IsNumberRow}
-use Rattle.table_access.specs.Statements.{shows}
-use Rattle.table_access.proofs.Answered.{first_has}
+use Rattle.std.proofs.Common.{◌≡◌, ◌∙◌, ◌<◌, ◌≤◌, inl, inr, ℕ, pos, List, [], ◌∷◌, Option, Some, None, true, refl, sym, ap, slice_get, arith}
+use Rattle.sqlite.specs.{declared.types.Value.TheVariants.{Int}, Order.{Row, column}, Edit.{id_in}, Term.{col, eval_all}, Effect.{Database}}
+use Rattle.sqlite.specs.Collation.TheVariants.{Binary}
+use Rattle.sqlite_rules.{specs.Lists.{Has}, proofs.TableLemmas.{int_is}}
+use Rattle.sqlite_sql.specs.{declared.ops.BinaryOp.TheVariants.{Compare}, declared.ops.CompareOp.TheVariants.{Eq}, Ops.{binary, is_true}}
+use Rattle.sqlite_keyed.proofs.RuleLemmas.{first_of_both, second_of_both}
+use Rattle.table_access.{specs.{Columns.{text, whole_at}, Sound.{whole}, Reading.{IsNumberRow}, Statements.{shows}}, proofs.Answered.{first_has}}
 use Rattle.table_access.proofs.SoundLemmas.{whole_in, at_has, has_place}
-use Rattle.broker_core.specs.State.{State as Broker}
-use Rattle.broker_tables.specs.Holds.{Holds}
-use Rattle.broker_tables.specs.Readable.{IsReadable}
-use Rattle.broker_tables.proofs.Placed.{contracts, contracts_there, results, results_there, latest, latest_there}
+use Rattle.broker_core.specs.{State.{State as Broker}, declared.command.Version.{Version}}
+use Rattle.broker_tables.specs.{Holds.{Holds}, Readable.{IsReadable}, Numbers.{number_of}}
 use Rattle.broker_tables.proofs.ReadableRows.{IsLow, number_cell, name_cell, truth_cell, result_low, to_version_low, to_content_low, to_result_low, version_named, to_pacticipant_named, pass_low}
-use Rattle.broker_tables.proofs.VersionRows.{owners, names}
-use Rattle.contract_tables.specs.Listings.{ReadsAsMarked, ReadsAsNames, ReadsAsNumbers}
-use Rattle.contract_tables.specs.VersionResults.{ReadsAsPass}
-use Rattle.contract_tables.specs.Verified.{ReadsAsResult}
-use Rattle.broker_tables.proofs.Asked.{IsShown, EachReads, of_table, of_both, of_first, number_reads}
-use Rattle.contract_tables.proofs.ContractRows.{providers, content}
-use Rattle.contract_tables.proofs.ContractList.{project, own, users_project, users}
-use Rattle.contract_tables.proofs.VerifiedList.{project as verified_project, content_project, verifiers, verified}
-use Rattle.contract_tables.proofs.VersionResults.{passes_project, passes, marks_project, marks}
-use Rattle.contract_tables.proofs.ResultLookups.{numbered_rows, count, pass}
-use Rattle.contract_tables.proofs.LatestNumber.{newest}
-use Rattle.contract_tables.proofs.LatestPass.{project as joined, join}
-use Rattle.contract_tables.proofs.RunLookup.{run_project, run}
+use Rattle.broker_tables.proofs.{Placed.{contracts, contracts_there, results, results_there, latest, latest_there}, NoVersion.{no_row}}
+use Rattle.broker_tables.proofs.{VersionRows.{owners, names}, Asked.{IsShown, EachReads, NoneFor, of_table, of_both, of_first, number_reads}}
+use Rattle.contract_tables.specs.{Listings.{ReadsAsMarked, ReadsAsNames, ReadsAsNumbers}, VersionResults.{ReadsAsPass}, Verified.{ReadsAsResult}}
+use Rattle.contract_tables.proofs.ContractRows.{numbers, contents, providers, content, project, own, users_project, users}
+use Rattle.contract_tables.proofs.ResultRows.{contents as latest_contents, versions, numbers as latest_numbers}
+use Rattle.contract_tables.proofs.VerifiedList.{project as verified_project, content_project, verifiers, verified, newest, told_as}
+use Rattle.contract_tables.proofs.VersionResults.{passes_project, passes, marks_project, marks, one_project, join}
+use Rattle.contract_tables.proofs.ResultLookups.{numbered_rows, count, pass, run_project, run}
 
 -- ---- the columns of the tables
 
@@ -44,36 +31,33 @@ module _ (db : Database) (s : Broker) (held : Holds db s) (readable : IsReadable
     has_place _ 10 latest (latest_there db held.broker),
   )
 
-  contract_content : (r : Row) → Has (db.trees 15) r → (column r 3 ≡ Int (whole_at 3 r)) × IsLow (whole_at 3 r)
-  contract_content r has =
-      let typed : column r 3 ≡ Int (whole_at 3 r) = whole_in db held.broker.kept.sound contracts there.0 r has 2 _ refl refl refl refl refl in
-      (typed, to_content_low db s held readable contracts there.0 3 r has typed (inr (inr (inl refl))))
+  abbrev IsLowAt : ℕ → ℕ → Type 0
+  IsLowAt tree place = (r : Row) → Has (db.trees tree) r → (column r place ≡ Int (whole_at place r)) × IsLow (whole_at place r)
 
-  result_number : (r : Row) → Has (db.trees 17) r → (column r 0 ≡ Int (whole_at 0 r)) × IsLow (whole_at 0 r)
+  contract_content : IsLowAt 15 3
+  contract_content r has = let it = contents db held.broker r has in (it, to_content_low db s held readable contracts there.0 3 r has it (inr (inr (inl refl))))
+
+  result_number : IsLowAt 17 0
   result_number r has = (int_is (column r 0) (at_has _ (db.trees 17) r (numbered_rows db held.broker).1 has), result_low db s held readable r has)
 
-  result_content : (r : Row) → Has (db.trees 17) r → (column r 2 ≡ Int (whole_at 2 r)) × IsLow (whole_at 2 r)
+  result_content : IsLowAt 17 2
   result_content r has =
-      let typed : column r 2 ≡ Int (whole_at 2 r) = whole_in db held.broker.kept.sound results there.1 r has 1 _ refl refl refl refl refl in
-      (typed, to_content_low db s held readable results there.1 2 r has typed (inl refl))
+      let it : column r 2 ≡ Int (whole_at 2 r) = whole_in db held.broker.kept.sound results there.1 r has 1 _ refl refl refl refl refl in
+      (it, to_content_low db s held readable results there.1 2 r has it (inl refl))
 
-  result_version : (r : Row) → Has (db.trees 17) r → (column r 4 ≡ Int (whole_at 4 r)) × IsLow (whole_at 4 r)
+  result_version : IsLowAt 17 4
   result_version r has =
-      let typed : column r 4 ≡ Int (whole_at 4 r) = whole_in db held.broker.kept.sound results there.1 r has 3 _ refl refl refl refl refl in
-      (typed, to_version_low db s held readable results there.1 4 r has typed (inr (inr (inl refl))))
+      let it : column r 4 ≡ Int (whole_at 4 r) = whole_in db held.broker.kept.sound results there.1 r has 3 _ refl refl refl refl refl in
+      (it, to_version_low db s held readable results there.1 4 r has it (inr (inr (inl refl))))
 
   result_pass : (r : Row) → Has (db.trees 17) r → (column r 5 ≡ Int (whole_at 5 r)) × ((n : ℕ) × (whole_at 5 r ≡ pos n) × (n ≤ 1))
   result_pass r has = (whole_in db held.broker.kept.sound results there.1 r has 4 _ refl refl refl refl refl, pass_low db s held readable r has)
 
-  latest_content : (r : Row) → Has (db.trees 19) r → (column r 1 ≡ Int (whole_at 1 r)) × IsLow (whole_at 1 r)
-  latest_content r has =
-      let typed : column r 1 ≡ Int (whole_at 1 r) = whole_in db held.broker.kept.sound latest there.2 r has 0 _ refl refl refl refl refl in
-      (typed, to_content_low db s held readable latest there.2 1 r has typed (inl refl))
+  latest_content : IsLowAt 19 1
+  latest_content r has = let it = latest_contents db held.broker r has in (it, to_content_low db s held readable latest there.2 1 r has it (inl refl))
 
-  latest_result : (r : Row) → Has (db.trees 19) r → (column r 3 ≡ Int (whole_at 3 r)) × IsLow (whole_at 3 r)
-  latest_result r has =
-      let typed : column r 3 ≡ Int (whole_at 3 r) = whole_in db held.broker.kept.sound latest there.2 r has 2 _ refl refl refl refl refl in
-      (typed, to_result_low db s held readable latest there.2 3 r has typed (inr (inr (inl refl))))
+  latest_result : IsLowAt 19 3
+  latest_result r has = let it = latest_numbers db held.broker r has in (it, to_result_low db s held readable latest there.2 3 r has it (inr (inr (inl refl))))
 
 -- ---- contracts
 
@@ -106,7 +90,7 @@ pub join_reads : (c n : ℕ) (db : Database) → EachReads (join c n) db ReadsAs
 join_reads c n db s held readable = of_both (join c n) db _ (λ l r hl hr kept.
     let number = result_number db s held readable r hr in
     let truth = result_pass db s held readable r hr in
-    let shown : Row = eval_all joined ([] ∷ l ∷ r ∷ []) in (number_cell shown 0 (whole_at 0 r) (omega arith) number.0 number.1, truth_cell shown 1 (whole_at 5 r) (omega arith) truth.0 truth.1))
+    let shown : Row = eval_all one_project ([] ∷ l ∷ r ∷ []) in (number_cell shown 0 (whole_at 0 r) (omega arith) number.0 number.1, truth_cell shown 1 (whole_at 5 r) (omega arith) truth.0 truth.1))
 
 pub verifiers_reads : (c : ℕ) (p : List ℕ) (db : Database) → EachReads (verifiers c p) db ReadsAsMarked
 verifiers_reads c p db s held readable = of_both (verifiers c p) db _ (λ l v hl hv kept.
@@ -145,17 +129,11 @@ pass_reads n db s held readable =
 pub pass_true : (n : ℕ) (db : Database) (rows : List Row) (s : Broker) (found : Option ℕ) → Holds db s → IsReadable s → IsShown (pass n) db rows
     → option_map (λ k. Int (pos k)) found ≡ option_map (λ row. column row 0) (slice_get rows 0) → IsSomeAnd found (λ k. 1 < k) → ⊥
 pass_true n db rows s None held readable h read high = high
-pass_true n db rows s (Some m) held readable h read high = go (slice_get rows 0) refl
-  where
-    go : (o : Option Row) → slice_get rows 0 ≡ o → ⊥
-    go None none = let e = read ∙ ap (option_map (λ row. column row 0)) none in cc
-    go (Some row) head =
-        let is : (k : ℕ) × (whole_at 0 row ≡ pos k) × (k ≤ 1) = of_table (pass n) db (λ row. (k : ℕ) × (whole_at 0 row ≡ pos k) × (k ≤ 1)) (λ r has kept. (result_pass db s held readable r has).1) rows h row (first_has rows row head) in
-        let one : Some (Int (pos m)) ≡ Some (column row 0) = read ∙ ap (option_map (λ (x : Row). column x 0)) head in
-        let whole : pos m ≡ whole_at 0 row = ap (λ (o : Option Value). option_map_or id_in o (pos 0)) one in
-        let same : pos m ≡ pos is.0 = whole ∙ is.1 in
-        let nats : m ≡ is.0 = cc in
-        omega (arith, high, nats, is.2)
+pass_true n db rows s (Some m) held readable h read high =
+    let row = told_as (λ (row : Row). column row 0) (slice_get rows 0) (Int (pos m)) (sym read) in
+    let low = of_table (pass n) db (λ row. (k : ℕ) × (whole_at 0 row ≡ pos k) × (k ≤ 1)) (λ r has kept. (result_pass db s held readable r has).1) rows h row.0 (first_has rows row.0 row.1) in
+    let nats : m ≡ low.0 = ap whole (ap id_in (sym row.2) ∙ low.1) in
+    omega (arith, high, nats, low.2)
 
 pub run_reads : (p u : List ℕ) (db : Database) → EachReads (run p u) db ReadsAsResult
 run_reads p u db s held readable = of_table (run p u) db _ (λ r has kept.
@@ -169,3 +147,34 @@ run_reads p u db s held readable = of_table (run p u) db _ (λ r has kept.
       number_cell shown 2 (whole_at 4 r) (omega arith) of_version.0 of_version.1,
       truth_cell shown 3 (whole_at 5 r) (omega arith) truth.0 truth.1,
     ))
+
+-- ---- no row is shown for a number that no version has
+
+module _ (db : Database) (s : Broker) (held : Holds db s) (n : ℕ) (none : (v : Version) → ¬ (number_of s.versions v ≡ Some n)) where
+  of_version : (r : Row) → Has (db.trees 15) r → is_true (binary (Compare Eq Binary) (column r 1) (Int (pos n))) ≡ true → ⊥
+  of_version r has = no_row db s held n none contracts (has_place _ 8 contracts (contracts_there db held.broker)) 1 (inl refl) r has ((numbers db held.broker).typed r has)
+
+  of_latest : (r : Row) → Has (db.trees 19) r → is_true (binary (Compare Eq Binary) (column r 2) (Int (pos n))) ≡ true → ⊥
+  of_latest r has = no_row db s held n none latest (has_place _ 10 latest (latest_there db held.broker)) 2 (inr (inl refl)) r has (versions db held.broker r has)
+
+pub content_none : (n : ℕ) (p : List ℕ) (db : Database) → NoneFor (content n p) db n
+content_none n p db s held none = of_table (content n p) db _ (λ r has kept. of_version db s held n none r has (first_of_both _ _ kept))
+
+pub own_none : (n : ℕ) (db : Database) → NoneFor (own n) db n
+own_none n db s held none = of_table (own n) db _ (λ r has kept. of_version db s held n none r has (first_of_both _ _ kept))
+
+pub newest_none : (c n : ℕ) (db : Database) → NoneFor (newest c n) db n
+newest_none c n db s held none = of_table (newest c n) db _ (λ r has kept. of_latest db s held n none r has (first_of_both _ _ (second_of_both _ _ kept)))
+
+pub verified_none : (n : ℕ) (db : Database) → NoneFor (verified n) db n
+verified_none n db s held none = of_table (verified n) db _ (λ r has kept. of_latest db s held n none r has (first_of_both _ _ kept))
+
+pub join_none : (c n : ℕ) (db : Database) → NoneFor (join c n) db n
+join_none c n db s held none =
+    of_both (join c n) db _ (λ l r hl hr kept. of_latest db s held n none l hl (first_of_both _ _ (second_of_both _ _ (second_of_both _ _ kept))))
+
+pub passes_none : (n : ℕ) (db : Database) → NoneFor (passes n) db n
+passes_none n db s held none = of_both (passes n) db _ (λ l r hl hr kept. of_latest db s held n none l hl (first_of_both _ _ (second_of_both _ _ kept)))
+
+pub marks_none : (n : ℕ) (db : Database) → NoneFor (marks n) db n
+marks_none n db s held none = of_both (marks n) db _ (λ l r hl hr kept. of_latest db s held n none l hl (first_of_both _ _ (second_of_both _ _ kept)))

@@ -1,37 +1,31 @@
--- The results by their numbers.
-use Rattle.std.proofs.Common.{◌≡◌, ◌==◌, ◌-◌, ℕ, pos, codes, List, [], ◌∷◌, map, Bool, true, false, cond, refl, sym, ap, ◌∙◌, slice_get, unwrap_or, length, Some, None, Option}
-use Rattle.std.specs.Prelude.{option_map, is_some}
-use Rattle.std.specs.List.{AllByRecursion}
-use Rattle.std.specs.Ordering.{eq_by_cmp, int_cmp}
-use Rattle.std.specs.Cmp.{int_cmp_total}
-use Rattle.std.specs.FinMap.{int_cmp-IsAntisymmetric}
-use Rattle.std.specs.FinMap.Entries.{find}
-use Rattle.std.proofs.lemmas.Option.{slice_get-map}
-use Rattle.sqlite.specs.declared.types.Value.TheVariants.{Int}
-use Rattle.sqlite.specs.Order.{Row, column}
-use Rattle.sqlite.specs.Term.{col}
-use Rattle.sqlite.specs.Effect.{Database}
-use Rattle.sqlite.specs.State.{State, Shown}
-use Rattle.sqlite.specs.Listing.{understood}
+-- The results by their numbers, and by their runs.
+use Rattle.std.specs.{Prelude.{option_map, is_some}, List.{AllByRecursion, last_or, enumerate_from}, Ordering.{eq_by_cmp, int_cmp}}
+use Rattle.std.specs.{Cmp.{int_cmp_total, eq_by_cmp_equiv, Equal-is}, FinMap.{int_cmp-IsAntisymmetric}, FinMap.Entries.{find}}
+use Rattle.std.specs.Cmp.Lexicographic.{nat_list_cmp_total, texts_ties}
+use Rattle.std.proofs.Common.{◌≡◌, ◌==◌, ◌+◌, ◌-◌, ◌≤◌, inl, inr, ℕ, ℤ, pos, codes, List, [], ◌∷◌, map, filter, length, Bool, true, false, cond, ◌&&◌, refl, sym, ap, subst, ◌∙◌, slice_get, unwrap_or, Some, None, Option, arith}
+use Rattle.std.proofs.{lemmas.Bool.{false_from_ne_true, and_from, and_left, and_right}, lemmas.List.{length-map}, lemmas.Option.{slice_get-map}}
+use Rattle.std.proofs.Math.Bool.{and-true}
+use Rattle.sqlite.specs.{Tree.{IsAscending}, Edit.{id_in}, declared.types.Value.{Value}, declared.types.Value.TheVariants.{Null, Int, Real, Text, Blob}}
+use Rattle.sqlite.specs.{Order.{Row, column, value_cmp}, Term.{Term, col}, Collation.TheVariants.{Binary}, Schema.{Schema}, Effect.{Database}}
+use Rattle.sqlite.specs.{State.{State, Shown}, Listing.{understood}}
 use Rattle.sqlite_tied.specs.Compute.{everything}
-use Rattle.table_access.specs.Columns.{whole_at}
-use Rattle.table_access.specs.Sound.{IsNumbered}
-use Rattle.table_access.specs.Statements.{from_table, up_to, newest, keeps}
-use Rattle.table_access.proofs.Steps.{answered}
-use Rattle.table_access.proofs.Newest.{newest_number}
-use Rattle.table_access.proofs.Maps.{looks_up_at, find_has}
-use Rattle.table_access.proofs.Parts.{number_part, is_param, where_last, all_where, numbers_once}
-use Rattle.table_access.proofs.SoundLemmas.{at_has, has_place}
-use Rattle.broker_core.specs.State.{State as Broker, Verification}
-use Rattle.broker_tables.specs.Rows.{truth, truth_in, value_at, stands_at}
-use Rattle.broker_tables.specs.Holds.{Holds, IsBroker, ResultRow, result_in, result_of}
-use Rattle.broker_tables.proofs.Frames.{meant}
-use Rattle.broker_tables.proofs.Standing.{stands_found, value_map}
-use Rattle.broker_tables.proofs.Placed.{results, results_there, checked_results, checked_results_there}
-use Rattle.broker_tables.proofs.ByNumber.{by_number}
-use Rattle.broker_tables.proofs.Newest.{newest_result}
-use Rattle.contract_tables.specs.Verified.{result_with}
-use Rattle.broker_tables.proofs.Asked.{Asked, IsShown}
+use Rattle.sqlite_sql.specs.{declared.ops.BinaryOp.TheVariants.{Compare}, declared.ops.CompareOp.TheVariants.{Eq}, Ops.{binary, is_true}}
+use Rattle.sqlite_schema.specs.Rules.{agree, equal}
+use Rattle.sqlite_trees.proofs.ListLemmas.{filter_same}
+use Rattle.sqlite_value.specs.Keys.{plain, first_key}
+use Rattle.sqlite_rules.{specs.Lists.{Has}, proofs.ListLemmas.{has_kept}}
+use Rattle.sqlite_keyed.proofs.{ListLemmas.{filter-map, ascending-filter}, RuleLemmas.{first_of_both, second_of_both}}
+use Rattle.table_access.specs.{Columns.{text, text_cmp, whole_at}, Sound.{IsNumbered, whole}, Statements.{from_table, by_two, up_to, newest, keeps, shows}}
+use Rattle.table_access.proofs.{Steps.{answered}, Newest.{newest_number}, Maps.{looks_up_at, find_has, few_permuted}}
+use Rattle.table_access.proofs.{Parts.{number_part, is_param, where_last, all_where, numbers_once}, Values.{same_texts}, Keys.{apart_by}, Members.{filter_has}}
+use Rattle.table_access.proofs.SoundLemmas.{at_has, text_at, has_place, all_of}
+use Rattle.broker_core.specs.{Text.{same_text}, Change.{is_text, result_of_run}, State.{State as Broker, Verification}}
+use Rattle.broker_tables.specs.{Rows.{truth, truth_in, value_at, stands_at, text_or_null}, Numbers.{number_of}}
+use Rattle.broker_tables.{specs.Holds.{Holds, IsBroker, ResultRow, result_in, result_of}, proofs.{Frames.{meant}, Standing.{stands_found, value_map}}}
+use Rattle.broker_tables.proofs.{Placed.{results, results_there, checked_results, checked_results_there}, ByNumber.{by_number}, Newest.{newest_result}}
+use Rattle.broker_tables.proofs.{Asked.{Asked, IsShown}, Inserted.{IsFree}, Orders.{exact_texts}, Ties.{two_tests}}
+use Rattle.contract_tables.specs.Verified.{Cells, cells, cells_of, ByNumbers, by_numbers, numbers_are, result_with, run_value}
+use Rattle.contract_tables.proofs.ContractRows.{map_twice, whole_pos}
 
 module _ (db : Database) (broker : IsBroker db) where
   pub numbered_rows : IsNumbered (db.trees 17)
@@ -69,8 +63,7 @@ results_counted old new rows s found held h read =
 
 -- ---- whether it is a pass
 
-pub pass : (n : ℕ)
-    → Asked (codes "SELECT pass FROM results WHERE number = ?1")
+pub pass : (n : ℕ) → Asked (codes "SELECT pass FROM results WHERE number = ?1")
     (Int (pos n) ∷ []) (from_table 17 (is_param 0 0 ∷ []) (col 1 5 ∷ []) [])
 unfolding understood everything
 pass n = record { names = _; means = record { is = refl; plain = (refl, refl); unlisted = refl }; runs = record { whole = refl; typed = refl; sumless = refl } }
@@ -82,25 +75,13 @@ pass_found n db rows s found held h read =
     let rising = numbered_rows db held.broker in
     let looked = looks_up_at int_cmp_total int_cmp-IsAntisymmetric (whole_at 0) (truth 5) _ (truth 0) (λ r. refl) (pos n) _ all rows (of_number all rising n) (numbers_once all rising)
     (answered db _ 17 _ _ _ rows h) in
-    one found ∙ ap (option_map truth_in) read ∙ two (slice_get rows 0) ∙ looked ∙ sym (value_map int_cmp (whole_at 0) (λ (r : ResultRow). r.pass) (result_in (db.trees 25)) all (pos n))
-    ∙ ap (option_map (λ (r : ResultRow). r.pass)) (result_at db s n held) ∙ three (result_with s n)
-  where
-    one : (o : Option ℕ) → option_map (λ n. n == 1) o ≡ option_map truth_in (option_map (λ n. Int (pos n)) o)
-    one None = refl
-    one (Some n) = refl
-
-    two : (o : Option Row) → option_map truth_in (option_map (λ row. column row 0) o) ≡ option_map (truth 0) o
-    two None = refl
-    two (Some r) = refl
-
-    three : (o : Option Verification) → option_map (λ (r : ResultRow). r.pass) (option_map (result_of s.versions) o) ≡ option_map (λ (r : Verification). r.pass) o
-    three None = refl
-    three (Some r) = refl
+    sym (map_twice (λ n. Int (pos n)) truth_in found) ∙ ap (option_map truth_in) read ∙ map_twice (λ row. column row 0) truth_in (slice_get rows 0)
+    ∙ looked ∙ sym (value_map int_cmp (whole_at 0) (λ (r : ResultRow). r.pass) (result_in (db.trees 25)) all (pos n))
+    ∙ ap (option_map (λ (r : ResultRow). r.pass)) (result_at db s n held) ∙ map_twice (result_of s.versions) (λ (r : ResultRow). r.pass) (result_with s n)
 
 -- ---- whether the broker checked it
 
-pub checked : (n : ℕ)
-    → Asked (codes "SELECT result FROM checked_results WHERE result = ?1")
+pub checked : (n : ℕ) → Asked (codes "SELECT result FROM checked_results WHERE result = ?1")
     (Int (pos n) ∷ []) (from_table 25 (is_param 0 0 ∷ []) (col 1 0 ∷ []) [])
 unfolding understood everything
 checked n = record { names = _; means = record { is = refl; plain = (refl, refl); unlisted = refl }; runs = record { whole = refl; typed = refl; sumless = refl } }
@@ -114,3 +95,156 @@ checked_found n db rows s r held is h =
     ap is_some (looks_up_at int_cmp_total int_cmp-IsAntisymmetric (whole_at 0) (whole_at 0) _ (whole_at 0) (λ r. refl) (pos n) _ marks rows (of_number marks rising n) (numbers_once marks rising)
     (answered db _ 25 _ _ _ rows h))
     ∙ stands_found int_cmp (whole_at 0) (whole_at 0) marks (pos n) ∙ ap (stands_at int_cmp (whole_at 0) marks) row.2 ∙ ap (λ (x : ResultRow). x.checked) row.3
+
+-- ---- the result of a run
+
+abbrev pub run_project : List Term
+run_project = col 1 0 ∷ col 1 2 ∷ col 1 4 ∷ col 1 5 ∷ []
+
+pub run : (p u : List ℕ) → Asked (codes "SELECT number, content, provider_version, pass FROM results WHERE provider = ?1 AND run = ?2")
+    (Text p ∷ Text u ∷ []) (from_table 17 (by_two 3 6) run_project [])
+unfolding understood everything
+run p u = record { names = _; means = record { is = refl; plain = (refl, refl); unlisted = refl }; runs = record { whole = refl; typed = refl; sumless = refl } }
+
+-- ---- a column that may be NULL, and a text
+
+text_test : (v : Value) (u : List ℕ) → is_true (binary (Compare Eq Binary) v (Text u)) ≡ is_text u (text_or_null v)
+unfolding binary value_cmp
+text_test Null u = refl
+text_test (Int n) u = refl
+text_test (Real x) u = refl
+text_test (Text t) u = same_texts t u ∙ sym (texts_ties t u)
+text_test (Blob b) u = refl
+
+-- SQL finds it equal to a text just where it is this text
+is_that_text : (v : Value) (u : List ℕ) → is_true (binary (Compare Eq Binary) v (Text u)) ≡ true → v ≡ Text u
+is_that_text v u same = is_it v (sym (text_test v u) ∙ same)
+  where
+    is_it : (w : Value) → is_text u (text_or_null w) ≡ true → w ≡ Text u
+    is_it Null e = absurd cc
+    is_it (Int n) e = absurd cc
+    is_it (Real x) e = absurd cc
+    is_it (Text t) e = ap Text (exact_texts t u ((Equal-is (text_cmp t u)).0 (sym (texts_ties t u) ∙ e)))
+    is_it (Blob b) e = absurd cc
+
+-- ---- lists
+
+numbered_map : {X Y : Type 0} (f : X → Y) (n : ℕ) (xs : List X) → map {B = ℤ × Y} (λ e. (pos e.0, e.1)) (enumerate_from n (map f xs)) ≡ map (λ e. (pos e.0, f e.1)) (enumerate_from n xs)
+numbered_map f n [] = refl
+numbered_map f n (x ∷ xs) = ap (λ more. (pos n, f x) ∷ more) (numbered_map f (n + 1) xs)
+
+-- a list of one or none: the first is the last
+module _ {X Y Z : Type 0} (f : X → Z) (g : Y → Z) where
+  one_of : (xs : List X) (ys : List Y) → length xs ≤ 1 → map f xs ≡ map g ys → option_map f (slice_get xs 0) ≡ option_map g (last_or None ys)
+  one_of [] [] few same = refl
+  one_of [] (y ∷ ys) few same = absurd (let e = ap length same in cc)
+  one_of (x ∷ []) [] few same = absurd (let e = ap length same in cc)
+  one_of (x ∷ []) (y ∷ []) few same = cc
+  one_of (x ∷ []) (y ∷ z ∷ ys) few same = absurd (let e = ap length same in cc)
+  one_of (x ∷ w ∷ xs) ys few same = absurd (omega (arith, few))
+
+-- ---- the rows of a run
+
+tied : (x y : Value) (t : List ℕ) → x ≡ Text t → y ≡ Text t → equal Binary x y ≡ true
+tied x y t xs ys = (λ i. equal Binary (xs i) (ys i)) ∙ same_texts t t ∙ (eq_by_cmp_equiv nat_list_cmp_total).refl t
+
+module _ (db : Database) (broker : IsBroker db) (p u : List ℕ) where
+  abbrev params : Row
+  params = Text p ∷ Text u ∷ []
+
+  abbrev kept : List Row
+  kept = filter (keeps (by_two 3 6) params) (db.trees 17)
+
+  providers : (r : Row) → Has (db.trees 17) r → column r 3 ≡ Text (text 3 r)
+  providers r has = text_at db broker.kept.sound results (has_place _ 9 results (results_there db broker)) r has 2 _ refl refl refl refl refl
+
+  texts : (r : Row) → keeps (by_two 3 6) params r ≡ true → (column r 3 ≡ Text p) × (column r 6 ≡ Text u)
+  texts r test = (is_that_text (column r 3) p (first_of_both _ _ test), is_that_text (column r 6) u (first_of_both _ true (second_of_both _ _ test)))
+
+  -- rows of one run of one provider have one key
+  alike : (a b : Row) → keeps (by_two 3 6) params a ≡ true → keeps (by_two 3 6) params b ≡ true → agree plain (3 ∷ 6 ∷ []) a (3 ∷ 6 ∷ []) b ≡ true
+  unfolding first_key
+  alike a b ka kb =
+      let one = texts a ka in
+      let two = texts b kb in
+      and_from _ _ (tied (column a 3) (column b 3) p one.0 two.0) (and_from _ _ (tied (column a 6) (column b 6) u one.1 two.1) refl)
+
+  at_most_one : (rows : List Row) → ((r : Row) → Has rows r → keeps (by_two 3 6) params r ≡ true) → IsAscending (λ a b. agree plain (3 ∷ 6 ∷ []) a (3 ∷ 6 ∷ []) b ≡ false) rows → length rows ≤ 1
+  at_most_one [] all apart = omega arith
+  at_most_one (a ∷ []) all apart = omega arith
+  at_most_one (a ∷ b ∷ rows) all apart = absurd (let hit = alike a b (all a (inl refl)) (all b (inr (inl refl))) in let miss = apart.0.0 in cc)
+
+  few : length kept ≤ 1
+  few = at_most_one kept (λ r has. (filter_has (keeps (by_two 3 6) params) (db.trees 17) r has).1) (ascending-filter _ (keeps (by_two 3 6) params) (db.trees 17)
+      (apart_by db broker.kept results 9 (results_there db broker) _ 8 (ap (λ (s : Schema). slice_get s.indexes 8) broker.schema) refl))
+
+  abbrev entry : Row → ℤ × ResultRow
+  entry r = (whole_at 0 r, result_in (db.trees 25) r)
+
+  abbrev passes : ℤ × ResultRow → Bool
+  passes e = same_text e.1.provider p && is_text u e.1.run
+
+  row_test : (r : Row) → Has (db.trees 17) r → keeps (by_two 3 6) params r ≡ passes (entry r)
+  row_test r has = two_tests _ _ _ _ (text_test (column r 3) p ∙ ap (λ v. is_text p (text_or_null v)) (providers r has)) (and-true _ ∙ text_test (column r 6) u)
+
+  module _ (s : Broker) (held : Holds db s) where
+    abbrev as_row : ℕ × Verification → ℤ × ResultRow
+    as_row e = (pos e.0, result_of s.versions e.1)
+
+    -- the first row that is kept is that of the result of the run
+    kept_is : option_map entry (slice_get kept 0) ≡ option_map as_row (result_of_run s p (Some u))
+    kept_is =
+        let listed : map entry kept ≡ map as_row (filter (λ e. passes (as_row e)) (enumerate_from 1 s.results)) =
+        ap (map entry) (filter_same _ (λ r. passes (entry r)) (db.trees 17) (all_of _ (db.trees 17) row_test)) ∙ sym (filter-map passes entry (db.trees 17))
+        ∙ ap (filter passes) (held.results ∙ numbered_map (result_of s.versions) 1 s.results) ∙ filter-map passes as_row (enumerate_from 1 s.results) in
+        one_of entry as_row kept _ few listed
+
+    -- no row is kept where no result has the run
+    none_kept : result_of_run s p (Some u) ≡ None → (r : Row) → Has (db.trees 17) r → keeps (by_two 3 6) params r ≡ false
+    none_kept none r has = false_from_ne_true _ (λ hit. gone kept (kept_is ∙ ap (option_map as_row) none) (has_kept (keeps (by_two 3 6) params) (db.trees 17) r has hit))
+      where
+        gone : (rs : List Row) → option_map entry (slice_get rs 0) ≡ None → Has rs r → ⊥
+        gone [] e h = h
+        gone (x ∷ rs) e h = cc
+
+null_apart : (v : Value) → equal Binary v Null ≡ false
+unfolding binary value_cmp
+null_apart Null = refl
+null_apart (Int n) = refl
+null_apart (Real x) = refl
+null_apart (Text t) = refl
+null_apart (Blob b) = refl
+
+-- so no row has the key of a result of this run
+pub run_free : (db : Database) (s : Broker) → Holds db s → (p : List ℕ) (run : Option (List ℕ)) → result_of_run s p run ≡ None → (made : Row) → column made 3 ≡ Text p → column made 6 ≡ run_value run → IsFree (db.trees 17) made (3 ∷ 6 ∷ [])
+unfolding first_key
+run_free db s held p None none made owner is r has = and_right _ _ (and_left _ true (ap (equal Binary (column r 6)) is ∙ null_apart (column r 6)))
+run_free db s held p (Some u) none made owner is r has = (λ i. equal Binary (column r 3) (owner i) && (equal Binary (column r 6) (is i) && true)) ∙ none_kept db held.broker p u s held none r has
+
+-- ---- the answer
+
+-- what is read of a row, and what a row has of a result, tell it by numbers
+abbrev by_cells : Cells → ByNumbers
+by_cells c = numbers_are (whole (id_in c.0)) (whole (id_in c.1)) (whole (id_in c.2)) c.3
+
+abbrev by_row : ℤ × ResultRow → ByNumbers
+by_row e = (whole e.0, whole e.1.content, option_map whole e.1.version, e.1.pass)
+
+pub run_found : {X : Type 0} (number content version : X → ℕ) (pass : X → Bool) (p u : List ℕ) (db : Database) (rows : List Row) (s : Broker) (found : Option X) → Holds db s → IsShown (run p u) db rows
+    → option_map (λ x. cells_of (number x) (content x) (version x) (pass x)) found ≡ option_map cells (slice_get rows 0)
+    → option_map (λ x. numbers_are (number x) (content x) (version x) (pass x)) found ≡ option_map (by_numbers s.versions) (result_of_run s p (Some u))
+run_found number content version pass p u db rows s found held h read =
+    sym (map_twice (λ x. cells_of (number x) (content x) (version x) (pass x)) by_cells found) ∙ ap (option_map by_cells) read ∙ map_twice cells by_cells (slice_get rows 0)
+    ∙ ap (λ l. option_map (λ r. by_cells (cells r)) (slice_get l 0)) out ∙ ap (option_map (λ r. by_cells (cells r))) (slice_get-map shown all 0)
+    ∙ map_twice shown (λ r. by_cells (cells r)) (slice_get all 0) ∙ sym (map_twice (entry db held.broker p u) by_row (slice_get all 0))
+    ∙ ap (option_map by_row) (kept_is db held.broker p u s held) ∙ map_twice (as_row db held.broker p u s held) by_row (result_of_run s p (Some u))
+    ∙ (λ i. option_map (λ e. (e.0, e.1.content, whole_pos (number_of s.versions e.1.version) i, e.1.pass)) (result_of_run s p (Some u)))
+  where
+    all : List Row
+    all = kept db held.broker p u
+
+    shown : Row → Row
+    shown r = shows run_project (Text p ∷ Text u ∷ []) r
+
+    out : rows ≡ map shown all
+    out = few_permuted (map shown all) rows (subst (λ n. n ≤ 1) (sym (length-map all shown)) (few db held.broker p u)) (answered db _ 17 _ _ _ rows h)

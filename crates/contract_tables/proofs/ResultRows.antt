@@ -1,51 +1,27 @@
 -- The statements on results, on those that the broker checked, and on the latest ones.
+use Rattle.std.specs.{Prelude.{if◌then◌else◌, is_some}, Ordering.{eq_by_cmp, is_eq, int_cmp}, Cmp.{eq_by_cmp_equiv, Equal-is, int_cmp_total}}
 use Rattle.std.proofs.Common.{◌≡◌, ◌+◌, ◌<◌, ◌^◌, arith, IsTrue, map, inl, inr, ℕ, ℤ, pos, codes, List, [], ◌∷◌, Bool, true, false, ◌||◌, refl, sym, ap, subst, ◌∙◌, slice_get, Some, None, Option, Ok}
-use Rattle.std.specs.Prelude.{if◌then◌else◌, is_some}
-use Rattle.std.specs.Ordering.{eq_by_cmp, is_eq, int_cmp}
-use Rattle.std.proofs.lemmas.Bool.{false_from_ne_true, lt-ltb}
-use Rattle.std.proofs.lemmas.List.{length-map}
-use Rattle.std.specs.Cmp.{eq_by_cmp_equiv, Equal-is, int_cmp_total}
-use Rattle.sqlite.specs.Tree.{IsAscending, rowid}
-use Rattle.sqlite.specs.Edit.{next_rowid, with_rowid}
-use Rattle.sqlite.specs.Rowids.TheVariants.{Chosen}
-use Rattle.sqlite.specs.declared.types.Value.TheVariants.{Null, Int, Text}
-use Rattle.sqlite.specs.Order.{Row, column, value_cmp}
-use Rattle.sqlite.specs.Cast.{cast, cast_all, cast_row}
-use Rattle.sqlite.specs.Kind.TheVariants as kind
+use Rattle.std.proofs.{lemmas.Bool.{false_from_ne_true, lt-ltb}, lemmas.List.{length-map}}
+use Rattle.sqlite.specs.{Tree.{IsAscending, rowid}, Edit.{next_rowid, with_rowid}, Rowids.TheVariants.{Chosen}}
+use Rattle.sqlite.specs.{declared.types.Value.TheVariants.{Null, Int, Text}, Order.{Row, column, value_cmp}, Cast.{cast, cast_all, cast_row}, Term.{col, lit}}
+use Rattle.sqlite.specs.{Schema.{Schema}, Effect.{Database}, State.{State, Executes}, Listing.{understood}}
 use Rattle.sqlite_sql.specs.Ops.{binary}
-use Rattle.sqlite.specs.Term.{col, lit}
-use Rattle.sqlite.specs.Schema.{Schema}
-use Rattle.sqlite.specs.Effect.{Database}
-use Rattle.sqlite.specs.State.{State, Executes}
-use Rattle.sqlite.specs.Listing.{understood}
-use Rattle.sqlite_rules.specs.Lists.{Has}
-use Rattle.sqlite_rules.specs.Steps.{PassAlone}
-use Rattle.sqlite_rules.specs.Edit.{is_taken}
-use Rattle.sqlite_rules.proofs.ListLemmas.{some_has, some_from}
+use Rattle.sqlite_rules.{specs.{Lists.{Has}, Steps.{PassAlone}, Edit.{is_taken}, Keys.{conflicts}}, proofs.ListLemmas.{some_has, some_from}}
 use Rattle.sqlite_rules.proofs.TableLemmas.{int_is}
-use Rattle.sqlite_value.proofs.OrderLemmas.{value_cmp-Int}
-use Rattle.sqlite_rules.specs.Keys.{conflicts}
+use Rattle.sqlite_value.{specs.Keys.{plain}, proofs.OrderLemmas.{value_cmp-Int}}
 use Rattle.sqlite_schema.specs.Rules.{agree}
-use Rattle.sqlite_value.specs.Keys.{plain}
 use Rattle.sqlite_tied.specs.Compute.{everything}
-use Rattle.table_access.specs.Columns.{whole_at, by_both}
-use Rattle.table_access.specs.Sound.{IsNumbered}
-use Rattle.table_access.proofs.Values.{cast_null, cast_int}
-use Rattle.table_access.proofs.Changes.{upserts_at}
-use Rattle.table_access.proofs.Keys.{apart_by}
-use Rattle.table_access.proofs.Parts.{Part, whole_part, agree_last, agree_and, once}
-use Rattle.table_access.proofs.SoundLemmas.{whole_in, has_place, at_has}
-use Rattle.broker_tables.specs.Rows.{stands_at}
-use Rattle.broker_tables.specs.Holds.{IsBroker, Holds, result_in, result_of}
+use Rattle.table_access.{specs.{Columns.{whole_at, by_both}, Sound.{IsNumbered}}, proofs.{Values.{cast_null, cast_int}, Changes.{upserts_at}, Keys.{apart_by}}}
+use Rattle.table_access.proofs.{Parts.{Part, whole_part, agree_last, agree_and, once}, SoundLemmas.{whole_in, has_place, at_has}, Storable.{IsShortRow}}
 use Rattle.broker_core.specs.State.{State as Broker}
+use Rattle.broker_tables.specs.{Rows.{stands_at}, Holds.{IsBroker, Holds, result_in, result_of}, Refusals.{AreShort}}
 use Rattle.broker_tables.proofs.Orders.{numbers_total, exact_numbers}
 use Rattle.broker_tables.proofs.Placed.{results, results_there, checked_results, checked_results_there, latest, latest_there}
 use Rattle.broker_tables.proofs.Inserted.{EndsOnly, Puts, inserted, insert_ends, next_counted, new_whole, pacticipant_there, version_there}
 use Rattle.broker_tables.proofs.Upserted.{PutsOver, upserted, upsert_grows, upsert_ends}
-use Rattle.contract_tables.specs.Verified.{run_value, result_row, AllowsResult, AllowsMark, AllowsPoint, PutsRow, Points}
-use Rattle.contract_tables.proofs.ReferredRows.{leads, number_there, has_content, has_owner}
-use Rattle.contract_tables.proofs.ResultLookups.{numbered_rows, marked_rows}
-use Rattle.contract_tables.proofs.RunLookup.{run_free}
+use Rattle.contract_tables.specs.Verified.{run_value, result_row, AllowsResult, AllowsMark, AllowsPoint, PutsRow, Points, texts_of}
+use Rattle.contract_tables.proofs.{ReferredRows.{leads, number_there, has_content, has_owner}, ResultLookups.{numbered_rows, marked_rows, run_free}}
+use Rattle.sqlite.specs.Kind.TheVariants as kind
 
 -- ---- a result
 
@@ -91,6 +67,10 @@ passes number content provider version true None = record { typed = refl; presen
 passes number content provider version false (Some run) = record { typed = refl; present = refl; checked = refl }
 passes number content provider version false None = record { typed = refl; present = refl; checked = refl }
 
+short : (number content : ℕ) (provider : List ℕ) (version : ℕ) (pass : Bool) (run : Option (List ℕ)) → AreShort (texts_of provider run) → IsShortRow (result_row number content provider version pass run)
+short number content provider version pass (Some run) are = record { wide = omega arith; narrow = omega arith; short = (tt, (tt, (tt, (are.0, (tt, (tt, are.1)))))) }
+short number content provider version pass None are = record { wide = omega arith; narrow = omega arith; short = (tt, (tt, (tt, (are.0, (tt, (tt, (tt, tt))))))) }
+
 module _ (number content : ℕ) (provider : List ℕ) (version : ℕ) (pass : Bool) (run : Option (List ℕ)) (old new : State) where
   abbrev made : Row
   made = result_row number content provider version pass run
@@ -104,8 +84,8 @@ module _ (number content : ℕ) (provider : List ℕ) (version : ℕ) (pass : Bo
     pub result_put : IsBroker old.now → (count : ℕ) → Executes sql params old new (Ok count) → PutsRow 17 made old new
     result_put broker count h = inserted sql params old new broker results 9 (results_there old.now broker) made made puts stored count h
 
-    -- where it may be recorded, it fails only as the store fails
-    pub result_ends : number < 2 ^ 32 → (s : Broker) → Holds old.now s → AllowsResult number content provider version run s → EndsOnly sql params old new
+    -- where it may be recorded, it fails only as the store fails, or since one of its names is too long
+    pub result_ends : number < 2 ^ 32 → (s : Broker) → Holds old.now s → AllowsResult number content provider version run s → EndsOnly (texts_of provider run) sql params old new
     result_ends few s held (v, numbered, owner, is, low, high, unused) =
         insert_ends sql params old new held.broker results 9 (results_there old.now held.broker) made made puts stored (record {
           pass = passes number content provider version pass run;
@@ -119,7 +99,7 @@ module _ (number content : ℕ) (provider : List ℕ) (version : ℕ) (pass : Bo
             number_there _ old.now made 2 content refl (leads 2).0 (has_content old.now s held content low high),
             (pacticipant_there old.now s held made 3 provider (subst (λ p. IsTrue (is_some (s.pacticipants p))) owner (has_owner old.now s held v version numbered)) refl, (version_there old.now s held made 4 v version numbered refl, tt)),
           );
-        })
+        }) (texts_of provider run) (short number content provider version pass run)
 
 -- ---- the mark that the broker checked it
 
@@ -150,7 +130,7 @@ module _ (number : ℕ) (old new : State) (broker : IsBroker old.now) where
   marked count h = inserted mark_sql (Int (pos number) ∷ []) old new broker checked_results 13 (checked_results_there old.now broker) mark_made mark_made (mark_puts number) mark_stored count h
 
   -- of a result that is there and isn't marked it fails only as the store fails
-  pub mark_ends : number < 2 ^ 32 → AllowsMark number old.now → EndsOnly mark_sql (Int (pos number) ∷ []) old new
+  pub mark_ends : number < 2 ^ 32 → AllowsMark number old.now → EndsOnly [] mark_sql (Int (pos number) ∷ []) old new
   mark_ends few (there, off) =
       insert_ends mark_sql (Int (pos number) ∷ []) old new broker checked_results 13 (checked_results_there old.now broker) mark_made mark_made (mark_puts number) mark_stored (record {
         pass = record { typed = refl; present = refl; checked = refl };
@@ -159,7 +139,7 @@ module _ (number : ℕ) (old new : State) (broker : IsBroker old.now) where
         fresh = not_taken (old.now.trees 25) (marked_rows old.now broker) number off;
         free = tt;
         parents = (number_there _ old.now mark_made 0 number refl (leads 0).2 there, tt);
-      })
+      }) [] (λ are. record { wide = omega arith; narrow = omega arith; short = (tt, (tt, tt)) })
 
 -- ---- the latest one for its content and its version
 
@@ -167,11 +147,17 @@ abbrev pub key : Row → ℤ × ℤ
 key r = (whole_at 1 r, whole_at 2 r)
 
 module _ (db : Database) (broker : IsBroker db) where
+  pub latest_numbered : IsNumbered (db.trees 19)
+  latest_numbered = at_has _ db.schema.tables latest broker.kept.numbered (has_place _ 10 latest (latest_there db broker))
+
   pub contents : (r : Row) → Has (db.trees 19) r → column r 1 ≡ Int (whole_at 1 r)
   contents r has = whole_in db broker.kept.sound latest (has_place _ 10 latest (latest_there db broker)) r has 0 _ refl refl refl refl refl
 
   pub versions : (r : Row) → Has (db.trees 19) r → column r 2 ≡ Int (whole_at 2 r)
   versions r has = whole_in db broker.kept.sound latest (has_place _ 10 latest (latest_there db broker)) r has 1 _ refl refl refl refl refl
+
+  pub numbers : (r : Row) → Has (db.trees 19) r → column r 3 ≡ Int (whole_at 3 r)
+  numbers r has = whole_in db broker.kept.sound latest (has_place _ 10 latest (latest_there db broker)) r has 2 _ refl refl refl refl refl
 
 -- rows whose key is two numbers
 agree_keys : (rows : List Row) → Part int_cmp Int rows 1 (whole_at 1) → Part int_cmp Int rows 2 (whole_at 2) → (a b : Row) → Has rows a → Has rows b
@@ -235,7 +221,7 @@ module _ (c v n : ℕ) (old new : State) (broker : IsBroker old.now) where
   pub pointed : (count : ℕ) → Executes point_sql params old new (Ok count) → Points c v n old new
   pointed count h =
       let done = upserted (point_puts c v n) point_stored old new broker (latest_there old.now broker) point_set count h in
-      let numbered = at_has _ old.now.schema.tables latest broker.kept.numbered (has_place _ 10 latest (latest_there old.now broker)) in (
+      let numbered = latest_numbered old.now broker in (
         done.0,
         λ d w. upserts_at numbers_total exact_numbers key (whole_at 3) (Some (1 ∷ 2 ∷ [])) old.now.schema.indexes latest rows (new.now.trees 19) it it (λ r. rowid r ∷ params) (pos c, pos v) (pos n) (keys old.now broker) numbered.0
             meets (refl, refl) (λ r has hit. (refl, refl)) done.1 (pos d, pos w),
@@ -243,7 +229,8 @@ module _ (c v n : ℕ) (old new : State) (broker : IsBroker old.now) where
       )
 
   -- of what is there it fails only as the store fails
-  pub point_ends : AllowsPoint c v n old.now → EndsOnly point_sql params old new
+  pub point_ends : AllowsPoint c v n old.now → EndsOnly [] point_sql params old new
   point_ends (content, version, result, room) =
       upsert_ends (point_puts c v n) point_stored old new broker (latest_there old.now broker) point_set room.0 (λ id. record { typed = refl; present = refl; checked = refl }) (λ id.
       (number_there _ old.now (id ∷ params) 1 c refl (leads 1).0 content, (number_there _ old.now (id ∷ params) 2 v refl (leads 2).1 version, (number_there _ old.now (id ∷ params) 3 n refl (leads 3).2 result, tt))))
+      [] (λ are. (tt, (tt, (tt, tt)))) (omega arith) (omega arith)

@@ -1,102 +1,23 @@
 -- The three statements that record a result, one after another, lead from the state that the database holds to the one with that result.
-use Rattle.std.proofs.Common.{◌≡◌, inl, inr, ℕ, ℤ, pos, ◌+◌, ◌<◌, codes, List, [], ◌∷◌, ◌++◌, map, length, Bool, true, false, ◌&&◌, ◌||◌, cond, refl, sym, ap, subst, subst₂, ◌∙◌, Some, None, Option, arith}
-use Rattle.std.specs.Prelude.{option_map, if◌then◌else◌}
-use Rattle.std.specs.Ordering.{eq_by_cmp, is_eq, int_cmp}
-use Rattle.std.specs.Cmp.{eq_by_cmp_equiv, Equal-is, int_cmp_total}
-use Rattle.std.specs.FinMap.{int_cmp-IsAntisymmetric}
-use Rattle.std.proofs.lemmas.List.{map-append, length-map}
-use Rattle.sqlite.specs.Tree.{rowid}
-use Rattle.sqlite.specs.declared.types.Value.TheVariants.{Int, Null}
-use Rattle.sqlite.specs.Order.{Row, column}
-use Rattle.sqlite.specs.Schema.{Schema}
-use Rattle.sqlite.specs.Table.{Table}
-use Rattle.sqlite.specs.Effect.{Database}
-use Rattle.sqlite.specs.State.{State}
-use Rattle.sqlite.specs.Collation.TheVariants.{Binary}
-use Rattle.sqlite_sql.specs.Ops.{is_null}
-use Rattle.sqlite_schema.specs.declared.schema.Reference.{Reference}
-use Rattle.sqlite_schema.specs.declared.schema.Constraint.TheVariants.{ForeignKey}
-use Rattle.sqlite_schema.specs.Rules.{has_parent, has_null, is_held, parent_key, agree, equal}
-use Rattle.sqlite_value.specs.declared.keys.Order.{Order}
-use Rattle.sqlite_value.specs.Keys.{first_key}
-use Rattle.sqlite_rules.specs.Lists.{Has}
-use Rattle.sqlite_rules.proofs.RuleLemmas.{keeps_at}
-use Rattle.sqlite_rules.proofs.TableLemmas.{int_is}
-use Rattle.sqlite_keyed.proofs.ListLemmas.{all_from_test}
-use Rattle.sqlite_keyed.proofs.RuleLemmas.{first_of_both}
-use Rattle.sqlite_tied.specs.Compute.{everything}
-use Rattle.table_access.specs.Columns.{whole_at, by_both}
-use Rattle.table_access.specs.Sound.{IsNumbered}
-use Rattle.table_access.specs.Statements.{IsAdded}
-use Rattle.table_access.proofs.Values.{same_ints}
-use Rattle.table_access.proofs.SoundLemmas.{at_has, all_of, has_place}
+use Rattle.std.specs.{Prelude.{option_map, option_and_then, if◌then◌else◌}, Ordering.{eq_by_cmp, int_cmp}, Cmp.{eq_by_cmp_equiv, int_cmp_total}}
+use Rattle.std.proofs.Common.{◌≡◌, ◌==◌, inl, inr, ℕ, ℤ, pos, ◌+◌, codes, List, [], ◌∷◌, ◌++◌, map, length, Bool, true, false, ◌&&◌, ◌||◌, cond, refl, sym, ap, subst, subst₂, ◌∙◌, Some, None, Option, arith}
+use Rattle.std.proofs.{lemmas.Bool.{ne_eqb, and_right}, lemmas.List.{map-append, length-map}, Math.Bool.{and-true, or-false}}
+use Rattle.sqlite.specs.{Tree.{rowid}, declared.types.Value.TheVariants.{Int, Null}, Order.{Row}, State.{State}, Effect.{Database}}
+use Rattle.sqlite_rules.{specs.Lists.{Has}, proofs.TableLemmas.{int_is}}
+use Rattle.table_access.{specs.{Columns.{whole_at, by_both}, Sound.{IsNumbered}, Statements.{IsAdded}}, proofs.SoundLemmas.{at_has, all_of, has_place}}
 use Rattle.table_access.proofs.Members.{has_right}
-use Rattle.broker_core.specs.State.{State as Broker, Verification}
-use Rattle.broker_core.specs.declared.command.Version.{Version}
-use Rattle.broker_tables.specs.Schema.{broker_schema, to}
-use Rattle.broker_tables.specs.Rows.{stands_at, truth_in, text_or_null}
-use Rattle.broker_tables.specs.Numbers.{numbered, number_of}
-use Rattle.broker_tables.specs.Holds.{Holds, HoldsAfter, IsBroker, AreResults, ResultRow, result_in, result_of}
-use Rattle.broker_tables.proofs.Frames.{Frame, frame_of, frame_then, still_broker, results_change}
-use Rattle.broker_tables.proofs.Standing.{stands_put}
-use Rattle.broker_tables.proofs.Growth.{none_stands}
-use Rattle.broker_tables.proofs.References.{any_has, row_number}
-use Rattle.broker_tables.proofs.Placed.{results, results_there, checked_results, checked_results_there}
-use Rattle.broker_tables.specs.Refusals.{HaveNumbers}
-use Rattle.broker_tables.specs.Room.{TakesRoom}
-use Rattle.broker_tables.proofs.RoomLemmas.{Grows, takes_more, takes_rows}
+use Rattle.broker_core.specs.{State.{State as Broker, Verification, latest_result}, Text.{same_version}, declared.command.Version.{Version}}
+use Rattle.broker_tables.specs.Holds.{Holds, HoldsAfter, IsBroker, AreResults, AreLatest, ResultRow, result_in, result_of}
+use Rattle.broker_tables.specs.{Rows.{stands_at, truth_in, text_or_null}, Numbers.{numbered, number_of}, Refusals.{HaveNumbers}}
+use Rattle.broker_tables.proofs.{Frames.{Frame, frame_of, frame_then, still_broker, results_change}, Standing.{stands_put}, Growth.{none_stands}}
+use Rattle.broker_tables.proofs.{Ties.{both_eq, two_tests, nat_ties}, References.{refers_result, row_number}, Placed.{checked_results, checked_results_there}}
+use Rattle.broker_tables.proofs.{RoomLemmas.{Grows, takes_more, takes_rows}, NextRow.{next_row}, NumberLemmas.{version_ties, number_ties, version_unknown}}
+use Rattle.broker_tables.proofs.Orders.{pairs_total, numbers_total}
 use Rattle.contract_tables.specs.Verified.{latest_at, result_row, result_for, run_value, PutsRow, Marks, Points, HasRowWith, AllowsResult, AllowsMark, AllowsPoint}
-use Rattle.contract_tables.proofs.ReferredRows.{has_content, has_version}
-use Rattle.contract_tables.proofs.Newest.{latest_grows}
-use Rattle.broker_tables.proofs.NextRow.{next_row}
-
--- ---- a row that is marked as checked is the one of a result, by the table's REFERENCES
-
-abbrev to_result : Reference
-to_result = to 0 (codes "results") (codes "number")
-
-result_key : (o : Order) × (parent_key broker_schema.tables to_result ≡ Some (17, 0 ∷ [], o)) × ((first_key o).collation ≡ Binary)
-unfolding everything
-result_key = (_, refl, refl)
-
-or_left : (a b : Bool) → (a || b) ≡ true → a ≡ false → b ≡ true
-or_left true b h e = absurd cc
-or_left false b h e = h
-
-rows_numbered : (db : Database) → IsBroker db → (t : Table) → Has db.schema.tables t → IsNumbered (db.trees t.tree)
-rows_numbered db broker t listed = at_has _ db.schema.tables t broker.kept.numbered listed
-
-number_at : (rows : List Row) → IsNumbered rows → (r : Row) → Has rows r → column r 0 ≡ Int (whole_at 0 r)
-number_at rows rising r has = int_is (rowid r) (at_has _ rows r rising.1 has)
-
-refers_result : (db : Database) → IsBroker db → (r : Row) → Has (db.trees 25) r → (x : Row) × Has (db.trees 17) x × (whole_at 0 x ≡ whole_at 0 r)
-refers_result db broker r has =
-    let listed = has_place _ 13 checked_results (checked_results_there db broker) in
-    let typed = number_at (db.trees 25) (rows_numbered db broker checked_results listed) r has in
-    let all = keeps_at ForeignKey db.schema db.trees checked_results r (broker.kept.sound.obeys.rules ForeignKey) listed has in
-    let one : has_parent db.schema.tables db.trees r to_result ≡ true = at_has (λ x. has_parent db.schema.tables db.trees r x ≡ true) checked_results.references to_result (all_from_test (has_parent db.schema.tables db.trees r) checked_results.references all) (inl refl) in
-    let here : has_parent broker_schema.tables db.trees r to_result ≡ true = subst (λ (s : Schema). has_parent s.tables db.trees r to_result ≡ true) broker.schema one in
-    let filled : has_null (0 ∷ []) r ≡ false = ap (λ v. is_null v || false) typed in
-    let key = result_key in
-    let held : is_held db.trees (0 ∷ []) r (Some (17, 0 ∷ [], key.0)) ≡ true = ap (is_held db.trees (0 ∷ []) r) (sym key.1) ∙ or_left _ _ here filled in
-    let found = any_has (λ parent. agree key.0 (0 ∷ []) parent (0 ∷ []) r) (db.trees 17) held in
-    let same : equal Binary (column found.0 0) (column r 0) ≡ true = ap (λ c. equal c (column found.0 0) (column r 0)) (sym key.2) ∙ first_of_both _ _ found.2 in
-    let id = number_at (db.trees 17) (rows_numbered db broker results (has_place _ 9 results (results_there db broker))) found.0 found.1 in
-    let ints : is_eq (int_cmp (whole_at 0 found.0) (whole_at 0 r)) ≡ true =
-    sym (same_ints (whole_at 0 found.0) (whole_at 0 r)) ∙ ap (λ v. equal Binary v (Int (whole_at 0 r))) (sym id) ∙ ap (equal Binary (column found.0 0)) (sym typed) ∙ same in
-    (found.0, found.1, int_cmp-IsAntisymmetric _ _ ((Equal-is (int_cmp (whole_at 0 found.0) (whole_at 0 r))).0 ints))
+use Rattle.contract_tables.proofs.{ContractRows.{map_cond}, ReferredRows.{has_content, has_version}, LastRow.{last_pushed}}
+use Rattle.contract_tables.proofs.ResultLookups.{numbered_rows, marked_rows}
 
 -- ---- numbers below the next
-
-not_same : (n k : ℕ) → k < n → eq_by_cmp int_cmp (pos n) (pos k) ≡ false
-not_same n k low = go (eq_by_cmp int_cmp (pos n) (pos k)) refl
-  where
-    go : (b : Bool) → eq_by_cmp int_cmp (pos n) (pos k) ≡ b → b ≡ false
-    go true hit = absurd (let ints : pos n ≡ pos k = int_cmp-IsAntisymmetric (pos n) (pos k) ((Equal-is (int_cmp (pos n) (pos k))).0 hit) in let nats : n ≡ k = cc in omega (arith, low, nats))
-    go false miss = refl
-
-turned : (a b : ℤ) → eq_by_cmp int_cmp a b ≡ false → eq_by_cmp int_cmp b a ≡ false
-turned a b e = (eq_by_cmp_equiv int_cmp_total).symm b a ∙ e
 
 same_map : {X Y : Type 0} (f g : X → Y) (xs : List X) → ((x : X) → Has xs x → f x ≡ g x) → map f xs ≡ map g xs
 same_map f g [] each = refl
@@ -109,19 +30,18 @@ module _ (s : Broker) where
   abbrev rows_held : List ResultRow
   rows_held = map (result_of s.versions) s.results
 
-  below : (k : ℕ) → k < 1 + length rows_held → k < next
-  below k low = let e = length-map s.results (result_of s.versions) in omega (arith, low, e)
-
   -- no result below the next number is that one
   old_apart : (checked rows : List Row) → AreResults s.versions s.results rows checked → (x : Row) → Has rows x → eq_by_cmp int_cmp (pos next) (whole_at 0 x) ≡ false
   old_apart checked rows are x has =
       let it = row_number (result_in checked) rows rows_held 1 are x has in
-      ap (eq_by_cmp int_cmp (pos next)) it.1 ∙ not_same next it.0 (below it.0 it.2)
+      let count = length-map s.results (result_of s.versions) in
+      ap (eq_by_cmp int_cmp (pos next)) it.1 ∙ sym (nat_ties next it.0) ∙ ne_eqb next it.0 (λ same. omega (arith, it.2, count, same))
 
   -- so none of that number is marked as checked
   unmarked : (db : Database) → Holds db s → stands_at int_cmp (whole_at 0) (db.trees 25) (pos next) ≡ false
   unmarked db held = none_stands int_cmp (whole_at 0) (whole_at 0) (pos next) (db.trees 25) (λ r has.
-      let x = refers_result db held.broker r has in
+      let number = int_is (rowid r) (at_has _ (db.trees 25) r (marked_rows db held.broker).1 has) in
+      let x = refers_result db held.broker checked_results (has_place _ 13 checked_results (checked_results_there db held.broker)) 0 (inl refl) r has number in
       ap (eq_by_cmp int_cmp (pos next)) (sym x.2) ∙ old_apart (db.trees 25) (db.trees 17) held.results x.0 x.1)
 
 -- what the second statement makes of the marks
@@ -136,13 +56,37 @@ run_is : (run : Option (List ℕ)) → text_or_null (run_value run) ≡ run
 run_is (Some run) = refl
 run_is None = refl
 
-and_self : (b : Bool) → ((b && true) || false) ≡ b
-and_self true = refl
-and_self false = refl
+-- ---- the latest results, with one more
 
-and_none : (b old : Bool) → ((b && false) || old) ≡ old
-and_none true old = refl
-and_none false old = refl
+-- what the third statement makes of the rows
+abbrev Pointed : ℕ → ℕ → ℕ → List Row → List Row → Type 0
+Pointed content n number old new =
+    (c k : ℕ) → latest_at new c k ≡ cond (eq_by_cmp (by_both int_cmp int_cmp) (pos c, pos k) (pos content, pos n)) (Some (pos number)) (latest_at old c k)
+
+-- so they are the latest ones of the longer list
+latest_grows : (s : Broker) (r : Verification) (n : ℕ) (old new : List Row) → AreLatest s old → number_of s.versions r.version ≡ Some n
+    → Pointed r.content n (length s.results + 1) old new → AreLatest (record s { results = s.results ++ r ∷ [] }) new
+latest_grows s r n old new are is put content w =
+    each (number_of s.versions w) refl
+    ∙ sym (map_cond (λ e. pos e.0) (r.content == content && same_version r.version w) (length s.results + 1, r) (latest_result s content w))
+    ∙ sym (ap (option_map (λ (e : ℕ × Verification). pos e.0)) (last_pushed (λ q. q.content == content && same_version q.version w) s.results r))
+  where
+    after : Bool → Option ℤ → Option ℤ
+    after b was = cond b (Some (pos (length s.results + 1))) was
+
+    each : (o : Option ℕ) → number_of s.versions w ≡ o → option_and_then (λ k. latest_at new content k) (number_of s.versions w)
+        ≡ after (r.content == content && same_version r.version w) (option_map (λ e. pos e.0) (latest_result s content w))
+    each None e =
+        let turned = (eq_by_cmp_equiv pairs_total).symm (r.version.pacticipant, r.version.name) (w.pacticipant, w.name) in
+        let other = version_ties r.version w ∙ turned ∙ sym (version_ties w r.version) ∙ version_unknown s.versions w r.version n e is in
+        let apart = and_right (r.content == content) (same_version r.version w) other in
+        let was = sym (ap (option_and_then (λ k. latest_at old content k)) e) ∙ are content w in
+        ap (option_and_then (λ k. latest_at new content k)) e ∙ (λ i. after (sym apart i) (was i))
+    each (Some k) e =
+        let same = two_tests _ _ _ _ (nat_ties r.content content) (number_ties s.versions r.version w n k is e)
+        ∙ both_eq (int_cmp (pos r.content) (pos content)) (int_cmp (pos n) (pos k)) ∙ (eq_by_cmp_equiv numbers_total).symm (pos r.content, pos n) (pos content, pos k) in
+        let was = sym (ap (option_and_then (λ m. latest_at old content m)) e) ∙ are content w in
+        ap (option_and_then (λ m. latest_at new content m)) e ∙ put content k ∙ (λ i. after (sym same i) (was i))
 
 module _ (s : Broker) (r : Verification) (n : ℕ) (is : number_of s.versions r.version ≡ Some n) where
   abbrev made : Row
@@ -152,34 +96,45 @@ module _ (s : Broker) (r : Verification) (n : ℕ) (is : number_of s.versions r.
   pub results_grow : (db : Database) → Holds db s → (rows marks : List Row) → IsNumbered rows → IsAdded (db.trees 17) rows made → MarksGrow r.checked (next s) (db.trees 25) marks
       → AreResults s.versions (s.results ++ r ∷ []) rows marks
   results_grow db held rows marks rising added grow =
-      let are : map {B = ℤ × ResultRow} (λ x. (whole_at 0 x, result_in marks x)) (db.trees 17) ≡ numbered (rows_held s) = same_map _ _ (db.trees 17) (λ x has. ap (λ (b : Bool). (whole_at 0 x, record (result_in (db.trees 25) x) { checked = b }))
-      (grow (whole_at 0 x) ∙ ap (λ b. (r.checked && b) || stands_at int_cmp (whole_at 0) (db.trees 25) (whole_at 0 x)) (turned (pos (next s)) (whole_at 0 x) (old_apart s (db.trees 25) (db.trees 17) held.results x has))
-      ∙ and_none r.checked (stands_at int_cmp (whole_at 0) (db.trees 25) (whole_at 0 x)))) ∙ held.results in
+      let kept : (x : Row) → Has (db.trees 17) x
+      → stands_at int_cmp (whole_at 0) marks (whole_at 0 x) ≡ stands_at int_cmp (whole_at 0) (db.trees 25) (whole_at 0 x) = λ x has.
+      let apart = (eq_by_cmp_equiv int_cmp_total).symm (whole_at 0 x) (pos (next s)) ∙ old_apart s (db.trees 25) (db.trees 17) held.results x has in
+      grow (whole_at 0 x) ∙ ap (λ b. b || stands_at int_cmp (whole_at 0) (db.trees 25) (whole_at 0 x)) (and_right r.checked _ apart) in
+      let are : map {B = ℤ × ResultRow} (λ x. (whole_at 0 x, result_in marks x)) (db.trees 17) ≡ numbered (rows_held s) =
+      same_map (λ x. (whole_at 0 x, result_in marks x)) (λ x. (whole_at 0 x, result_in (db.trees 25) x)) (db.trees 17)
+      (λ x has i. (whole_at 0 x, record (result_in (db.trees 25) x) { checked = kept x has i })) ∙ held.results in
       let mark : stands_at int_cmp (whole_at 0) marks (pos (next s)) ≡ r.checked =
-      grow (pos (next s)) ∙ (λ i. (r.checked && (eq_by_cmp_equiv int_cmp_total).refl (pos (next s)) i) || unmarked s db held i) ∙ and_self r.checked in
+      grow (pos (next s)) ∙ (λ i. (r.checked && (eq_by_cmp_equiv int_cmp_total).refl (pos (next s)) i) || unmarked s db held i) ∙ or-false (r.checked && true) ∙ and-true r.checked in
       let last : result_in marks made ≡ result_of s.versions r =
       λ i. record { content = pos r.content; provider = r.version.pacticipant; version = option_map pos (sym is i); pass = truth_is r.pass i; checked = mark i; run = run_is r.run i } in
       next_row (result_in marks) (rows_held s) (db.trees 17) rows made are rising (ap (λ k. pos (k + 1)) (sym (length-map s.results (result_of s.versions)))) added
       ∙ ap (λ x. numbered (rows_held s ++ x ∷ [])) last ∙ ap numbered (sym (map-append (result_of s.versions) s.results (r ∷ [])))
 
   -- the three together
-  pub recorded : (old one two new : Database) → Holds old s → Frame (codes "results" ∷ []) old one → IsAdded (old.trees 17) (one.trees 17) made
-      → Frame (codes "checked_results" ∷ []) one two → MarksGrow r.checked (next s) (one.trees 25) (two.trees 25) → Frame (codes "latest" ∷ []) two new
-      → ((c k : ℕ) → latest_at (new.trees 19) c k ≡ cond (eq_by_cmp (by_both int_cmp int_cmp) (pos c, pos k) (pos r.content, pos n)) (Some (pos (next s))) (latest_at (two.trees 19) c k))
-      → Grows (two.trees 19) (new.trees 19) → Holds new (record s { results = s.results ++ r ∷ [] }) × TakesRoom 2 old new
-  recorded old one two new held first added second grow third point grows =
-      let results_one : new.trees 17 ≡ one.trees 17 = third.others.1.1.1.1.1.1.1.1.1.0 refl ∙ second.others.1.1.1.1.1.1.1.1.1.0 refl in
-      let marks_two : new.trees 25 ≡ two.trees 25 = third.others.1.1.1.1.1.1.1.1.1.1.1.1.1.0 refl in
-      let marks_one : one.trees 25 ≡ old.trees 25 = first.others.1.1.1.1.1.1.1.1.1.1.1.1.1.0 refl in
-      let latest_two : two.trees 19 ≡ old.trees 19 = second.others.1.1.1.1.1.1.1.1.1.1.0 refl ∙ first.others.1.1.1.1.1.1.1.1.1.1.0 refl in
-      let broker = still_broker (codes "results" ∷ []) old one first held.broker in
-      let rising = rows_numbered one broker results (has_place _ 9 results (results_there one broker)) in
-      let all = frame_then (codes "results" ∷ []) (codes "checked_results" ∷ codes "latest" ∷ []) old one new first (frame_then (codes "checked_results" ∷ []) (codes "latest" ∷ []) one two new second third) in
-      let are : AreResults s.versions (s.results ++ r ∷ []) (one.trees 17) (two.trees 25) = results_grow old held (one.trees 17) (two.trees 25) rising added (subst (λ rows. MarksGrow r.checked (next s) rows (two.trees 25)) marks_one grow) in (
-        results_change old new s (s.results ++ r ∷ []) held all
-            (subst (λ rows. AreResults s.versions (s.results ++ r ∷ []) rows (new.trees 25)) (sym results_one) (subst (λ rows. AreResults s.versions (s.results ++ r ∷ []) (one.trees 17) rows) (sym marks_two) are))
-            (latest_grows s r n (old.trees 19) (new.trees 19) held.latest is (λ c k. point c k ∙ ap (λ rows. cond (eq_by_cmp (by_both int_cmp int_cmp) (pos c, pos k) (pos r.content, pos n)) (Some (pos (next s))) (latest_at rows c k)) latest_two)),
-        takes_more 1 2 (omega arith) old new (takes_rows _ old new all ((λ no. absurd cc), ((λ no. absurd cc), ((λ counted. subst (λ rows. Grows rows (new.trees 19)) latest_two grows), tt)))),
+  recorded : (old one two new : State) → Holds old.now s → PutsRow 17 made old one → (IsBroker one.now → Marks r.checked (next s) one two)
+      → (IsBroker two.now → Points r.content n (next s) two new) → HoldsAfter 2 old new (record s { results = s.results ++ r ∷ [] })
+  recorded old one two new held put mark point =
+      let first = frame_of (codes "results" ∷ []) 17 refl old one held.broker put.0 in
+      let broker = still_broker (codes "results" ∷ []) old.now one.now first held.broker in
+      let marks = mark broker in
+      let second = frame_of (codes "checked_results" ∷ []) 25 refl one two broker marks.0 in
+      let broker_two = still_broker (codes "checked_results" ∷ []) one.now two.now second broker in
+      let points = point broker_two in
+      let third = frame_of (codes "latest" ∷ []) 19 refl two new broker_two points.0 in
+      let results_one : new.now.trees 17 ≡ one.now.trees 17 = third.others.1.1.1.1.1.1.1.1.1.0 refl ∙ second.others.1.1.1.1.1.1.1.1.1.0 refl in
+      let marks_two : new.now.trees 25 ≡ two.now.trees 25 = third.others.1.1.1.1.1.1.1.1.1.1.1.1.1.0 refl in
+      let marks_one : one.now.trees 25 ≡ old.now.trees 25 = first.others.1.1.1.1.1.1.1.1.1.1.1.1.1.0 refl in
+      let latest_two : two.now.trees 19 ≡ old.now.trees 19 = second.others.1.1.1.1.1.1.1.1.1.1.0 refl ∙ first.others.1.1.1.1.1.1.1.1.1.1.0 refl in
+      let last_two = frame_then (codes "checked_results" ∷ []) (codes "latest" ∷ []) one.now two.now new.now second third in
+      let all = frame_then (codes "results" ∷ []) (codes "checked_results" ∷ codes "latest" ∷ []) old.now one.now new.now first last_two in
+      let grow = subst (λ rows. MarksGrow r.checked (next s) rows (two.now.trees 25)) marks_one marks.1 in
+      let are = results_grow old.now held (one.now.trees 17) (two.now.trees 25) (numbered_rows one.now broker) put.1 grow in
+      let point_was = subst (λ rows. Pointed r.content n (next s) rows (new.now.trees 19)) latest_two points.1 in
+      let grows = subst (λ rows. Grows rows (new.now.trees 19)) latest_two points.2 in (
+        results_change old.now new.now s (s.results ++ r ∷ []) held all
+            (subst₂ (AreResults s.versions (s.results ++ r ∷ [])) (sym results_one) (sym marks_two) are)
+            (latest_grows s r n (old.now.trees 19) (new.now.trees 19) held.latest is point_was),
+        takes_more 1 2 (omega arith) old.now new.now (takes_rows _ old.now new.now all ((λ no. absurd cc), ((λ no. absurd cc), ((λ counted. grows), tt)))),
       )
 
 -- ---- as the calls tell it
@@ -209,14 +164,9 @@ put_broker row old new broker put = still_broker (codes "results" ∷ []) old.no
 pub now_recorded : (number content : ℕ) (provider : List ℕ) (version : ℕ) (pass checked : Bool) (run : Option (List ℕ)) (old one two new : State) (s : Broker) (v : Version) → Holds old.now s → number_of s.versions v ≡ Some version → v.pacticipant ≡ provider → number ≡ length s.results + 1
     → PutsRow 17 (result_row number content provider version pass run) old one → (IsBroker one.now → Marks checked number one two) → (IsBroker two.now → Points content version number two new) → HoldsAfter 2 old new (record s { results = s.results ++ result_for content v pass checked run ∷ [] })
 now_recorded number content provider version pass checked run old one two new s v held numbered owner is put mark point =
-    let first = subst₂ (λ k p. PutsRow 17 (result_row k content p version pass run) old one) is (sym owner) put in
-    let broker_one = put_broker _ old one held.broker first in
-    let second = subst (λ k. Marks checked k one two) is (mark broker_one) in
-    let broker_two = marked_broker checked (length s.results + 1) one two broker_one second in
-    let third = subst (λ k. Points content version k two new) is (point broker_two) in
-    recorded s (result_for content v pass checked run) version numbered old.now one.now two.now new.now held
-    (frame_of (codes "results" ∷ []) 17 refl old one held.broker first.0) first.1 (frame_of (codes "checked_results" ∷ []) 25 refl one two broker_one second.0) second.1
-    (frame_of (codes "latest" ∷ []) 19 refl two new broker_two third.0) third.1 third.2
+    subst₂ (λ k p. PutsRow 17 (result_row k content p version pass run) old one → (IsBroker one.now → Marks checked k one two)
+    → (IsBroker two.now → Points content version k two new) → HoldsAfter 2 old new (record s { results = s.results ++ result_for content v pass checked run ∷ [] }))
+    (sym is) owner (recorded s (result_for content v pass checked run) version numbered old one two new held) put mark point
 
 -- ---- that the second and the third may be asked for
 

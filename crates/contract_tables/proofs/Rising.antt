@@ -1,20 +1,9 @@
 -- What a binary search finds in a list that rises by its keys.
-use Rattle.std.proofs.Common.{◌≡◌, ◌==◌, ◌<◌, ◌≤◌, ◌+◌, ◌⊎◌, inl, inr, ℕ, zero, suc, List, [], ◌∷◌, length, get_or, Bool, false, ◌||◌, refl, sym, ap, ◌∙◌, Result, Ok, Err, Less, Equal, Greater, arith}
-use Rattle.std.specs.Prelude.{is_ok, Contains}
-use Rattle.std.specs.List.{list_any}
-use Rattle.std.specs.List.Sorted.{IsStrictlySortedBy, IsSortedBy, IsBinarySearchResult, IsSearchInRange}
-use Rattle.std.specs.Ordering.{nat_cmp, ordering_reverse, is_lt}
-use Rattle.std.specs.Cmp.{nat_cmp_total, ranked}
-use Rattle.std.proofs.lemmas.Bool.{ne_eqb, eq-eqb}
-use Rattle.std.proofs.lemmas.List.Sorted.{searchable_from_sorted}
-use Rattle.sqlite_rules.specs.Lists.{Has}
-use Rattle.table_access.proofs.Members.{has_contains}
-use Rattle.table_access.proofs.ReadLemmas.{has_get}
-use Rattle.table_access.proofs.SoundLemmas.{any_of}
-
-none_of : {X : Type 0} (p : X → Bool) (xs : List X) → ((x : X) → Has xs x → p x ≡ false) → list_any p xs ≡ false
-none_of p [] none = refl
-none_of p (x ∷ xs) none = ap (λ b. b || list_any p xs) (none x (inl refl)) ∙ none_of p xs (λ y has. none y (inr has))
+use Rattle.std.specs.{Prelude.{is_ok, Contains}, List.{list_any}, List.Sorted.{IsStrictlySortedBy, IsSortedBy, IsBinarySearchResult, IsSearchInRange}}
+use Rattle.std.specs.{Ordering.{nat_cmp, ordering_reverse, is_lt}, Cmp.{nat_cmp_total, ranked}}
+use Rattle.std.proofs.Common.{◌≡◌, ◌==◌, ◌<◌, ◌+◌, inl, inr, ℕ, zero, suc, List, [], ◌∷◌, length, get_or, sym, ap, ◌∙◌, Result, Ok, Err, Less, Equal, Greater, arith}
+use Rattle.std.proofs.{lemmas.Bool.{eq-eqb, eqb-true, cases_lt, false_from_ne_true}, lemmas.List.Sorted.{searchable_from_sorted}}
+use Rattle.table_access.proofs.{Members.{has_contains, any_has}, ReadLemmas.{has_get}, SoundLemmas.{any_of}}
 
 module _ {X : Type 0} (key : X → ℕ) where
   abbrev pub rises : List X → Type 0
@@ -37,20 +26,16 @@ module _ {X : Type 0} (key : X → ℕ) where
   pub missing : (k : ℕ) (xs : List X) (i : ℕ) → IsBinarySearchResult (λ y. nat_cmp (key y) k) xs (Err i) → IsSortedBy (λ x y. is_lt (nat_cmp (key x) (key y))) xs → (y : X) → Contains xs y → key y ≡ k → ⊥
   missing k xs i parts up y at same =
       let parted = parts (searchable_from_sorted nat_cmp_total key xs k up) in
-      elim (order at.0 i) [
+      elim (cases_lt at.0 i) [
         | inl before ↦ let less : key (get_or xs at.0 y) < k = ranked (key (get_or xs at.0 y)) k Less (sym (parted.0 at.0 y (omega arith) before)) in omega (arith, less, ap key at.2, same)
         | inr after ↦ let more : k < key (get_or xs at.0 y) = ranked (key (get_or xs at.0 y)) k Greater (sym (parted.1 at.0 y after at.1)) in omega (arith, more, ap key at.2, same)
       ]
-    where
-      order : (a b : ℕ) → (a < b) ⊎ (b ≤ a)
-      order zero zero = inr (omega arith)
-      order zero (suc b) = inl (omega arith)
-      order (suc a) zero = inr (omega arith)
-      order (suc a) (suc b) = elim (order a b) [ inl low ↦ inl (omega (arith, low)) | inr high ↦ inr (omega (arith, high)) ]
 
   -- whether a key is found is whether some element has it
   pub searched : (k : ℕ) (xs : List X) (r : Result ℕ ℕ) → IsSearchInRange r (length xs) → IsBinarySearchResult (λ y. nat_cmp (key y) k) xs r → rises xs → is_ok r ≡ list_any (λ y. key y == k) xs
   searched k [] (Ok i) low at up = absurd (omega (arith, low))
   searched k (x ∷ xs) (Ok i) low at up =
       sym (any_of (λ y. key y == k) (x ∷ xs) (get_or (x ∷ xs) i x) (has_get (x ∷ xs) i x low) (eq-eqb (key (get_or (x ∷ xs) i x)) k (found_at k (x ∷ xs) i x at)))
-  searched k xs (Err i) low parts up = sym (none_of (λ y. key y == k) xs (λ y has. ne_eqb (key y) k (missing k xs i parts (sorted xs up) y (has_contains xs y has))))
+  searched k xs (Err i) low parts up = sym (false_from_ne_true _ (λ found.
+      let it = any_has (λ y. key y == k) xs found in
+      missing k xs i parts (sorted xs up) it.0 (has_contains xs it.0 it.1) (eqb-true (key it.0) k it.2)))

@@ -1,6 +1,6 @@
 -- What a contract and a result change of the state, and what is told of a result; and, for private clauses, what the
 -- columns of a row tell of one, and what the three statements that record a result make of the rows.
-use Rattle.std.specs.Prelude.{◌≡◌, ◌==◌, ◌+◌, ◌-◌, ◌≤◌, ℕ, ℤ, pos, Bool, ◌&&◌, ◌||◌, IsTrue, List, [], ◌∷◌, ◌++◌, length, Option, Some, None, is_some, cond, if◌then◌else◌, slice_get, codes, option_map, false, Result, IfErr}
+use Rattle.std.specs.Prelude.{◌≡◌, ◌==◌, ◌+◌, ◌-◌, ◌≤◌, ℕ, ℤ, pos, Bool, ◌&&◌, ◌||◌, IsTrue, List, [], ◌∷◌, ◌++◌, length, Option, Some, None, is_some, cond, if◌then◌else◌, slice_get, codes, option_map, unwrap_or, false, Result, IfErr}
 use Rattle.std.specs.Ordering.{eq_by_cmp, int_cmp}
 use Rattle.sqlite.specs.declared.types.Value.{Value}
 use Rattle.sqlite.specs.declared.types.Value.TheVariants as value
@@ -9,7 +9,7 @@ use Rattle.sqlite.specs.Effect.{Database}
 use Rattle.sqlite.specs.State.{State, Shown, HasCleanDisk}
 use Rattle.sqlite_rules.specs.Lists.{Has}
 use Rattle.table_access.specs.declared.StoreFault.{StoreFault}
-use Rattle.table_access.specs.Calls.{IsEnded}
+use Rattle.table_access.specs.Calls.{HasFailed}
 use Rattle.table_access.specs.Columns.{whole_at, by_both}
 use Rattle.table_access.specs.Statements.{ChangesOnly, IsAdded}
 use Rattle.broker_core.specs.declared.command.Version.{Version}
@@ -42,6 +42,10 @@ RecordsResult number content provider version_number pass checked run s t =
     (v : Version) × (number_of s.versions v ≡ Some version_number) × (v.pacticipant ≡ provider)
     × (number ≡ length s.results + 1)
     × (t ≡ record s { results = s.results ++ result_for content v pass checked run ∷ [] })
+
+-- the texts that are stored of a result
+abbrev pub texts_of : Text → Option Text → List Text
+texts_of provider run = provider ∷ unwrap_or run [] ∷ []
 
 -- the number is the next, the version of that number is one of the provider, the content is there, and no result of
 -- the provider has this run
@@ -164,10 +168,10 @@ Marks checked number old new =
     × ((k : ℤ) → stands_at int_cmp (whole_at 0) (new.now.trees 25) k
     ≡ ((checked && eq_by_cmp int_cmp k (pos number)) || stands_at int_cmp (whole_at 0) (old.now.trees 25) k))
 
--- such a statement fails in a database of the broker that allows it only as the store fails, or since its row is too big
+-- such a statement fails in a database of the broker that allows it only as the store fails
 abbrev pub IsCalmOn : {A : Type 0} → State → State → Result A StoreFault → (Database → Type 0) → Type 0
 IsCalmOn old new r Allows =
-    HasCleanDisk new → old.step_limit ≡ None → IsBroker old.now → Allows old.now → IfErr r (IsEnded old new)
+    HasCleanDisk new → old.step_limit ≡ None → IsBroker old.now → Allows old.now → IfErr r (HasFailed old new)
 
 -- a row of the table at this tree has this number
 abbrev pub HasRowWith : ℕ → ℕ → Database → Type 0

@@ -44,7 +44,7 @@ pub fn add_contract<S: Alter>(
     content: u32,
 ) -> Result<(), StoreFault>
     ensures changes { Changes S.Store conn.old conn.new result (AddsContract version_number provider.now content) }
-    ensures calm { IsCalmChange S.Store conn.old conn.new result (codes "contracts" ∷ [])
+    ensures calm { IsCalmChange S.Store conn.old conn.new result (codes "contracts" ∷ []) (provider.now ∷ [])
         (AddsContract version_number provider.now content) }
 {
     change(

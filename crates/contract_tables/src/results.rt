@@ -4,8 +4,8 @@ ghost use Rattle.std.specs.Prelude.{option_map, Some, None};
 ghost use Rattle.sqlite.specs.Held.{state};
 ghost use Rattle.table_access.specs.Calls.{CallsStore};
 ghost use Rattle.broker_tables.specs.Holds.{IsBroker, Changes};
-ghost use Rattle.broker_tables.specs.Refusals.{IsCalmIf};
-ghost use Rattle.contract_tables.specs.Verified.{RecordsResult, AllowsResult, PutsRow, result_row, Marks, Points, IsCalmOn, AllowsMark, AllowsPoint};
+ghost use Rattle.broker_tables.specs.Refusals.{IsCalmStoring};
+ghost use Rattle.contract_tables.specs.Verified.{RecordsResult, texts_of, AllowsResult, PutsRow, result_row, Marks, Points, IsCalmOn, AllowsMark, AllowsPoint};
 ghost use Rattle.std.specs.Prelude.{pos, ◌∷◌, [], codes};
 ghost use Rattle.sqlite.specs.declared.types.Value.TheVariants.{Int, Null};
 
@@ -26,7 +26,7 @@ fn put_run<S: Alter>(
         (λ _ old new. IsBroker old.now →
         PutsRow 17 (result_row number content provider.now version_number pass (Some run.now))
         old new) }
-    ensures calm { IsCalmIf S.Store conn.old conn.new result []
+    ensures calm { IsCalmStoring S.Store conn.old conn.new result [] (provider.now ∷ run.now ∷ [])
         (AllowsResult number content provider.now version_number (Some run.now)) }
 {
     change(
@@ -49,7 +49,7 @@ fn put_plain<S: Alter>(
         (λ _ old new. IsBroker old.now →
         PutsRow 17 (result_row number content provider.now version_number pass None)
         old new) }
-    ensures calm { IsCalmIf S.Store conn.old conn.new result []
+    ensures calm { IsCalmStoring S.Store conn.old conn.new result [] (texts_of provider.now None)
         (AllowsResult number content provider.now version_number None) }
 {
     change(
@@ -74,7 +74,8 @@ fn put_result<S: Alter>(
         PutsRow 17
         (result_row number content provider.now version_number pass (option_map (λ text. text.now) run.entry))
         old new) }
-    ensures calm { IsCalmIf S.Store conn.old conn.new result []
+    ensures calm { IsCalmStoring S.Store conn.old conn.new result []
+        (texts_of provider.now (option_map (λ text. text.now) run.entry))
         (AllowsResult number content provider.now version_number (option_map (λ text. text.now) run.entry)) }
 {
     match run {
@@ -149,7 +150,8 @@ pub fn record_result<S: Alter>(
     ensures changes { Changes S.Store conn.old conn.new result
         (RecordsResult number content provider.now version_number pass checked
         (option_map (λ text. text.now) run.entry)) }
-    ensures calm { IsCalmIf S.Store conn.old conn.new result (codes "latest" ∷ [])
+    ensures calm { IsCalmStoring S.Store conn.old conn.new result (codes "latest" ∷ [])
+        (texts_of provider.now (option_map (λ text. text.now) run.entry))
         (AllowsResult number content provider.now version_number (option_map (λ text. text.now) run.entry)) }
 {
     done!(put_result(conn, number, content, provider, version_number, pass, run));

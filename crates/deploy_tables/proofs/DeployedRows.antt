@@ -1,52 +1,25 @@
 -- The statements on what is deployed.
-use Rattle.std.proofs.Common.{◌≡◌, inl, inr, ℕ, ℤ, pos, codes, List, [], ◌∷◌, true, false, Bool, ◌||◌, ◌&&◌, not, filter, nat_lt, Ordering, Less, Equal, Greater, Option, refl, sym, ap, ◌∙◌, cond, slice_get, Some, None, Ok}
-use Rattle.std.specs.Prelude.{option_map, is_some}
-use Rattle.std.specs.List.{list_any}
-use Rattle.std.specs.Option.{option_map_or}
-use Rattle.std.specs.Ordering.{eq_by_cmp, is_eq, int_cmp, ordering_then}
-use Rattle.std.specs.Cmp.{eq_by_cmp_equiv, Equal-is}
-use Rattle.std.specs.Cmp.Lexicographic.{nat_list_cmp_total}
-use Rattle.std.proofs.lemmas.Cmp.{int_cmp_total}
-use Rattle.sqlite.specs.Tree.{IsAscending, rowid}
-use Rattle.sqlite.specs.Edit.{next_rowid}
-use Rattle.sqlite.specs.declared.types.Value.TheVariants.{Null, Int, Text}
-use Rattle.sqlite.specs.Order.{Row, column}
-use Rattle.sqlite.specs.Term.{Term, col, lit}
-use Rattle.sqlite.specs.Command.{Command}
-use Rattle.sqlite.specs.Command.TheVariants.{Delete}
-use Rattle.sqlite.specs.Schema.{Schema}
-use Rattle.sqlite.specs.Effect.{Database}
-use Rattle.sqlite.specs.State.{State, Executes}
-use Rattle.sqlite.specs.Listing.{understood}
-use Rattle.sqlite_rules.specs.Lists.{Has}
+use Rattle.std.specs.{Prelude.{option_map, is_some}, List.{list_any}, Option.{option_map_or}, Ordering.{eq_by_cmp, is_eq, int_cmp, ordering_then}}
+use Rattle.std.specs.{Cmp.{eq_by_cmp_equiv, Equal-is}, Cmp.Lexicographic.{nat_list_cmp_total}}
+use Rattle.std.proofs.Common.{◌≡◌, inl, inr, ℕ, ℤ, pos, codes, List, [], ◌∷◌, true, false, Bool, ◌&&◌, not, filter, nat_lt, Ordering, Less, Equal, Greater, Option, refl, sym, ap, ◌∙◌, cond, slice_get, Some, None, Ok}
+use Rattle.std.proofs.{lemmas.Cmp.{int_cmp_total}, Math.Bool.{and-true, and-false}}
 use Rattle.sqlite_schema.specs.Rules.{agree}
 use Rattle.sqlite_value.specs.Keys.{plain}
+use Rattle.sqlite_catalog.proofs.ListFacts.{filter_all}
 use Rattle.sqlite_tied.specs.Compute.{everything}
-use Rattle.table_access.specs.Columns.{text, text_cmp, whole_at, by_both}
-use Rattle.table_access.specs.Statements.{from_table, keeps, shows, ChangesOnly}
-use Rattle.table_access.proofs.Steps.{Means, answered, deletes, deletes_counted}
-use Rattle.table_access.proofs.CountLemmas.{some_counted, same_any, any_never}
-use Rattle.table_access.proofs.Maps.{looks_up_at, has_find}
-use Rattle.table_access.proofs.Keys.{apart_by}
+use Rattle.table_access.specs.{Columns.{text, text_cmp, whole_at, by_both}, Statements.{from_table, keeps, shows, ChangesOnly}}
 use Rattle.table_access.proofs.Parts.{Part, text_part, whole_part, where_last, where_and, all_where, is_param, agree_last, agree_and, once}
-use Rattle.table_access.proofs.SoundLemmas.{text_at, whole_in, has_place, at_has}
-use Rattle.broker_tables.specs.Schema.{broker_schema}
-use Rattle.broker_tables.specs.Rows.{value_at}
-use Rattle.broker_tables.specs.Holds.{IsBroker}
-use Rattle.broker_tables.proofs.Frames.{meant}
-use Rattle.broker_tables.proofs.Inserted.{new_text}
-use Rattle.broker_tables.proofs.Asked.{Asked, IsShown}
-use Rattle.table_access.proofs.Changes.{upserts_at}
+use Rattle.table_access.proofs.{Steps.{Means, answered, deletes, deletes_counted}, CountLemmas.{some_counted, same_any, any_never}}
+use Rattle.table_access.proofs.{Maps.{looks_up_at, has_find}, Keys.{apart_by}, SoundLemmas.{text_at, whole_in, has_place, at_has}, Changes.{upserts_at}}
 use Rattle.table_access.proofs.Values.{cast_int}
-use Rattle.sqlite.specs.Cast.{cast_all}
-use Rattle.sqlite_rules.specs.Keys.{conflicts}
-use Rattle.broker_tables.proofs.Orders.{triples_total, exact_triple}
-use Rattle.broker_tables.proofs.Standing.{stands_found, takes_at}
-use Rattle.broker_tables.proofs.Ties.{both_eq}
-use Rattle.broker_tables.proofs.Placed.{deployed, deployed_there, calm}
-use Rattle.broker_tables.proofs.RoomLemmas.{Grows, grows_kept}
-use Rattle.broker_tables.proofs.Upserted.{PutsOver, upserted, upsert_grows}
+use Rattle.broker_tables.{specs.{Schema.{broker_schema}, Rows.{value_at}, Holds.{IsBroker}}, proofs.{Frames.{meant}, Inserted.{new_text}}}
+use Rattle.broker_tables.proofs.{Asked.{Asked, IsShown}, Orders.{triples_total, exact_triple}, Standing.{stands_found, takes_at}, Ties.{both_eq}}
+use Rattle.broker_tables.proofs.{Placed.{deployed, deployed_there, calm}, RoomLemmas.{Grows, grows_kept}, Upserted.{PutsOver, upserted, upsert_grows}}
 use Rattle.contract_tables.proofs.ResultRows.{or_false}
+use Rattle.sqlite.specs.{Tree.{IsAscending, rowid}, Edit.{next_rowid}, declared.types.Value.TheVariants.{Null, Int, Text}, Order.{Row, column}}
+use Rattle.sqlite.specs.{Term.{Term, col, lit}, Command.{Command}, Command.TheVariants.{Delete}, Schema.{Schema}, Effect.{Database}, State.{State, Executes}}
+use Rattle.sqlite.specs.{Listing.{understood}, Cast.{cast_all}}
+use Rattle.sqlite_rules.specs.{Lists.{Has}, Keys.{conflicts}}
 
 -- an environment, a pacticipant and an instance
 abbrev pub Place : Type 0
@@ -58,18 +31,26 @@ place_of r = (text 1 r, (text 2 r, text 3 r))
 abbrev pub place_cmp : Place → Place → Ordering
 place_cmp = by_both text_cmp (by_both text_cmp text_cmp)
 
+-- the number at a place
+abbrev pub number_in : List Row → Place → Option ℤ
+number_in = value_at place_cmp place_of (whole_at 4)
+
 module _ (db : Database) (broker : IsBroker db) where
-  pub environments : (r : Row) → Has (db.trees 21) r → column r 1 ≡ Text (text 1 r)
-  environments r has = text_at db broker.kept.sound deployed (has_place _ 11 deployed (deployed_there db broker)) r has 0 _ refl refl refl refl refl
+  pub environments : Part text_cmp Text (db.trees 21) 1 (text 1)
+  environments = text_part (db.trees 21) 1 (λ r has. text_at db broker.kept.sound deployed (has_place _ 11 deployed (deployed_there db broker)) r has 0 _ refl
+      refl refl refl refl)
 
-  pub pacticipants : (r : Row) → Has (db.trees 21) r → column r 2 ≡ Text (text 2 r)
-  pacticipants r has = text_at db broker.kept.sound deployed (has_place _ 11 deployed (deployed_there db broker)) r has 1 _ refl refl refl refl refl
+  pub pacticipants : Part text_cmp Text (db.trees 21) 2 (text 2)
+  pacticipants = text_part (db.trees 21) 2 (λ r has. text_at db broker.kept.sound deployed (has_place _ 11 deployed (deployed_there db broker)) r has 1 _ refl
+      refl refl refl refl)
 
-  pub instances : (r : Row) → Has (db.trees 21) r → column r 3 ≡ Text (text 3 r)
-  instances r has = text_at db broker.kept.sound deployed (has_place _ 11 deployed (deployed_there db broker)) r has 2 _ refl refl refl refl refl
+  pub instances : Part text_cmp Text (db.trees 21) 3 (text 3)
+  instances = text_part (db.trees 21) 3 (λ r has. text_at db broker.kept.sound deployed (has_place _ 11 deployed (deployed_there db broker)) r has 2 _ refl refl
+      refl refl refl)
 
-  pub numbers : (r : Row) → Has (db.trees 21) r → column r 4 ≡ Int (whole_at 4 r)
-  numbers r has = whole_in db broker.kept.sound deployed (has_place _ 11 deployed (deployed_there db broker)) r has 3 _ refl refl refl refl refl
+  pub numbers : Part int_cmp Int (db.trees 21) 4 (whole_at 4)
+  numbers = whole_part (db.trees 21) 4 (λ r has. whole_in db broker.kept.sound deployed (has_place _ 11 deployed (deployed_there db broker)) r has 3 _ refl refl
+      refl refl refl)
 
 -- rows whose key is three texts
 module _ (rows : List Row) (one : Part text_cmp Text rows 1 (text 1)) (two : Part text_cmp Text rows 2 (text 2)) (three : Part text_cmp Text rows 3 (text 3)) where
@@ -84,20 +65,11 @@ module _ (rows : List Row) (one : Part text_cmp Text rows 1 (text 1)) (two : Par
       where_and nat_list_cmp_total rows 1 (text 1) one (by_both text_cmp text_cmp) (λ r. (text 2 r, text 3 r)) (p, i) (is_param 2 1 ∷ is_param 3 2 ∷ []) params 0 e refl r has
       (where_and nat_list_cmp_total rows 2 (text 2) two text_cmp (text 3) i (is_param 3 2 ∷ []) params 1 p refl r has (where_last nat_list_cmp_total rows 3 (text 3) three params 2 i refl r has))
 
-module _ (db : Database) (broker : IsBroker db) where
-  one : Part text_cmp Text (db.trees 21) 1 (text 1)
-  one = text_part (db.trees 21) 1 (environments db broker)
-
-  two : Part text_cmp Text (db.trees 21) 2 (text 2)
-  two = text_part (db.trees 21) 2 (pacticipants db broker)
-
-  three : Part text_cmp Text (db.trees 21) 3 (text 3)
-  three = text_part (db.trees 21) 3 (instances db broker)
-
-  -- a place stands once
-  pub keys : IsAscending (λ a b. eq_by_cmp place_cmp (place_of a) (place_of b) ≡ false) (db.trees 21)
-  keys = once place_cmp (db.trees 21) (1 ∷ 2 ∷ 3 ∷ []) place_of (agree_places (db.trees 21) one two three)
-      (apart_by db broker.kept deployed 11 (deployed_there db broker) _ 10 (ap (λ (s : Schema). slice_get s.indexes 10) broker.schema) refl)
+-- a place stands once
+pub keys : (db : Database) → IsBroker db → IsAscending (λ a b. eq_by_cmp place_cmp (place_of a) (place_of b) ≡ false) (db.trees 21)
+keys db broker = once place_cmp (db.trees 21) (1 ∷ 2 ∷ 3 ∷ []) place_of
+    (agree_places (db.trees 21) (environments db broker) (pacticipants db broker) (instances db broker))
+    (apart_by db broker.kept deployed 11 (deployed_there db broker) _ 10 (ap (λ (s : Schema). slice_get s.indexes 10) broker.schema) refl)
 
 -- ---- the version at a place
 
@@ -111,11 +83,12 @@ unfolding understood everything
 number_at e p i = record { names = _; means = record { is = refl; plain = (refl, refl); unlisted = refl }; runs = record { whole = refl; typed = refl; sumless = refl } }
 
 pub number_found : (e p i : List ℕ) (db : Database) (rows : List Row) → IsBroker db → IsShown (number_at e p i) db rows
-    → option_map (whole_at 0) (slice_get rows 0) ≡ value_at place_cmp place_of (whole_at 4) (db.trees 21) (e, (p, i))
+    → option_map (whole_at 0) (slice_get rows 0) ≡ number_in (db.trees 21) (e, (p, i))
 number_found e p i db rows broker h =
     let params = Text e ∷ Text p ∷ Text i ∷ [] in
     looks_up_at triples_total exact_triple place_of (whole_at 4) (shows (col 1 4 ∷ []) params) (whole_at 0) (λ r. refl) (e, (p, i)) (keeps by_place params) (db.trees 21) rows
-    (all_where place_cmp (db.trees 21) place_of (e, (p, i)) by_place params (where_place (db.trees 21) (one db broker) (two db broker) (three db broker) e p i))
+    (all_where place_cmp (db.trees 21) place_of (e, (p, i)) by_place params
+    (where_place (db.trees 21) (environments db broker) (pacticipants db broker) (instances db broker) e p i))
     (keys db broker) (answered db params 21 by_place (col 1 4 ∷ []) [] rows h)
 
 -- ---- a deployment
@@ -163,17 +136,20 @@ module _ (db : Database) (broker : IsBroker db) (e p i : List ℕ) (n : ℕ) whe
   meets : (r : Row) → Has there r → conflicts (Some (1 ∷ 2 ∷ 3 ∷ [])) db.schema.indexes deployed it r ≡ eq_by_cmp place_cmp (e, (p, i)) (place_of r)
   meets r has =
       ap (λ (s : Schema). conflicts (Some (1 ∷ 2 ∷ 3 ∷ [])) s.indexes deployed it r) broker.schema ∙ or_false (agree plain (1 ∷ 2 ∷ 3 ∷ []) r (1 ∷ 2 ∷ 3 ∷ []) it)
-      ∙ agree_places (it ∷ there) (new_text there it 1 (environments db broker) refl) (new_text there it 2 (pacticipants db broker) refl) (new_text there it 3 (instances db broker) refl) r it (inr has) (inl refl)
+      ∙ agree_places (it ∷ there) (new_text there it 1 (environments db broker).typed refl) (new_text there it 2 (pacticipants db broker).typed refl)
+      (new_text there it 3 (instances db broker).typed refl) r it (inr has) (inl refl)
       ∙ (eq_by_cmp_equiv triples_total).symm (place_of r) (e, (p, i))
 
   -- the row of its place gets the number, and keeps its own
   pub set : (r : Row) → Has there r → conflicts (Some (1 ∷ 2 ∷ 3 ∷ [])) db.schema.indexes deployed it r ≡ true → column r 0 ∷ column r 1 ∷ column r 2 ∷ column r 3 ∷ Int (pos n) ∷ [] ≡ rowid r ∷ row_for e p i n
   set r has met =
       let same = exact_triple (e, (p, i)) (place_of r) ((Equal-is (place_cmp (e, (p, i)) (place_of r))).0 (sym (meets r has) ∙ met)) in
-      λ j. rowid r ∷ (environments db broker r has ∙ ap (λ k. Text k.0) (sym same)) j ∷ (pacticipants db broker r has ∙ ap (λ k. Text k.1.0) (sym same)) j ∷ (instances db broker r has ∙ ap (λ k. Text k.1.1) (sym same)) j ∷ Int (pos n) ∷ []
+      λ j. rowid r ∷ ((environments db broker).typed r has ∙ ap (λ k. Text k.0) (sym same)) j ∷ ((pacticipants db broker).typed r has
+      ∙ ap (λ k. Text k.1.0) (sym same)) j ∷ ((instances db broker).typed r has ∙ ap (λ k. Text k.1.1) (sym same)) j ∷ Int (pos n) ∷ []
 
 pub recorded : (e p i : List ℕ) (n : ℕ) (old new : State) (count : ℕ) → IsBroker old.now → Executes record_sql (row_for e p i n) old new (Ok count)
-    → ChangesOnly 21 old new × Grows (old.now.trees 21) (new.now.trees 21) × ((q : Place) → value_at place_cmp place_of (whole_at 4) (new.now.trees 21) q ≡ cond (eq_by_cmp place_cmp q (e, (p, i))) (Some (pos n)) (value_at place_cmp place_of (whole_at 4) (old.now.trees 21) q))
+    → ChangesOnly 21 old new × Grows (old.now.trees 21) (new.now.trees 21)
+    × ((q : Place) → number_in (new.now.trees 21) q ≡ cond (eq_by_cmp place_cmp q (e, (p, i))) (Some (pos n)) (number_in (old.now.trees 21) q))
 recorded e p i n old new count broker h =
     let there = deployed_there old.now broker in
     let numbered = at_has _ old.now.schema.tables deployed broker.kept.numbered (has_place _ 11 deployed there) in
@@ -204,24 +180,10 @@ pub end_text : Means broker_schema end_sql end_command
 unfolding understood everything
 end_text = record { is = refl; plain = (refl, refl); unlisted = refl }
 
-regrouped : (a b c d : Ordering) → ordering_then a (ordering_then b (ordering_then c d)) ≡ ordering_then (ordering_then a (ordering_then b c)) d
-regrouped Less b c d = refl
-regrouped Greater b c d = refl
-regrouped Equal Less c d = refl
-regrouped Equal Greater c d = refl
-regrouped Equal Equal c d = refl
-
-with_true : (b : Bool) → (b && true) ≡ b
-with_true true = refl
-with_true false = refl
-
-with_false : (b : Bool) → (b && false) ≡ false
-with_false true = refl
-with_false false = refl
-
-none_out : (p : Row → Bool) (rows : List Row) → ((r : Row) → Has rows r → p r ≡ false) → filter (λ r. not (p r)) rows ≡ rows
-none_out p [] fails = refl
-none_out p (r ∷ rows) fails = rw (fails r (inl refl)) (ap (λ rs. r ∷ rs) (none_out p rows (λ x has. fails x (inr has))))
+then_assoc : (a b c : Ordering) → ordering_then a (ordering_then b c) ≡ ordering_then (ordering_then a b) c
+then_assoc Less b c = refl
+then_assoc Equal b c = refl
+then_assoc Greater b c = refl
 
 module _ (db : Database) (broker : IsBroker db) (e p i : List ℕ) (n : ℕ) where
   abbrev place : Place
@@ -232,17 +194,21 @@ module _ (db : Database) (broker : IsBroker db) (e p i : List ℕ) (n : ℕ) whe
 
   -- the number at the place
   abbrev pub at_place : Option ℤ
-  at_place = value_at place_cmp place_of (whole_at 4) (db.trees 21) place
+  at_place = number_in (db.trees 21) place
 
   -- WHERE keeps the row of the place, if it has the number
   where_version : (r : Row) → Has (db.trees 21) r → keeps by_version params r ≡ (eq_by_cmp place_cmp place (place_of r) && eq_by_cmp int_cmp (pos n) (whole_at 4 r))
   where_version r has =
       let rows = db.trees 21 in
-      where_and nat_list_cmp_total rows 1 (text 1) (one db broker) (by_both text_cmp (by_both text_cmp int_cmp)) (λ x. (text 2 x, (text 3 x, whole_at 4 x))) (p, (i, pos n)) (is_param 2 1 ∷ is_param 3 2 ∷ is_param 4 3 ∷ []) params 0 e refl r has
-      (where_and nat_list_cmp_total rows 2 (text 2) (two db broker) (by_both text_cmp int_cmp) (λ x. (text 3 x, whole_at 4 x)) (i, pos n) (is_param 3 2 ∷ is_param 4 3 ∷ []) params 1 p refl r has
-      (where_and nat_list_cmp_total rows 3 (text 3) (three db broker) int_cmp (whole_at 4) (pos n) (is_param 4 3 ∷ []) params 2 i refl r has
-      (where_last int_cmp_total rows 4 (whole_at 4) (whole_part rows 4 (numbers db broker)) params 3 (pos n) refl r has)))
-      ∙ ap is_eq (regrouped (text_cmp e (text 1 r)) (text_cmp p (text 2 r)) (text_cmp i (text 3 r)) (int_cmp (pos n) (whole_at 4 r))) ∙ sym (both_eq (place_cmp place (place_of r)) (int_cmp (pos n) (whole_at 4 r)))
+      where_and nat_list_cmp_total rows 1 (text 1) (environments db broker) (by_both text_cmp (by_both text_cmp int_cmp))
+      (λ x. (text 2 x, (text 3 x, whole_at 4 x))) (p, (i, pos n)) (is_param 2 1 ∷ is_param 3 2 ∷ is_param 4 3 ∷ []) params 0 e refl r has
+      (where_and nat_list_cmp_total rows 2 (text 2) (pacticipants db broker) (by_both text_cmp int_cmp) (λ x. (text 3 x, whole_at 4 x)) (i, pos n)
+      (is_param 3 2 ∷ is_param 4 3 ∷ []) params 1 p refl r has
+      (where_and nat_list_cmp_total rows 3 (text 3) (instances db broker) int_cmp (whole_at 4) (pos n) (is_param 4 3 ∷ []) params 2 i refl r has
+      (where_last int_cmp_total rows 4 (whole_at 4) (numbers db broker) params 3 (pos n) refl r has)))
+      ∙ ap is_eq (ap (ordering_then (text_cmp e (text 1 r))) (then_assoc (text_cmp p (text 2 r)) (text_cmp i (text 3 r)) (int_cmp (pos n) (whole_at 4 r)))
+      ∙ then_assoc (text_cmp e (text 1 r)) (ordering_then (text_cmp p (text 2 r)) (text_cmp i (text 3 r))) (int_cmp (pos n) (whole_at 4 r)))
+      ∙ sym (both_eq (place_cmp place (place_of r)) (int_cmp (pos n) (whole_at 4 r)))
 
   -- the number at the place decides for each row of it
   kept_at : (r : Row) → Has (db.trees 21) r → keeps by_version params r ≡ (eq_by_cmp place_cmp place (place_of r) && is_number n at_place)
@@ -252,8 +218,11 @@ module _ (db : Database) (broker : IsBroker db) (e p i : List ℕ) (n : ℕ) whe
       go false miss = refl
       go true hit =
           let same : place ≡ place_of r = exact_triple place (place_of r) ((Equal-is (place_cmp place (place_of r))).0 hit) in
-          let there : at_place ≡ Some (whole_at 4 r) = ap (value_at place_cmp place_of (whole_at 4) (db.trees 21)) same ∙ has_find triples_total exact_triple place_of (whole_at 4) (db.trees 21) r (keys db broker) has in
+          let there : at_place ≡ Some (whole_at 4 r) = ap (number_in (db.trees 21)) same ∙ has_find triples_total exact_triple place_of (whole_at 4) (db.trees 21) r (keys db broker) has in
           sym (ap (is_number n) there)
+
+  kept_if : (b : Bool) → is_number n at_place ≡ b → (r : Row) → Has (db.trees 21) r → keeps by_version params r ≡ (eq_by_cmp place_cmp place (place_of r) && b)
+  kept_if b is r has = kept_at r has ∙ ap (λ c. eq_by_cmp place_cmp place (place_of r) && c) is
 
   found_some : (o : Option ℤ) → is_number n o ≡ true → is_some o ≡ true
   found_some None h = absurd cc
@@ -262,24 +231,23 @@ module _ (db : Database) (broker : IsBroker db) (e p i : List ℕ) (n : ℕ) whe
   -- whether a row is kept
   any_kept : (b : Bool) → is_number n at_place ≡ b → list_any (keeps by_version params) (db.trees 21) ≡ b
   any_kept true hit =
-      same_any (keeps by_version params) (λ r. eq_by_cmp place_cmp place (place_of r)) (db.trees 21) (λ r has. kept_at r has ∙ ap (λ b. eq_by_cmp place_cmp place (place_of r) && b) hit ∙ with_true _)
+      same_any (keeps by_version params) (λ r. eq_by_cmp place_cmp place (place_of r)) (db.trees 21) (λ r has. kept_if true hit r has ∙ and-true _)
       ∙ sym (stands_found place_cmp place_of (whole_at 4) (db.trees 21) place) ∙ found_some at_place hit
-  any_kept false miss =
-      same_any (keeps by_version params) (λ r. false) (db.trees 21) (λ r has. kept_at r has ∙ ap (λ b. eq_by_cmp place_cmp place (place_of r) && b) miss ∙ with_false _) ∙ any_never (db.trees 21)
+  any_kept false miss = same_any (keeps by_version params) (λ r. false) (db.trees 21) (λ r has. kept_if false miss r has ∙ and-false _)
+      ∙ any_never (db.trees 21)
 
   -- what is left at each place
   left_at : (b : Bool) → is_number n at_place ≡ b → (rows : List Row) → rows ≡ filter (λ r. not (keeps by_version params r)) (db.trees 21) → (q : Place)
-      → value_at place_cmp place_of (whole_at 4) rows q ≡ cond (b && eq_by_cmp place_cmp q place) None (value_at place_cmp place_of (whole_at 4) (db.trees 21) q)
+      → number_in rows q ≡ cond (b && eq_by_cmp place_cmp q place) None (number_in (db.trees 21) q)
   left_at true hit rows is q =
       takes_at triples_total exact_triple place_of (whole_at 4) place (keeps by_version params) (db.trees 21) rows
-      (all_where place_cmp (db.trees 21) place_of place by_version params (λ r has. kept_at r has ∙ ap (λ b. eq_by_cmp place_cmp place (place_of r) && b) hit ∙ with_true _)) is q
-  left_at false miss rows is q =
-      ap (λ xs. value_at place_cmp place_of (whole_at 4) xs q)
-      (is ∙ none_out (keeps by_version params) (db.trees 21) (λ r has. kept_at r has ∙ ap (λ b. eq_by_cmp place_cmp place (place_of r) && b) miss ∙ with_false _))
+      (all_where place_cmp (db.trees 21) place_of place by_version params (λ r has. kept_if true hit r has ∙ and-true _)) is q
+  left_at false miss rows is q = ap (λ xs. number_in xs q) (is
+      ∙ filter_all (λ r. not (keeps by_version params r)) (db.trees 21) (λ r has. ap not (kept_if false miss r has ∙ and-false _)))
 
 -- the row of the place goes if it has the number, and the count says whether it did
 pub ended : (e p i : List ℕ) (n : ℕ) (old new : State) (count : ℕ) → (broker : IsBroker old.now) → Executes end_sql (Text e ∷ Text p ∷ Text i ∷ Int (pos n) ∷ []) old new (Ok count)
-    → ChangesOnly 21 old new × Grows (old.now.trees 21) (new.now.trees 21) × ((b : Bool) → is_number n (at_place old.now broker e p i n) ≡ b → (q : Place) → value_at place_cmp place_of (whole_at 4) (new.now.trees 21) q ≡ cond (b && eq_by_cmp place_cmp q (e, (p, i))) None (value_at place_cmp place_of (whole_at 4) (old.now.trees 21) q))
+    → ChangesOnly 21 old new × Grows (old.now.trees 21) (new.now.trees 21) × ((b : Bool) → is_number n (at_place old.now broker e p i n) ≡ b → (q : Place) → number_in (new.now.trees 21) q ≡ cond (b && eq_by_cmp place_cmp q (e, (p, i))) None (number_in (old.now.trees 21) q))
     × (nat_lt 0 count ≡ is_number n (at_place old.now broker e p i n))
 ended e p i n old new count broker h =
     let db = old.now in

@@ -1,72 +1,72 @@
--- What the rows of the deployed versions say of the state.
-use Rattle.std.proofs.Common.{◌≡◌, ◌==◌, inl, inr, ℕ, ℤ, pos, codes, List, [], ◌∷◌, Bool, true, false, ◌&&◌, refl, sym, ap, ◌∙◌, cond, nat_lt, Some, None, Option, Ok, IsTrue, subst, arith}
-use Rattle.std.specs.Prelude.{is_some, option_map, if◌then◌else◌}
-use Rattle.std.specs.Option.{option_map_or}
-use Rattle.std.specs.Ordering.{eq_by_cmp, int_cmp}
-use Rattle.std.specs.Cmp.{eq_by_cmp_equiv, Equal-is}
-use Rattle.std.specs.FinMap.{int_cmp-IsAntisymmetric}
-use Rattle.std.specs.Cmp.Lexicographic.{texts_ties, nat_list_cmp_total}
-use Rattle.std.proofs.lemmas.Bool.{cases_Bool, eqb-true}
+-- What the rows of the deployed versions say of the state, and their list.
+use Rattle.std.specs.{Prelude.{option_map, is_some, if◌then◌else◌}, Option.{option_map_or}, Ordering.{eq_by_cmp, int_cmp}, Cmp.{eq_by_cmp_equiv, Equal-is}}
+use Rattle.std.specs.{FinMap.{int_cmp-IsAntisymmetric}, Cmp.Lexicographic.{texts_ties}}
+use Rattle.std.proofs.Common.{◌≡◌, ◌==◌, ℕ, ℤ, pos, codes, List, [], ◌∷◌, Bool, true, false, ◌&&◌, refl, sym, ap, ◌∙◌, cond, nat_lt, Some, None, Option, Ok, IsTrue, subst, arith}
 use Rattle.std.proofs.lemmas.Cmp.{int_cmp_total}
-use Rattle.sqlite.specs.declared.types.Value.TheVariants.{Int, Text}
-use Rattle.sqlite.specs.State.{State, Executes}
-use Rattle.table_access.specs.Columns.{text_cmp, whole_at, by_both}
-use Rattle.table_access.specs.Statements.{ChangesOnly}
-use Rattle.broker_core.specs.declared.command.Version.{Version}
-use Rattle.broker_core.specs.Text.{Text as Words, same_text, same_place, put_at, version}
-use Rattle.broker_core.specs.Change.{is_text}
-use Rattle.broker_core.specs.State.{State as Broker}
-use Rattle.broker_tables.specs.Rows.{value_at}
-use Rattle.broker_tables.specs.Numbers.{number_of}
-use Rattle.broker_tables.specs.Holds.{Holds, HoldsAfter}
-use Rattle.broker_tables.specs.Refusals.{HaveNumbers}
-use Rattle.broker_tables.proofs.Frames.{Frame, frame_of, deployed_change}
-use Rattle.broker_tables.proofs.Inserted.{EndsOnly, environment_there, pacticipant_there, version_there}
-use Rattle.broker_tables.proofs.Placed.{deployed_there}
-use Rattle.broker_tables.proofs.RoomLemmas.{Grows, after_one}
-use Rattle.broker_tables.proofs.Upserted.{upsert_ends}
+use Rattle.broker_core.specs.{State.{State as Broker}, Machine.{deployed_cmp}, declared.command.Version.{Version}}
+use Rattle.broker_core.specs.{Text.{Text as Words, same_text, same_place, put_at, version}, Change.{is_text}, declared.answer.DeployedItem.{DeployedItem}}
+use Rattle.broker_core.{specs.Listing.{Lists}, proofs.{Lists.{some_is}, Judgement.{text_refl}}}
 use Rattle.contract_tables.proofs.ReferredRows.{has_owner}
-use Rattle.broker_tables.proofs.NumberLemmas.{number_ties}
-use Rattle.broker_tables.proofs.Orders.{exact_triple}
-use Rattle.broker_tables.proofs.Ties.{two_tests, both_eq, nat_ties}
-use Rattle.deploy_tables.specs.Deployments.{MayBeDeployed, IsVersionOf, TakesOutAndTells, FindsNothing, without_instance}
-use Rattle.deploy_tables.proofs.DeployedRows.{Place, place_of, place_cmp, record_sql, row_for, recording, stored, set, recorded, end_sql, is_number, at_place, ended}
+use Rattle.deploy_tables.specs.{Deployments.{MayBeDeployed, IsVersionOf, TakesOutAndTells, FindsNothing, without_instance}, Listings.{IsDeployedRow}}
+use Rattle.deploy_tables.specs.ContractsThere.{IsDeployedIn}
+use Rattle.deploy_tables.proofs.DeployedRows.{Place, place_of, place_cmp, record_sql, row_for, recording, stored, set, recorded, end_sql, is_number, number_in, at_place, ended, environments, pacticipants, instances, numbers, keys}
+use Rattle.deploy_tables.proofs.VersionRows.{same_pos, joined_by, still_less, two_texts, tied_texts, Names, has_kept, is_kept, pairs_apart}
+use Rattle.broker_tables.specs.{Numbers.{number_of}, Holds.{Holds, HoldsAfter}, Refusals.{HaveNumbers}}
+use Rattle.broker_tables.proofs.{VersionRows.{false_if, find_version, row_number}, Listed.{lists_join}, NumberLemmas.{one_version, number_ties}}
+use Rattle.broker_tables.proofs.{Frames.{Frame, frame_of, deployed_change}, Inserted.{EndsOnly, environment_there, pacticipant_there, version_there}}
+use Rattle.broker_tables.proofs.{Placed.{deployed_there}, RoomLemmas.{Grows, after_one}, Upserted.{upsert_ends}, Orders.{exact_triple, triples_total}}
+use Rattle.broker_tables.proofs.{Ties.{two_tests, both_eq, nat_ties}, Asked.{Asked, IsShown}}
+use Rattle.sqlite_rules.specs.Lists.{Has}
+use Rattle.sqlite_tied.specs.Compute.{everything}
+use Rattle.table_access.specs.{Columns.{text, text_cmp, whole_at, by_both}, Sound.{text_in}, Statements.{from_both, ChangesOnly}, Reading.{AreRead}}
+use Rattle.table_access.proofs.Maps.{find_has, has_find}
+use Rattle.sqlite.specs.{declared.types.Value.TheVariants.{Int, Text}, State.{State, Executes}, Order.{Row}, Term.{Term, col}, Collation.TheVariants.{Binary}}
+use Rattle.sqlite.specs.{Effect.{Database}, Listing.{understood}}
+use Rattle.sqlite_value.specs.{declared.keys.Key.{Key}, Keys.{ascending}}
 
-same_itself : (t : Words) → same_text t t ≡ true
-same_itself t = texts_ties t t ∙ (eq_by_cmp_equiv nat_list_cmp_total).refl t
+-- the number in a row is that of the version that is there, or there is neither
+abbrev pub IsNumberOf : List Version → Words → Option ℤ → Option Words → Type 0
+IsNumberOf vs p value there = (option_map Some value ≡ option_map (λ name. option_map pos (number_of vs (version p name))) there)
 
--- the number at a place is that of the version there
-pub is_there : (versions : List Version) (p : Words) (value : Option ℤ) (there : Option Words) (found : Option ℕ) → option_map Some value ≡ option_map (λ name. option_map pos (number_of versions (version p name))) there → option_map pos found ≡ value
-    → (v : Version) (n : ℕ) → number_of versions v ≡ Some n → v.pacticipant ≡ p → option_map_or (λ k. k == n) found false ≡ is_text v.name there
-is_there versions p value None None held is v n numbered owner = refl
-is_there versions p value (Some name) None held is v n numbered owner = absurd (let a : None ≡ Some (option_map pos (number_of versions (version p name))) = ap (option_map Some) is ∙ held in cc)
-is_there versions p value None (Some k) held is v n numbered owner = absurd (let a : Some (Some (pos k)) ≡ None = ap (option_map Some) is ∙ held in cc)
-is_there versions p value (Some name) (Some k) held is v n numbered owner =
-    let a : Some (Some (pos k)) ≡ Some (option_map pos (number_of versions (version p name))) = ap (option_map Some) is ∙ held in
-    let b : Some (pos k) ≡ option_map pos (number_of versions (version p name)) = cc in
-    let known : number_of versions (version p name) ≡ Some k = unmapped (number_of versions (version p name)) b in
-    nat_ties k n ∙ sym (number_ties versions (version p name) v k n known numbered) ∙ ap (λ t. t && same_text name v.name) (ap (same_text p) owner ∙ same_itself p)
+-- a number names a version that is there
+pub named : (vs : List Version) (p : Words) (z : ℤ) (there : Option Words) → IsNumberOf vs p (Some z) there
+    → (name : Words) × (there ≡ Some name) × ((k : ℕ) × (number_of vs (version p name) ≡ Some k) × (z ≡ pos k))
+named vs p z None h = absurd cc
+named vs p z (Some name) h = (name, refl, go (number_of vs (version p name)) (some_is (Some z) (option_map pos (number_of vs (version p name))) h))
   where
-    unmapped : (o : Option ℕ) → Some (pos k) ≡ option_map pos o → o ≡ Some k
-    unmapped None e = absurd cc
-    unmapped (Some m) e = let same : pos k ≡ pos m = cc in let nats : k ≡ m = cc in ap Some (sym nats)
+    go : (n : Option ℕ) → Some z ≡ option_map pos n → (k : ℕ) × (n ≡ Some k) × (z ≡ pos k)
+    go None e = absurd cc
+    go (Some k) e = (k, refl, cc)
 
--- the number at a place is that of a version of the pacticipant
-pub none_there : (versions : List Version) (p : Words) (value : Option ℤ) (there : Option Words) (found : Option ℕ) → option_map Some value ≡ option_map (λ name. option_map pos (number_of versions (version p name))) there → option_map pos found ≡ value
-    → (n : ℕ) → ((v : Version) → number_of versions v ≡ Some n → v.pacticipant ≡ p → ⊥) → option_map_or (λ k. k == n) found false ≡ false
-none_there versions p value there None held is n none = refl
-none_there versions p value None (Some k) held is n none = absurd (let a : Some (Some (pos k)) ≡ None = ap (option_map Some) is ∙ held in cc)
-none_there versions p value (Some name) (Some k) held is n none = elim (cases_Bool (k == n)) [
-  | inl hit ↦
-      let a : Some (Some (pos k)) ≡ Some (option_map pos (number_of versions (version p name))) = ap (option_map Some) is ∙ held in
-      let b : Some (pos k) ≡ option_map pos (number_of versions (version p name)) = cc in
-      absurd (none (version p name) (known (number_of versions (version p name)) b ∙ ap Some (eqb-true k n hit)) refl)
-  | inr miss ↦ miss
-]
-  where
-    known : (o : Option ℕ) → Some (pos k) ≡ option_map pos o → o ≡ Some k
-    known None e = absurd cc
-    known (Some m) e = let same : pos k ≡ pos m = cc in let nats : k ≡ m = cc in ap Some (sym nats)
+-- and a version that is there has a number
+pub valued : (vs : List Version) (p name : Words) (value : Option ℤ) → IsNumberOf vs p value (Some name)
+    → (k : ℕ) × (number_of vs (version p name) ≡ Some k) × (value ≡ Some (pos k))
+valued vs p name None h = absurd cc
+valued vs p name (Some z) h = let it = named vs p z (Some name) h in
+    (it.2.0, ap (λ n. number_of vs (version p n)) (some_is name it.0 it.1) ∙ it.2.1, ap Some it.2.2)
+
+-- a number that was found
+pub found_is : (found : Option ℕ) (value : Option ℤ) (n : ℕ) → option_map pos found ≡ value → option_map_or (λ k. k == n) found false ≡ is_number n value
+found_is None value n is = ap (is_number n) is
+found_is (Some k) value n is = nat_ties k n ∙ (eq_by_cmp_equiv int_cmp_total).symm (pos k) (pos n) ∙ ap (is_number n) is
+
+-- whether the number at a place is this one is whether the version of this number is deployed there
+pub is_number_there : (vs : List Version) (p : Words) (value : Option ℤ) (there : Option Words) → IsNumberOf vs p value there → (v : Version) (n : ℕ)
+    → number_of vs v ≡ Some n → v.pacticipant ≡ p → is_number n value ≡ is_text v.name there
+is_number_there vs p None None held v n numbered owner = refl
+is_number_there vs p (Some z) None held v n numbered owner = absurd (let it = named vs p z None held in let none = it.1 in cc)
+is_number_there vs p value (Some name) held v n numbered owner =
+    let it = valued vs p name value held in
+    ap (is_number n) it.2 ∙ (eq_by_cmp_equiv int_cmp_total).symm (pos n) (pos it.0) ∙ sym (number_ties vs (version p name) v it.0 n it.1 numbered) ∙ ap (λ t. t && same_text name v.name) (ap (same_text p) owner ∙ text_refl p)
+
+-- where no version of the pacticipant has this number, none of this number is there
+pub none_is_there : (vs : List Version) (p : Words) (value : Option ℤ) (there : Option Words) → IsNumberOf vs p value there → (n : ℕ)
+    → ((v : Version) → number_of vs v ≡ Some n → v.pacticipant ≡ p → ⊥) → is_number n value ≡ false
+none_is_there vs p None there held n none = refl
+none_is_there vs p (Some z) there held n none = false_if (eq_by_cmp int_cmp (pos n) z) (λ hit.
+    let it = named vs p z there held in
+    let same : pos n ≡ pos it.2.0 = int_cmp-IsAntisymmetric (pos n) z ((Equal-is (int_cmp (pos n) z)).0 hit) ∙ it.2.2 in
+    none (version p it.0) (it.2.1 ∙ ap Some (sym (same_pos n it.2.0 same))) refl)
 
 pub place_ties : (e p i f q j : Words) → same_place (e, p, i) (f, q, j) ≡ eq_by_cmp (by_both text_cmp (by_both text_cmp text_cmp)) (e, (p, i)) (f, (q, j))
 place_ties e p i f q j =
@@ -82,54 +82,20 @@ now_deployed e p i n v old new count s held numbered owner h =
     ap (option_map Some) (it.2 (f, (q, j))) ∙ go f q j (eq_by_cmp place_cmp (f, (q, j)) (e, (p, i))) refl ∙ ap (λ b. option_map (λ name. option_map pos (number_of s.versions (version q name))) (cond b (Some v.name) (s.deployed (f, q, j)))) (sym (place_ties f q j e p i))))
   where
     go : (f q j : Words) (b : Bool) → eq_by_cmp place_cmp (f, (q, j)) (e, (p, i)) ≡ b
-        → option_map Some (cond b (Some (pos n)) (value_at place_cmp place_of (whole_at 4) (old.now.trees 21) (f, (q, j)))) ≡ option_map (λ name. option_map pos (number_of s.versions (version q name))) (cond b (Some v.name) (s.deployed (f, q, j)))
+        → option_map Some (cond b (Some (pos n)) (number_in (old.now.trees 21) (f, (q, j)))) ≡ option_map (λ name. option_map pos (number_of s.versions (version q name))) (cond b (Some v.name) (s.deployed (f, q, j)))
     go f q j true hit =
         let same = exact_triple (f, (q, j)) (e, (p, i)) ((Equal-is (place_cmp (f, (q, j)) (e, (p, i)))).0 hit) in
         ap (λ o. Some (option_map pos o)) (sym numbered) ∙ ap (λ x. Some (option_map pos (number_of s.versions (version x v.name)))) (owner ∙ sym (ap (λ k. k.1.0) same))
     go f q j false miss = held.deployed f q j
 
--- that a version is deployed fails only as the store fails
-pub deployment_ends : (e p i : Words) (n : ℕ) (old new : State) (s : Broker) → Holds old.now s → HaveNumbers (codes "deployed" ∷ []) old.now → MayBeDeployed e p n s → EndsOnly record_sql (row_for e p i n) old new
+-- that a version is deployed fails only as the store fails, or since one of its names is too long
+pub deployment_ends : (e p i : Words) (n : ℕ) (old new : State) (s : Broker) → Holds old.now s → HaveNumbers (codes "deployed" ∷ []) old.now → MayBeDeployed e p n s → EndsOnly (e ∷ p ∷ i ∷ []) record_sql (row_for e p i n) old new
 deployment_ends e p i n old new s held numbers (there, (v, numbered, owner)) =
     let row = row_for e p i n in
     upsert_ends (recording e p i n) (stored e p i n) old new held.broker (deployed_there old.now held.broker) (set old.now held.broker e p i n) numbers.0 (λ id. record { typed = refl; present = refl; checked = refl }) (λ id. (
       environment_there old.now s held (id ∷ row) 1 e there refl,
       (pacticipant_there old.now s held (id ∷ row) 2 p (subst (λ x. IsTrue (is_some (s.pacticipants x))) owner (has_owner old.now s held v n numbered)) refl, (version_there old.now s held (id ∷ row) 4 v n numbered refl, tt)),
-    ))
-
--- whether the number at a place is this one is whether the version of this number is deployed there
-is_number_there : (versions : List Version) (p : Words) (value : Option ℤ) (there : Option Words) → option_map Some value ≡ option_map (λ name. option_map pos (number_of versions (version p name))) there
-    → (v : Version) (n : ℕ) → number_of versions v ≡ Some n → v.pacticipant ≡ p → is_number n value ≡ is_text v.name there
-is_number_there versions p None None held v n numbered owner = refl
-is_number_there versions p None (Some name) held v n numbered owner = absurd (let a : None ≡ Some (option_map pos (number_of versions (version p name))) = held in cc)
-is_number_there versions p (Some z) None held v n numbered owner = absurd (let a : Some (Some z) ≡ None = held in cc)
-is_number_there versions p (Some z) (Some name) held v n numbered owner =
-    let a : Some (Some z) ≡ Some (option_map pos (number_of versions (version p name))) = held in
-    let b : Some z ≡ option_map pos (number_of versions (version p name)) = cc in
-    let it = known (number_of versions (version p name)) b in
-    ap (eq_by_cmp int_cmp (pos n)) it.2 ∙ (eq_by_cmp_equiv int_cmp_total).symm (pos n) (pos it.0) ∙ sym (number_ties versions (version p name) v it.0 n it.1 numbered) ∙ ap (λ t. t && same_text name v.name) (ap (same_text p) owner ∙ same_itself p)
-  where
-    known : (o : Option ℕ) → Some z ≡ option_map pos o → (k : ℕ) × (o ≡ Some k) × (z ≡ pos k)
-    known None e = absurd cc
-    known (Some k) e = (k, refl, cc)
-
--- no version of the pacticipant has this number, so none of this number is there
-none_is_there : (versions : List Version) (p : Words) (value : Option ℤ) (there : Option Words) → option_map Some value ≡ option_map (λ name. option_map pos (number_of versions (version p name))) there
-    → (n : ℕ) → ((v : Version) → number_of versions v ≡ Some n → v.pacticipant ≡ p → ⊥) → is_number n value ≡ false
-none_is_there versions p None there held n none = refl
-none_is_there versions p (Some z) None held n none = absurd (let a : Some (Some z) ≡ None = held in cc)
-none_is_there versions p (Some z) (Some name) held n none = elim (cases_Bool (eq_by_cmp int_cmp (pos n) z)) [
-  | inl hit ↦
-      let a : Some (Some z) ≡ Some (option_map pos (number_of versions (version p name))) = held in
-      let b : Some z ≡ option_map pos (number_of versions (version p name)) = cc in
-      let same : pos n ≡ z = int_cmp-IsAntisymmetric (pos n) z ((Equal-is (int_cmp (pos n) z)).0 hit) in
-      absurd (none (version p name) (known (number_of versions (version p name)) (ap Some same ∙ b)) refl)
-  | inr miss ↦ miss
-]
-  where
-    known : (o : Option ℕ) → Some (pos n) ≡ option_map pos o → o ≡ Some n
-    known None e = absurd cc
-    known (Some m) e = let same : pos n ≡ pos m = cc in let nats : n ≡ m = cc in ap Some (sym nats)
+    )) (e ∷ p ∷ i ∷ []) (λ are. (are.0, (are.1.0, (are.1.1.0, (tt, tt))))) (omega arith) (omega arith)
 
 -- ---- the end of a deployment
 
@@ -137,7 +103,8 @@ module _ (e p i : Words) (n : ℕ) (old new : State) (count : ℕ) (s : Broker) 
   abbrev there : Option ℤ
   there = at_place old.now held.broker e p i n
 
-  it : ChangesOnly 21 old new × Grows (old.now.trees 21) (new.now.trees 21) × ((b : Bool) → is_number n there ≡ b → (q : Place) → value_at place_cmp place_of (whole_at 4) (new.now.trees 21) q ≡ cond (b && eq_by_cmp place_cmp q (e, (p, i))) None (value_at place_cmp place_of (whole_at 4) (old.now.trees 21) q))
+  it : ChangesOnly 21 old new × Grows (old.now.trees 21) (new.now.trees 21) × ((b : Bool) → is_number n there ≡ b → (q : Place)
+      → number_in (new.now.trees 21) q ≡ cond (b && eq_by_cmp place_cmp q (e, (p, i))) None (number_in (old.now.trees 21) q))
       × (nat_lt 0 count ≡ is_number n there)
   it = ended e p i n old new count held.broker h
 
@@ -145,7 +112,7 @@ module _ (e p i : Words) (n : ℕ) (old new : State) (count : ℕ) (s : Broker) 
   frame = frame_of (codes "deployed" ∷ []) 21 refl old new held.broker it.0
 
   each : (f q j : Words) (b : Bool)
-      → option_map Some (cond b None (value_at place_cmp place_of (whole_at 4) (old.now.trees 21) (f, (q, j)))) ≡ option_map (λ name. option_map pos (number_of s.versions (version q name))) (cond b None (s.deployed (f, q, j)))
+      → option_map Some (cond b None (number_in (old.now.trees 21) (f, (q, j)))) ≡ option_map (λ name. option_map pos (number_of s.versions (version q name))) (cond b None (s.deployed (f, q, j)))
   each f q j true = refl
   each f q j false = held.deployed f q j
 
@@ -174,3 +141,82 @@ module _ (e p i : Words) (n : ℕ) (old new : State) (count : ℕ) (s : Broker) 
   none_taken none =
       let miss = none_is_there s.versions p there (s.deployed (e, p, i)) (held.deployed e p i) n (λ v is owner. none (v, is, owner)) in
       (s, (it.3 ∙ miss, refl), after false miss)
+
+-- ---- the list
+
+abbrev list_order : List (Term × Key)
+list_order = (col 1 2, ascending Binary) ∷ (col 1 3, ascending Binary) ∷ []
+
+abbrev list_project : List Term
+list_project = col 1 2 ∷ col 1 3 ∷ col 2 3 ∷ []
+
+pub deployments : (e : List ℕ)
+    → Asked (codes "SELECT d.pacticipant, d.instance, v.version FROM deployed d JOIN versions v ON v.number = d.version_number WHERE d.environment = ?1 ORDER BY d.pacticipant, d.instance")
+    (Text e ∷ []) (from_both 21 6 (joined_by 4) list_project list_order)
+unfolding understood everything
+deployments e = record { names = _; means = record { is = refl; plain = (refl, refl); unlisted = refl }; runs = record { whole = refl; typed = refl; sumless = refl } }
+
+-- ---- the rows of an environment, and what they say
+
+module _ (db : Database) (s : Broker) (held : Holds db s) (e : Words) where
+  -- a row names a version that is deployed, by its number
+  pub row_deployed : (d : Row) → Has (db.trees 21) d → text 1 d ≡ e → (name : Words) × (s.deployed (e, text 2 d, text 3 d) ≡ Some name) × ((k : ℕ) × (number_of s.versions (version (text 2 d) name) ≡ Some k) × (whole_at 4 d ≡ pos k))
+  row_deployed d has there =
+      let value : number_in (db.trees 21) (e, (text 2 d, text 3 d)) ≡ Some (whole_at 4 d) =
+      subst (λ f. number_in (db.trees 21) (f, (text 2 d, text 3 d)) ≡ Some (whole_at 4 d)) there
+      (has_find triples_total exact_triple place_of (whole_at 4) (db.trees 21) d (keys db held.broker) has) in
+      named s.versions (text 2 d) (whole_at 4 d) (s.deployed (e, text 2 d, text 3 d)) (sym (ap (option_map Some) value) ∙ held.deployed e (text 2 d) (text 3 d))
+
+  -- the version that has this number
+  pub deployed_of : (d : Row) (w : Version) (n : ℕ) → Has (db.trees 21) d → text 1 d ≡ e → number_of s.versions w ≡ Some n → whole_at 4 d ≡ pos n
+      → (text 2 d ≡ w.pacticipant) × (s.deployed (e, text 2 d, text 3 d) ≡ Some w.name)
+  deployed_of d w n has there known number =
+      let it = row_deployed d has there in
+      let same : version (text 2 d) it.0 ≡ w = one_version s.versions (version (text 2 d) it.0) w n (it.2.1 ∙ ap Some (same_pos it.2.0 n (sym it.2.2 ∙ number))) known in
+      (ap (λ (v : Version). v.pacticipant) same, it.1 ∙ ap (λ (v : Version). Some v.name) same)
+
+  -- and what is deployed has a row, and a number
+  pub deployed_row : (p i name : Words) → s.deployed (e, p, i) ≡ Some name
+      → (k : ℕ) × (number_of s.versions (version p name) ≡ Some k) × ((d : Row) × Has (db.trees 21) d × (text 1 d ≡ e) × (text 2 d ≡ p) × (text 3 d ≡ i) × (whole_at 4 d ≡ pos k))
+  deployed_row p i name there =
+      let at = valued s.versions p name (number_in (db.trees 21) (e, (p, i)))
+      (held.deployed e p i ∙ ap (option_map (λ n. option_map pos (number_of s.versions (version p n)))) there) in
+      let d = find_has triples_total exact_triple place_of (whole_at 4) (e, (p, i)) (pos at.0) (db.trees 21) at.2 in
+      (at.0, at.1, (d.0, d.1, sym (ap (λ x. x.0) d.2), sym (ap (λ x. x.1.0) d.2), sym (ap (λ x. x.1.1) d.2), d.3))
+
+  pub deployed_in : Names db s 21 4 e (IsDeployedIn s e)
+  deployed_in = record {
+    environments = (environments db held.broker).typed;
+    numbers = (numbers db held.broker).typed;
+    row_is = λ d w n has there known number.
+        let it = deployed_of d w n has there known number in
+        (text 3 d, ap (λ p. s.deployed (e, p, text 3 d)) (sym it.0) ∙ it.1);
+    is_row = λ w n known there.
+        let at = deployed_row w.pacticipant there.0 w.name there.1 in
+        (at.2.0, at.2.1, at.2.2, at.2.5 ∙ ap pos (some_is at.0 n (sym at.1 ∙ known)));
+  }
+
+  pub deployed_listed : (rows : List Row) (items : List DeployedItem) → IsShown (deployments e) db rows → AreRead IsDeployedRow rows items
+      → Lists deployed_cmp (λ x. s.deployed (e, x.pacticipant, x.instance) ≡ Some x.version) items
+  deployed_listed = lists_join db (Text e ∷ []) (joined_by 4) list_project list_order IsDeployedRow deployed_cmp (λ x. s.deployed (e, x.pacticipant, x.instance) ≡ Some x.version) 21 6
+      (pairs_apart db held.broker 21 4 (environments db held.broker).typed (numbers db held.broker).typed e triples_total place_of list_order
+      (keys db held.broker) (λ p q hp hq tied.
+      let a = has_kept db held.broker 21 4 (environments db held.broker).typed (numbers db held.broker).typed e p hp in
+      let b = has_kept db held.broker 21 4 (environments db held.broker).typed (numbers db held.broker).typed e q hq in
+      let owner = pacticipants db held.broker in
+      let instance = instances db held.broker in
+      let same = tied_texts _ _ _ _ _ _ _ _ (owner.typed p.0 a.0) (owner.typed q.0 b.0) (instance.typed p.0 a.0) (instance.typed q.0 b.0) tied in
+      λ i. ((a.2.1 ∙ sym b.2.1) i, same i)))
+      (λ a b x y ha hb ra rb h. still_less (text_cmp x.pacticipant y.pacticipant) (text_cmp x.instance y.instance) (text_cmp x.version y.version)
+      (sym (two_texts _ _ _ _ _ _ _ _ ra.0 rb.0 ra.1 rb.1) ∙ h))
+      (λ q x has read.
+      let it = has_kept db held.broker 21 4 (environments db held.broker).typed (numbers db held.broker).typed e q has in
+      let known = row_number db held.broker s.versions held.versions q.1 it.1 in
+      (λ i. s.deployed (e, sym (ap text_in read.0) i, sym (ap text_in read.1) i))
+      ∙ (deployed_of q.0 (version (text 2 q.1) (text 3 q.1)) known.0 it.0 it.2.1 known.1 (sym it.2.0 ∙ known.2)).1 ∙ ap Some (ap text_in read.2))
+      (λ x there.
+      let at = deployed_row x.pacticipant x.instance x.version there in
+      let d = at.2 in
+      let v = find_version db held.broker s.versions (version x.pacticipant x.version) at.0 held.versions at.1 in
+      let kept = is_kept db held.broker 21 4 (environments db held.broker).typed (numbers db held.broker).typed e d.0 v.0 d.1 v.1 (v.4 ∙ sym d.5) d.2 in
+      (_, kept, λ y read i. record { pacticipant = (sym (ap text_in read.0) ∙ d.3) i; instance = (sym (ap text_in read.1) ∙ d.4) i; version = (sym (ap text_in read.2) ∙ v.3) i }))

@@ -1,8 +1,6 @@
 pub mod DeployedRows
 pub mod DeployedState
 pub mod VersionRows
-pub mod DeployedList
-pub mod ReleasedList
 pub mod ReleasedRows
 pub mod Removals
 pub mod ContractsThere
@@ -10,8 +8,6 @@ pub mod VersionNames
 pub mod PartnerRows
 pub mod NeedLemmas
 pub mod MatrixLemmas
-pub mod MatrixOrders
-pub mod UnknownVersion
 pub mod MatrixLoop
 pub mod ToldResults
 pub mod ReadableRows

@@ -1,118 +1,38 @@
 -- The entries of both sides, with what their results say, are the matrix.
-use Rattle.std.proofs.Common.{◌≡◌, ◌⊎◌, ℕ, List, [], ◌∷◌, ◌++◌, map, refl, sym, ◌∙◌, ap, subst, inl, inr, Ordering, Less, Equal, Greater}
-use Rattle.std.specs.Prelude.{Option, Some, None, option_map, Contains, IsSomeAnd, MatchOption, ⊤, ◌↔◌}
-use Rattle.std.specs.Ordering.{ordering_then, nat_cmp}
-use Rattle.std.specs.Option.{option_cmp}
-use Rattle.std.specs.Cmp.{nat_cmp_total, tied_itself}
-use Rattle.std.proofs.lemmas.List.Elements.{Contains-append_cases, Contains-append_left, Contains-append_right}
-use Rattle.table_access.specs.Reading.{AreRead}
-use Rattle.broker_core.specs.declared.command.Version.{Version}
-use Rattle.broker_core.specs.declared.need.Latest.{Latest}
-use Rattle.broker_core.specs.declared.answer.MatrixRow.{MatrixRow}
-use Rattle.broker_core.specs.declared.answer.Verified.{Verified}
-use Rattle.broker_core.specs.Text.{Text, text_cmp, version}
-use Rattle.broker_core.specs.State.{State, Verification, latest_result, said_by}
-use Rattle.broker_core.specs.Listing.{Lists}
-use Rattle.broker_core.specs.Machine.{matrix_cmp, verified_version, version_cmp, IsLatest, IsMatrixRow}
-use Rattle.broker_core.proofs.Lists.{contains_none, contains_cases, contains_here, contains_later}
-use Rattle.broker_core.proofs.Order.{text_tied}
-use Rattle.broker_tables.proofs.Listed.{lists_read}
-use Rattle.contract_tables.specs.declared.listings.Contract.{Contract}
-use Rattle.contract_tables.specs.declared.listings.VerifiedContent.{VerifiedContent}
-use Rattle.contract_tables.specs.declared.listings.VerifiedVersion.{VerifiedVersion}
-use Rattle.contract_tables.specs.Listings.{verified_cmp}
-use Rattle.contract_tables.specs.Verified.{result_with}
-use Rattle.contract_tables.proofs.LastRow.{latest_with}
+use Rattle.std.specs.Cmp.{nat_cmp_total, tied_itself, IsTotalOrder, IsEquivalence, on_total, both_tied, eq_by_cmp_equiv, Equal-is}
+use Rattle.std.specs.Prelude.{Option, Some, None, option_map, Contains, IsSomeAnd, MatchOption, ⊤, ◌↔◌, nat_eq, ◌&&◌, IsPermutation, IsSorted}
+use Rattle.std.specs.{Ordering.{ordering_then, nat_cmp, is_eq, eq_by_cmp}, Option.{option_cmp, option_eq}, List.{dedup}, declared.cmp.Ordering.{Ordering}}
+use Rattle.std.specs.{declared.cmp.Ordering.TheVariants.{Equal}, Cmp.Rules.{comparing}}
+use Rattle.std.specs.{Cmp.Lexicographic.{nat_list_cmp_total, options_total, texts_ties, pointwise}, FinMap.{nat_cmp-IsAntisymmetric}}
+use Rattle.std.proofs.Common.{◌≡◌, ◌⊎◌, ℕ, List, [], ◌∷◌, ◌++◌, map, refl, sym, ◌∙◌, ap, subst, inl, inr, Ordering, Less, Equal, Greater, Bool, rules}
+use Rattle.std.proofs.{lemmas.List.Elements.{Contains-append_cases, Contains-append_left, Contains-append_right}, lemmas.Map.Lookups.{exact_pairs}}
+use Rattle.table_access.proofs.{Members.{contains_has, has_contains, has_map, map_has}, Parts.{both_total}}
 use Rattle.deploy_tables.specs.declared.entries.Entry.{Entry}
-use Rattle.deploy_tables.specs.Matrix.{IsNewest, HasNone, IsOfContract, IsOfContent, IsOfSome, IsConsumed, IsProvided, IsEntry, TellsResult, IsToldAs, entry_cmp, entry_with, entry_without, entries_with, entry_used, or_one}
+use Rattle.deploy_tables.specs.Matrix.{IsNewest, HasNone, IsOfContract, IsOfSome, IsConsumed, IsProvided, IsEntry, unsaid, unsaid_result, entry_cmp, entry_with, entry_without, entries_with, or_one}
+use Rattle.broker_tables.proofs.Orders.{exact_texts}
+use Rattle.broker_core.specs.{Listing.{Lists}, declared.command.Version.{Version}, declared.need.Latest.{Latest}, declared.answer.MatrixRow.{MatrixRow}}
+use Rattle.broker_core.specs.{declared.answer.Verified.{Verified}, Text.{Text, text_cmp, version}, State.{State, Verification, latest_result, said_by}}
+use Rattle.broker_core.{specs.Machine.{matrix_cmp, verified_version, IsLatest, IsMatrixRow}, proofs.Order.{text_tied, both_equal}}
+use Rattle.broker_core.proofs.Lists.{sorted_dedup, some_is, contains_none, contains_cases, contains_here}
+use Rattle.contract_tables.specs.{declared.listings.Contract.{Contract}, declared.listings.VerifiedVersion.{VerifiedVersion}, Listings.{verified_cmp}}
 
 -- ---- lists
 
-from_map : {A B : Type 0} (f : A → B) (xs : List A) (y : B) → Contains (map f xs) y → (x : A) × Contains xs x × (f x ≡ y)
-from_map f [] y c = absurd (contains_none y c)
-from_map f (x ∷ xs) y c = elim (contains_cases (f x) (map f xs) y c) [
-  | inl same ↦ (x, contains_here x xs, same)
-  | inr there ↦ let rest = from_map f xs y there in (rest.0, contains_later x xs rest.0 rest.1, rest.2)
-]
-
-to_map : {A B : Type 0} (f : A → B) (xs : List A) (x : A) → Contains xs x → Contains (map f xs) (f x)
-to_map f [] x c = absurd (contains_none x c)
-to_map f (z ∷ xs) x c = elim (contains_cases z xs x c) [
-  | inl same ↦ subst (λ w. Contains (f z ∷ map f xs) (f w)) same (contains_here (f z) (map f xs))
-  | inr there ↦ contains_later (f z) (map f xs) (f x) (to_map f xs x there)
-]
+-- what is made of those that are listed
+pub mapped_is : {A B : Type 0} (f : A → B) {cmp : A → A → Ordering} {P : A → Type 0} (xs : List A) → Lists cmp P xs → (y : B)
+    → Contains (map f xs) y ↔ ((x : A) × P x × (y ≡ f x))
+mapped_is f xs listed y = (
+  λ c. let it = map_has f xs y (contains_has (map f xs) y c) in (it.0, (listed.exactly it.0).0 (has_contains xs it.0 it.1), it.2),
+  λ is. subst (Contains (map f xs)) (sym is.2) (has_contains (map f xs) (f is.0) (has_map f xs is.0 (contains_has xs is.0 ((listed.exactly is.0).1 is.1)))),
+)
 
 -- a member of a list, or the one that stands where the list is empty
-from_or_one : {X : Type 0} (xs : List X) (z y : X) → Contains (or_one xs z) y → Contains xs y ⊎ ((xs ≡ []) × (z ≡ y))
-from_or_one [] z y c = elim (contains_cases z [] y c) [ inl same ↦ inr (refl, same) | inr none ↦ absurd (contains_none y none) ]
-from_or_one (x ∷ xs) z y c = inl c
-
-to_or_one : {X : Type 0} (xs : List X) (z y : X) → Contains xs y → Contains (or_one xs z) y
-to_or_one [] z y c = absurd (contains_none y c)
-to_or_one (x ∷ xs) z y c = c
-
-or_one_empty : {X : Type 0} (xs : List X) (z : X) → ((y : X) → Contains xs y → ⊥) → Contains (or_one xs z) z
-or_one_empty [] z none = contains_here z []
-or_one_empty (x ∷ xs) z none = absurd (none x (contains_here x xs))
-
-inside : {A : Type 0} (x y : A) → Some x ≡ Some y → x ≡ y
-inside x y e = cc
-
--- the result whose number is known
-newest_is : (o : Option (ℕ × Verification)) (n : ℕ) → option_map (λ e. e.0) o ≡ Some n → (e : ℕ × Verification) × (o ≡ Some e) × (e.0 ≡ n)
-newest_is None n h = absurd cc
-newest_is (Some e) n h = (e, refl, cc)
-
--- where no number is, there is no result
-none_newest : (o : Option (ℕ × Verification)) → ((n : ℕ) → option_map (λ e. e.0) o ≡ Some n → ⊥) → o ≡ None
-none_newest None never = refl
-none_newest (Some e) never = absurd (never e.0 refl)
-
-none_some : {A : Type 0} (x : A) → None ≡ Some x → ⊥
-none_some x e = cc
-
--- ---- the parts as they are paired
-
--- a contract with the versions that have a result for it
-pub contract_entries : (s : State) (v : Version) (c : Contract) (verified : List VerifiedVersion) → Lists verified_cmp (λ r. option_map (λ e. e.0) (latest_result s c.content (version c.provider r.name)) ≡ Some r.result) verified
-    → (x : Entry) → Contains (entries_with v c verified) x ↔ IsOfContract s v c x
-contract_entries s v c verified listed x = (
-  λ there. elim (from_or_one (map (entry_with v c) verified) (entry_without v c) x there) [
-    | inl some ↦ let r = from_map (entry_with v c) verified x some in subst (IsOfContract s v c) r.2 (refl, refl, refl, (listed.exactly r.0).0 r.1)
-    | inr none ↦ subst (IsOfContract s v c) none.1 (
-      refl,
-      refl,
-      refl,
-      λ w. none_newest (latest_result s c.content (version c.provider w)) (λ n is.
-          let r : VerifiedVersion = record { name = w; result = n } in
-          contains_none (entry_with v c r) (subst (λ xs. Contains xs (entry_with v c r)) none.0 (to_map (entry_with v c) verified r ((listed.exactly r).1 is)))),
-    )
-  ],
-  λ is. back x.verified refl is.3 is,
+or_one_is : {X : Type 0} (xs : List X) (z y : X) → Contains (or_one xs z) y ↔ (Contains xs y ⊎ (((x : X) → ¬ (Contains xs x)) × (y ≡ z)))
+or_one_is [] z y = (
+  λ c. elim (contains_cases z [] y c) [ inl same ↦ inr (contains_none, sym same) | inr none ↦ inl none ],
+  λ is. elim is [ inl none ↦ absurd (contains_none y none) | inr alone ↦ subst (Contains (z ∷ [])) (sym alone.1) (contains_here z []) ],
 )
-  where
-    back : (o : Option VerifiedVersion) → x.verified ≡ o → MatchOption x.verified (HasNone s c.content c.provider) (λ r. IsNewest s c.content (version c.provider r.name) r.result) → IsOfContract s v c x → Contains (entries_with v c verified) x
-    back None e told is =
-        let none : HasNone s c.content c.provider = subst (λ o. MatchOption o (HasNone s c.content c.provider) (λ r. IsNewest s c.content (version c.provider r.name) r.result)) e told in
-        let same : entry_without v c ≡ x = (λ i. record { consumer = sym is.0 i; consumer_version = sym is.1 i; provider = sym is.2 i; verified = sym e i }) in
-        subst (Contains (entries_with v c verified)) same (or_one_empty (map (entry_with v c) verified) (entry_without v c) (λ y there.
-        let r = from_map (entry_with v c) verified y there in
-        none_some r.0.result (sym (ap (option_map (λ (e : ℕ × Verification). e.0)) (none r.0.name)) ∙ (listed.exactly r.0).0 r.1)))
-    back (Some r) e told is =
-        let newest : IsNewest s c.content (version c.provider r.name) r.result = subst (λ o. MatchOption o (HasNone s c.content c.provider) (λ r. IsNewest s c.content (version c.provider r.name) r.result)) e told in
-        let same : entry_with v c r ≡ x = (λ i. record { consumer = sym is.0 i; consumer_version = sym is.1 i; provider = sym is.2 i; verified = sym e i }) in
-        subst (Contains (entries_with v c verified)) same (to_or_one (map (entry_with v c) verified) (entry_without v c) (entry_with v c r) (to_map (entry_with v c) verified r ((listed.exactly r).1 newest)))
-
--- a content with its consumers
-pub content_entries : (s : State) (v : Version) (c : VerifiedContent) (consumers : List Version) → Lists version_cmp (λ w. s.contracts (w, v.pacticipant) ≡ Some c.content) consumers
-    → (x : Entry) → Contains (map (entry_used v c) consumers) x ↔ IsOfContent s v c x
-content_entries s v c consumers listed x = (
-  λ there. let w = from_map (entry_used v c) consumers x there in subst (IsOfContent s v c) w.2 ((listed.exactly w.0).0 w.1, refl, refl),
-  λ is.
-      let w = version x.consumer x.consumer_version in
-      let same : entry_used v c w ≡ x = (λ i. record { consumer = x.consumer; consumer_version = x.consumer_version; provider = sym is.1 i; verified = sym is.2 i }) in
-      subst (Contains (map (entry_used v c) consumers)) same (to_map (entry_used v c) consumers w ((listed.exactly w).1 is.0)),
-)
+or_one_is (x ∷ xs) z y = (λ c. inl c, λ is. elim is [ inl c ↦ c | inr alone ↦ absurd (alone.0 x (contains_here x xs)) ])
 
 -- what holds of some that are listed
 pub of_listed : {C : Type 0} (Is P : C → Type 0) (cmp : C → C → Ordering) (cs ds : List C) → Lists cmp P cs → ds ≡ cs → (A : Type 0) → A ↔ IsOfSome Is ds → A ↔ ((c : C) × P c × Is c)
@@ -121,187 +41,232 @@ of_listed Is P cmp cs ds listed same A both = (
   λ some. both.1 (some.0, subst (λ xs. Contains xs some.0) (sym same) ((listed.exactly some.0).1 some.1), some.2),
 )
 
+-- ---- the number of a latest result, and what it says
+
+none_newest : (o : Option (ℕ × Verification)) → ((n : ℕ) → option_map (λ e. e.0) o ≡ Some n → ⊥) → o ≡ None
+none_newest None never = refl
+none_newest (Some e) never = absurd (never e.0 refl)
+
+newest_says : (o : Option (ℕ × Verification)) (n : ℕ) → option_map (λ e. e.0) o ≡ Some n → (l : Latest) × IsSomeAnd o (λ e. (n ≡ e.0) × (l ≡ said_by e.1))
+newest_says None n h = absurd cc
+newest_says (Some e) n h = (said_by e.1, (cc, refl))
+
+says_newest : (o : Option (ℕ × Verification)) (n : ℕ) (l : Latest) → IsSomeAnd o (λ e. (n ≡ e.0) × (l ≡ said_by e.1)) → option_map (λ e. e.0) o ≡ Some n
+says_newest None n l h = absurd h
+says_newest (Some e) n l h = ap Some (sym h.0)
+
+-- ---- the parts as they are paired
+
+-- a contract with the versions that have a result for it
+pub contract_entries : (s : State) (v : Version) (c : Contract) (verified : List VerifiedVersion) → Lists verified_cmp (λ r. IsNewest s c.content (version c.provider r.name) r.result) verified
+    → (x : Entry) → Contains (entries_with v c verified) x ↔ IsOfContract s v c x
+contract_entries s v c verified listed x = (
+  λ there. elim (either.0 there) [
+    | inl some ↦ inl ((paired x).0 some)
+    | inr alone ↦ inr (
+      λ w. none_newest (latest_result s c.content (version c.provider w))
+          (λ n is. let r : VerifiedVersion = record { name = w; result = n } in alone.0 (entry_with v c r) ((paired (entry_with v c r)).1 (r, is, refl))),
+      alone.1,
+    )
+  ],
+  λ is. either.1 (elim is [
+    | inl some ↦ inl ((paired x).1 some)
+    | inr none ↦ inr (
+      λ y there. let r = (paired y).0 there in let wrong : None ≡ Some r.0.result = sym (ap (option_map (λ (e : ℕ × Verification). e.0)) (none.0 r.0.name))
+          ∙ r.1 in cc,
+      none.1,
+    )
+  ]),
+)
+  where
+    either : Contains (entries_with v c verified) x ↔ (Contains (map (entry_with v c) verified) x
+        ⊎ (((y : Entry) → ¬ (Contains (map (entry_with v c) verified) y)) × (x ≡ entry_without v c)))
+    either = or_one_is (map (entry_with v c) verified) (entry_without v c) x
+
+    paired : (y : Entry) → Contains (map (entry_with v c) verified) y
+        ↔ ((r : VerifiedVersion) × IsNewest s c.content (version c.provider r.name) r.result × (y ≡ entry_with v c r))
+    paired = mapped_is (entry_with v c) verified listed
+
 -- ---- both sides are the entries
 
-consumed_entry : (s : State) (v : Version) (x : Entry) → IsConsumed s v x → IsEntry s v x
-consumed_entry s v x (c, contract, (consumer, name, provider, told)) = record {
-  content = c.content;
-  contract = (λ i. s.contracts (version (consumer i) (name i), provider i)) ∙ contract;
-  verified = go x.verified told;
-}
-  where
-    mine : version x.consumer x.consumer_version ≡ v
-    mine = λ i. version (consumer i) (name i)
-
-    go : (o : Option VerifiedVersion) → MatchOption o (HasNone s c.content c.provider) (λ r. IsNewest s c.content (version c.provider r.name) r.result)
-        → MatchOption o ((version x.consumer x.consumer_version ≡ v) × HasNone s c.content x.provider) (λ r. ((version x.consumer x.consumer_version ≡ v) ⊎ (version x.provider r.name ≡ v)) × IsNewest s c.content (version x.provider r.name) r.result)
-    go None none = (mine, subst (HasNone s c.content) (sym provider) none)
-    go (Some r) newest = (inl mine, subst (λ p. IsNewest s c.content (version p r.name) r.result) (sym provider) newest)
-
-provided_entry : (s : State) (v : Version) (x : Entry) → IsProvided s v x → IsEntry s v x
-provided_entry s v x (c, newest, (contract, provider, verified)) = record {
-  content = c.content;
-  contract = ap (λ p. s.contracts (version x.consumer x.consumer_version, p)) provider ∙ contract;
-  verified = subst (λ o. MatchOption o ((version x.consumer x.consumer_version ≡ v) × HasNone s c.content x.provider) (λ r. ((version x.consumer x.consumer_version ≡ v) ⊎ (version x.provider r.name ≡ v)) × IsNewest s c.content (version x.provider r.name) r.result)) (sym verified)
-      (inr (ap (λ p. version p v.name) provider), subst (λ p. IsNewest s c.content (version p v.name) c.result) (sym provider) newest);
-}
-
-either_side : (s : State) (v : Version) (x : Entry) → IsEntry s v x → IsConsumed s v x ⊎ IsProvided s v x
-either_side s v x is = go x.verified refl is.verified
-  where
-    own : (mine : version x.consumer x.consumer_version ≡ v) → MatchOption x.verified (HasNone s is.content x.provider) (λ r. IsNewest s is.content (version x.provider r.name) r.result) → IsConsumed s v x
-    own mine told = (record { provider = x.provider; content = is.content }, subst (λ w. s.contracts (w, x.provider) ≡ Some is.content) mine is.contract, (ap (λ (w : Version). w.pacticipant) mine, ap (λ (w : Version). w.name) mine, refl, told))
-
-    go : (o : Option VerifiedVersion) → x.verified ≡ o
-        → MatchOption x.verified ((version x.consumer x.consumer_version ≡ v) × HasNone s is.content x.provider) (λ r. ((version x.consumer x.consumer_version ≡ v) ⊎ (version x.provider r.name ≡ v)) × IsNewest s is.content (version x.provider r.name) r.result)
-        → IsConsumed s v x ⊎ IsProvided s v x
-    go None e told =
-        let it = subst (λ o. MatchOption o ((version x.consumer x.consumer_version ≡ v) × HasNone s is.content x.provider) (λ r. ((version x.consumer x.consumer_version ≡ v) ⊎ (version x.provider r.name ≡ v)) × IsNewest s is.content (version x.provider r.name) r.result)) e told in
-        inl (own it.0 (subst (λ o. MatchOption o (HasNone s is.content x.provider) (λ r. IsNewest s is.content (version x.provider r.name) r.result)) (sym e) it.1))
-    go (Some r) e told =
-        let it = subst (λ o. MatchOption o ((version x.consumer x.consumer_version ≡ v) × HasNone s is.content x.provider) (λ r. ((version x.consumer x.consumer_version ≡ v) ⊎ (version x.provider r.name ≡ v)) × IsNewest s is.content (version x.provider r.name) r.result)) e told in
-        elim it.0 [
-          | inl mine ↦ inl (own mine (subst (λ o. MatchOption o (HasNone s is.content x.provider) (λ r. IsNewest s is.content (version x.provider r.name) r.result)) (sym e) it.1))
-          | inr theirs ↦
-              let content : VerifiedContent = record { content = is.content; result = r.result } in
-              let name : r.name ≡ v.name = ap (λ (w : Version). w.name) theirs in
-              let owner : x.provider ≡ v.pacticipant = ap (λ (w : Version). w.pacticipant) theirs in
-              inr (content, subst (λ w. IsNewest s is.content w r.result) theirs it.1, (subst (λ p. s.contracts (version x.consumer x.consumer_version, p) ≡ Some is.content) owner is.contract, owner, e ∙ (λ i. Some (record { name = name i; result = r.result }))))
-        ]
-
--- what both sides tell of, each once, is the entries
-pub entries_are : (s : State) (v : Version) (own others entries : List Entry) → ((x : Entry) → Contains own x ↔ IsConsumed s v x) → ((x : Entry) → Contains others x ↔ IsProvided s v x) → Lists entry_cmp (Contains (own ++ others)) entries
-    → Lists entry_cmp (IsEntry s v) entries
-entries_are s v own others entries mine theirs listed = record {
-  sorted = listed.sorted;
-  exactly = λ x. (
-    λ c. elim (Contains-append_cases own others x ((listed.exactly x).0 c)) [
-      | inl there ↦ consumed_entry s v x ((mine x).0 there)
-      | inr there ↦ provided_entry s v x ((theirs x).0 there)
-    ],
-    λ is. (listed.exactly x).1 (elim (either_side s v x is) [
-      | inl there ↦ Contains-append_left own others x ((mine x).1 there)
-      | inr there ↦ Contains-append_right own others x ((theirs x).1 there)
-    ]),
-  );
-}
-
--- ---- the rows
-
-first_less : (a b c : Ordering) → ordering_then a b ≡ Less → (a ≡ Equal → b ≡ Less → c ≡ Less) → ordering_then a c ≡ Less
-first_less Less b c h more = refl
-first_less Equal b c h more = more refl h
-first_less Greater b c h more = absurd (cc)
-
 module _ (s : State) (v : Version) where
-  -- what is told of one version is told of it in no other way
-  less_verified : (content : ℕ) (p : Text) (o u : Option VerifiedVersion) (x y : Option Verified)
-      → MatchOption o ⊤ (λ r. IsNewest s content (version p r.name) r.result) → MatchOption u ⊤ (λ r. IsNewest s content (version p r.name) r.result)
-      → TellsResult s o x → TellsResult s u y → option_cmp verified_cmp o u ≡ Less → option_cmp text_cmp (verified_version x) (verified_version y) ≡ Less
-  less_verified content p None None x y ho hu tx ty h = absurd (cc)
-  less_verified content p None (Some q) x y ho hu tx ty h = (λ i. option_cmp text_cmp (verified_version (tx i)) (verified_version (ty.2 i)))
-  less_verified content p (Some r) None x y ho hu tx ty h = absurd (cc)
-  less_verified content p (Some r) (Some q) x y ho hu tx ty h =
-      (λ i. option_cmp text_cmp (verified_version (tx.2 i)) (verified_version (ty.2 i))) ∙ by_name (text_cmp r.name q.name) refl
-    where
-      by_name : (o : Ordering) → text_cmp r.name q.name ≡ o → text_cmp r.name q.name ≡ Less
-      by_name Less is = is
-      by_name Greater is = absurd (let wrong : Greater ≡ Less = ap (λ o. ordering_then o (nat_cmp r.result q.result)) (sym is) ∙ h in cc)
-      by_name Equal is =
-          let name : r.name ≡ q.name = text_tied r.name q.name is in
-          let result : r.result ≡ q.result = inside r.result q.result (sym ho ∙ ap (λ w. option_map (λ e. e.0) (latest_result s content (version p w))) name ∙ hu) in
-          let tie : nat_cmp r.result q.result ≡ Equal = ap (nat_cmp r.result) (sym result) ∙ tied_itself nat_cmp_total r.result in
-          absurd (let wrong : Equal ≡ Less = (λ i. ordering_then (sym is i) (sym tie i)) ∙ h in cc)
+  consumed_entry : (x : Entry) → IsConsumed s v x → IsEntry s v x
+  consumed_entry x (c, contract, inl (r, newest, same)) =
+      let says = newest_says (latest_result s c.content (version c.provider r.name)) r.result newest in
+      let told : Verified = record { provider_version = r.name; result = r.result; latest = says.0 } in (
+        record { consumer = v.pacticipant; consumer_version = v.name; provider = c.provider; verified = Some told },
+        record { content = c.content; contract = contract; verified = (inl refl, says.1) },
+        same,
+      )
+  consumed_entry x (c, contract, inr (none, same)) = (
+    record { consumer = v.pacticipant; consumer_version = v.name; provider = c.provider; verified = None },
+    record { content = c.content; contract = contract; verified = (refl, none) },
+    same,
+  )
 
-  -- the number that an entry names
-  named : (x : Entry) (is : IsEntry s v x) (o : Option VerifiedVersion)
-      → MatchOption o ((version x.consumer x.consumer_version ≡ v) × HasNone s is.content x.provider) (λ r. ((version x.consumer x.consumer_version ≡ v) ⊎ (version x.provider r.name ≡ v)) × IsNewest s is.content (version x.provider r.name) r.result)
-      → MatchOption o ⊤ (λ r. IsNewest s is.content (version x.provider r.name) r.result)
-  named x is None h = tt
-  named x is (Some r) h = h.1
-
-  less_row : (a b : Entry) (x y : MatrixRow) → IsEntry s v a → IsEntry s v b → IsToldAs s a x → IsToldAs s b y → entry_cmp a b ≡ Less → matrix_cmp x y ≡ Less
-  less_row a b x y ka kb ta tb h =
-      let moved : matrix_cmp x y ≡ ordering_then (text_cmp a.consumer b.consumer) (ordering_then (text_cmp a.consumer_version b.consumer_version) (ordering_then (text_cmp a.provider b.provider) (option_cmp text_cmp (verified_version x.verified) (verified_version y.verified)))) =
-      (λ i. ordering_then (text_cmp (ta.0 i) (tb.0 i)) (ordering_then (text_cmp (ta.1 i) (tb.1 i)) (ordering_then (text_cmp (ta.2 i) (tb.2 i)) (option_cmp text_cmp (verified_version x.verified) (verified_version y.verified))))) in
-      let last = option_cmp text_cmp (verified_version x.verified) (verified_version y.verified) in
-      let whole : ordering_then (text_cmp a.consumer b.consumer) (ordering_then (text_cmp a.consumer_version b.consumer_version) (ordering_then (text_cmp a.provider b.provider) last)) ≡ Less =
-      first_less (text_cmp a.consumer b.consumer) _ (ordering_then (text_cmp a.consumer_version b.consumer_version) (ordering_then (text_cmp a.provider b.provider) last)) h (λ one h1.
-      first_less (text_cmp a.consumer_version b.consumer_version) _ (ordering_then (text_cmp a.provider b.provider) last) h1 (λ two h2.
-      first_less (text_cmp a.provider b.provider) _ last h2 (λ three h3.
-      let c = text_tied a.consumer b.consumer one in
-      let cv = text_tied a.consumer_version b.consumer_version two in
-      let p = text_tied a.provider b.provider three in
-      let content : ka.content ≡ kb.content = inside ka.content kb.content (sym ka.contract ∙ (λ i. s.contracts (version (c i) (cv i), p i)) ∙ kb.contract) in
-      let there = subst (λ q. MatchOption b.verified ⊤ (λ r. IsNewest s ka.content (version q r.name) r.result)) (sym p) (subst (λ n. MatchOption b.verified ⊤ (λ r. IsNewest s n (version b.provider r.name) r.result)) (sym content) (named b kb b.verified kb.verified)) in
-      less_verified ka.content a.provider a.verified b.verified x.verified y.verified (named a ka a.verified ka.verified) there ta.3 tb.3 h3))) in
-      moved ∙ whole
-
-  -- what the newest result says
-  said_is : (content : ℕ) (w : Version) (n : ℕ) (said : Latest) → IsNewest s content w n → option_map said_by (result_with s n) ≡ Some said → (e : ℕ × Verification) × (latest_result s content w ≡ Some e) × (n ≡ e.0) × (said ≡ said_by e.1)
-  said_is content w n said newest told =
-      let e = newest_is (latest_result s content w) n newest in
-      let known : result_with s n ≡ Some e.0.1 = ap (result_with s) (sym e.2) ∙ latest_with s content w e.0 e.1 in
-      (e.0, e.1, sym e.2, inside said (said_by e.0.1) (sym told ∙ ap (option_map said_by) known))
-
-  sound_verified : (content : ℕ) (p : Text) (mine : Type 0) (theirs : Text → Type 0) (none : Type 0) (o : Option VerifiedVersion) (x : Option Verified) → MatchOption o (mine × none) (λ r. theirs r.name × IsNewest s content (version p r.name) r.result) → TellsResult s o x
-      → MatchOption x (mine × none) (λ r. theirs r.provider_version × IsLatest s content (version p r.provider_version) r)
-  sound_verified content p mine theirs none None x h t = subst (λ u. MatchOption u (mine × none) (λ r. theirs r.provider_version × IsLatest s content (version p r.provider_version) r)) (sym t) h
-  sound_verified content p mine theirs none (Some r) x h t =
-      let e = said_is content (version p r.name) r.result t.0 h.1 t.1 in
-      subst (λ u. MatchOption u (mine × none) (λ r. theirs r.provider_version × IsLatest s content (version p r.provider_version) r)) (sym t.2)
-      (h.0, subst (λ o. IsSomeAnd o (λ e. (r.result ≡ e.0) × (t.0 ≡ said_by e.1))) (sym e.1) (e.2, e.3))
-
-  sound_row : (a : Entry) (x : MatrixRow) → IsEntry s v a → IsToldAs s a x → IsMatrixRow s v x
-  sound_row a x is told =
-      let moved : MatrixRow = record { consumer = a.consumer; consumer_version = a.consumer_version; provider = a.provider; verified = x.verified } in
-      let same : moved ≡ x = (λ i. record { consumer = sym told.0 i; consumer_version = sym told.1 i; provider = sym told.2 i; verified = x.verified }) in
-      subst (IsMatrixRow s v) same (record {
-        content = is.content;
-        contract = is.contract;
-        verified = sound_verified is.content a.provider (version a.consumer a.consumer_version ≡ v) (λ w. (version a.consumer a.consumer_version ≡ v) ⊎ (version a.provider w ≡ v)) (HasNone s is.content a.provider) a.verified x.verified is.verified told.3;
-      })
-
-  abbrev numbered : Verified → VerifiedVersion
-  numbered r = record { name = r.provider_version; result = r.result }
-
-  abbrev unsaid : Option Verified → Option VerifiedVersion
-  unsaid o = option_map numbered o
-
-  newest_of : (content : ℕ) (p : Text) (mine none : Type 0) (theirs : Text → Type 0) (x : Option Verified) → MatchOption x (mine × none) (λ r. theirs r.provider_version × IsLatest s content (version p r.provider_version) r)
-      → MatchOption (unsaid x) (mine × none) (λ r. theirs r.name × IsNewest s content (version p r.name) r.result)
-  newest_of content p mine none theirs None h = h
-  newest_of content p mine none theirs (Some r) h = (h.0, go (latest_result s content (version p r.provider_version)) h.1)
-    where
-      go : (o : Option (ℕ × Verification)) → IsSomeAnd o (λ e. (r.result ≡ e.0) × (r.latest ≡ said_by e.1)) → option_map (λ e. e.0) o ≡ Some r.result
-      go None h = absurd h
-      go (Some e) h = ap Some (sym h.0)
-
-  -- what is told of the entry of a row is the row
-  one_telling : (content : ℕ) (p : Text) (mine none : Type 0) (theirs : Text → Type 0) (x u : Option Verified) → MatchOption x (mine × none) (λ r. theirs r.provider_version × IsLatest s content (version p r.provider_version) r) → TellsResult s (unsaid x) u → u ≡ x
-  one_telling content p mine none theirs None u h t = t
-  one_telling content p mine none theirs (Some r) u h t = t.2 ∙ go (latest_result s content (version p r.provider_version)) refl h.1
-    where
-      go : (o : Option (ℕ × Verification)) → latest_result s content (version p r.provider_version) ≡ o → IsSomeAnd o (λ e. (r.result ≡ e.0) × (r.latest ≡ said_by e.1)) → Some (record { provider_version = r.provider_version; result = r.result; latest = t.0 }) ≡ Some r
-      go None is h = absurd h
-      go (Some e) is h =
-          let known : result_with s r.result ≡ Some e.1 = ap (result_with s) h.0 ∙ latest_with s content (version p r.provider_version) e is in
-          let said : t.0 ≡ r.latest = inside t.0 r.latest (sym t.1 ∙ ap (option_map said_by) known ∙ ap Some (sym h.1)) in
-          λ i. Some (record { provider_version = r.provider_version; result = r.result; latest = said i })
-
-  whole_row : (x : MatrixRow) → IsMatrixRow s v x → (a : Entry) × IsEntry s v a × ((y : MatrixRow) → IsToldAs s a y → y ≡ x)
-  whole_row x is =
-      let mine = (version x.consumer x.consumer_version ≡ v) in
-      let none = HasNone s is.content x.provider in
-      let theirs : Text → Type 0 = λ w. (version x.consumer x.consumer_version ≡ v) ⊎ (version x.provider w ≡ v) in
-      let a : Entry = record { consumer = x.consumer; consumer_version = x.consumer_version; provider = x.provider; verified = unsaid x.verified } in (
-        a,
-        record { content = is.content; contract = is.contract; verified = newest_of is.content x.provider mine none theirs x.verified is.verified },
-        λ y told.
-            let verified : y.verified ≡ x.verified = one_telling is.content x.provider mine none theirs x.verified y.verified is.verified told.3 in
-            λ i. record { consumer = told.0 i; consumer_version = told.1 i; provider = told.2 i; verified = verified i },
+  provided_entry : (x : Entry) → IsProvided s v x → IsEntry s v x
+  provided_entry x (c, newest, (w, contract, same)) =
+      let says = newest_says (latest_result s c.content v) c.result newest in
+      let told : Verified = record { provider_version = v.name; result = c.result; latest = says.0 } in (
+        record { consumer = w.pacticipant; consumer_version = w.name; provider = v.pacticipant; verified = Some told },
+        record { content = c.content; contract = contract; verified = (inr refl, says.1) },
+        same,
       )
 
-  -- the entries, each told, are the matrix
-  pub rows_are : (entries : List Entry) (rows : List MatrixRow) → Lists entry_cmp (IsEntry s v) entries → AreRead (IsToldAs s) entries rows → Lists matrix_cmp (IsMatrixRow s v) rows
-  rows_are = lists_read entry_cmp (IsEntry s v) (IsToldAs s) matrix_cmp (IsMatrixRow s v) less_row sound_row whole_row
+  pub either_side : (x : Entry) (row : MatrixRow) → IsMatrixRow s v row → x ≡ unsaid row → IsConsumed s v x ⊎ IsProvided s v x
+  either_side x row is same = go row.verified is.verified same
+    where
+      w : Version
+      w = version row.consumer row.consumer_version
+
+      entry : Text → Option VerifiedVersion → Entry
+      entry p o = record { consumer = w.pacticipant; consumer_version = w.name; provider = p; verified = o }
+
+      own : w ≡ v → (o : Option VerifiedVersion) → x ≡ entry row.provider o
+          → x ≡ record { consumer = v.pacticipant; consumer_version = v.name; provider = row.provider; verified = o }
+      own mine o same = same ∙ (λ i. record { consumer = (mine i).pacticipant; consumer_version = (mine i).name; provider = row.provider; verified = o })
+
+      contract : w ≡ v → s.contracts (v, row.provider) ≡ Some is.content
+      contract mine = subst (λ u. s.contracts (u, row.provider) ≡ Some is.content) mine is.contract
+
+      go : (o : Option Verified) → MatchOption o ((w ≡ v) × HasNone s is.content row.provider)
+          (λ r. ((w ≡ v) ⊎ (version row.provider r.provider_version ≡ v)) × IsLatest s is.content (version row.provider r.provider_version) r)
+          → x ≡ entry row.provider (option_map unsaid_result o) → IsConsumed s v x ⊎ IsProvided s v x
+      go None (mine, none) same = inl (record { provider = row.provider; content = is.content }, contract mine, inr (none, own mine None same))
+      go (Some r) (inl mine, says) same =
+          let c : Contract = record { provider = row.provider; content = is.content } in
+          inl (c, contract mine, inl (unsaid_result r, says_newest _ r.result r.latest says, own mine (Some (unsaid_result r)) same))
+      go (Some r) (inr theirs, says) same = inr (
+        record { content = is.content; result = r.result },
+        subst (λ u. IsNewest s is.content u r.result) theirs (says_newest _ r.result r.latest says),
+        (
+          w,
+          subst (λ (u : Version). s.contracts (w, u.pacticipant) ≡ Some is.content) theirs is.contract,
+          same ∙ (λ i. entry (theirs i).pacticipant (Some (record { name = (theirs i).name; result = r.result }))),
+        ),
+      )
+
+  -- what both sides tell of, each once, is the entries
+  pub entries_are : (own others entries : List Entry) → ((x : Entry) → Contains own x ↔ IsConsumed s v x) → ((x : Entry) → Contains others x ↔ IsProvided s v x) → Lists entry_cmp (Contains (own ++ others)) entries
+      → Lists entry_cmp (IsEntry s v) entries
+  entries_are own others entries mine theirs listed = record {
+    sorted = listed.sorted;
+    exactly = λ x. (
+      λ c. elim (Contains-append_cases own others x ((listed.exactly x).0 c)) [
+        | inl there ↦ consumed_entry x ((mine x).0 there)
+        | inr there ↦ provided_entry x ((theirs x).0 there)
+      ],
+      λ is. (listed.exactly x).1 (elim (either_side x is.0 is.1 is.2) [
+        | inl there ↦ Contains-append_left own others x ((mine x).1 there)
+        | inr there ↦ Contains-append_right own others x ((theirs x).1 there)
+      ]),
+    );
+  }
+
+  -- ---- the order of the rows
+
+  then_less : (a b c : Ordering) → ordering_then a b ≡ Less → (a ≡ Equal → b ≡ Less → c ≡ Less) → ordering_then a c ≡ Less
+  then_less Less b c h more = refl
+  then_less Equal b c h more = more refl h
+  then_less Greater b c h more = absurd (cc)
+
+  -- a version of the provider has one result for a content
+  abbrev AreLatest : ℕ → Text → Option Verified → Type 0
+  AreLatest content p o = MatchOption o ⊤ (λ r. IsLatest s content (version p r.provider_version) r)
+
+  says : (content : ℕ) (p : Text) (none : Type 0) (side : Text → Type 0) (o : Option Verified)
+      → MatchOption o none (λ r. side r.provider_version × IsLatest s content (version p r.provider_version) r) → AreLatest content p o
+  says content p none side None h = tt
+  says content p none side (Some r) h = h.1
+
+  less_verified : (content : ℕ) (p : Text) (o u : Option Verified) → AreLatest content p o → AreLatest content p u
+      → option_cmp verified_cmp (option_map unsaid_result o) (option_map unsaid_result u) ≡ Less
+      → option_cmp text_cmp (verified_version o) (verified_version u) ≡ Less
+  less_verified content p None None ho hu h = absurd (cc)
+  less_verified content p None (Some q) ho hu h = refl
+  less_verified content p (Some r) None ho hu h = absurd (cc)
+  less_verified content p (Some r) (Some q) ho hu h = go (text_cmp r.provider_version q.provider_version) refl h
+    where
+      go : (o : Ordering) → text_cmp r.provider_version q.provider_version ≡ o → ordering_then o (nat_cmp r.result q.result) ≡ Less → o ≡ Less
+      go Less is h = refl
+      go Greater is h = absurd (cc)
+      go Equal is h =
+          let name = text_tied r.provider_version q.provider_version is in
+          let result : r.result ≡ q.result = some_is r.result q.result (sym (says_newest _ r.result r.latest ho)
+          ∙ ap (λ w. option_map (λ e. e.0) (latest_result s content (version p w))) name ∙ says_newest _ q.result q.latest hu) in
+          let tie : nat_cmp r.result q.result ≡ Equal = ap (nat_cmp r.result) (sym result) ∙ tied_itself nat_cmp_total r.result in
+          sym tie ∙ h
+
+  pub less_rows : (x y : MatrixRow) → IsMatrixRow s v x → IsMatrixRow s v y → entry_cmp (unsaid x) (unsaid y) ≡ Less → matrix_cmp x y ≡ Less
+  less_rows x y is are h =
+      then_less (text_cmp x.consumer y.consumer) _ _ h (λ one h1.
+      then_less (text_cmp x.consumer_version y.consumer_version) _ _ h1 (λ two h2.
+      then_less (text_cmp x.provider y.provider) _ _ h2 (λ three h3.
+      let c = text_tied x.consumer y.consumer one in
+      let cv = text_tied x.consumer_version y.consumer_version two in
+      let p = text_tied x.provider y.provider three in
+      let content : is.content ≡ are.content = some_is _ _ (sym is.contract ∙ (λ i. s.contracts (version (c i) (cv i), p i)) ∙ are.contract) in
+      let there = subst (λ (k : ℕ × Text). AreLatest k.0 k.1 y.verified) (λ i. (sym content i, sym p i))
+      (says are.content y.provider _ _ y.verified are.verified) in
+      less_verified is.content x.provider x.verified y.verified (says is.content x.provider _ _ x.verified is.verified) there h3)))
+
+-- ---- the order of entries
+
+pub nats_tie : (x y : ℕ) → nat_eq x y ≡ is_eq (nat_cmp x y)
+nats_tie = search (comparing, rules)
+
+-- sorted, then without what stands twice
+pub once : {X : Type 0} {R : X → X → Ordering} {E : X → X → Bool} (o : IsTotalOrder R) (ties : (x y : X) → E x y ≡ eq_by_cmp R x y) (tied : (x y : X) → R x y ≡ Equal → x ≡ y)
+    (xs ys : List X) → IsPermutation xs ys → IsSorted R ys → Lists R (Contains xs) (dedup E ys)
+once {R = R} {E = E} o ties tied xs ys moved sorted =
+    let equiv : IsEquivalence E = subst IsEquivalence (λ i x y. sym (ties x y) i) (eq_by_cmp_equiv o) in
+    let both = sorted_dedup {E = E} o equiv ties (λ x y e. tied x y ((Equal-is (R x y)).0 (sym (ties x y) ∙ e))) xs ys moved sorted in
+    record { sorted = both.0; exactly = both.1 }
+
+abbrev key_of : Entry → List ℕ × (List ℕ × (List ℕ × Option VerifiedVersion))
+key_of x = (x.consumer, (x.consumer_version, (x.provider, x.verified)))
+
+entry_total : IsTotalOrder entry_cmp
+entry_total =
+    on_total key_of (both_total nat_list_cmp_total (both_total nat_list_cmp_total (both_total nat_list_cmp_total (options_total
+    (on_total (λ (x : VerifiedVersion). (x.name, x.result)) (both_total nat_list_cmp_total nat_cmp_total))))))
+
+verified_tied : (x y : VerifiedVersion) → verified_cmp x y ≡ Equal → x ≡ y
+verified_tied x y e = let a = both_equal _ _ e in λ i. record { name = text_tied x.name y.name a.0 i; result = nat_cmp-IsAntisymmetric x.result y.result a.1 i }
+
+options_tied : (x y : Option VerifiedVersion) → option_cmp verified_cmp x y ≡ Equal → x ≡ y
+options_tied None None e = refl
+options_tied None (Some y) e = absurd (cc)
+options_tied (Some x) None e = absurd (cc)
+options_tied (Some x) (Some y) e = ap Some (verified_tied x y e)
+
+entry_tied : (x y : Entry) → entry_cmp x y ≡ Equal → x ≡ y
+entry_tied x y e =
+    let k = exact_pairs text_cmp _ exact_texts (exact_pairs text_cmp _ exact_texts (exact_pairs text_cmp _ exact_texts options_tied)) (key_of x) (key_of y) e in
+    λ i. record { consumer = (k i).0; consumer_version = (k i).1.0; provider = (k i).1.1.0; verified = (k i).1.1.1 }
+
+abbrev pub verified_eq : VerifiedVersion → VerifiedVersion → Bool
+verified_eq x y = pointwise nat_eq x.name y.name && nat_eq x.result y.result
+
+abbrev pub entry_eq : Entry → Entry → Bool
+entry_eq x y = pointwise nat_eq x.consumer y.consumer
+    && (pointwise nat_eq x.consumer_version y.consumer_version
+    && (pointwise nat_eq x.provider y.provider
+    && option_eq verified_eq x.verified y.verified))
+
+options_tie : (x y : Option VerifiedVersion) → option_eq verified_eq x y ≡ is_eq (option_cmp verified_cmp x y)
+options_tie None None = refl
+options_tie None (Some y) = refl
+options_tie (Some x) None = refl
+options_tie (Some x) (Some y) = both_tied _ _ _ _ (texts_ties x.name y.name) (nats_tie x.result y.result)
+
+entry_ties : (x y : Entry) → entry_eq x y ≡ eq_by_cmp entry_cmp x y
+entry_ties x y =
+    both_tied _ _ _ _ (texts_ties x.consumer y.consumer)
+    (both_tied _ _ _ _ (texts_ties x.consumer_version y.consumer_version)
+    (both_tied _ _ _ _ (texts_ties x.provider y.provider)
+    (options_tie x.verified y.verified)))
+
+-- sorted, then without what stands twice
+pub each_entry_once : (all xs ys : List Entry) → xs ≡ all → IsPermutation xs ys → IsSorted entry_cmp ys → Lists entry_cmp (Contains all) (dedup entry_eq ys)
+each_entry_once all xs ys is moved sorted = subst (λ zs. Lists entry_cmp (Contains zs) (dedup entry_eq ys)) is (once entry_total entry_ties entry_tied xs ys moved sorted)

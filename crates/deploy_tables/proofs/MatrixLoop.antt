@@ -1,49 +1,68 @@
--- One reading after another, and what is found of each member of a list.
-use Rattle.std.proofs.Common.{◌≡◌, ◌<◌, ◌+◌, inl, inr, ℕ, zero, suc, List, [], ◌∷◌, ◌++◌, length, take, get_or, refl, sym, subst, Ok, arith}
+-- One reading after another, lists that are put together, and what is found of each member of a list.
 use Rattle.std.specs.Prelude.{Contains, ◌↔◌}
-use Rattle.std.proofs.lemmas.List.{take_more}
-use Rattle.std.proofs.lemmas.List.Elements.{Contains-append_cases, Contains-append_left, Contains-append_right}
+use Rattle.std.proofs.Common.{◌≡◌, ◌<◌, ◌≤◌, ◌+◌, ◌⊎◌, inl, inr, ℕ, zero, suc, List, [], ◌∷◌, ◌++◌, length, take, get_or, refl, sym, subst, ◌∙◌, Ok, Result, IfOk, IfErr, arith}
+use Rattle.std.proofs.{lemmas.List.{take_more, take_all}, lemmas.List.Elements.{Contains-append_cases, Contains-append_left, Contains-append_right}}
 use Rattle.sqlite.specs.State.{State}
-use Rattle.broker_core.specs.State.{State as Broker}
-use Rattle.broker_core.proofs.Lists.{contains_none, contains_cases, contains_here}
-use Rattle.broker_tables.specs.Calm.{CalmQueriesBetween}
-use Rattle.broker_tables.proofs.QueryLemmas.{query_ok}
-use Rattle.contract_tables.proofs.QueryLemmas.{calm_then}
+use Rattle.broker_core.{specs.State.{State as Broker}, proofs.Lists.{contains_none, contains_cases, contains_here}}
+use Rattle.broker_tables.{specs.Calm.{CalmQueriesBetween}, proofs.QueryLemmas.{query_ok}}
+use Rattle.contract_tables.proofs.QueryLemmas.{calm_computed}
 use Rattle.deploy_tables.specs.Matrix.{IsOfSome}
+use Rattle.table_access.specs.{declared.StoreFault.{StoreFault}, declared.StoreFault.TheVariants.{Memory}}
+pub use Rattle.broker_tables.proofs.QueryLemmas.{in_place, query_failed}
+pub use Rattle.contract_tables.proofs.QueryLemmas.{calm_then}
 
 -- a reading, from which the answer is made
 pub read_made : {A B : Type 0} (old new : State) (a : A) (b : B) (P : A → Broker → Type 0) (Q : B → Broker → Type 0) → ((s : Broker) → P a s → Q b s) → CalmQueriesBetween old new (Ok a) P → CalmQueriesBetween old new (Ok b) Q
 read_made old new a b P Q given = query_ok old new a b P Q (λ h s held. let f = h s held in (given s f.0, f.1))
 
--- a reading, and another, from which the answer is made
+-- a reading, and another
+pub both_told : {A O : Type 0} (old mid new : State) (a : A) (o : O) (P : A → Broker → Type 0) (Q : O → Broker → Type 0) → CalmQueriesBetween old mid (Ok a) P
+    → CalmQueriesBetween mid new (Ok o) Q → CalmQueriesBetween old new (Ok o) (λ q s. P a s × Q q s)
+both_told old mid new a o P Q one two = calm_then old mid new a (Ok o) P Q (λ q s. P a s × Q q s) (λ s first q second. (first, second)) one two
+
+-- from which the answer is computed, or no room for it
+pub both_computed : {A O B : Type 0} (old mid new : State) (a : A) (o : O) (r : Result B StoreFault) (P : A → Broker → Type 0) (Q : O → Broker → Type 0)
+    (L : B → Type 0) (R : B → Broker → Type 0) → ((s : Broker) → P a s → Q o s → (b : B) → L b → R b s)
+    → IfOk r L → IfErr r (λ fault. fault ≡ Memory) → CalmQueriesBetween old mid (Ok a) P → CalmQueriesBetween mid new (Ok o) Q → CalmQueriesBetween old new r R
+both_computed old mid new a o r P Q L R given is room one two = calm_computed old new o r (λ q s. P a s × Q q s) L R (λ s both. given s both.0 both.1) is room
+    (both_told old mid new a o P Q one two)
+
+-- and from which it is made
 pub read_both : {A O B : Type 0} (old mid new : State) (a : A) (o : O) (b : B) (P : A → Broker → Type 0) (Q : O → Broker → Type 0) (R : B → Broker → Type 0) → ((s : Broker) → P a s → Q o s → R b s)
     → CalmQueriesBetween old mid (Ok a) P → CalmQueriesBetween mid new (Ok o) Q → CalmQueriesBetween old new (Ok b) R
-read_both old mid new a o b P Q R given one two =
-    read_made old new o b (λ q s. P a s × Q q s) R (λ s both. given s both.0 both.1) (calm_then old mid new a (Ok o) P Q (λ q s. P a s × Q q s) (λ s first q second. (first, second)) one two)
+read_both old mid new a o b P Q R given = both_computed old mid new a o (Ok b) P Q (λ c. c ≡ b) R (λ s p q c is. subst (λ x. R x s) (sym is) (given s p q))
+    refl tt
+
+-- ---- lists that are put together
+
+pub both_ways : {A B C : Type 0} → A ↔ B → B ↔ C → A ↔ C
+both_ways one two = (λ a. two.0 (one.0 a), λ c. one.1 (two.1 c))
+
+pub one_is : {A : Type 0} (x y : A) → Contains (x ∷ []) y ↔ (y ≡ x)
+one_is x y = (λ c. elim (contains_cases x [] y c) [ inl same ↦ sym same | inr none ↦ absurd (contains_none y none) ], λ same. subst (Contains (x ∷ [])) (sym same) (contains_here x []))
+
+pub one_of : {A : Type 0} (xs : List A) (x : A) → xs ≡ x ∷ [] → (y : A) → Contains xs y ↔ (y ≡ x)
+one_of xs x is y = subst (λ ys. Contains ys y ↔ (y ≡ x)) (sym is) (one_is x y)
+
+-- the members of two lists
+pub both_of : {X A B : Type 0} (a b all : List X) → all ≡ a ++ b → (x : X) → Contains a x ↔ A → Contains b x ↔ B → Contains all x ↔ (A ⊎ B)
+both_of a b all is x one two = (
+  λ c. elim (Contains-append_cases a b x (subst (λ xs. Contains xs x) is c)) [ inl first ↦ inl (one.0 first) | inr second ↦ inr (two.0 second) ],
+  λ h. subst (λ xs. Contains xs x) (sym is) (elim h [ inl c ↦ Contains-append_left a b x (one.1 c) | inr c ↦ Contains-append_right a b x (two.1 c) ]),
+)
+
+-- one member more
+pub turn : {C : Type 0} (cs : List C) (at : ℕ) (c d : C) → at < length cs → Contains (take (at + 1) cs) d ↔ (Contains (take at cs) d ⊎ (d ≡ get_or cs at c))
+turn cs at c d low = both_of (take at cs) (get_or cs at c ∷ []) (take (at + 1) cs) (take_more cs at c low) d (λ h. h, λ h. h) (one_is (get_or cs at c) d)
 
 -- what is found of each member so far
 module _ {C Y : Type 0} (Is : C → Y → Type 0) (cs : List C) where
   pub of_more : (at : ℕ) (c : C) (a more b : List Y) → at < length cs → c ≡ get_or cs at c → b ≡ a ++ more → ((x : Y) → Contains a x ↔ IsOfSome (λ c. Is c x) (take at cs)) → ((x : Y) → Contains more x ↔ Is c x)
       → (x : Y) → Contains b x ↔ IsOfSome (λ c. Is c x) (take (at + 1) cs)
-  of_more at c a more b low is grown was here x =
-      let last = get_or cs at c ∷ [] in
-      let taken : take (at + 1) cs ≡ take at cs ++ last = take_more cs at c low in (
-        λ there. elim (Contains-append_cases a more x (subst (λ xs. Contains xs x) grown there)) [
-          | inl old ↦ let it = (was x).0 old in (it.0, subst (λ xs. Contains xs it.0) (sym taken) (Contains-append_left (take at cs) last it.0 it.1), it.2)
-          | inr new ↦ (
-            get_or cs at c,
-            subst (λ xs. Contains xs (get_or cs at c)) (sym taken) (Contains-append_right (take at cs) last (get_or cs at c) (contains_here (get_or cs at c) [])),
-            subst (λ d. Is d x) is ((here x).0 new),
-          )
-        ],
-        λ some. subst (λ xs. Contains xs x) (sym grown) (elim (Contains-append_cases (take at cs) last some.0 (subst (λ xs. Contains xs some.0) taken some.1)) [
-          | inl old ↦ Contains-append_left a more x ((was x).1 (some.0, old, some.2))
-          | inr new ↦ elim (contains_cases (get_or cs at c) [] some.0 new) [
-            | inl same ↦ Contains-append_right a more x ((here x).1 (subst (λ d. Is d x) (sym is) (subst (λ d. Is d x) (sym same) some.2)))
-            | inr none ↦ absurd (contains_none some.0 none)
-          ]
-        ]),
-      )
+  of_more at c a more b low is grown was here x = both_ways (both_of a more b grown x (was x) (here x)) (
+    λ found. elim found [ inl old ↦ (old.0, (turn cs at c old.0 low).1 (inl old.1), old.2) | inr new ↦ (c, (turn cs at c c low).1 (inr is), new) ],
+    λ some. elim ((turn cs at c some.0 low).0 some.1) [ inl old ↦ inl (some.0, old, some.2) | inr new ↦ inr (subst (λ d. Is d x) (new ∙ sym is) some.2) ],
+  )
 
   same_get : (at : ℕ) (ds : List C) (d e : C) → at < length ds → get_or ds at d ≡ get_or ds at e
   same_get at [] d e low = absurd (omega arith)
@@ -55,5 +74,5 @@ module _ {C Y : Type 0} (Is : C → Y → Type 0) (cs : List C) where
       → (x : Y) → Contains b x ↔ IsOfSome (λ c. Is c x) (take (at + 1) cs)
   of_more_at at d a more b low grown was here = of_more at (get_or cs at d) a more b low (same_get at cs d (get_or cs at d) low) grown was here
 
-  pub of_all : (at : ℕ) (a : List Y) → take at cs ≡ cs → ((x : Y) → Contains a x ↔ IsOfSome (λ c. Is c x) (take at cs)) → (x : Y) → Contains a x ↔ IsOfSome (λ c. Is c x) cs
-  of_all at a whole was x = subst (λ ds. Contains a x ↔ IsOfSome (λ c. Is c x) ds) whole (was x)
+  pub of_all : (at : ℕ) (a : List Y) → length cs ≤ at → ((x : Y) → Contains a x ↔ IsOfSome (λ c. Is c x) (take at cs)) → (x : Y) → Contains a x ↔ IsOfSome (λ c. Is c x) cs
+  of_all at a past was x = subst (λ ds. Contains a x ↔ IsOfSome (λ c. Is c x) ds) (take_all at cs past) (was x)

@@ -1,35 +1,24 @@
 -- What is found of the parts that are read are the needs that aren't good.
-use Rattle.std.proofs.Common.{◌≡◌, ◌≢◌, ◌⊎◌, ℕ, List, [], ◌∷◌, ◌++◌, refl, sym, ◌∙◌, ap, subst, inl, inr, Bool, true, false, not, ◌&&◌, ◌||◌, ◌==◌, length, arith}
-use Rattle.std.proofs.lemmas.Bool.{eqb-true}
 use Rattle.std.specs.Prelude.{Option, Some, None, option_map, option_and_then, option_to_list, is_some, Contains, IsSomeAnd, ◌↔◌, if◌then◌else◌}
-use Rattle.std.proofs.lemmas.List.Elements.{Contains-append_cases, Contains-append_left, Contains-append_right}
-use Rattle.broker_core.specs.declared.command.Version.{Version}
-use Rattle.broker_core.specs.declared.need.Need.{Need}
-use Rattle.broker_core.specs.declared.need.Latest.{Latest}
-use Rattle.broker_core.specs.declared.need.Kind.{Kind}
-use Rattle.broker_core.specs.declared.need.PairFault.{PairFault}
-use Rattle.broker_core.specs.Text.{Text, same_text, version}
-use Rattle.broker_core.specs.State.{State, latest}
-use Rattle.broker_core.specs.Gate.{Stands, consumer_of, IsNeed}
-use Rattle.broker_core.specs.Faults.{fault_of, fault_cmp, kind_of, IsFaultAmong}
-use Rattle.broker_core.specs.Listing.{Lists}
-use Rattle.broker_core.proofs.Lists.{contains_none, contains_cases, contains_here}
-use Rattle.broker_core.proofs.Judgement.{text_is, text_refl}
-use Rattle.broker_tables.specs.Numbers.{number_of}
-use Rattle.broker_tables.proofs.NumberLemmas.{one_version}
+use Rattle.std.proofs.Common.{◌≡◌, ◌≢◌, ◌⊎◌, ℕ, List, [], ◌∷◌, ◌++◌, refl, sym, ◌∙◌, ap, subst, inl, inr, Bool, true, false, true≢false, not, ◌&&◌, ◌||◌, ◌==◌, length, arith}
+use Rattle.std.proofs.lemmas.Bool.{eqb-true}
+use Rattle.broker_tables.{specs.Numbers.{number_of}, proofs.NumberLemmas.{one_version}}
 use Rattle.contract_tables.specs.declared.listings.Contract.{Contract}
-use Rattle.deploy_tables.specs.declared.contracts_there.NumberedContract.{NumberedContract}
-use Rattle.deploy_tables.specs.Matrix.{IsOfSome}
-use Rattle.deploy_tables.specs.ContractsThere.{TellsContracts}
-use Rattle.deploy_tables.specs.Partners.{ArePartners, AreNumbered, AreNumbersOfVersions}
-use Rattle.deploy_tables.specs.Releases.{IsVersion}
-use Rattle.deploy_tables.specs.Needs.{AreFaults, need_with, need_used, IsOpen, IsWithPartner, IsNeedOfContract, IsOwnNeed, IsUsed, IsNeedOfOthers}
+use Rattle.deploy_tables.specs.Needs.{AreFaults, is_good, need_with, need_used, IsOpen, IsWithPartner, IsNeedOfContract, IsOwnNeed, IsUsed, IsNeedOfOthers}
+use Rattle.deploy_tables.specs.{declared.contracts_there.NumberedContract.{NumberedContract}, Matrix.{IsOfSome}, ContractsThere.{TellsContracts}}
+use Rattle.deploy_tables.specs.{Partners.{ArePartners, AreNumbered, AreNumbersOfVersions}, Releases.{IsVersion}}
+use Rattle.deploy_tables.proofs.MatrixLoop.{both_ways, both_of, one_is, one_of}
+use Rattle.broker_core.specs.{declared.command.Version.{Version}, declared.need.Need.{Need}, declared.need.Latest.{Latest}, declared.need.Kind.{Kind}}
+use Rattle.broker_core.specs.{declared.need.PairFault.{PairFault}, Text.{Text, same_text, version}, State.{State, latest}, Gate.{Stands, consumer_of, IsNeed}}
+use Rattle.broker_core.{specs.{Faults.{fault_of, fault_cmp, kind_of, IsFaultAmong}, Listing.{Lists}}, proofs.Lists.{contains_none, contains_here}}
+use Rattle.broker_core.proofs.Judgement.{text_is, text_refl}
 
 -- ---- a latest result, and lists of at most one
 
--- what is lacking where there is a result
-pub is_open : (strict : Bool) (w : Text) (l : Latest) → is_some (kind_of strict (Some w) (Some l)) ≡ not (l.pass && (l.checked || not strict))
-is_open strict w l = go l.pass l.checked strict
+-- something is lacking where the need isn't good
+open_is : (strict : Bool) (w : Text) (said : Option Latest) → is_some (kind_of strict (Some w) said) ≡ not (is_good strict said)
+open_is strict w None = refl
+open_is strict w (Some l) = go l.pass l.checked strict
   where
     go : (pass checked strict : Bool) → is_some (kind_of strict (Some w) (Some (record { pass = pass; checked = checked }))) ≡ not (pass && (checked || not strict))
     go false checked strict = refl
@@ -37,15 +26,6 @@ is_open strict w l = go l.pass l.checked strict
     go true true false = refl
     go true false true = refl
     go true false false = refl
-
-inside : {A : Type 0} (x y : A) → Some x ≡ Some y → x ≡ y
-inside x y e = cc
-
-pub one_is : {A : Type 0} (x y : A) → Contains (x ∷ []) y ↔ (y ≡ x)
-one_is x y = (λ c. elim (contains_cases x [] y c) [ inl same ↦ sym same | inr none ↦ absurd (contains_none y none) ], λ same. subst (Contains (x ∷ [])) (sym same) (contains_here x []))
-
-pub both_ways : {A B C : Type 0} → A ↔ B → B ↔ C → A ↔ C
-both_ways one two = (λ a. two.0 (one.0 a), λ c. one.1 (two.1 c))
 
 -- whether a list is empty, as its length says
 pub when_none : (xs : List ℕ) (b : Bool) → b ≡ (length xs == 0) → b ≡ true → xs ≡ []
@@ -56,34 +36,60 @@ pub when_some : (xs : List ℕ) (b : Bool) → b ≡ (length xs == 0) → b ≡ 
 when_some [] b is otherwise same = let wrong : true ≡ false = sym is ∙ otherwise in cc
 when_some (x ∷ xs) b is otherwise same = cc
 
--- ---- a contract with one version
+-- ---- a contract with one version, and one with the pacticipant of v, by what the latest result says
 
--- a good need isn't told
-pub good_with : (s : State) (v : Version) (c : Contract) (strict : Bool) (n : ℕ) (said : Option Latest) (good : Bool) → ((w : Text) → is_some (kind_of strict (Some w) said) ≡ not good) → good ≡ true
-    → ((w : Version) → number_of s.versions w ≡ Some n → said ≡ latest s c.content w) → (x : Need) → Contains [] x ↔ IsWithPartner s v c strict n x
-good_with s v c strict n said good is_good so says x = (
-  λ none. absurd (contains_none x none),
-  λ is.
-      let w = is.0 in
-      let fine : is_some (kind_of strict (Some w.name) (latest s c.content w)) ≡ false = ap (λ l. is_some (kind_of strict (Some w.name) l)) (sym (says w is.1)) ∙ is_good w.name ∙ ap not so in
-      let bad : is_some (kind_of strict (Some w.name) (latest s c.content w)) ≡ true = ap (λ (y : Need). is_some (kind_of strict y.provider_version y.latest)) (sym is.3) ∙ is.2 in
-      absurd (let wrong : true ≡ false = sym bad ∙ fine in cc),
-)
+module _ (s : State) (v : Version) (strict : Bool) (said : Option Latest) (good : Bool) (says_good : good ≡ is_good strict said) where
+  lacks : (x : Need) (u : Version) (p w : Text) → x ≡ need_with u p (Some w) said → is_some (kind_of strict x.provider_version x.latest) ≡ not good
+  lacks x u p w is = ap (λ (y : Need). is_some (kind_of strict y.provider_version y.latest)) is ∙ open_is strict w said ∙ ap not (sym says_good)
 
--- another one is, with the version of this number
-pub open_with : (s : State) (v : Version) (c : Contract) (strict : Bool) (n : ℕ) (said : Option Latest) (good : Bool) → ((w : Text) → is_some (kind_of strict (Some w) said) ≡ not good) → good ≡ false
-    → ((w : Version) → number_of s.versions w ≡ Some n → said ≡ latest s c.content w) → (named : Option Version) → ((w : Version) → (named ≡ Some w) ↔ (number_of s.versions w ≡ Some n))
-    → IsVersion n s → (x : Need) → Contains (need_with v c.provider (option_map (λ w. w.name) named) said ∷ []) x ↔ IsWithPartner s v c strict n x
-open_with s v c strict n said good is_good otherwise says named names (w, known) x =
-    let told : need_with v c.provider (option_map (λ w. w.name) named) said ≡ need_with v c.provider (Some w.name) said = (λ i. need_with v c.provider (option_map (λ w. w.name) ((names w).1 known i)) said) in
-    let one = one_is (need_with v c.provider (option_map (λ w. w.name) named) said) x in (
-      λ there.
-          let same = one.0 there ∙ told in
-          (w, known, ap (λ (y : Need). is_some (kind_of strict y.provider_version y.latest)) same ∙ is_good w.name ∙ ap not otherwise, same ∙ ap (need_with v c.provider (Some w.name)) (says w known)),
-      λ is.
-          let alike : is.0 ≡ w = one_version s.versions is.0 w n is.1 known in
-          one.1 (is.3 ∙ (λ i. need_with v c.provider (Some (alike i).name) (latest s c.content (alike i))) ∙ ap (need_with v c.provider (Some w.name)) (sym (says w known)) ∙ sym told),
-    )
+  -- a good need isn't told
+  pub good_with : (c : Contract) (n : ℕ) → good ≡ true → ((w : Version) → number_of s.versions w ≡ Some n → said ≡ latest s c.content w) → (found : List Need)
+      → found ≡ [] → (x : Need) → Contains found x ↔ IsWithPartner s v c strict n x
+  good_with c n so says found none x = (
+    λ there. absurd (contains_none x (subst (λ xs. Contains xs x) none there)),
+    λ is. let w = is.0 in absurd (true≢false (sym is.2 ∙ lacks x v c.provider w.name (is.3 ∙ ap (need_with v c.provider (Some w.name)) (sym (says w is.1)))
+        ∙ ap not so)),
+  )
+
+  pub good_used : (c : NumberedContract) → good ≡ true → said ≡ latest s c.content v → (found : List Need) → found ≡ [] → (x : Need)
+      → Contains found x ↔ IsUsed s v strict c x
+  good_used c so says found none x = (
+    λ there. absurd (contains_none x (subst (λ xs. Contains xs x) none there)),
+    λ is. let w = is.0 in absurd (true≢false (sym is.3 ∙ lacks x w v.pacticipant v.name (is.4 ∙ ap (need_with w v.pacticipant (Some v.name)) (sym says))
+        ∙ ap not so)),
+  )
+
+  -- another one is, with the version of this number
+  pub open_with : (c : Contract) (n : ℕ) → good ≡ false → ((w : Version) → number_of s.versions w ≡ Some n → said ≡ latest s c.content w)
+      → (named : Option Version) → ((w : Version) → (named ≡ Some w) ↔ (number_of s.versions w ≡ Some n))
+      → IsVersion n s → (found : List Need) → found ≡ need_with v c.provider (option_map (λ w. w.name) named) said ∷ [] → (x : Need)
+      → Contains found x ↔ IsWithPartner s v c strict n x
+  open_with c n otherwise says named names (w, known) found is x =
+      let told : found ≡ need_with v c.provider (Some w.name) said ∷ [] = is
+      ∙ (λ i. need_with v c.provider (option_map (λ w. w.name) ((names w).1 known i)) said ∷ []) in
+      both_ways (one_of found (need_with v c.provider (Some w.name) said) told x) (
+        λ same. (w, known, lacks x v c.provider w.name same ∙ ap not otherwise, same ∙ ap (need_with v c.provider (Some w.name)) (says w known)),
+        λ is.
+            let alike : is.0 ≡ w = one_version s.versions is.0 w n is.1 known in
+            is.3 ∙ (λ i. need_with v c.provider (Some (alike i).name) (latest s c.content (alike i))) ∙ ap (need_with v c.provider (Some w.name)) (sym (says w known)),
+      )
+
+  unless_same : (p q : Text) (b : Bool) → same_text p q ≡ b → (y x : Need) → Contains (option_to_list (if b then None else Some y)) x ↔ ((p ≢ q) × (x ≡ y))
+  unless_same p q true is y x = (λ none. absurd (contains_none x none), λ both. absurd (both.0 (text_is p q is)))
+  unless_same p q false is y x = (λ c. (λ same. true≢false (sym (ap (same_text p) (sym same) ∙ text_refl p) ∙ is), (one_is y x).0 c), λ h. (one_is y x).1 h.1)
+
+  pub open_used : (c : NumberedContract) → good ≡ false → said ≡ latest s c.content v → (named : Option Version)
+      → ((w : Version) → (named ≡ Some w) ↔ (number_of s.versions w ≡ Some c.number))
+      → (x : Need) → Contains (option_to_list (option_and_then (need_used v said) named)) x ↔ IsUsed s v strict c x
+  open_used c otherwise says None names x = (λ none. absurd (contains_none x none), λ is. absurd (let none : None ≡ Some is.0 = (names is.0).1 is.1 in cc))
+  open_used c otherwise says (Some w) names x =
+      let known = (names w).0 refl in
+      both_ways (unless_same w.pacticipant v.pacticipant (same_text w.pacticipant v.pacticipant) refl (need_with w v.pacticipant (Some v.name) said) x) (
+        λ it. (w, known, it.0, lacks x w v.pacticipant v.name it.1 ∙ ap not otherwise, it.1 ∙ ap (need_with w v.pacticipant (Some v.name)) says),
+        λ is.
+            let alike : is.0 ≡ w = one_version s.versions is.0 w c.number is.1 known in
+            (subst (λ (u : Version). u.pacticipant ≢ v.pacticipant) alike is.2, is.4 ∙ (λ i. need_with (alike i) v.pacticipant (Some v.name) (sym says i))),
+      )
 
 -- ---- a contract with all that stand there
 
@@ -108,51 +114,14 @@ module _ (s : State) (v : Version) (e : Text) (strict : Bool) (c : Contract) (nu
   pub partners_versions : (there : List ℕ) → ArePartners s c.provider (Stands s e) there → AreNumbersOfVersions s there
   partners_versions there are n c1 = let it = (are n).0 c1 in (version c.provider it.0, it.2)
 
-  pub with_none : ArePartners s c.provider (Stands s e) [] → (x : Need) → Contains (need_with v c.provider None None ∷ []) x ↔ IsNeedOfContract s v e strict c x
-  with_none are x = (
-    λ there. inr (λ w stands. nobody w stands, (one_is (need_with v c.provider None None) x).0 there),
-    λ is. elim is [
-      | inl one ↦ absurd (nobody one.0 one.1)
-      | inr none ↦ (one_is (need_with v c.provider None None) x).1 none.1
-    ],
-  )
+  pub with_none : (there : List ℕ) → ArePartners s c.provider (Stands s e) there → there ≡ [] → (found : List Need)
+      → found ≡ need_with v c.provider None None ∷ [] → (x : Need) → Contains found x ↔ IsNeedOfContract s v e strict c x
+  with_none there are none found is x = both_ways (one_of found (need_with v c.provider None None) is x)
+      (λ same. inr (nobody, same), λ is. elim is [ inl one ↦ absurd (nobody one.0 one.1) | inr none ↦ none.1 ])
     where
       nobody : (w : Text) → Stands s e (version c.provider w) → ⊥
-      nobody w stands = let it = numbered (version c.provider w) stands in contains_none it.0 ((are it.0).1 (w, stands, it.1))
-
--- ---- a contract with the pacticipant of v
-
-pub good_used : (s : State) (v : Version) (strict : Bool) (c : NumberedContract) (said : Option Latest) (good : Bool) → ((w : Text) → is_some (kind_of strict (Some w) said) ≡ not good) → good ≡ true
-    → said ≡ latest s c.content v → (x : Need) → Contains [] x ↔ IsUsed s v strict c x
-good_used s v strict c said good is_good so says x = (
-  λ none. absurd (contains_none x none),
-  λ is.
-      let fine : is_some (kind_of strict (Some v.name) (latest s c.content v)) ≡ false = ap (λ l. is_some (kind_of strict (Some v.name) l)) (sym says) ∙ is_good v.name ∙ ap not so in
-      let bad : is_some (kind_of strict (Some v.name) (latest s c.content v)) ≡ true = ap (λ (y : Need). is_some (kind_of strict y.provider_version y.latest)) (sym is.4) ∙ is.3 in
-      absurd (let wrong : true ≡ false = sym bad ∙ fine in cc),
-)
-
-unless_same : (p q : Text) (b : Bool) → same_text p q ≡ b → (y x : Need) → Contains (option_to_list (if b then None else Some y)) x ↔ ((p ≢ q) × (x ≡ y))
-unless_same p q true is y x = (λ none. absurd (contains_none x none), λ both. absurd (both.0 (text_is p q is)))
-unless_same p q false is y x = (
-  λ there. (λ same. let itself : same_text p q ≡ true = ap (same_text p) (sym same) ∙ text_refl p in absurd (let wrong : true ≡ false = sym itself ∙ is in cc), (one_is y x).0 there),
-  λ both. (one_is y x).1 both.1,
-)
-
-pub open_used : (s : State) (v : Version) (strict : Bool) (c : NumberedContract) (said : Option Latest) (good : Bool) → ((w : Text) → is_some (kind_of strict (Some w) said) ≡ not good) → good ≡ false
-    → said ≡ latest s c.content v → (named : Option Version) → ((w : Version) → (named ≡ Some w) ↔ (number_of s.versions w ≡ Some c.number))
-    → (x : Need) → Contains (option_to_list (option_and_then (need_used v said) named)) x ↔ IsUsed s v strict c x
-open_used s v strict c said good is_good otherwise says None names x = (λ none. absurd (contains_none x none), λ is. absurd (let none : None ≡ Some is.0 = (names is.0).1 is.1 in cc))
-open_used s v strict c said good is_good otherwise says (Some w) names x =
-    let known = (names w).0 refl in
-    let told = unless_same w.pacticipant v.pacticipant (same_text w.pacticipant v.pacticipant) refl (need_with w v.pacticipant (Some v.name) said) x in (
-      λ there.
-          let it = told.0 there in
-          (w, known, it.0, ap (λ (y : Need). is_some (kind_of strict y.provider_version y.latest)) it.1 ∙ is_good v.name ∙ ap not otherwise, it.1 ∙ ap (need_with w v.pacticipant (Some v.name)) says),
-      λ is.
-          let alike : is.0 ≡ w = one_version s.versions is.0 w c.number is.1 known in
-          told.1 (subst (λ (u : Version). u.pacticipant ≢ v.pacticipant) alike is.2, is.4 ∙ (λ i. need_with (alike i) v.pacticipant (Some v.name) (sym says i))),
-    )
+      nobody w stands = let it = numbered (version c.provider w) stands in contains_none it.0
+          (subst (λ ns. Contains ns it.0) none ((are it.0).1 (w, stands, it.1)))
 
 -- ---- both sides
 
@@ -228,17 +197,12 @@ module _ (s : State) (v : Version) (e : Text) (strict : Bool) where
     λ is. (here x).1 (is.0, (told is.0).1 is.1, is.2),
   )
 
-  pub both_are : AreNumbered s e → (mine theirs : List Need) → ((x : Need) → Contains mine x ↔ IsOwnNeed s v e strict x) → ((x : Need) → Contains theirs x ↔ IsNeedOfOthers s v e strict x)
-      → (x : Need) → Contains (mine ++ theirs) x ↔ IsOpenNeed s v e strict x
-  both_are numbered mine theirs are_mine are_theirs x = (
-    λ c. elim (Contains-append_cases mine theirs x c) [
-      | inl one ↦ consumed_is x ((are_mine x).0 one)
-      | inr two ↦ provided_is x ((are_theirs x).0 two)
-    ],
-    λ is. elim (from_need x numbered is.0 is.1) [
-      | inl one ↦ Contains-append_left mine theirs x ((are_mine x).1 one)
-      | inr two ↦ Contains-append_right mine theirs x ((are_theirs x).1 two)
-    ],
+  pub both_are : AreNumbered s e → (mine theirs all : List Need) → all ≡ mine ++ theirs → ((x : Need) → Contains mine x ↔ IsOwnNeed s v e strict x)
+      → ((x : Need) → Contains theirs x ↔ IsNeedOfOthers s v e strict x)
+      → (x : Need) → Contains all x ↔ IsOpenNeed s v e strict x
+  both_are numbered mine theirs all same are_mine are_theirs x = both_ways (both_of mine theirs all same x (are_mine x) (are_theirs x)) (
+    λ found. elim found [ inl one ↦ consumed_is x one | inr two ↦ provided_is x two ],
+    λ is. from_need x numbered is.0 is.1,
   )
 
 -- ---- their faults

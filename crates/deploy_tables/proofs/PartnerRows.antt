@@ -1,41 +1,19 @@
 -- The versions of a provider that are in an environment, by their numbers: rows of deployed and of released.
-use Rattle.std.proofs.Common.{◌≡◌, ◌∙◌, inl, inr, ℕ, pos, codes, List, [], ◌∷◌, ◌++◌, Some, None, true, refl, sym, ap, subst}
 use Rattle.std.specs.Prelude.{Contains, ◌↔◌, filter_map, if◌then◌else◌}
-use Rattle.std.proofs.lemmas.List.Elements.{Contains-append_cases, Contains-append_left, Contains-append_right}
-use Rattle.sqlite.specs.Edit.{id_in}
-use Rattle.sqlite.specs.declared.types.Value.TheVariants.{Int, Text}
-use Rattle.sqlite.specs.Order.{Row, column}
-use Rattle.sqlite.specs.Term.{Term, col}
-use Rattle.sqlite.specs.Effect.{Database}
-use Rattle.sqlite.specs.Listing.{understood}
-use Rattle.sqlite.specs.Collation.TheVariants.{Binary}
+use Rattle.std.proofs.Common.{◌≡◌, ◌∙◌, inl, inr, ℕ, pos, codes, List, [], ◌∷◌, ◌++◌, Some, None, true, refl, sym, ap, subst}
 use Rattle.sqlite_rules.specs.Lists.{Has}
-use Rattle.sqlite_sql.specs.declared.ops.BinaryOp.TheVariants.{Compare}
-use Rattle.sqlite_sql.specs.declared.ops.CompareOp.TheVariants.{Eq}
-use Rattle.sqlite_sql.specs.Ops.{binary, is_true}
 use Rattle.sqlite_tied.specs.Compute.{everything}
-use Rattle.table_access.specs.Columns.{text}
-use Rattle.table_access.specs.Statements.{from_table, keeps, shows}
-use Rattle.table_access.specs.Reading.{AreRead}
-use Rattle.table_access.proofs.Parts.{is_param}
-use Rattle.broker_core.specs.Text.{Text as Words, same_text, version}
-use Rattle.broker_core.specs.State.{State as Broker}
-use Rattle.broker_core.specs.Gate.{Stands}
-use Rattle.broker_core.proofs.Lists.{Contains-from_filter_map, Contains-filter_map}
-use Rattle.broker_core.proofs.Judgement.{text_is, text_refl, when}
-use Rattle.broker_tables.specs.Numbers.{number_of}
-use Rattle.broker_tables.specs.Holds.{Holds}
-use Rattle.broker_tables.proofs.Asked.{Asked, IsShown}
-use Rattle.broker_tables.proofs.Listed.{read_has, has_read}
-use Rattle.broker_tables.proofs.VersionRows.{text_test}
-use Rattle.deploy_tables.specs.ContractsThere.{IsDeployedIn}
-use Rattle.deploy_tables.specs.Partners.{ArePartners, AreReleasedNumbers, AreNumbered, number_if}
-use Rattle.deploy_tables.specs.declared.partners.ReleasedNumber.{ReleasedNumber}
-use Rattle.deploy_tables.proofs.DeployedRows.{environments, pacticipants}
-use Rattle.deploy_tables.proofs.DeployedList.{row_deployed, deployed_row}
-use Rattle.deploy_tables.proofs.ReleasedList.{released_numbered}
-use Rattle.deploy_tables.proofs.VersionNames.{row_kept, kept_row}
-use Rattle.deploy_tables.proofs.VersionRows.{same_some, same_pos, both_hold}
+use Rattle.table_access.{specs.{Columns.{text}, Statements.{from_table, keeps}, Reading.{AreRead}}, proofs.Parts.{is_param}}
+use Rattle.broker_tables.{specs.{Numbers.{number_of}, Holds.{Holds}}, proofs.{Asked.{Asked, IsShown}, VersionRows.{text_test}}}
+use Rattle.deploy_tables.specs.{declared.partners.ReleasedNumber.{ReleasedNumber}, ContractsThere.{IsDeployedIn}}
+use Rattle.deploy_tables.{specs.Partners.{ArePartners, AreReleasedNumbers, AreNumbered, number_if}, proofs.DeployedRows.{environments, pacticipants}}
+use Rattle.deploy_tables.proofs.{VersionRows.{same_pos, both_hold, row_of, item_of}, DeployedState.{row_deployed, deployed_row}}
+use Rattle.deploy_tables.proofs.{ReleasedRows.{released_numbered}, MatrixLoop.{both_ways, both_of}}
+use Rattle.sqlite.specs.{Edit.{id_in}, declared.types.Value.TheVariants.{Int, Text}, Order.{Row, column}, Term.{Term, col}, Effect.{Database}}
+use Rattle.sqlite.specs.{Listing.{understood}, Collation.TheVariants.{Binary}}
+use Rattle.sqlite_sql.specs.{declared.ops.BinaryOp.TheVariants.{Compare}, declared.ops.CompareOp.TheVariants.{Eq}, Ops.{binary, is_true}}
+use Rattle.broker_core.specs.{Text.{Text as Words, same_text, version}, State.{State as Broker}, Gate.{Stands}}
+use Rattle.broker_core.proofs.{Lists.{some_is, Contains-from_filter_map, Contains-filter_map}, Judgement.{text_is, text_refl, when}}
 
 abbrev by_owner : List Term
 by_owner = is_param 1 0 ∷ is_param 2 1 ∷ []
@@ -54,52 +32,50 @@ module _ (db : Database) (s : Broker) (held : Holds db s) (e p : Words) where
 
   is_kept : (r : Row) → Has (db.trees 21) r → (keeps by_owner params r ≡ true) ↔ ((text 1 r ≡ e) × (text 2 r ≡ p))
   is_kept r has =
-      let one = text_test (column r 1) (Text e) (text 1 r) e (environments db held.broker r has) refl in
-      let two = text_test (column r 2) (Text p) (text 2 r) p (pacticipants db held.broker r has) refl in
+      let one = text_test (column r 1) (Text e) (text 1 r) e ((environments db held.broker).typed r has) refl in
+      let two = text_test (column r 2) (Text p) (text 2 r) p ((pacticipants db held.broker).typed r has) refl in
       let all = both_hold (is_true (binary (Compare Eq Binary) (column r 1) (Text e))) (is_true (binary (Compare Eq Binary) (column r 2) (Text p))) in
       (λ kept. let it = all.0 kept in (one.0 it.0, two.0 it.1), λ same. all.1 (one.1 same.0, two.1 same.1))
 
   pub deployed_told : (rows : List Row) (items : List ℕ) → IsShown (numbers_of e p) db rows → AreRead (λ row n. column row 0 ≡ Int (pos n)) rows items → ArePartners s p (IsDeployedIn s e) items
   deployed_told rows items h read n = (
     λ c.
-        let row = read_has (λ row n. column row 0 ≡ Int (pos n)) rows items n read c in
-        let r = row_kept db params 21 by_owner number_project rows h row.0 row.1 in
-        let shown : column (shows number_project params r.0) 0 ≡ Int (pos n) = subst (λ x. column x 0 ≡ Int (pos n)) r.3 row.2 in
+        let r = row_of db params by_owner number_project (λ row n. column row 0 ≡ Int (pos n)) rows items read 21 h n c in
         let at = (is_kept r.0 r.1).0 r.2 in
         let it = row_deployed db s held e r.0 r.1 at.0 in
         subst (λ q. (name : Words) × IsDeployedIn s e (version q name) × (number_of s.versions (version q name) ≡ Some n)) at.1
-        (it.0, (text 3 r.0, it.1), it.2.1 ∙ ap Some (same_pos it.2.0 n (sym it.2.2 ∙ ap id_in shown))),
+        (it.0, (text 3 r.0, it.1), it.2.1 ∙ ap Some (same_pos it.2.0 n (sym it.2.2 ∙ ap id_in r.3))),
     λ there.
         let it = deployed_row db s held e p there.1.0 there.0 there.1.1 in
         let r = it.2 in
-        let y = has_read (λ row n. column row 0 ≡ Int (pos n)) rows items (shows number_project params r.0) read (kept_row db params 21 by_owner number_project rows h r.0 r.1 ((is_kept r.0 r.1).1 (r.2, r.3))) in
-        let same : y.0 ≡ n = same_pos y.0 n (sym (ap id_in y.2) ∙ r.5 ∙ ap pos (same_some it.0 n (sym it.1 ∙ there.2))) in
+        let y = item_of db params by_owner number_project (λ row n. column row 0 ≡ Int (pos n)) rows items read 21 h r.0 r.1 ((is_kept r.0 r.1).1 (r.2, r.3)) in
+        let same : y.0 ≡ n = same_pos y.0 n (sym (ap id_in y.2) ∙ r.5 ∙ ap pos (some_is it.0 n (sym it.1 ∙ there.2))) in
         subst (Contains items) same y.1,
   )
 
 -- each version that stands there has a number
 pub standing_numbered : (db : Database) (s : Broker) → Holds db s → (e : Words) → AreNumbered s e
 standing_numbered db s held e w (inl there) = let it = deployed_row db s held e w.pacticipant there.0 w.name there.1 in (it.0, it.1)
-standing_numbered db s held e w (inr there) = released_numbered db held.broker e s held w there
+standing_numbered db s held e w (inr there) = released_numbered db s held e w there
 
 -- what is deployed and what is released of the provider is what stands there
 pub partners_are : (s : Broker) (e p : Words) (deployed : List ℕ) (released : List ReleasedNumber) → ArePartners s p (IsDeployedIn s e) deployed → AreReleasedNumbers s e released
     → ArePartners s p (Stands s e) (deployed ++ filter_map (number_if p) released)
-partners_are s e p deployed released are_deployed are_released n = (
-  λ c. elim (Contains-append_cases deployed (filter_map (number_if p) released) n c) [
-    | inl one ↦ let it = (are_deployed n).0 one in (it.0, inl it.1, it.2)
-    | inr two ↦
-        let x = Contains-from_filter_map (number_if p) released n two in
-        let of = when (same_text x.0.pacticipant p) x.0.number n x.2 in
-        let it = (are_released x.0).0 x.1 in
-        let owner : x.0.pacticipant ≡ p = text_is _ _ of.0 in
-        subst (λ q. (name : Words) × Stands s e (version q name) × (number_of s.versions (version q name) ≡ Some n)) owner (it.0, inr it.1, it.2 ∙ ap Some of.1)
-  ],
-  λ is. elim is.1 [
-    | inl there ↦ Contains-append_left deployed (filter_map (number_if p) released) n ((are_deployed n).1 (is.0, there, is.2))
-    | inr there ↦
-        let x : ReleasedNumber = record { number = n; pacticipant = p } in
-        Contains-append_right deployed (filter_map (number_if p) released) n
-        (Contains-filter_map (number_if p) released x n ((are_released x).1 (is.0, there, is.2)) (ap (λ b. if b then Some n else None) (text_refl p)))
-  ],
-)
+partners_are s e p deployed released are_deployed are_released n = both_ways
+    (both_of deployed (filter_map (number_if p) released) (deployed ++ filter_map (number_if p) released) refl n (are_deployed n) (λ c. c, λ c. c)) (
+      λ found. elim found [
+        | inl one ↦ (one.0, inl one.1, one.2)
+        | inr two ↦
+            let x = Contains-from_filter_map (number_if p) released n two in
+            let of = when (same_text x.0.pacticipant p) x.0.number n x.2 in
+            let it = (are_released x.0).0 x.1 in
+            subst (λ q. (name : Words) × Stands s e (version q name) × (number_of s.versions (version q name) ≡ Some n)) (text_is _ _ of.0)
+            (it.0, inr it.1, it.2 ∙ ap Some of.1)
+      ],
+      λ is. elim is.1 [
+        | inl there ↦ inl (is.0, there, is.2)
+        | inr there ↦
+            let x : ReleasedNumber = record { number = n; pacticipant = p } in
+            inr (Contains-filter_map (number_if p) released x n ((are_released x).1 (is.0, there, is.2)) (ap (λ b. if b then Some n else None) (text_refl p)))
+      ],
+    )

@@ -1,43 +1,31 @@
 -- The rows of each query of these tables can be read, if the state that the database holds can.
-use Rattle.std.proofs.Common.{◌≡◌, ◌≤◌, inl, inr, ℕ, pos, List, [], ◌∷◌, refl, arith}
-use Rattle.std.specs.Prelude.{IsUtf8}
-use Rattle.sqlite.specs.declared.types.Value.TheVariants.{Int}
-use Rattle.sqlite.specs.Order.{Row, column}
-use Rattle.sqlite.specs.Term.{col, eval_all}
-use Rattle.sqlite.specs.Effect.{Database}
+use Rattle.std.{specs.Prelude.{IsUtf8}, proofs.Common.{◌≡◌, ◌≤◌, inl, inr, ℕ, pos, List, [], ◌∷◌, refl, arith}}
 use Rattle.sqlite_rules.specs.Lists.{Has}
-use Rattle.table_access.specs.Columns.{text, whole_at}
-use Rattle.table_access.specs.Reading.{IsNumberRow}
-use Rattle.table_access.specs.Statements.{from_both, shows}
-use Rattle.table_access.proofs.SoundLemmas.{whole_in, has_place}
+use Rattle.table_access.{specs.{Columns.{text, whole_at}, Reading.{IsNumberRow}, Statements.{from_both, shows}}, proofs.SoundLemmas.{whole_in, has_place}}
 use Rattle.broker_core.specs.State.{State as Broker}
-use Rattle.broker_tables.specs.Holds.{Holds}
-use Rattle.broker_tables.specs.Readable.{IsReadable, IsNamed}
-use Rattle.broker_tables.proofs.Asked.{Asked, EachShown, EachReads, of_both, of_table, number_reads}
+use Rattle.broker_tables.{specs.{Holds.{Holds}, Readable.{IsReadable, IsNamed}}, proofs.Asked.{Asked, EachShown, EachReads, of_both, of_table, number_reads}}
 use Rattle.broker_tables.proofs.Placed.{contracts, contracts_there, results, results_there, latest, latest_there, deployed, deployed_there, released, released_there}
 use Rattle.broker_tables.proofs.ReadableRows.{IsLow, number_cell, name_cell, truth_cell, to_version_low, to_content_low, to_result_low, version_named, to_pacticipant_named, pass_low}
 use Rattle.broker_tables.proofs.VersionRows.{owners, names}
-use Rattle.contract_tables.specs.Listings.{ReadsAsNumbers, ReadsAsMarked}
-use Rattle.contract_tables.specs.VersionResults.{ReadsAsPass}
-use Rattle.deploy_tables.specs.Listings.{ReadsAsDeployed, ReadsAsReleased}
+use Rattle.deploy_tables.{specs.Listings.{ReadsAsDeployed, ReadsAsReleased}, proofs.{ContractsThere.{of_deployed, of_released}, PartnerRows.{numbers_of}}}
+use Rattle.deploy_tables.proofs.{VersionNames.{names_of, name_project}, ToldResults.{terms, pass_project, mark_project}}
+use Rattle.sqlite.specs.{declared.types.Value.TheVariants.{Int}, Order.{Row, column}, Term.{col, eval_all}, Effect.{Database}}
+use Rattle.contract_tables.specs.{Listings.{ReadsAsNumbers, ReadsAsMarked}, VersionResults.{ReadsAsPass}}
 use Rattle.deploy_tables.proofs.DeployedRows as deployed_rows
-use Rattle.deploy_tables.proofs.DeployedList as deployed_list
-use Rattle.deploy_tables.proofs.ReleasedList as released_list
-use Rattle.deploy_tables.proofs.ContractsThere.{of_deployed, of_released}
-use Rattle.deploy_tables.proofs.PartnerRows.{numbers_of}
-use Rattle.deploy_tables.proofs.VersionNames.{names_of, name_project}
-use Rattle.deploy_tables.proofs.ToldResults.{terms, pass_project, mark_project}
+use Rattle.deploy_tables.proofs.DeployedState as deployed_list
+use Rattle.deploy_tables.proofs.ReleasedRows as released_list
 
 -- ---- the columns of the tables
 
 module _ (db : Database) (s : Broker) (held : Holds db s) (readable : IsReadable s) where
   deployed_number : (r : Row) → Has (db.trees 21) r → (column r 4 ≡ Int (whole_at 4 r)) × IsLow (whole_at 4 r)
   deployed_number r has =
-      let typed = deployed_rows.numbers db held.broker r has in
+      let typed = (deployed_rows.numbers db held.broker).typed r has in
       (typed, to_version_low db s held readable deployed (has_place _ 11 deployed (deployed_there db held.broker)) 4 r has typed (inr (inr (inl refl))))
 
   deployed_named : (r : Row) → Has (db.trees 21) r → IsNamed (text 2 r)
-  deployed_named r has = to_pacticipant_named db s held readable deployed (has_place _ 11 deployed (deployed_there db held.broker)) 2 (inr (inl refl)) r has (deployed_rows.pacticipants db held.broker r has)
+  deployed_named r has = to_pacticipant_named db s held readable deployed (has_place _ 11 deployed (deployed_there db held.broker)) 2 (inr (inl refl)) r has
+      ((deployed_rows.pacticipants db held.broker).typed r has)
 
   -- an instance is a text in UTF-8
   deployed_instance : (r : Row) → Has (db.trees 21) r → IsUtf8 (text 3 r)
@@ -79,8 +67,8 @@ number_at_reads e p i db s held readable = number_reads (deployed_rows.number_at
 pub deployments_reads : (e : List ℕ) (db : Database) → EachReads (deployed_list.deployments e) db ReadsAsDeployed
 deployments_reads e db s held readable = of_both (deployed_list.deployments e) db _ (λ d v hd hv kept.
     let shown : Row = eval_all (col 1 2 ∷ col 1 3 ∷ col 2 3 ∷ []) ([] ∷ d ∷ v ∷ []) in (
-      name_cell shown 0 (text 2 d) (omega arith) (deployed_rows.pacticipants db held.broker d hd) (deployed_named db s held readable d hd),
-      (omega arith, (text 3 d, deployed_rows.instances db held.broker d hd, deployed_instance db s held readable d hd)),
+      name_cell shown 0 (text 2 d) (omega arith) ((deployed_rows.pacticipants db held.broker).typed d hd) (deployed_named db s held readable d hd),
+      (omega arith, (text 3 d, (deployed_rows.instances db held.broker).typed d hd, deployed_instance db s held readable d hd)),
       name_cell shown 2 (text 3 v) (omega arith) (names db held.broker v hv) (version_named db s held readable v hv).1,
     ))
 

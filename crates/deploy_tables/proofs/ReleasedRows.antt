@@ -1,56 +1,142 @@
--- The statements on what is released.
-use Rattle.std.proofs.Common.{◌≡◌, inl, inr, ℕ, ℤ, pos, codes, List, [], ◌∷◌, true, false, Bool, ◌&&◌, ◌||◌, refl, sym, ap, ◌∙◌, cond, nat_lt, slice_get, Some, None, Option, Ok, arith}
-use Rattle.std.specs.Prelude.{option_map, is_some}
-use Rattle.std.specs.Option.{option_map_or}
-use Rattle.std.specs.Ordering.{eq_by_cmp, int_cmp}
+-- What is released: the list, and the statements.
+use Rattle.std.specs.{Prelude.{Contains, option_map, is_some}, Option.{option_map_or}, Ordering.{eq_by_cmp, int_cmp}, Cmp.{eq_by_cmp_equiv, Equal-is}}
 use Rattle.std.specs.Cmp.Lexicographic.{nat_list_cmp_total, texts_ties}
-use Rattle.std.specs.Cmp.{Equal-is}
-use Rattle.std.proofs.lemmas.Bool.{cases_Bool}
-use Rattle.std.proofs.lemmas.Cmp.{int_cmp_total}
-use Rattle.sqlite.specs.Edit.{next_rowid, with_rowid}
-use Rattle.sqlite.specs.Rowids.TheVariants.{Chosen}
-use Rattle.sqlite.specs.declared.types.Value.TheVariants.{Null, Int, Text}
-use Rattle.sqlite.specs.Order.{Row}
-use Rattle.sqlite.specs.Term.{Term, col, lit}
-use Rattle.sqlite.specs.Cast.{cast_row}
-use Rattle.sqlite.specs.Command.{Command}
-use Rattle.sqlite.specs.Command.TheVariants.{Delete}
-use Rattle.sqlite.specs.Effect.{Database}
-use Rattle.sqlite.specs.State.{State, Executes}
-use Rattle.sqlite.specs.Listing.{understood}
+use Rattle.std.proofs.Common.{slice_get, IsTrue, ◌≡◌, ℕ, ℤ, pos, codes, List, [], ◌∷◌, Bool, true, false, refl, sym, ap, subst, ◌∙◌, Some, None, Option, Ordering, inl, inr, ◌&&◌, ◌||◌, cond, nat_lt, Ok, arith}
+use Rattle.std.proofs.{lemmas.Cmp.{int_cmp_total}, Math.Bool.{and-false}}
 use Rattle.sqlite_rules.specs.Lists.{Has}
 use Rattle.sqlite_tied.specs.Compute.{everything}
-use Rattle.table_access.specs.Columns.{text, text_cmp, whole_at}
-use Rattle.table_access.specs.Statements.{from_table, keeps, shows}
-use Rattle.table_access.proofs.Values.{cast_null, cast_int}
-use Rattle.table_access.proofs.Steps.{Means, answered, deletes, deletes_counted}
-use Rattle.table_access.proofs.CountLemmas.{some_counted, same_any}
-use Rattle.table_access.proofs.Maps.{looks_up_at}
-use Rattle.table_access.proofs.SoundLemmas.{has_place, at_has}
-use Rattle.table_access.proofs.Members.{any_has}
-use Rattle.table_access.proofs.Parts.{text_part, whole_part, where_last, where_and, all_where, is_param}
-use Rattle.broker_core.specs.declared.command.Version.{Version}
-use Rattle.broker_core.specs.Text.{Text as Words, version, put_at, same_text, same_pair, same_version}
-use Rattle.broker_core.specs.State.{State as Broker}
-use Rattle.broker_tables.specs.Schema.{broker_schema}
-use Rattle.broker_tables.specs.Rows.{stands_at}
-use Rattle.broker_tables.specs.Numbers.{number_of}
-use Rattle.broker_tables.specs.Holds.{Holds, HoldsAfter, IsBroker}
-use Rattle.broker_tables.specs.Refusals.{HaveNumbers}
-use Rattle.broker_tables.proofs.Asked.{Asked, IsShown}
-use Rattle.broker_tables.proofs.Frames.{meant, frame_of, released_change}
+use Rattle.table_access.specs.{Columns.{text, text_cmp, whole_at, by_both}, Statements.{from_table, keeps, shows, from_both}, Sound.{text_in}}
+use Rattle.table_access.{specs.Reading.{AreRead}, proofs.{Members.{any_has}, Values.{cast_null, cast_int}}}
+use Rattle.table_access.proofs.{SoundLemmas.{has_place, text_at, whole_in, any_of, at_has}, Keys.{apart_by}}
+use Rattle.table_access.proofs.Parts.{text_part, whole_part, agree_last, agree_and, once, where_last, where_and, all_where, is_param}
+use Rattle.table_access.proofs.{Steps.{Means, answered, deletes, deletes_counted}, CountLemmas.{some_counted, same_any}, Maps.{looks_up_at}}
+use Rattle.broker_core.specs.{State.{State as Broker}, declared.command.Version.{Version}}
+use Rattle.broker_core.specs.{Text.{Text as Words, version, put_at, same_text, same_pair, same_version}, Listing.{Lists}, Machine.{version_cmp}}
+use Rattle.broker_tables.specs.{Rows.{stands_at}, Numbers.{number_of}, Holds.{Holds, IsBroker, HoldsAfter}, Schema.{broker_schema}, Refusals.{HaveNumbers}}
+use Rattle.broker_tables.proofs.{Asked.{Asked, IsShown, of_table}, Listed.{lists_join}}
 use Rattle.broker_tables.proofs.Inserted.{EndsOnly, Puts, inserted, next_ends, new_text, new_whole, free_two, environment_there, version_there}
-use Rattle.broker_tables.proofs.NumberLemmas.{number_ties, version_unknown}
-use Rattle.broker_tables.proofs.Orders.{placed_total, exact_placed}
-use Rattle.broker_tables.proofs.References.{refers_version}
-use Rattle.broker_tables.proofs.RoomLemmas.{after_one, grows_added, grows_kept, number_for}
-use Rattle.broker_tables.proofs.Standing.{stands_found, stands_put, stands_out}
-use Rattle.broker_tables.proofs.Ties.{two_tests, both_eq}
-use Rattle.broker_tables.proofs.Placed.{released, released_there, calm}
-use Rattle.deploy_tables.specs.Releases.{IsVersion, MayBeReleased}
-use Rattle.deploy_tables.proofs.VersionRows.{same_pos}
-use Rattle.deploy_tables.proofs.ReleasedList.{placed, place_of, environments, numbers, keys}
-use Rattle.broker_tables.proofs.VersionRows.{row_number}
+use Rattle.broker_tables.proofs.{VersionRows.{owners, names, same_version as same_row}, Orders.{placed_total, exact_placed}, NoVersion.{no_row, no_first}}
+use Rattle.broker_tables.proofs.{Frames.{meant, frame_of, released_change}, NumberLemmas.{number_ties, version_unknown}}
+use Rattle.broker_tables.proofs.{RoomLemmas.{after_one, grows_added, grows_kept, number_for}, Standing.{stands_found, stands_put, stands_out}}
+use Rattle.broker_tables.proofs.{Ties.{two_tests, both_eq}, Placed.{released, released_there, calm}}
+use Rattle.sqlite.specs.{Listing.{understood}, Tree.{IsAscending}, Edit.{id_in, next_rowid, with_rowid}, declared.types.Value.TheVariants.{Int, Text, Null}}
+use Rattle.sqlite.specs.{Order.{Row, column}, Term.{Term, col, lit}, Collation.TheVariants.{Binary}, Effect.{Database}, Schema.{Schema}}
+use Rattle.sqlite.specs.{Rowids.TheVariants.{Chosen}, Cast.{cast_row}, Command.{Command}, Command.TheVariants.{Delete}, State.{State, Executes}}
+use Rattle.sqlite_keyed.proofs.RuleLemmas.{first_of_both, second_of_both}
+use Rattle.deploy_tables.specs.{Releases.{IsVersion, MayBeReleased}, declared.partners.ReleasedNumber.{ReleasedNumber}, Listings.{IsReleasedRow}}
+use Rattle.deploy_tables.specs.{ContractsThere.{IsReleasedIn}, Partners.{IsNumberOfReleased, AreReleasedNumbers}}
+use Rattle.deploy_tables.proofs.VersionRows.{joined_by, same_pos, two_texts, tied_texts, Names, has_kept, pairs_apart, pair_is, is_pair, pair_of, item_of_pair}
+use Rattle.sqlite_value.specs.{declared.keys.Key.{Key}, Keys.{ascending}}
+
+abbrev list_order : List (Term × Key)
+list_order = (col 2 2, ascending Binary) ∷ (col 2 3, ascending Binary) ∷ []
+
+abbrev list_project : List Term
+list_project = col 2 2 ∷ col 2 3 ∷ []
+
+pub releases : (e : List ℕ)
+    → Asked (codes "SELECT v.pacticipant, v.version FROM released r JOIN versions v ON v.number = r.version_number WHERE r.environment = ?1 ORDER BY v.pacticipant, v.version")
+    (Text e ∷ []) (from_both 23 6 (joined_by 2) list_project list_order)
+unfolding understood everything
+releases e = record { names = _; means = record { is = refl; plain = (refl, refl); unlisted = refl }; runs = record { whole = refl; typed = refl; sumless = refl } }
+
+-- ---- the same rows, with the versions' numbers and without their names
+
+abbrev number_project : List Term
+number_project = col 1 2 ∷ col 2 2 ∷ []
+
+pub release_numbers : (e : List ℕ)
+    → Asked (codes "SELECT r.version_number, v.pacticipant FROM released r JOIN versions v ON v.number = r.version_number WHERE r.environment = ?1")
+    (Text e ∷ []) (from_both 23 6 (joined_by 2) number_project [])
+unfolding understood everything
+release_numbers e = record { names = _; means = record { is = refl; plain = (refl, refl); unlisted = refl }; runs = record { whole = refl; typed = refl; sumless = refl } }
+
+-- ---- the columns
+
+abbrev pub placed : ((List ℕ) × ℤ) → ((List ℕ) × ℤ) → Ordering
+placed = by_both text_cmp int_cmp
+
+abbrev pub place_of : Row → (List ℕ) × ℤ
+place_of r = (text 1 r, whole_at 2 r)
+
+module _ (db : Database) (broker : IsBroker db) where
+  pub environments : (r : Row) → Has (db.trees 23) r → column r 1 ≡ Text (text 1 r)
+  environments r has = text_at db broker.kept.sound released (has_place _ 12 released (released_there db broker)) r has 0 _ refl refl refl refl refl
+
+  pub numbers : (r : Row) → Has (db.trees 23) r → column r 2 ≡ Int (whole_at 2 r)
+  numbers r has = whole_in db broker.kept.sound released (has_place _ 12 released (released_there db broker)) r has 1 _ refl refl refl refl refl
+
+  -- a version is released once in an environment
+  pub keys : IsAscending (λ a b. eq_by_cmp placed (place_of a) (place_of b) ≡ false) (db.trees 23)
+  keys = once placed (db.trees 23) (1 ∷ 2 ∷ []) place_of
+      (λ a b ha hb. agree_and nat_list_cmp_total (db.trees 23) 1 (text 1) (text_part (db.trees 23) 1 environments) int_cmp (whole_at 2) (2 ∷ []) a b ha hb
+      (agree_last int_cmp_total (db.trees 23) 2 (whole_at 2) (whole_part (db.trees 23) 2 numbers) a b ha hb))
+      (apart_by db broker.kept released 12 (released_there db broker) _ 11 (ap (λ (s : Schema). slice_get s.indexes 11) broker.schema) refl)
+
+-- ---- what the rows of an environment say
+
+module _ (db : Database) (s : Broker) (held : Holds db s) (e : Words) where
+  -- a row stands at the place of a version just where that is released
+  pub stands : (w : Version) (n : ℕ) → number_of s.versions w ≡ Some n → stands_at placed place_of (db.trees 23) (e, pos n) ≡ s.released (e, w)
+  stands w n known = sym (ap (λ o. option_map_or (λ m. stands_at placed place_of (db.trees 23) (e, pos m)) o false) known) ∙ held.released e w
+
+  pub released_in : Names db s 23 2 e (IsReleasedIn s e)
+  released_in = record {
+    environments = environments db held.broker;
+    numbers = numbers db held.broker;
+    row_is = λ r w n has there known number.
+        let place : (e, pos n) ≡ place_of r = (λ i. (sym there i, sym number i)) in
+        sym (stands w n known) ∙ any_of (λ q. eq_by_cmp placed (e, pos n) (place_of q)) (db.trees 23) r has
+        (ap (eq_by_cmp placed (e, pos n)) (sym place) ∙ (eq_by_cmp_equiv placed_total).refl (e, pos n));
+    is_row = λ w n known there.
+        let d = any_has (λ q. eq_by_cmp placed (e, pos n) (place_of q)) (db.trees 23) (stands w n known ∙ there) in
+        let place : (e, pos n) ≡ place_of d.0 = exact_placed (e, pos n) (place_of d.0) ((Equal-is (placed (e, pos n) (place_of d.0))).0 d.2) in
+        (d.0, d.1, sym (ap (λ x. x.0) place), sym (ap (λ x. x.1) place));
+  }
+
+  -- each version that is released there has a number
+  pub released_numbered : (v : Version) → IsReleasedIn s e v → (n : ℕ) × (number_of s.versions v ≡ Some n)
+  released_numbered v there = go (number_of s.versions v) (held.released e v ∙ there)
+    where
+      go : (o : Option ℕ) → option_map_or (λ n. stands_at placed place_of (db.trees 23) (e, pos n)) o false ≡ true → (n : ℕ) × (o ≡ Some n)
+      go None h = absurd cc
+      go (Some n) h = (n, refl)
+
+  pub released_listed : (rows : List Row) (items : List Version) → IsShown (releases e) db rows → AreRead IsReleasedRow rows items
+      → Lists version_cmp (λ v. IsTrue (s.released (e, v))) items
+  released_listed = lists_join db (Text e ∷ []) (joined_by 2) list_project list_order IsReleasedRow version_cmp (λ v. IsTrue (s.released (e, v))) 23 6
+      (pairs_apart db held.broker 23 2 (environments db held.broker) (numbers db held.broker) e placed_total place_of list_order (keys db held.broker)
+      (λ p q hp hq tied.
+      let a = has_kept db held.broker 23 2 (environments db held.broker) (numbers db held.broker) e p hp in
+      let b = has_kept db held.broker 23 2 (environments db held.broker) (numbers db held.broker) e q hq in
+      let same = tied_texts _ _ _ _ _ _ _ _ (owners db held.broker p.1 a.1) (owners db held.broker q.1 b.1) (names db held.broker p.1 a.1)
+      (names db held.broker q.1 b.1) tied in
+      let row = same_row db held.broker p.1 q.1 a.1 b.1 (ap (λ x. x.0) same) (ap (λ x. x.1) same) in
+      λ i. ((a.2.1 ∙ sym b.2.1) i, (sym a.2.0 ∙ ap (whole_at 0) row ∙ b.2.0) i)))
+      (λ a b x y ha hb ra rb h. sym (two_texts _ _ _ _ _ _ _ _ ra.0 rb.0 ra.1 rb.1) ∙ h)
+      (λ q x has read. subst (λ v. IsTrue (s.released (e, v))) (λ i. version (text_in (read.0 i)) (text_in (read.1 i)))
+      (pair_is db s held 23 2 e (IsReleasedIn s e) released_in q has).3)
+      (λ x there.
+      let n = released_numbered x there in
+      let q = is_pair db s held 23 2 e (IsReleasedIn s e) released_in x n.0 n.1 there in
+      (q.0, q.1, λ y read i. version ((sym (ap text_in read.0) ∙ q.2) i) ((sym (ap text_in read.1) ∙ q.3) i)))
+
+  -- ---- with the numbers
+
+  pub numbers_told : (rows : List Row) (items : List ReleasedNumber) → IsShown (release_numbers e) db rows → AreRead IsNumberOfReleased rows items → AreReleasedNumbers s e items
+  numbers_told rows items h read x = (
+    λ c.
+        let q = pair_of db (Text e ∷ []) (joined_by 2) number_project IsNumberOfReleased rows items read 23 6 h x c in
+        let it = pair_is db s held 23 2 e (IsReleasedIn s e) released_in q.0 q.1 in
+        subst (λ p. (name : Words) × IsReleasedIn s e (version p name) × (number_of s.versions (version p name) ≡ Some x.number)) (ap text_in q.2.1)
+        (text 3 q.0.1, it.3, it.1 ∙ ap Some (same_pos it.0 x.number (sym it.2 ∙ ap id_in q.2.0))),
+    λ there.
+        let q = is_pair db s held 23 2 e (IsReleasedIn s e) released_in (version x.pacticipant there.0) x.number there.2 there.1 in
+        let y = item_of_pair db (Text e ∷ []) (joined_by 2) number_project IsNumberOfReleased rows items read 23 6 h q.0 q.1 in
+        let number : y.0.number ≡ x.number = same_pos y.0.number x.number (sym (ap id_in y.2.0) ∙ q.4) in
+        let same : y.0 ≡ x = (λ i. record { number = number i; pacticipant = (sym (ap text_in y.2.1) ∙ q.2) i }) in
+        subst (Contains items) same y.1,
+  )
 
 abbrev pub by_place : List Term
 by_place = is_param 1 0 ∷ is_param 2 1 ∷ []
@@ -80,28 +166,17 @@ row_found e n db rows broker h =
     (answered db params 23 by_place (col 1 1 ∷ []) [] rows h))
     ∙ stands_found placed place_of (text 1) (db.trees 23) (e, pos n)
 
--- no row names a number that no version has
-none_placed : (db : Database) (s : Broker) → Holds db s → (e : Words) (n : ℕ) → (¬ IsVersion n s) → stands_at placed place_of (db.trees 23) (e, pos n) ≡ false
-none_placed db s held e n none = elim (cases_Bool (stands_at placed place_of (db.trees 23) (e, pos n))) [
-  | inl hit ↦
-      let d = any_has (λ r. eq_by_cmp placed (e, pos n) (place_of r)) (db.trees 23) hit in
-      let place : (e, pos n) ≡ place_of d.0 = exact_placed (e, pos n) (place_of d.0) ((Equal-is (placed (e, pos n) (place_of d.0))).0 d.2) in
-      let v = refers_version db held.broker released (has_place _ 12 released (released_there db held.broker)) 2 (inr (inl refl)) d.0 d.1 (numbers db held.broker d.0 d.1) in
-      let it = row_number db held.broker s.versions held.versions v.0 v.1 in
-      let same : pos it.0 ≡ pos n = sym it.2 ∙ v.2 ∙ ap (λ x. x.1) (sym place) in
-      absurd (none (version (text 2 v.0) (text 3 v.0), it.1 ∙ ap Some (same_pos it.0 n same)))
-  | inr miss ↦ miss
-]
-
+-- no row is shown for a number that no version has
 pub none_released : (e : Words) (n : ℕ) (db : Database) (rows : List Row) (s : Broker) → Holds db s → (¬ IsVersion n s) → IsShown (release e n) db rows
-    → is_some (option_map (text 0) (slice_get rows 0)) ≡ false
-none_released e n db rows s held none h = row_found e n db rows held.broker h ∙ none_placed db s held e n none
+    → slice_get rows 0 ≡ None
+none_released e n db rows s held none h = no_first rows (of_table (release e n) db (λ row. ⊥) (λ r has kept.
+    no_row db s held n (λ v is. none (v, is)) released (has_place _ 12 released (released_there db held.broker)) 2 (inr (inl refl)) r has
+    (numbers db held.broker r has) (first_of_both _ _ (second_of_both _ _ kept))) rows h)
 
 pub release_found : (e : Words) (n : ℕ) (db : Database) (rows : List Row) (s : Broker) (v : Version) → Holds db s → number_of s.versions v ≡ Some n → IsShown (release e n) db rows
     → is_some (option_map (text 0) (slice_get rows 0)) ≡ s.released (e, v)
 release_found e n db rows s v held is h =
-    row_found e n db rows held.broker h
-    ∙ sym (ap (λ o. option_map_or (λ k. stands_at placed place_of (db.trees 23) (e, pos k)) o false) is) ∙ held.released e v
+    row_found e n db rows held.broker h ∙ stands db s held e v n is
 
 -- ---- a change of one place
 
@@ -112,13 +187,10 @@ module _ (old new : Database) (s : Broker) (held : Holds old s) (e : Words) (n :
   each f w None none =
       let was : s.released (f, w) ≡ false = sym (held.released f w) ∙ ap (λ o. option_map_or (λ k. stands_at placed place_of (old.trees 23) (f, pos k)) o false) none in
       ap (λ o. option_map_or (λ k. stands_at placed place_of (new.trees 23) (f, pos k)) o false) none
-      ∙ sym (ap (λ t. cond (same_text f e && t) set (s.released (f, w))) (version_unknown s.versions w v n none is) ∙ off (same_text f e) ∙ was)
-    where
-      off : (b : Bool) → cond (b && false) set (s.released (f, w)) ≡ s.released (f, w)
-      off true = refl
-      off false = refl
+      ∙ sym (ap (λ t. cond (same_text f e && t) set (s.released (f, w))) (version_unknown s.versions w v n none is)
+      ∙ ap (λ t. cond t set (s.released (f, w))) (and-false (same_text f e)) ∙ was)
   each f w (Some k) some =
-      let was : stands_at placed place_of (old.trees 23) (f, pos k) ≡ s.released (f, w) = sym (ap (λ o. option_map_or (λ m. stands_at placed place_of (old.trees 23) (f, pos m)) o false) some) ∙ held.released f w in
+      let was = stands old s held f w k some in
       let same : (same_text f e && same_version w v) ≡ eq_by_cmp placed (f, pos k) (e, pos n) =
       two_tests (same_text f e) (same_version w v) (eq_by_cmp text_cmp f e) (eq_by_cmp int_cmp (pos k) (pos n)) (texts_ties f e) (number_ties s.versions w v k n some is) ∙ both_eq (text_cmp f e) (int_cmp (pos k) (pos n)) in
       ap (λ o. option_map_or (λ m. stands_at placed place_of (new.trees 23) (f, pos m)) o false) some ∙ now (f, pos k) ∙ (λ i. cond (sym same i) set (was i))
@@ -150,8 +222,8 @@ now_released e n old new count s v held is h =
     after_one 2 (omega arith) (codes "released") old new _ frame (λ counted. grows_added _ _ made it.1 refl) (released_change old.now new.now s _ held frame (λ f w. each old.now new.now s held e n v is true
     (λ q. stands_put placed place_of rows (new.now.trees 23) made it.1 q ∙ either (eq_by_cmp placed q (e, pos n)) (stands_at placed place_of rows q)) f w (number_of s.versions w) refl))
 
--- that a version is released fails only as the store fails
-pub release_ends : (e : Words) (n : ℕ) (old new : State) (s : Broker) → Holds old.now s → HaveNumbers (codes "released" ∷ []) old.now → MayBeReleased e n s → EndsOnly record_sql (Text e ∷ Int (pos n) ∷ []) old new
+-- that a version is released fails only as the store fails, or since the environment's name is too long
+pub release_ends : (e : Words) (n : ℕ) (old new : State) (s : Broker) → Holds old.now s → HaveNumbers (codes "released" ∷ []) old.now → MayBeReleased e n s → EndsOnly (e ∷ []) record_sql (Text e ∷ Int (pos n) ∷ []) old new
 release_ends e n old new s held numbers_left (there, (v, is, free)) =
     let rows = old.now.trees 23 in
     let made = Int (next_rowid rows) ∷ Text e ∷ Int (pos n) ∷ [] in
@@ -160,7 +232,7 @@ release_ends e n old new s held numbers_left (there, (v, is, free)) =
           (sym (ap (λ o. option_map_or (λ k. stands_at placed place_of rows (e, pos k)) o false) is) ∙ held.released e v ∙ free),
       tt,
     )
-    (environment_there old.now s held made 1 e there refl, (version_there old.now s held made 2 v n is refl, tt))
+    (environment_there old.now s held made 1 e there refl, (version_there old.now s held made 2 v n is refl, tt)) (e ∷ []) (λ are. (are.0, (tt, tt))) (omega arith) (omega arith)
 
 -- ---- the end of support
 
@@ -194,4 +266,4 @@ ended_count e n old new count s v held is h =
     let params = Text e ∷ Int (pos n) ∷ [] in
     ap (nat_lt 0) (deletes_counted (codes "released") 23 released.columns None (1 ∷ 2 ∷ []) released.uniques released.orders [] released.references end_sql params old new 12 (released_there old.now held.broker) by_place (meant old.now held.broker end_sql end_text) count h)
     ∙ some_counted (keeps by_place params) rows ∙ same_any (keeps by_place params) (λ r. eq_by_cmp placed (e, pos n) (place_of r)) rows (where_place old.now held.broker e n)
-    ∙ sym (ap (λ o. option_map_or (λ k. stands_at placed place_of rows (e, pos k)) o false) is) ∙ held.released e v
+    ∙ stands old.now s held e v n is

@@ -1,31 +1,15 @@
 -- That a row is taken out of `deployed` or `released`, to which no other table refers, fails only as the store fails.
-use Rattle.std.proofs.Common.{◌≡◌, ◌∙◌, ℕ, pos, codes, List, [], ◌∷◌, true, false, Bool, refl, sym, ap, subst, slice_get, Some, None}
-use Rattle.std.specs.List.{list_all}
-use Rattle.sqlite.specs.declared.types.Value.TheVariants.{Int, Text}
-use Rattle.sqlite.specs.Order.{Row}
-use Rattle.sqlite.specs.Table.{Table}
-use Rattle.sqlite.specs.Term.{Term, col}
-use Rattle.sqlite.specs.Command.TheVariants.{Delete}
-use Rattle.sqlite.specs.State.{State}
-use Rattle.sqlite.specs.Listing.{understood}
+use Rattle.std.proofs.{Common.{◌≡◌, ◌∙◌, ℕ, pos, codes, List, [], ◌∷◌, not, refl, sym, ap, subst, slice_get, Some, None}, Math.Bool.{or-true}}
 use Rattle.sqlite_value.specs.declared.keys.Order.{Order}
-use Rattle.sqlite_schema.specs.declared.schema.Column.{Column}
-use Rattle.sqlite_schema.specs.declared.schema.Reference.{Reference}
-use Rattle.sqlite_schema.specs.Rules.{parent_key, references_fit}
 use Rattle.sqlite_tied.specs.Compute.{everything}
-use Rattle.table_access.specs.declared.StoreFault.{StoreFault}
-use Rattle.table_access.specs.Calls.{HasFailed, FailsToRun, fault_of}
-use Rattle.table_access.specs.Statements.{plain_table, from_table}
-use Rattle.table_access.proofs.Answered.{Runs}
-use Rattle.table_access.proofs.Deleted.{IsLeaf, leads_elsewhere, delete_fails}
-use Rattle.table_access.proofs.SoundLemmas.{has_place, at_has}
-use Rattle.table_access.proofs.Steps.{Means}
 use Rattle.broker_core.specs.State.{State as Broker}
-use Rattle.broker_tables.specs.Calm.{Serves}
-use Rattle.broker_tables.specs.Schema.{broker_schema}
-use Rattle.broker_tables.proofs.Frames.{meant, runs_here}
-use Rattle.broker_tables.proofs.Inserted.{apart}
+use Rattle.broker_tables.{specs.{Calm.{Serves}, Schema.{broker_schema}}, proofs.{Frames.{meant, runs_here}, Inserted.{apart}}}
 use Rattle.broker_tables.proofs.Placed.{all_calm, deployed, deployed_there, released, released_there}
+use Rattle.sqlite.specs.{declared.types.Value.TheVariants.{Int, Text}, Order.{Row}, Table.{Table}, Term.{Term, col}, Command.TheVariants.{Delete}}
+use Rattle.sqlite.specs.{State.{State}, Listing.{understood}}
+use Rattle.sqlite_schema.specs.{declared.schema.Column.{Column}, declared.schema.Reference.{Reference}}
+use Rattle.table_access.specs.{declared.StoreFault.{StoreFault}, Calls.{HasFailed, FailsToRun, fault_of}, Statements.{plain_table, from_table}}
+use Rattle.table_access.proofs.{Answered.{Runs}, Deleted.{IsLeaf, delete_fails}, SoundLemmas.{has_place, at_has}, Steps.{Means}}
 use Rattle.deploy_tables.proofs.DeployedRows as deployments
 use Rattle.deploy_tables.proofs.ReleasedRows as releases
 
@@ -35,28 +19,22 @@ module _ (name : List ℕ) (tree : ℕ) (columns : List Column) (primary : List 
   abbrev table : Table
   table = plain_table name tree columns None primary uniques orders [] references
 
-  removal_ends : (at : ℕ) (sql : List ℕ) (params : Row) (terms : List Term) (old new : State) (s : Broker) → slice_get old.now.schema.tables at ≡ Some table
-      → list_all (λ t. list_all (λ ref. leads_elsewhere tree (parent_key broker_schema.tables ref)) t.references) broker_schema.tables ≡ true → ((removes : Bool) → references_fit broker_schema table false removes ≡ true)
+  removal_ends : IsLeaf name tree columns None primary uniques orders [] references broker_schema
+      → (at : ℕ) (sql : List ℕ) (params : Row) (terms : List Term) (old new : State) (s : Broker) → slice_get old.now.schema.tables at ≡ Some table
       → Means broker_schema sql (Delete at (record { lets = []; body = from_table tree terms (col 1 0 ∷ []) [] })) → Runs broker_schema sql params (from_table tree terms (col 1 0 ∷ []) [])
       → Serves old s → (fault : StoreFault) → FailsToRun sql params old new fault → HasFailed old new fault
-  removal_ends at sql params terms old new s there alone fits means runs here fault (error, is, h) =
+  removal_ends leaf at sql params terms old new s there means runs here fault (error, is, h) =
       let broker = here.held.broker in
       let listed = has_place _ at table there in
-      let leaf : IsLeaf name tree columns None primary uniques orders [] references broker_schema = record { apart = apart; calm = all_calm; alone = alone; fits = fits } in
       let it = delete_fails name tree columns None primary uniques orders [] references sql params old new at there terms (meant old.now broker sql means) (runs_here old.now broker sql params _ runs) here.unlimited
       (subst (IsLeaf name tree columns None primary uniques orders [] references) (sym broker.schema) leaf) listed (at_has _ old.now.schema.tables table broker.kept.numbered listed).0 broker.kept.sound.obeys.rules error h in
       record { cause = it.0; fault_is = is ∙ ap fault_of it.1; has = it.2; over = it.3.autocommit; blamed = it.4 }
 
 -- ---- a deployment
 
-deployed_alone : list_all (λ t. list_all (λ ref. leads_elsewhere 21 (parent_key broker_schema.tables ref)) t.references) broker_schema.tables ≡ true
+deployed_leaf : IsLeaf (codes "deployed") 21 deployed.columns None (1 ∷ 2 ∷ 3 ∷ []) deployed.uniques deployed.orders [] deployed.references broker_schema
 unfolding everything
-deployed_alone = refl
-
-deployed_fits : (removes : Bool) → references_fit broker_schema deployed false removes ≡ true
-unfolding everything
-deployed_fits true = refl
-deployed_fits false = refl
+deployed_leaf = record { apart = apart; calm = all_calm; alone = refl; fits = λ b. or-true (not b) }
 
 deployed_runs : (e p i : List ℕ) (n : ℕ) → Runs broker_schema deployments.end_sql (Text e ∷ Text p ∷ Text i ∷ Int (pos n) ∷ []) (from_table 21 deployments.by_version (col 1 0 ∷ []) [])
 unfolding understood everything
@@ -64,19 +42,15 @@ deployed_runs e p i n = record { whole = refl; typed = refl; sumless = refl }
 
 pub taking_out_ends : (e p i : List ℕ) (n : ℕ) (old new : State) (s : Broker) → Serves old s → (fault : StoreFault) → FailsToRun deployments.end_sql (Text e ∷ Text p ∷ Text i ∷ Int (pos n) ∷ []) old new fault → HasFailed old new fault
 taking_out_ends e p i n old new s here =
-    removal_ends (codes "deployed") 21 deployed.columns (1 ∷ 2 ∷ 3 ∷ []) deployed.uniques deployed.orders deployed.references 11 deployments.end_sql (Text e ∷ Text p ∷ Text i ∷ Int (pos n) ∷ []) deployments.by_version old new s
-    (deployed_there old.now here.held.broker) deployed_alone deployed_fits deployments.end_text (deployed_runs e p i n) here
+    removal_ends (codes "deployed") 21 deployed.columns (1 ∷ 2 ∷ 3 ∷ []) deployed.uniques deployed.orders deployed.references deployed_leaf 11
+    deployments.end_sql (Text e ∷ Text p ∷ Text i ∷ Int (pos n) ∷ []) deployments.by_version old new s
+    (deployed_there old.now here.held.broker) deployments.end_text (deployed_runs e p i n) here
 
 -- ---- a release
 
-released_alone : list_all (λ t. list_all (λ ref. leads_elsewhere 23 (parent_key broker_schema.tables ref)) t.references) broker_schema.tables ≡ true
+released_leaf : IsLeaf (codes "released") 23 released.columns None (1 ∷ 2 ∷ []) released.uniques released.orders [] released.references broker_schema
 unfolding everything
-released_alone = refl
-
-released_fits : (removes : Bool) → references_fit broker_schema released false removes ≡ true
-unfolding everything
-released_fits true = refl
-released_fits false = refl
+released_leaf = record { apart = apart; calm = all_calm; alone = refl; fits = λ b. or-true (not b) }
 
 released_runs : (e : List ℕ) (n : ℕ) → Runs broker_schema releases.end_sql (Text e ∷ Int (pos n) ∷ []) (from_table 23 releases.by_place (col 1 0 ∷ []) [])
 unfolding understood everything
@@ -84,5 +58,6 @@ released_runs e n = record { whole = refl; typed = refl; sumless = refl }
 
 pub support_ends : (e : List ℕ) (n : ℕ) (old new : State) (s : Broker) → Serves old s → (fault : StoreFault) → FailsToRun releases.end_sql (Text e ∷ Int (pos n) ∷ []) old new fault → HasFailed old new fault
 support_ends e n old new s here =
-    removal_ends (codes "released") 23 released.columns (1 ∷ 2 ∷ []) released.uniques released.orders released.references 12 releases.end_sql (Text e ∷ Int (pos n) ∷ []) releases.by_place old new s
-    (released_there old.now here.held.broker) released_alone released_fits releases.end_text (released_runs e n) here
+    removal_ends (codes "released") 23 released.columns (1 ∷ 2 ∷ []) released.uniques released.orders released.references released_leaf 12 releases.end_sql
+    (Text e ∷ Int (pos n) ∷ []) releases.by_place old new s
+    (released_there old.now here.held.broker) releases.end_text (released_runs e n) here

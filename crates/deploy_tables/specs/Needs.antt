@@ -1,6 +1,7 @@
 -- What a version needs in an environment and isn't good, from the parts that are read. The clause of `faults` cites
 -- `ListsFaults`, which says it in the machine's words; all else is for private clauses.
-use Rattle.std.specs.Prelude.{◌≡◌, ◌≢◌, ◌⊎◌, List, [], ℕ, Bool, Option, Some, None, is_some, if◌then◌else◌, IsTrue, MatchOption}
+use Rattle.std.specs.Prelude.{◌≡◌, ◌≢◌, ◌⊎◌, ◌&&◌, ◌||◌, not, List, [], ℕ, Bool, false, Option, Some, None, is_some, if◌then◌else◌, IsTrue, MatchOption}
+use Rattle.std.specs.Option.{option_map_or}
 use Rattle.broker_core.specs.declared.command.Version.{Version}
 use Rattle.broker_core.specs.declared.need.Need.{Need}
 use Rattle.broker_core.specs.declared.need.Latest.{Latest}
@@ -42,6 +43,10 @@ AreLatestOf s v results = Lists latest_cmp (λ x. latest s x.content v ≡ Some 
 -- something is lacking of the need
 abbrev pub IsOpen : Bool → Need → Type 0
 IsOpen strict need = IsTrue (is_some (kind_of strict need.provider_version need.latest))
+
+-- the need is good of a contract of which the latest result says this, where the provider has a version there
+abbrev pub is_good : Bool → Option Latest → Bool
+is_good strict said = option_map_or (λ l. l.pass && (l.checked || not strict)) said false
 
 -- the need of a contract of v with this version of the provider
 abbrev pub need_with : Version → Text → Option Text → Option Latest → Need

@@ -1,6 +1,6 @@
 -- For private clauses: what the latest results say, whether each is a pass, and the numbers of those that the broker
 -- checked.
-use Rattle.std.specs.Prelude.{Contains, ◌≡◌, ◌⊎◌, ℕ, true, List, Option, Some, None, pos}
+use Rattle.std.specs.Prelude.{Contains, ◌≡◌, ◌⊎◌, ⊤, ℕ, true, List, Some, MatchOption, pos}
 use Rattle.std.specs.List.Sorted.{IsSortedBy}
 use Rattle.std.specs.Ordering.{nat_cmp, is_lt}
 use Rattle.sqlite.specs.Order.{Row, column}
@@ -17,6 +17,7 @@ use Rattle.contract_tables.specs.declared.listings.Contract.{Contract}
 use Rattle.contract_tables.specs.declared.listings.VerifiedVersion.{VerifiedVersion}
 use Rattle.contract_tables.specs.Verified.{result_with}
 use Rattle.contract_tables.specs.VersionResults.{is_among}
+use Rattle.deploy_tables.specs.Matrix.{unsaid}
 use Rattle.deploy_tables.specs.declared.entries.Entry.{Entry}
 use Rattle.deploy_tables.specs.declared.told_results.ResultPass.{ResultPass}
 
@@ -24,13 +25,18 @@ use Rattle.deploy_tables.specs.declared.told_results.ResultPass.{ResultPass}
 abbrev pub IsPassRow : Row → ResultPass → Type 0
 IsPassRow row x = (column row 0 ≡ Int (pos x.number)) × (truth 1 row ≡ x.pass) × IsTruthAt 1 row
 
--- each tells of the result with its number whether that is a pass, and one tells of each latest result, for a content
--- and a version that are meant
-abbrev pub TellPasses : State → (ℕ → Version → Type 0) → List ResultPass → Type 0
-TellPasses s Of found =
-    ((x : ResultPass) (r : Verification) → Contains found x → result_with s x.number ≡ Some r → x.pass ≡ r.pass)
+-- Each says what is so of the result with its number, and one is there for each latest result that meets the test, for
+-- a content and a version that are meant.
+abbrev pub Tell : {X : Type 0} → (X → ℕ) → (X → Verification → Type 0) → (ℕ × Verification → X)
+    → (Verification → Type 0) → State → (ℕ → Version → Type 0) → List X → Type 0
+Tell {X} number Says item Meets s Of found =
+    ((x : X) (r : Verification) → Contains found x → result_with s (number x) ≡ Some r → Says x r)
     × ((content : ℕ) (w : Version) (e : ℕ × Verification) → Of content w → latest_result s content w ≡ Some e
-    → Contains found (record { number = e.0; pass = e.1.pass }))
+    → Meets e.1 → Contains found (item e))
+
+-- whether the result is a pass, of each latest result
+abbrev pub TellPasses : State → (ℕ → Version → Type 0) → List ResultPass → Type 0
+TellPasses = Tell (λ x. x.number) (λ x r. x.pass ≡ r.pass) (λ e. record { number = e.0; pass = e.1.pass }) (λ r. ⊤)
 
 -- no number is below the one before it
 abbrev pub ArePassesByNumber : List ResultPass → Type 0
@@ -48,13 +54,9 @@ NamesUntold passes x = (r : VerifiedVersion) × (x.verified ≡ Some r) × IsUnt
 abbrev pub FailsAsTold : StoreFault → Type 0 → Type 0
 FailsAsTold fault IsNamed = (fault ≡ Memory) ⊎ ((fault ≡ Store) × IsNamed)
 
--- the broker checked each result with one of these numbers, and each latest result that it checked, for a content and
--- a version that are meant, has one of them
+-- that the broker checked the result, of each latest result that it checked
 abbrev pub TellChecked : State → (ℕ → Version → Type 0) → List ℕ → Type 0
-TellChecked s Of found =
-    ((n : ℕ) (r : Verification) → Contains found n → result_with s n ≡ Some r → r.checked ≡ true)
-    × ((content : ℕ) (w : Version) (e : ℕ × Verification) → Of content w → latest_result s content w ≡ Some e
-    → e.1.checked ≡ true → Contains found e.0)
+TellChecked = Tell (λ n. n) (λ n r. r.checked ≡ true) (λ e. e.0) (λ r. r.checked ≡ true)
 
 -- one of the contracts has this content
 abbrev pub IsContentOf : List Contract → ℕ → Type 0
@@ -64,14 +66,11 @@ IsContentOf contracts content = (c : Contract) × Contains contracts c × (c.con
 abbrev pub IsMeant : State → ℕ → List Contract → ℕ → Version → Type 0
 IsMeant s number contracts content w = IsContentOf contracts content ⊎ (number_of s.versions w ≡ Some number)
 
--- the same version of the provider, and the same result, with what both lists say of it; none for none
-abbrev pub IsVerifiedTold : List ResultPass → List ℕ → Option VerifiedVersion → Option Verified → Type 0
-IsVerifiedTold passes checked None told = told ≡ None
-IsVerifiedTold passes checked (Some r) told = (v : Verified) × (told ≡ Some v) × (v.provider_version ≡ r.name)
-    × (v.result ≡ r.result) × (v.latest.checked ≡ is_among checked r.result)
-    × Contains passes (record { number = r.result; pass = v.latest.pass })
+-- both lists say this of the result
+abbrev pub IsToldBy : List ResultPass → List ℕ → Verified → Type 0
+IsToldBy passes checked r = (r.latest.checked ≡ is_among checked r.result)
+    × Contains passes (record { number = r.result; pass = r.latest.pass })
 
--- the entry's row
+-- the entry's row, with what both lists say of its result
 abbrev pub IsRowTold : List ResultPass → List ℕ → Entry → MatrixRow → Type 0
-IsRowTold passes checked x row = (row.consumer ≡ x.consumer) × (row.consumer_version ≡ x.consumer_version)
-    × (row.provider ≡ x.provider) × IsVerifiedTold passes checked x.verified row.verified
+IsRowTold passes checked x row = (x ≡ unsaid row) × MatchOption row.verified ⊤ (IsToldBy passes checked)

@@ -3,7 +3,7 @@ ghost use Rattle.std.specs.Prelude.{◌≡◌, ◌==◌, false, codes, [], ◌�
 ghost use Rattle.std.specs.Option.{option_map_or};
 ghost use Rattle.broker_tables.specs.Holds.{Changes, ChangesAndAnswers};
 ghost use Rattle.broker_tables.specs.Calm.{CalmQueriesInPlace, IsCalmInPlace};
-ghost use Rattle.broker_tables.specs.Refusals.{IsCalmIf};
+ghost use Rattle.broker_tables.specs.Refusals.{IsCalmStoring};
 ghost use Rattle.deploy_tables.specs.Deployments.{RecordsDeployed, MayBeDeployed, IsVersionOf, FindsDeployed, TakesOutAndTells, FindsNothing};
 
 use sqlite::{Alter, Connection, params};
@@ -57,8 +57,8 @@ pub fn record_deployed<S: Alter>(
 ) -> Result<(), StoreFault>
     ensures changes { Changes S.Store conn.old conn.new result
         (RecordsDeployed environment.now pacticipant.now instance.now number) }
-    ensures calm { IsCalmIf S.Store conn.old conn.new result (codes "deployed" ∷ [])
-        (MayBeDeployed environment.now pacticipant.now number) }
+    ensures calm { IsCalmStoring S.Store conn.old conn.new result (codes "deployed" ∷ [])
+        (environment.now ∷ pacticipant.now ∷ instance.now ∷ []) (MayBeDeployed environment.now pacticipant.now number) }
 {
     change(
         conn,

@@ -14,7 +14,7 @@ ghost use Rattle.contract_tables.specs.Listings.{contract_cmp};
 ghost use Rattle.deploy_tables.specs.declared.entries.Entry.{Entry as EntryModel};
 ghost use Rattle.deploy_tables.specs.Matrix.{IsOfContract, IsOfContent, IsOfSome, IsProvided, IsEntry, AreEntriesOf, entry_cmp};
 ghost use Rattle.deploy_tables.specs.Needs.{IsOwnContract};
-ghost use Rattle.deploy_tables.specs.ToldResults.{ArePassesByNumber, IsUntold, NamesUntold, FailsAsTold, IsVerifiedTold, IsRowTold};
+ghost use Rattle.deploy_tables.specs.ToldResults.{ArePassesByNumber, IsUntold, NamesUntold, FailsAsTold, IsToldBy, IsRowTold};
 
 use crate::entries::{Entry, both_sides, entries_used, entries_with};
 use crate::lists::add;
@@ -158,8 +158,8 @@ fn told(
     checked: &[u32],
 ) -> Result<Verified, StoreFault>
     ensures found { IfOk result
-        (λ found. IsStrictlySortedBy nat_cmp checked.now →
-        IsVerifiedTold passes.now checked.now (Some verified.now) (Some found)) }
+        (λ found. (found.provider_version ≡ verified.now.name) × (found.result ≡ verified.now.result)
+        × (IsStrictlySortedBy nat_cmp checked.now → IsToldBy passes.now checked.now found)) }
     ensures cause { ArePassesByNumber passes.now →
         IfErr result (λ f. FailsAsTold f (IsUntold passes.now verified.now.result)) }
     ensures untold { IsUntold passes.now verified.now.result → result ≡ Err StoreFault.Store }

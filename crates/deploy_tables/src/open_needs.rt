@@ -1,8 +1,7 @@
 //! The needs of a version in an environment that aren't good. Each is decided on numbers; names are looked up only for
 //! those that are told.
-ghost use Rattle.std.specs.Prelude.{◌≡◌, ◌∷◌, [], ◌↔◌, IfOk, IfErr, Some, None, Contains, not, is_some, option_map, option_and_then, option_to_list};
+ghost use Rattle.std.specs.Prelude.{◌≡◌, ◌∷◌, [], ◌↔◌, IfOk, IfErr, Some, None, Contains, option_map, option_and_then, option_to_list};
 ghost use Rattle.broker_core.specs.declared.need.Need.{Need as NeedModel};
-ghost use Rattle.broker_core.specs.Faults.{kind_of};
 ghost use Rattle.broker_core.specs.Gate.{IsNeed};
 ghost use Rattle.broker_core.specs.Text.{Text};
 ghost use Rattle.broker_tables.specs.Numbers.{number_of as number_known};
@@ -10,7 +9,7 @@ ghost use Rattle.broker_tables.specs.Calm.{CalmQueries};
 ghost use Rattle.deploy_tables.specs.Matrix.{IsOfSome};
 ghost use Rattle.deploy_tables.specs.Releases.{IsVersion};
 ghost use Rattle.deploy_tables.specs.Partners.{AreNumbersOfVersions, AreAllPartners, AreReleasedThere, AreNumbered};
-ghost use Rattle.deploy_tables.specs.Needs.{AreLatestOf, need_with, need_used, IsOpen, IsWithPartner, IsNeedOfContract, IsOwnNeed, IsUsed, IsNeedOfOthers};
+ghost use Rattle.deploy_tables.specs.Needs.{AreLatestOf, is_good, need_with, need_used, IsOpen, IsWithPartner, IsNeedOfContract, IsOwnNeed, IsUsed, IsNeedOfOthers};
 
 use crate::contracts_there::{NumberedContract, contracts_there};
 use crate::lists::add;
@@ -28,7 +27,7 @@ use table_access::StoreFault;
 
 /// Whether a need is good whose provider has a version there, by what the latest result says.
 fn is_good(latest: Option<Latest>, strict: bool) -> bool
-    ensures { (w : Text) → is_some (kind_of strict (Some w) latest) ≡ not result }
+    ensures { result ≡ is_good strict latest }
 {
     match latest {
         Some(latest) => latest.pass && (latest.checked || !strict),

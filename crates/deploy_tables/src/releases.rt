@@ -3,7 +3,7 @@ ghost use Rattle.std.specs.Prelude.{◌≡◌, Some, codes, [], ◌∷◌};
 ghost use Rattle.broker_core.specs.declared.command.Version.{Version as VersionModel};
 ghost use Rattle.broker_tables.specs.Holds.{Changes, ChangesAndAnswers};
 ghost use Rattle.broker_tables.specs.Calm.{CalmQueriesInPlace, IsCalmInPlace};
-ghost use Rattle.broker_tables.specs.Refusals.{IsCalmIf};
+ghost use Rattle.broker_tables.specs.Refusals.{IsCalmStoring};
 ghost use Rattle.broker_tables.specs.Numbers.{number_of as number_in};
 ghost use Rattle.deploy_tables.specs.Releases.{IsVersion, FindsReleased, RecordsReleased, MayBeReleased, EndsSupport};
 
@@ -38,7 +38,7 @@ pub fn record_released<S: Alter>(
     number: u32,
 ) -> Result<(), StoreFault>
     ensures changes { Changes S.Store conn.old conn.new result (RecordsReleased environment.now number) }
-    ensures calm { IsCalmIf S.Store conn.old conn.new result (codes "released" ∷ [])
+    ensures calm { IsCalmStoring S.Store conn.old conn.new result (codes "released" ∷ []) (environment.now ∷ [])
         (MayBeReleased environment.now number) }
 {
     change(

@@ -1,9 +1,6 @@
-use Rattle.std.proofs.Common.{refl, sym, subst}
-use Rattle.std.proofs.lemmas.Result.{IfErr-weaker}
-use Rattle.sqlite.specs.Held.{state}
+use Rattle.std.proofs.{Common.{refl}, lemmas.Result.{IfErr-weaker}}
 use Rattle.sqlite_tied.specs.Compute.{everything}
 use Rattle.table_access.proofs.CallLemmas.{statement_with}
-use Rattle.broker_tables.specs.Holds.{HoldsAfter}
 use Rattle.contract_tables.proofs.ContractRows.{contract_added, contract_ends}
 use Rattle.contract_tables.proofs.contracts.add_contract.Goals as goal
 
@@ -13,9 +10,8 @@ change-requires g c = refl
 
 pub returns-clause-changes : goal.returns-clause-changes
 returns-clause-changes g c =
-    let old = state g.S.Store c.args.conn.now in
-    let new = state g.S.Store c.change.new.conn in
-    statement_with old new c.change.result _ _ (λ _ h s held t next. subst (HoldsAfter 2 old new) (sym next.6) (contract_added c.args.version_number c.args.provider.now c.args.content old new s next.0 held next.1 next.2 h.0 h.1))
+    statement_with _ _ c.change.result _ _
+    (λ _ h s held t next. rw next.6 (contract_added c.args.version_number c.args.provider.now c.args.content _ _ s next.0 held next.1 next.2 h.0 h.1))
     (rw (c.params-to_sql.ensures, c.params-to_sql-2.ensures, c.params-to_sql-3.ensures) at c.change.ensures.leaves)
 
 pub returns-clause-calm : goal.returns-clause-calm

@@ -1,7 +1,5 @@
 use Rattle.broker_tables.proofs.Asked.{looks_up, looks_up_none}
-use Rattle.contract_tables.proofs.ContractRows.{content, content_found}
-use Rattle.contract_tables.proofs.ReadableRows.{content_reads}
-use Rattle.contract_tables.proofs.NoVersion.{content_none}
+use Rattle.contract_tables.proofs.{ContractRows.{content, content_found}, ReadableRows.{content_reads, content_none}}
 use Rattle.contract_tables.proofs.contracts.contract_of.Goals as goal
 
 pub returns-clause-answers : goal.returns-clause-answers

@@ -1,6 +1,5 @@
 use Rattle.broker_tables.proofs.Asked.{lists}
-use Rattle.contract_tables.proofs.ContractList.{users, users_listed}
-use Rattle.contract_tables.proofs.ReadableRows.{users_reads}
+use Rattle.contract_tables.proofs.{ContractRows.{users, users_listed}, ReadableRows.{users_reads}}
 use Rattle.contract_tables.proofs.listings.consumers_of.Goals as goal
 
 pub returns : goal.returns

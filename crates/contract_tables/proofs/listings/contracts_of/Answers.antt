@@ -1,7 +1,5 @@
 use Rattle.broker_tables.proofs.Asked.{lists, lists_none}
-use Rattle.contract_tables.proofs.ContractList.{own, contracts_listed}
-use Rattle.contract_tables.proofs.ReadableRows.{own_reads}
-use Rattle.contract_tables.proofs.NoVersion.{own_none}
+use Rattle.contract_tables.proofs.{ContractRows.{own, contracts_listed}, ReadableRows.{own_reads, own_none}}
 use Rattle.contract_tables.proofs.listings.contracts_of.Goals as goal
 
 pub returns-clause-answers : goal.returns-clause-answers
@@ -11,5 +9,4 @@ returns-clause-answers g c =
 
 pub returns-clause-unknown : goal.returns-clause-unknown
 returns-clause-unknown g c =
-    let said = rw c.params-to_sql.ensures at c.list_of.ensures in
-    lists_none (own c.args.version_number) _ _ (own_none c.args.version_number _) said.leaves
+    lists_none (own c.args.version_number) _ _ (own_none c.args.version_number _) (rw c.params-to_sql.ensures at c.list_of.ensures.leaves)

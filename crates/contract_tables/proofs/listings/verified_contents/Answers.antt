@@ -1,7 +1,5 @@
 use Rattle.broker_tables.proofs.Asked.{lists, lists_none}
-use Rattle.contract_tables.proofs.VerifiedList.{verified, verified_listed}
-use Rattle.contract_tables.proofs.ReadableRows.{verified_reads}
-use Rattle.contract_tables.proofs.NoVersion.{verified_none}
+use Rattle.contract_tables.proofs.{VerifiedList.{verified, verified_listed}, ReadableRows.{verified_reads, verified_none}}
 use Rattle.contract_tables.proofs.listings.verified_contents.Goals as goal
 
 pub returns-clause-answers : goal.returns-clause-answers
@@ -11,5 +9,4 @@ returns-clause-answers g c =
 
 pub returns-clause-unknown : goal.returns-clause-unknown
 returns-clause-unknown g c =
-    let said = rw c.params-to_sql.ensures at c.list_of.ensures in
-    lists_none (verified c.args.version_number) _ _ (verified_none c.args.version_number _) said.leaves
+    lists_none (verified c.args.version_number) _ _ (verified_none c.args.version_number _) (rw c.params-to_sql.ensures at c.list_of.ensures.leaves)

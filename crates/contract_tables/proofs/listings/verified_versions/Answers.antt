@@ -1,6 +1,5 @@
 use Rattle.broker_tables.proofs.Asked.{lists}
-use Rattle.contract_tables.proofs.VerifiedList.{verifiers, verifiers_listed}
-use Rattle.contract_tables.proofs.ReadableRows.{verifiers_reads}
+use Rattle.contract_tables.proofs.{VerifiedList.{verifiers, verifiers_listed}, ReadableRows.{verifiers_reads}}
 use Rattle.contract_tables.proofs.listings.verified_versions.Goals as goal
 
 pub returns : goal.returns

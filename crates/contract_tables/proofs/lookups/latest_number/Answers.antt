@@ -1,7 +1,5 @@
 use Rattle.broker_tables.proofs.Asked.{looks_up, looks_up_none}
-use Rattle.contract_tables.proofs.LatestNumber.{newest, newest_found}
-use Rattle.contract_tables.proofs.ReadableRows.{newest_reads}
-use Rattle.contract_tables.proofs.NoVersion.{newest_none}
+use Rattle.contract_tables.proofs.{VerifiedList.{newest, newest_found}, ReadableRows.{newest_reads, newest_none}}
 use Rattle.contract_tables.proofs.lookups.latest_number.Goals as goal
 
 pub returns-clause-answers : goal.returns-clause-answers

@@ -1,25 +1,21 @@
-use Rattle.table_access.proofs.Answered.{first_has}
 use Rattle.std.proofs.lemmas.Result.{IfOk-weaker, IfErr-weaker}
-use Rattle.sqlite.specs.Held.{state}
-use Rattle.broker_tables.proofs.QueryLemmas.{looked_result, looked_err}
-use Rattle.broker_tables.proofs.Asked.{reads, still, why_refused}
-use Rattle.contract_tables.proofs.LatestPass.{join, join_found}
-use Rattle.contract_tables.proofs.ReadableRows.{join_reads}
-use Rattle.broker_tables.proofs.NoVersion.{no_answer}
-use Rattle.contract_tables.specs.Verified.{pass_of, pass_cells}
-use Rattle.contract_tables.proofs.NoVersion.{join_none}
+use Rattle.table_access.proofs.Answered.{first_has}
+use Rattle.broker_tables.proofs.{QueryLemmas.{looked_result, looked_err}, Asked.{reads, still, why_refused}, NoVersion.{no_answer}}
+use Rattle.contract_tables.{specs.Verified.{pass_of, pass_cells}, proofs.{VersionResults.{join, join_found}, ReadableRows.{join_reads, join_none}}}
 use Rattle.contract_tables.proofs.lookups.latest_pass.Goals as goal
 
 pub returns-clause-answers : goal.returns-clause-answers
 returns-clause-answers g c =
-    let old = state g.S.Store c.args.conn.now in
-    let new = state g.S.Store c.select.new.conn in
-    let it = reads (join c.args.content c.args.provider_version) old new in
-    looked_result old new c.in-Ok.value c.first_pass.result _ _
-    (IfOk-weaker c.first_pass.result _ _ (λ found read shown s held.
-    (λ v is. join_found (λ r. r.number) (λ r. r.pass) c.args.content c.args.provider_version _ c.in-Ok.value.items found s v held is (it s held _ shown).0 read, still (join c.args.content c.args.provider_version) old new held.broker _ shown)) (rw c.deref.ensures.value at c.first_pass.ensures.ok))
+    let asked = join c.args.content c.args.provider_version in
+    looked_result _ _ c.in-Ok.value c.first_pass.result _ _
+    (IfOk-weaker c.first_pass.result _ _ (λ found read shown s held. (
+      λ v is. join_found (λ r. r.number) (λ r. r.pass) c.args.content c.args.provider_version _ c.in-Ok.value.items found s v held is (reads asked _ _ s held _ shown).0 read,
+      still asked _ _ held.broker _ shown,
+    )) (rw c.deref.ensures.value at c.first_pass.ensures.ok))
     (IfErr-weaker c.first_pass.result _ _ (λ fault why. why.0) c.first_pass.ensures.cause)
-    (λ s here shown. IfErr-weaker c.first_pass.result _ _ (λ fault why. why.3 (join_reads c.args.content c.args.provider_version _ s here.held here.readable _ (it s here.held _ shown).0 why.1 (first_has _ why.1 why.2))) (rw c.deref.ensures.value at c.first_pass.ensures.cause))
+    (λ s here shown. IfErr-weaker c.first_pass.result _ _
+    (λ fault why. why.3 (join_reads c.args.content c.args.provider_version _ s here.held here.readable _ (reads asked _ _ s here.held _ shown).0 why.1 (first_has _ why.1 why.2)))
+    (rw c.deref.ensures.value at c.first_pass.ensures.cause))
     (rw (c.params-to_sql.ensures, c.params-to_sql-2.ensures) at c.in-Ok.ensures.leaves)
 
 pub returns-in-Err-clause-answers : goal.returns-in-Err-clause-answers
@@ -29,8 +25,7 @@ returns-in-Err-clause-answers g c =
 
 pub returns-clause-unknown : goal.returns-clause-unknown
 returns-clause-unknown g c clean s held none =
-    let old = state g.S.Store c.args.conn.now in
-    let new = state g.S.Store c.select.new.conn in
-    let said = rw (c.params-to_sql.ensures, c.params-to_sql-2.ensures) at c.in-Ok.ensures in
-    IfOk-weaker c.first_pass.result _ _ (λ found read. no_answer (λ r. pass_of r.number r.pass) pass_cells c.in-Ok.value.items found (join_none c.args.content c.args.provider_version old.now s held none _ (reads (join c.args.content c.args.provider_version) old new s held _ (said.leaves.call.ok clean)).0) read)
+    let shown = (rw (c.params-to_sql.ensures, c.params-to_sql-2.ensures) at c.in-Ok.ensures.leaves).call.ok clean in
+    let nothing = join_none c.args.content c.args.provider_version _ s held none _ (reads (join c.args.content c.args.provider_version) _ _ s held _ shown).0 in
+    IfOk-weaker c.first_pass.result _ _ (λ found read. no_answer (λ r. pass_of r.number r.pass) pass_cells c.in-Ok.value.items found nothing read)
     (rw c.deref.ensures.value at c.first_pass.ensures.ok)

@@ -1,24 +1,20 @@
-use Rattle.std.proofs.Common.{◌∙◌, ap, pos}
-use Rattle.std.specs.Prelude.{option_map}
-use Rattle.std.proofs.lemmas.Result.{IfOk-weaker, IfErr-weaker}
-use Rattle.sqlite.specs.Held.{state}
+use Rattle.std.{specs.Prelude.{option_map}, proofs.{Common.{◌∙◌, ap, pos}, lemmas.Result.{IfOk-weaker, IfErr-weaker}}}
 use Rattle.sqlite.specs.declared.types.Value.TheVariants.{Int}
-use Rattle.broker_tables.proofs.Asked.{reads, still, why_number}
-use Rattle.broker_tables.proofs.QueryLemmas.{looked_result, looked_err}
-use Rattle.broker_tables.proofs.TruthLemmas.{mark_in_column}
-use Rattle.contract_tables.proofs.ResultLookups.{pass, pass_found}
-use Rattle.contract_tables.proofs.ReadableRows.{pass_reads, pass_true}
+use Rattle.broker_tables.proofs.{Asked.{reads, still, why_number}, QueryLemmas.{looked_result, looked_err}, TruthLemmas.{mark_in_column}}
+use Rattle.contract_tables.proofs.{ResultLookups.{pass, pass_found}, ReadableRows.{pass_reads, pass_true}}
 use Rattle.contract_tables.proofs.lookups.passed.Goals as goal
 
 pub returns-clause-answers : goal.returns-clause-answers
 returns-clause-answers g c =
-    let old = state g.S.Store c.args.conn.now in
-    let new = state g.S.Store c.number_of.new.conn in
-    let it = reads (pass c.args.number) old new in
-    looked_result old new c.in-Ok.value c.truth_of.result _ _
-    (IfOk-weaker c.truth_of.result _ _ (λ truth is h s held. (is ∙ pass_found c.args.number _ h.0 s c.in-Ok.value held (it s held h.0 h.1).0 h.2, still (pass c.args.number) old new held.broker h.0 h.1)) c.truth_of.ensures.ok)
+    let asked = pass c.args.number in
+    looked_result _ _ c.in-Ok.value c.truth_of.result _ _
+    (IfOk-weaker c.truth_of.result _ _ (λ truth is h s held. (
+      is ∙ pass_found c.args.number _ h.0 s c.in-Ok.value held (reads asked _ _ s held h.0 h.1).0 h.2,
+      still asked _ _ held.broker h.0 h.1,
+    )) c.truth_of.ensures.ok)
     (IfErr-weaker c.truth_of.result _ _ (λ fault why. why.0) c.truth_of.ensures.cause)
-    (λ s here h. IfErr-weaker c.truth_of.result _ _ (λ fault why. pass_true c.args.number _ h.0 s c.in-Ok.value here.held here.readable (it s here.held h.0 h.1).0 h.2 why.1) c.truth_of.ensures.cause)
+    (λ s here h. IfErr-weaker c.truth_of.result _ _
+    (λ fault why. pass_true c.args.number _ h.0 s c.in-Ok.value here.held here.readable (reads asked _ _ s here.held h.0 h.1).0 h.2 why.1) c.truth_of.ensures.cause)
     (rw c.params-to_sql.ensures at c.in-Ok.ensures.leaves)
 
 pub returns-in-Err-clause-answers : goal.returns-in-Err-clause-answers

@@ -1,8 +1,6 @@
 use Rattle.std.proofs.Common.{◌∙◌}
-use Rattle.broker_tables.proofs.QueryLemmas.{looked_ok, looked_err}
-use Rattle.broker_tables.proofs.Asked.{still, why_number}
-use Rattle.contract_tables.proofs.ResultLookups.{count, results_counted}
-use Rattle.contract_tables.proofs.ReadableRows.{count_reads}
+use Rattle.broker_tables.proofs.{QueryLemmas.{looked_ok, looked_err}, Asked.{still, why_number}}
+use Rattle.contract_tables.proofs.{ResultLookups.{count, results_counted}, ReadableRows.{count_reads}}
 use Rattle.contract_tables.proofs.lookups.result_count.Goals as goal
 
 pub returns : goal.returns

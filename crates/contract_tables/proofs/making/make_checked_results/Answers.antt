@@ -1,11 +1,7 @@
 use Rattle.std.proofs.Common.{refl, take, drop}
-use Rattle.sqlite.specs.Held.{state}
 use Rattle.sqlite_tied.specs.Compute.{everything}
-use Rattle.table_access.proofs.CallLemmas.{statement_with}
-use Rattle.table_access.specs.Statements.{Creates}
-use Rattle.table_access.proofs.Creation.{each_single}
-use Rattle.broker_tables.specs.Schema.{checked_results}
-use Rattle.broker_tables.specs.Making.{table_texts}
+use Rattle.table_access.{specs.Statements.{Creates}, proofs.{CallLemmas.{statement_with}, Creation.{each_single}}}
+use Rattle.broker_tables.specs.{Schema.{checked_results}, Making.{table_texts}}
 use Rattle.contract_tables.proofs.making.make_checked_results.Goals as goal
 
 pub make_each-requires : goal.make_each-requires
@@ -14,6 +10,4 @@ make_each-requires g c = (refl, tt)
 
 pub returns : goal.returns
 returns g c =
-    let old = state g.S.Store c.args.conn.now in
-    let new = state g.S.Store c.make_each.new.conn in
-    statement_with old new c.make_each.result _ _ (λ _ made is. each_single Creates checked_results old.now new.now (made.0 (take 13 table_texts) (take 1 (drop 13 table_texts)) (drop 14 table_texts) refl refl is)) c.make_each.ensures
+    statement_with _ _ c.make_each.result _ _ (λ _ made is. each_single Creates checked_results _ _ (made.0 (take 13 table_texts) (take 1 (drop 13 table_texts)) (drop 14 table_texts) refl refl is)) c.make_each.ensures

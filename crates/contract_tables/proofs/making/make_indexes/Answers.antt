@@ -1,5 +1,4 @@
 use Rattle.std.proofs.Common.{refl, take, drop}
-use Rattle.sqlite.specs.Held.{state}
 use Rattle.sqlite_tied.specs.Compute.{everything}
 use Rattle.table_access.proofs.CallLemmas.{statement_with}
 use Rattle.broker_tables.specs.Making.{index_texts}
@@ -11,6 +10,4 @@ make_each-requires g c = (refl, (refl, tt))
 
 pub returns : goal.returns
 returns g c =
-    let old = state g.S.Store c.args.conn.now in
-    let new = state g.S.Store c.make_each.new.conn in
-    statement_with old new c.make_each.result _ _ (λ _ made is. made.1 (take 1 index_texts) (take 2 (drop 1 index_texts)) (drop 3 index_texts) refl refl is) c.make_each.ensures
+    statement_with _ _ c.make_each.result _ _ (λ _ made is. made.1 (take 1 index_texts) (take 2 (drop 1 index_texts)) (drop 3 index_texts) refl refl is) c.make_each.ensures

@@ -1,5 +1,4 @@
 use Rattle.std.proofs.Common.{refl, take, drop}
-use Rattle.sqlite.specs.Held.{state}
 use Rattle.sqlite_tied.specs.Compute.{everything}
 use Rattle.table_access.proofs.CallLemmas.{statement_with}
 use Rattle.broker_tables.specs.Making.{table_texts}
@@ -11,6 +10,4 @@ make_each-requires g c = (refl, (refl, (refl, tt)))
 
 pub returns : goal.returns
 returns g c =
-    let old = state g.S.Store c.args.conn.now in
-    let new = state g.S.Store c.make_each.new.conn in
-    statement_with old new c.make_each.result _ _ (λ _ made is. made.0 (take 8 table_texts) (take 3 (drop 8 table_texts)) (drop 11 table_texts) refl refl is) c.make_each.ensures
+    statement_with _ _ c.make_each.result _ _ (λ _ made is. made.0 (take 8 table_texts) (take 3 (drop 8 table_texts)) (drop 11 table_texts) refl refl is) c.make_each.ensures

@@ -6,9 +6,7 @@ use Rattle.contract_tables.proofs.results.mark.Goals as goal
 
 pub returns-then-checked-clause-marks : goal.returns-then-checked-clause-marks
 returns-then-checked-clause-marks g c =
-    let old = state g.S.Store c.args.conn.now in
-    let new = state g.S.Store c.mark_checked.new.conn in
-    statement_with old new c.mark_checked.result _ _ (λ _ put broker. is_marked c.args.checked c.args.number old new c.if-checked.true (put broker)) c.mark_checked.ensures.puts
+    statement_with _ _ c.mark_checked.result _ _ (λ _ put broker. is_marked c.args.checked c.args.number _ _ c.if-checked.true (put broker)) c.mark_checked.ensures.puts
 
 pub returns-else-checked-clause-marks : goal.returns-else-checked-clause-marks
 returns-else-checked-clause-marks g c =

@@ -1,8 +1,6 @@
-use Rattle.std.proofs.Common.{refl, arith}
-use Rattle.std.proofs.lemmas.Result.{IfErr-weaker}
-use Rattle.sqlite.specs.Held.{state}
+use Rattle.std.proofs.{Common.{refl, arith}, lemmas.Result.{IfErr-weaker}}
 use Rattle.sqlite_tied.specs.Compute.{everything}
-use Rattle.table_access.proofs.CallLemmas.{statement_with}
+use Rattle.table_access.proofs.CallLemmas.{statement_with, ended_with}
 use Rattle.contract_tables.proofs.ResultRows.{marked, mark_ends}
 use Rattle.contract_tables.proofs.results.mark_checked.Goals as goal
 
@@ -12,11 +10,9 @@ change-requires g c = refl
 
 pub returns-clause-puts : goal.returns-clause-puts
 returns-clause-puts g c =
-    let old = state g.S.Store c.args.conn.now in
-    let new = state g.S.Store c.change.new.conn in
-    statement_with old new c.change.result _ _ (λ _ h broker. marked c.args.number old new broker h.0 h.1) (rw c.params-to_sql.ensures at c.change.ensures.leaves)
+    statement_with _ _ c.change.result _ _ (λ _ h broker. marked c.args.number _ _ broker h.0 h.1) (rw c.params-to_sql.ensures at c.change.ensures.leaves)
 
 pub returns-clause-calm : goal.returns-clause-calm
 returns-clause-calm g c =
     let said = rw c.params-to_sql.ensures at c.change.ensures.cause in
-    λ clean unlimited broker allowed. IfErr-weaker c.change.result _ _ (mark_ends c.args.number _ _ broker (omega (arith, c.ranges.number)) allowed unlimited) (said clean)
+    λ clean unlimited broker allowed. IfErr-weaker c.change.result _ _ (λ fault why. ended_with _ _ fault (λ long. long tt) (mark_ends c.args.number _ _ broker (omega (arith, c.ranges.number)) allowed unlimited fault why)) (said clean)

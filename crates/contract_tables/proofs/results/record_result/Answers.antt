@@ -1,11 +1,8 @@
-use Rattle.std.proofs.Common.{sym, subst, arith, ◌∙◌}
-use Rattle.std.proofs.lemmas.Result.{IfErr-weaker}
-use Rattle.sqlite.specs.Held.{state}
-use Rattle.sqlite.specs.State.{HasCleanDisk}
-use Rattle.table_access.proofs.CallLemmas.{statement_seq, ended_since}
+use Rattle.std.proofs.{Common.{sym, subst, arith, ◌∙◌}, lemmas.Result.{IfErr-weaker}}
+use Rattle.sqlite.specs.{Held.{state}, State.{HasCleanDisk}}
+use Rattle.table_access.proofs.CallLemmas.{statement_seq, ended_since, ended_with}
 use Rattle.broker_tables.specs.Holds.{HoldsAfter, IsBroker}
-use Rattle.contract_tables.specs.Verified.{Marks, Points}
-use Rattle.contract_tables.proofs.ResultState.{now_recorded, put_broker, marked_broker, may_mark, may_point}
+use Rattle.contract_tables.{specs.Verified.{Marks, Points}, proofs.ResultState.{now_recorded, put_broker, marked_broker, may_mark, may_point}}
 use Rattle.contract_tables.proofs.results.record_result.Goals as goal
 
 pub returns-clause-changes : goal.returns-clause-changes
@@ -30,9 +27,9 @@ returns-in-Err-mark-clause-calm g c =
     λ clean s here allowed room.
     let one_clean : HasCleanDisk one = omega (arith, c.in-Err-mark.ensures.marks.call.survives.clean, clean) in
     let row = put.ok one_clean here.held.broker in
-    ended_since old one two c.in-Err-mark.fault (put.goes_on one_clean here.inside) put.survives.counts
+    ended_with old two c.in-Err-mark.fault (λ never. absurd never) (ended_since old one two c.in-Err-mark.fault (put.goes_on one_clean here.inside) put.survives.counts
     (c.in-Err-mark.ensures.calm clean (put.survives.limit ∙ here.unlimited) (put_broker _ old one here.held.broker row)
-    (may_mark c.args.number c.args.content c.args.provider.now c.args.version_number c.args.pass _ old one s here.held allowed row))
+    (may_mark c.args.number c.args.content c.args.provider.now c.args.version_number c.args.pass _ old one s here.held allowed row)))
 
 pub returns-clause-calm : goal.returns-clause-calm
 returns-clause-calm g c =
@@ -50,6 +47,6 @@ returns-clause-calm g c =
     let broker = put_broker _ old one here.held.broker row in
     let marked = mark.ok two_clean broker in
     IfErr-weaker c.point_latest.result _ _
-    (λ e why. ended_since old one new e on put.survives.counts (ended_since one two new e (mark.goes_on two_clean on.0) mark.survives.counts why))
+    (λ e why. ended_with old new e (λ never. absurd never) (ended_since old one new e on put.survives.counts (ended_since one two new e (mark.goes_on two_clean on.0) mark.survives.counts why)))
     (c.point_latest.ensures.calm clean (mark.survives.limit ∙ put.survives.limit ∙ here.unlimited) (marked_broker c.args.checked c.args.number one two broker marked)
     (may_point c.args.number c.args.content c.args.provider.now c.args.version_number c.args.pass _ old one s here.held allowed row c.args.checked two room marked))

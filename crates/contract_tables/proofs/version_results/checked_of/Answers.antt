@@ -1,7 +1,5 @@
 use Rattle.broker_tables.proofs.Asked.{lists, lists_none}
-use Rattle.contract_tables.proofs.VersionResults.{marks, marks_listed}
-use Rattle.contract_tables.proofs.ReadableRows.{marks_reads}
-use Rattle.contract_tables.proofs.NoVersion.{marks_none}
+use Rattle.contract_tables.proofs.{VersionResults.{marks, marks_listed}, ReadableRows.{marks_reads, marks_none}}
 use Rattle.contract_tables.proofs.version_results.checked_of.Goals as goal
 
 pub returns-clause-answers : goal.returns-clause-answers
@@ -11,5 +9,4 @@ returns-clause-answers g c =
 
 pub returns-clause-unknown : goal.returns-clause-unknown
 returns-clause-unknown g c =
-    let said = rw c.params-to_sql.ensures at c.list_of.ensures in
-    lists_none (marks c.args.version_number) _ _ (marks_none c.args.version_number _) said.leaves
+    lists_none (marks c.args.version_number) _ _ (marks_none c.args.version_number _) (rw c.params-to_sql.ensures at c.list_of.ensures.leaves)

@@ -1,11 +1,6 @@
-use Rattle.std.proofs.Common.{rules, Ok, Err, false}
-use Rattle.std.specs.List.Sorted.{IsBinarySearchResult}
-use Rattle.std.specs.Ordering.{nat_cmp}
-use Rattle.std.proofs.lemmas.List.Sorted.{answers_always}
-use Rattle.table_access.proofs.Members.{has_contains}
-use Rattle.table_access.proofs.ReadLemmas.{has_get}
-use Rattle.contract_tables.specs.declared.version_results.LatestResult.{LatestResult}
-use Rattle.contract_tables.proofs.Rising.{sorted, found_at, missing}
+use Rattle.std.{specs.{List.Sorted.{IsBinarySearchResult}, Ordering.{nat_cmp}}, proofs.{Common.{rules, Ok, Err, false}, lemmas.List.Sorted.{answers_always}}}
+use Rattle.table_access.proofs.{Members.{has_contains}, ReadLemmas.{has_get}}
+use Rattle.contract_tables.{specs.declared.version_results.LatestResult.{LatestResult}, proofs.Rising.{sorted, found_at, missing}}
 use Rattle.contract_tables.proofs.VersionResults.{said_at, none_said}
 use Rattle.contract_tables.proofs.version_results.latest_among.Goals as goal
 

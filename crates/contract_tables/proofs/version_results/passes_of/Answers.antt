@@ -1,7 +1,5 @@
 use Rattle.broker_tables.proofs.Asked.{lists, lists_none}
-use Rattle.contract_tables.proofs.VersionResults.{passes, passes_listed}
-use Rattle.contract_tables.proofs.ReadableRows.{passes_reads}
-use Rattle.contract_tables.proofs.NoVersion.{passes_none}
+use Rattle.contract_tables.proofs.{VersionResults.{passes, passes_listed}, ReadableRows.{passes_reads, passes_none}}
 use Rattle.contract_tables.proofs.version_results.passes_of.Goals as goal
 
 pub returns-clause-answers : goal.returns-clause-answers
@@ -11,5 +9,4 @@ returns-clause-answers g c =
 
 pub returns-clause-unknown : goal.returns-clause-unknown
 returns-clause-unknown g c =
-    let said = rw c.params-to_sql.ensures at c.list_of.ensures in
-    lists_none (passes c.args.version_number) _ _ (passes_none c.args.version_number _) said.leaves
+    lists_none (passes c.args.version_number) _ _ (passes_none c.args.version_number _) (rw c.params-to_sql.ensures at c.list_of.ensures.leaves)

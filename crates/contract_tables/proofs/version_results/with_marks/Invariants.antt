@@ -1,6 +1,4 @@
-use Rattle.std.proofs.Common.{◌≡◌, take, map}
-use Rattle.std.specs.List.Sorted.{IsStrictlySortedBy}
-use Rattle.std.specs.Ordering.{nat_cmp}
+use Rattle.std.{specs.{List.Sorted.{IsStrictlySortedBy}, Ordering.{nat_cmp}}, proofs.Common.{◌≡◌, take, map}}
 use Rattle.contract_tables.specs.VersionResults.{marked}
 use Rattle.contract_tables.proofs.version_results.with_marks.Given as goal
 

@@ -1,6 +1,5 @@
 use Rattle.broker_tables.proofs.Asked.{lists}
-use Rattle.deploy_tables.proofs.ContractsThere.{of_deployed, deployed_told}
-use Rattle.deploy_tables.proofs.ReadableRows.{of_deployed_reads}
+use Rattle.deploy_tables.proofs.{ContractsThere.{of_deployed, deployed_told}, ReadableRows.{of_deployed_reads}}
 use Rattle.deploy_tables.proofs.contracts_there.deployed_contracts.Goals as goal
 
 pub returns : goal.returns

@@ -1,6 +1,5 @@
 use Rattle.broker_tables.proofs.Asked.{lists}
-use Rattle.deploy_tables.proofs.ContractsThere.{of_released, released_told}
-use Rattle.deploy_tables.proofs.ReadableRows.{of_released_reads}
+use Rattle.deploy_tables.proofs.{ContractsThere.{of_released, released_told}, ReadableRows.{of_released_reads}}
 use Rattle.deploy_tables.proofs.contracts_there.released_contracts.Goals as goal
 
 pub returns : goal.returns

@@ -3,8 +3,7 @@ use Rattle.sqlite.specs.Held.{state}
 use Rattle.sqlite_tied.specs.Compute.{everything}
 use Rattle.table_access.proofs.CallLemmas.{statement_ok, statement_err}
 use Rattle.broker_tables.proofs.QueryLemmas.{calm_by}
-use Rattle.deploy_tables.proofs.DeployedState.{taken_out, none_taken}
-use Rattle.deploy_tables.proofs.Removals.{taking_out_ends}
+use Rattle.deploy_tables.proofs.{DeployedState.{taken_out, none_taken}, Removals.{taking_out_ends}}
 use Rattle.deploy_tables.proofs.deployments.take_out.Goals as goal
 
 pub change_counted-requires : goal.change_counted-requires
@@ -13,23 +12,19 @@ change_counted-requires g c = refl
 
 pub returns-clause-taken : goal.returns-clause-taken
 returns-clause-taken g c =
-    let old = state g.S.Store c.args.conn.now in
-    let new = state g.S.Store c.change_counted.new.conn in
-    statement_ok old new c.in-Ok.value _ _ _ (λ h s held version. taken_out c.args.environment.now c.args.pacticipant.now c.args.instance.now c.args.number old new c.in-Ok.value s held h version)
+    statement_ok _ _ c.in-Ok.value _ _ _ (λ h s held version. taken_out c.args.environment.now c.args.pacticipant.now c.args.instance.now c.args.number _ _ c.in-Ok.value s held h version)
     (rw (c.params-to_sql.ensures, c.params-to_sql-2.ensures, c.params-to_sql-3.ensures, c.params-to_sql-4.ensures) at c.in-Ok.ensures.leaves)
 
 pub returns-clause-unknown : goal.returns-clause-unknown
 returns-clause-unknown g c =
-    let old = state g.S.Store c.args.conn.now in
-    let new = state g.S.Store c.change_counted.new.conn in
-    statement_ok old new c.in-Ok.value _ _ _ (λ h s held none. none_taken c.args.environment.now c.args.pacticipant.now c.args.instance.now c.args.number old new c.in-Ok.value s held h none)
+    statement_ok _ _ c.in-Ok.value _ _ _ (λ h s held none. none_taken c.args.environment.now c.args.pacticipant.now c.args.instance.now c.args.number _ _ c.in-Ok.value s held h none)
     (rw (c.params-to_sql.ensures, c.params-to_sql-2.ensures, c.params-to_sql-3.ensures, c.params-to_sql-4.ensures) at c.in-Ok.ensures.leaves)
 
 pub returns-in-Err-clause-taken : goal.returns-in-Err-clause-taken
-returns-in-Err-clause-taken g c = statement_err (state g.S.Store c.args.conn.now) (state g.S.Store c.change_counted.new.conn) c.in-Err.fault _ _ c.in-Err.ensures.leaves
+returns-in-Err-clause-taken g c = statement_err _ _ c.in-Err.fault _ _ c.in-Err.ensures.leaves
 
 pub returns-in-Err-clause-unknown : goal.returns-in-Err-clause-unknown
-returns-in-Err-clause-unknown g c = statement_err (state g.S.Store c.args.conn.now) (state g.S.Store c.change_counted.new.conn) c.in-Err.fault _ _ c.in-Err.ensures.leaves
+returns-in-Err-clause-unknown g c = statement_err _ _ c.in-Err.fault _ _ c.in-Err.ensures.leaves
 
 pub returns-in-Err-clause-calm : goal.returns-in-Err-clause-calm
 returns-in-Err-clause-calm g c =

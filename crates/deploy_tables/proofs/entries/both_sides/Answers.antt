@@ -1,9 +1,6 @@
-use Rattle.std.proofs.Common.{sym, subst, ◌++◌}
-use Rattle.std.specs.Prelude.{Contains}
-use Rattle.std.proofs.lemmas.List.Filters.{dedup_is}
+use Rattle.std.{specs.Prelude.{Contains}, proofs.{Common.{sym, subst, ◌++◌}, lemmas.List.Filters.{dedup_is}}}
 use Rattle.broker_core.specs.Listing.{Lists}
-use Rattle.deploy_tables.specs.Matrix.{entry_cmp}
-use Rattle.deploy_tables.proofs.MatrixOrders.{each_entry_once}
+use Rattle.deploy_tables.{specs.Matrix.{entry_cmp}, proofs.MatrixLemmas.{each_entry_once}}
 use Rattle.deploy_tables.proofs.entries.both_sides.Goals as goal
 
 pub returns : goal.returns

@@ -1,11 +1,7 @@
-use Rattle.std.proofs.Common.{sym, subst}
-use Rattle.std.specs.Prelude.{Contains, nat_eq}
-use Rattle.std.specs.Ordering.{nat_cmp}
-use Rattle.std.specs.Cmp.{nat_cmp_total}
-use Rattle.std.specs.FinMap.{nat_cmp-IsAntisymmetric}
+use Rattle.std.{specs.{Prelude.{Contains, nat_eq}, Ordering.{nat_cmp}, Cmp.{nat_cmp_total}, FinMap.{nat_cmp-IsAntisymmetric}}, proofs.Common.{sym, subst}}
 use Rattle.std.proofs.lemmas.List.Filters.{dedup_is}
 use Rattle.broker_core.specs.Listing.{Lists}
-use Rattle.deploy_tables.proofs.MatrixOrders.{nats_tie, once}
+use Rattle.deploy_tables.proofs.MatrixLemmas.{nats_tie, once}
 use Rattle.deploy_tables.proofs.lists.each_number_once.Goals as goal
 
 pub returns : goal.returns

@@ -1,14 +1,10 @@
-use Rattle.std.specs.Prelude.{Contains}
-use Rattle.sqlite.specs.Held.{state}
-use Rattle.contract_tables.specs.Listings.{content_cmp}
-use Rattle.deploy_tables.specs.Matrix.{IsNewest, IsOfContent}
-use Rattle.deploy_tables.proofs.MatrixLemmas.{of_listed}
-use Rattle.contract_tables.proofs.QueryLemmas.{calm_then}
+use Rattle.contract_tables.{specs.Listings.{content_cmp}, proofs.QueryLemmas.{calm_then}}
+use Rattle.deploy_tables.{specs.Matrix.{IsNewest, IsOfContent}, proofs.MatrixLemmas.{of_listed}}
 use Rattle.deploy_tables.proofs.matrix_rows.provided.Goals as goal
 
 pub returns : goal.returns
 returns g c =
     let v = c.args.version.now in
-    calm_then (state g.S.Store c.args.conn.now) (state g.S.Store c.verified_contents.new.conn) (state g.S.Store c.of_contents.new.conn) c.in-Ok.value c.of_contents.result _ _ _
-    (λ s listed found here is x. of_listed (λ d. IsOfContent s v d x) (λ d. IsNewest s d.content v d.result) content_cmp c.in-Ok.value.items c.deref.result.now (listed v is) c.deref.ensures.value (Contains found.items x) (here x))
+    calm_then _ _ _ c.in-Ok.value c.of_contents.result _ _ _
+    (λ s listed found here is x. of_listed (λ d. IsOfContent s v d x) (λ d. IsNewest s d.content v d.result) content_cmp c.in-Ok.value.items c.deref.result.now (listed v is) c.deref.ensures.value _ (here x))
     c.in-Ok.ensures.answers c.of_contents.ensures

@@ -1,8 +1,5 @@
-use Rattle.std.proofs.Common.{◌+◌, inl, inr, get_or, take, sym, subst}
-use Rattle.std.specs.Prelude.{Contains}
-use Rattle.table_access.specs.Reading.{AreRead}
-use Rattle.table_access.proofs.Members.{has_contains}
-use Rattle.table_access.proofs.ReadLemmas.{has_get, read_turn}
+use Rattle.std.{specs.Prelude.{Contains}, proofs.Common.{◌+◌, inl, inr, get_or, take, sym, subst}}
+use Rattle.table_access.{specs.Reading.{AreRead}, proofs.{Members.{has_contains}, ReadLemmas.{has_get, read_turn}}}
 use Rattle.deploy_tables.specs.ToldResults.{IsRowTold}
 use Rattle.deploy_tables.proofs.matrix_rows.rows_of.Goals as goal
 

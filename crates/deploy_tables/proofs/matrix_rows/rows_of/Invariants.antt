@@ -1,6 +1,4 @@
-use Rattle.std.proofs.Common.{take}
-use Rattle.std.specs.List.Sorted.{IsStrictlySortedBy}
-use Rattle.std.specs.Ordering.{nat_cmp}
+use Rattle.std.{specs.{List.Sorted.{IsStrictlySortedBy}, Ordering.{nat_cmp}}, proofs.Common.{take}}
 use Rattle.table_access.specs.Reading.{AreRead}
 use Rattle.deploy_tables.specs.ToldResults.{IsRowTold}
 use Rattle.deploy_tables.proofs.matrix_rows.rows_of.Given as goal

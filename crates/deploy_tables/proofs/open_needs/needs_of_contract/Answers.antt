@@ -1,8 +1,7 @@
-use Rattle.sqlite.specs.Held.{state}
 use Rattle.contract_tables.proofs.QueryLemmas.{calm_then}
 use Rattle.deploy_tables.proofs.open_needs.needs_of_contract.Goals as goal
 
 pub returns : goal.returns
 returns g c =
-    calm_then (state g.S.Store c.args.conn.now) (state g.S.Store c.partners.new.conn) (state g.S.Store c.with_all.new.conn) c.in-Ok.value c.with_all.result _ _ _
-    (λ s there found here released. here c.args.environment.now (released.1, there released)) c.in-Ok.ensures (rw c.deref.ensures.value at c.with_all.ensures)
+    calm_then _ _ _ c.in-Ok.value c.with_all.result _ _ _ (λ s there found here released. here c.args.environment.now (released.1, there released))
+    c.in-Ok.ensures (rw c.deref.ensures.value at c.with_all.ensures)

@@ -1,6 +1,5 @@
 use Rattle.broker_tables.proofs.Asked.{lists}
-use Rattle.deploy_tables.proofs.PartnerRows.{numbers_of, deployed_told}
-use Rattle.deploy_tables.proofs.ReadableRows.{partners_reads}
+use Rattle.deploy_tables.proofs.{PartnerRows.{numbers_of, deployed_told}, ReadableRows.{partners_reads}}
 use Rattle.deploy_tables.proofs.partners.deployed_partners.Goals as goal
 
 pub returns : goal.returns

@@ -1,11 +1,8 @@
-use Rattle.std.proofs.Common.{sym, ap, ◌∙◌, arith, take, ◌∷◌, [], ◌++◌}
-use Rattle.std.specs.Prelude.{filter_map}
-use Rattle.std.specs.List.{cons_option}
+use Rattle.std.{specs.{Prelude.{filter_map}, List.{cons_option}}, proofs.Common.{sym, ap, ◌∙◌, arith, take, ◌∷◌, [], ◌++◌}}
 use Rattle.std.proofs.lemmas.List.{take_all, append-nil, append_assoc}
 use Rattle.broker_core.proofs.Lists.{filter_map_more}
-use Rattle.deploy_tables.specs.Partners.{number_if}
+use Rattle.deploy_tables.{specs.Partners.{number_if}, proofs.partners.with_released.Goals.{in-Some+in_ok-push, in_default}}
 use Rattle.deploy_tables.proofs.partners.with_released.Goals as goal
-use Rattle.deploy_tables.proofs.partners.with_released.Goals.{in-Some+in_ok-push, in_default}
 
 pub loop-one-preserved : goal.loop-one-preserved
 loop-one-preserved c =

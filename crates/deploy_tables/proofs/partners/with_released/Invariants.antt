@@ -1,5 +1,4 @@
-use Rattle.std.proofs.Common.{◌≡◌, ◌++◌, take}
-use Rattle.std.specs.Prelude.{filter_map}
+use Rattle.std.{specs.Prelude.{filter_map}, proofs.Common.{◌≡◌, ◌++◌, take}}
 use Rattle.deploy_tables.specs.Partners.{number_if}
 use Rattle.deploy_tables.proofs.partners.with_released.Given as goal
 

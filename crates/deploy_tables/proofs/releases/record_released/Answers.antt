@@ -1,10 +1,9 @@
-use Rattle.std.proofs.Common.{refl, sym, subst}
-use Rattle.std.proofs.lemmas.Result.{IfErr-weaker}
 use Rattle.sqlite.specs.Held.{state}
 use Rattle.sqlite_tied.specs.Compute.{everything}
 use Rattle.table_access.proofs.CallLemmas.{statement_with}
 use Rattle.broker_tables.specs.Holds.{HoldsAfter}
 use Rattle.deploy_tables.proofs.ReleasedRows.{now_released, release_ends}
+use Rattle.std.proofs.{Common.{refl, sym, subst}, lemmas.Result.{IfErr-weaker}}
 use Rattle.deploy_tables.proofs.releases.record_released.Goals as goal
 
 pub change-requires : goal.change-requires

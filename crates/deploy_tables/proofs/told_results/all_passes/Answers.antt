@@ -1,5 +1,4 @@
-use Rattle.std.proofs.Common.{subst}
-use Rattle.std.specs.Prelude.{Contains, ◌↔◌}
+use Rattle.std.{specs.Prelude.{Contains, ◌↔◌}, proofs.Common.{subst}}
 use Rattle.deploy_tables.proofs.told_results.all_passes.Goals as goal
 
 pub returns-clause-all : goal.returns-clause-all

@@ -1,6 +1,5 @@
 use Rattle.broker_tables.proofs.Asked.{lists}
-use Rattle.deploy_tables.proofs.ToldResults.{checked_by, checked_by_told}
-use Rattle.deploy_tables.proofs.ReadableRows.{marks_reads}
+use Rattle.deploy_tables.proofs.{ToldResults.{checked_by, checked_by_told}, ReadableRows.{marks_reads}}
 use Rattle.deploy_tables.proofs.told_results.checked_by.Goals as goal
 
 pub returns : goal.returns

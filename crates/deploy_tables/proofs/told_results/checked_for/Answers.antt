@@ -1,6 +1,5 @@
 use Rattle.broker_tables.proofs.Asked.{lists}
-use Rattle.deploy_tables.proofs.ToldResults.{checked_for, checked_for_told}
-use Rattle.deploy_tables.proofs.ReadableRows.{marks_reads}
+use Rattle.deploy_tables.proofs.{ToldResults.{checked_for, checked_for_told}, ReadableRows.{marks_reads}}
 use Rattle.deploy_tables.proofs.told_results.checked_for.Goals as goal
 
 pub returns : goal.returns

@@ -1,12 +1,8 @@
-use Rattle.std.proofs.Common.{rules, subst, get_or, Ok, Err, false}
-use Rattle.std.specs.Prelude.{Contains}
-use Rattle.std.specs.List.Sorted.{IsBinarySearchResult}
-use Rattle.std.specs.Ordering.{nat_cmp}
+use Rattle.std.{specs.{Prelude.{Contains}, List.Sorted.{IsBinarySearchResult}, Ordering.{nat_cmp}}, proofs.Common.{rules, subst, get_or, Ok, Err, false}}
 use Rattle.std.proofs.lemmas.List.Sorted.{answers_always}
-use Rattle.table_access.proofs.Members.{has_contains}
-use Rattle.table_access.proofs.ReadLemmas.{has_get}
 use Rattle.contract_tables.proofs.Rising.{found_at, missing}
 use Rattle.deploy_tables.specs.declared.told_results.ResultPass.{ResultPass}
+use Rattle.table_access.proofs.{Members.{has_contains}, ReadLemmas.{has_get}}
 use Rattle.deploy_tables.proofs.told_results.pass_among.Goals as goal
 
 -- the closure gives a result's number

@@ -1,6 +1,5 @@
 use Rattle.broker_tables.proofs.Asked.{lists}
-use Rattle.deploy_tables.proofs.ToldResults.{passes_by, passes_by_told}
-use Rattle.deploy_tables.proofs.ReadableRows.{passes_reads}
+use Rattle.deploy_tables.proofs.{ToldResults.{passes_by, passes_by_told}, ReadableRows.{passes_reads}}
 use Rattle.deploy_tables.proofs.told_results.passes_by.Goals as goal
 
 pub returns : goal.returns

@@ -1,16 +1,11 @@
-use Rattle.std.proofs.Common.{◌≡◌, ◌∙◌, ◌-◌, [], ◌++◌, ap, take, None}
-use Rattle.std.specs.Prelude.{option_to_list}
-use Rattle.sqlite.specs.Held.{state}
-use Rattle.deploy_tables.proofs.VersionNames.{last_is}
-use Rattle.deploy_tables.proofs.MatrixLoop.{read_made}
+use Rattle.std.{specs.Prelude.{option_to_list}, proofs.Common.{◌≡◌, ◌∙◌, ◌-◌, [], ◌++◌, ap, take, None}}
+use Rattle.deploy_tables.proofs.{VersionNames.{last_is}, MatrixLoop.{read_made}}
 use Rattle.deploy_tables.proofs.version_names.version_numbered.Goals as goal
 
 pub returns : goal.returns
 returns g c =
     let items = c.in-Ok.value.items in
     let last = c.pop.result in
-    let none : last ≡ None → items ≡ [] = (λ is.
-    let empty = (rw is at c.pop.ensures.cases).0 in
-    c.pop.ensures.items ∙ (λ i. (c.pop.ensures.rest ∙ ap (λ n. take (n - 1) items) empty) i ++ option_to_list (is i))) in
-    read_made (state g.S.Store c.args.conn.now) (state g.S.Store c.versions_numbered.new.conn) c.in-Ok.value last _ _
-    (λ s told. last_is s c.args.number items c.pop.new.self.items last c.pop.ensures.items none told) c.in-Ok.ensures
+    let none : last ≡ None → items ≡ [] = (λ is. c.pop.ensures.items
+    ∙ (λ i. (c.pop.ensures.rest ∙ ap (λ n. take (n - 1) items) (rw is at c.pop.ensures.cases).0) i ++ option_to_list (is i))) in
+    read_made _ _ _ last _ _ (λ s told. last_is s c.args.number items c.pop.new.self.items last c.pop.ensures.items none told) c.in-Ok.ensures

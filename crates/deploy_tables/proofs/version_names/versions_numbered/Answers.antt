@@ -1,6 +1,5 @@
 use Rattle.broker_tables.proofs.Asked.{lists}
-use Rattle.deploy_tables.proofs.VersionNames.{names_of, names_told}
-use Rattle.deploy_tables.proofs.ReadableRows.{names_reads}
+use Rattle.deploy_tables.proofs.{VersionNames.{names_of, names_told}, ReadableRows.{names_reads}}
 use Rattle.deploy_tables.proofs.version_names.versions_numbered.Goals as goal
 
 pub returns : goal.returns
