@@ -1,13 +1,7 @@
 -- What a known caller's command leads to, where its form has no fault.
-use Rattle.std.proofs.Common.{◌≡◌, refl, sym, subst}
-use Rattle.std.specs.Prelude.{Option, Some, None, MatchOption}
-use Rattle.broker_core.specs.State.{State}
-use Rattle.broker_core.specs.Request.{refusal}
-use Rattle.broker_core.specs.Change.{Transition, unchanged_with}
-use Rattle.broker_core.specs.Machine.{FindsFault, TakesEffect, StepOfCaller}
-use Rattle.broker_core.specs.declared.answer.Answer.{Answer}
-use Rattle.broker_core.specs.declared.command.Command.{Command}
-use Rattle.broker_core.specs.declared.policy.Caller.{Caller}
+use Rattle.std.{specs.Prelude.{Option, Some, None, MatchOption}, proofs.Common.{◌≡◌, refl, sym, subst}}
+use Rattle.broker_core.specs.{State.{State}, Request.{refusal}, Change.{Transition, unchanged_with}, Machine.{FindsFault, TakesEffect, StepOfCaller}}
+use Rattle.broker_core.specs.{declared.answer.Answer.{Answer}, declared.command.Command.{Command}, declared.policy.Caller.{Caller}}
 use Rattle.command_facts.specs.Primitives.{broker_primitives}
 
 module _ (s : State) (caller : Caller) (command : Command) (form : FindsFault broker_primitives command None) where

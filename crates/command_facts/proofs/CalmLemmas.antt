@@ -1,8 +1,7 @@
 -- Look-ups that fail only as the store fails, or if there is no memory: another answer of one, and an answer of two.
 use Rattle.std.proofs.Common.{Ok, Err, Result}
 use Rattle.sqlite.specs.State.{State}
-use Rattle.table_access.specs.declared.StoreFault.{StoreFault}
-use Rattle.table_access.proofs.CallLemmas.{statement_err}
+use Rattle.table_access.{specs.declared.StoreFault.{StoreFault}, proofs.CallLemmas.{statement_err}}
 use Rattle.broker_core.specs.State.{State as Broker}
 use Rattle.broker_tables.specs.Calm.{CalmQueriesBetween, CalmQueriesInPlaceBetween}
 use Rattle.broker_tables.proofs.QueryLemmas.{both_read, in_store, in_calm, query_ok, query_seq, place_seq}

@@ -1,6 +1,7 @@
 pub mod CallerLemmas
 pub mod CalmLemmas
 pub mod ReadableTexts
+pub mod ShortTexts
 pub mod CallerSteps
 pub mod FailLemmas
 pub mod PerformLemmas

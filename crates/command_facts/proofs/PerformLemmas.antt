@@ -1,20 +1,12 @@
 -- How a command is put together from calls on the tables.
 use Rattle.std.proofs.Common.{◌≡◌, ◌≤◌, ◌+◌, ℕ, Ok, Result, inl, refl, sym, subst, ◌∙◌, arith}
 use Rattle.sqlite.specs.State.{State}
-use Rattle.table_access.specs.declared.StoreFault.{StoreFault}
-use Rattle.table_access.proofs.CallLemmas.{call_with, then_ok, seq, idle, memory_ok}
-use Rattle.broker_core.specs.State.{State as Broker}
-use Rattle.broker_core.specs.Change.{Transition, unchanged_with}
-use Rattle.broker_core.specs.declared.answer.Answer.{Answer}
+use Rattle.table_access.{specs.declared.StoreFault.{StoreFault}, proofs.CallLemmas.{call_with, then_ok, seq, idle, memory_ok}}
+use Rattle.broker_core.specs.{State.{State as Broker}, Change.{Transition, unchanged_with}, declared.answer.Answer.{Answer}, Machine.{StepOfCaller}}
+use Rattle.broker_core.specs.{declared.command.Command.{Command}, declared.policy.Caller.{Caller}}
 use Rattle.broker_tables.specs.Holds.{Holds, IsRead, HoldsAfter, QueriesBetween, ChangesTakingBetween, ChangesBetween, ChangesAndAnswersBetween, AnswersTakingBetween}
-use Rattle.broker_tables.specs.Room.{TakesRoom, enough}
-use Rattle.broker_tables.proofs.QueryLemmas.{stays_held, both_read}
-use Rattle.broker_tables.proofs.RoomLemmas.{takes_none, takes_more, takes_then}
-use Rattle.command_facts.specs.Performs.{PerformsBetween, PerformsWhereBetween, CallersStep}
-use Rattle.command_facts.specs.Primitives.{broker_primitives}
-use Rattle.broker_core.specs.Machine.{StepOfCaller}
-use Rattle.broker_core.specs.declared.command.Command.{Command}
-use Rattle.broker_core.specs.declared.policy.Caller.{Caller}
+use Rattle.broker_tables.{specs.Room.{TakesRoom, enough}, proofs.{QueryLemmas.{stays_held, both_read}, RoomLemmas.{takes_none, takes_more, takes_then}}}
+use Rattle.command_facts.specs.{Performs.{PerformsBetween, PerformsWhereBetween, CallersStep}, Primitives.{broker_primitives}}
 
 -- ---- the state that is held
 

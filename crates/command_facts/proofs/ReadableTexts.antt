@@ -1,28 +1,14 @@
 -- What this broker keeps of tokens and of pact files is in UTF-8.
-use Rattle.std.proofs.Common.{◌≡◌, true, false, Result, Ok, Err, refl, if◌then◌else◌, nat_le, length}
-use Rattle.std.specs.Option.{ok_or}
-use Rattle.std.specs.Str.{IsUtf8, is_utf8}
+use Rattle.std.{specs.{Option.{ok_or}, Str.{IsUtf8, is_utf8}}, proofs.Common.{◌≡◌, true, false, Result, Ok, Err, refl, if◌then◌else◌, nat_le, length}}
 use Rattle.std.proofs.lemmas.Str.{IsUtf8-from_is_utf8}
-use Rattle.serde_json.specs.Data.{Data}
-use Rattle.serde_json.specs.Read.{read}
-use Rattle.pact_rules.specs.Outcome.{guard}
-use Rattle.pact_rules.specs.Reading.{Follows}
-use Rattle.pact_file.specs.File.{most_bytes, as_file_fault, file_of}
-use Rattle.pact_file.specs.Normal.{Normal}
-use Rattle.pact_file.specs.Objects.{json_of, object_of}
-use Rattle.pact_file.specs.Pact.{Pact}
-use Rattle.pact_file.specs.declared.fault.PactFault.{PactFault}
-use Rattle.pact_file.specs.declared.fault.PactFault.TheVariants.{TooLong}
-use Rattle.pact_file.specs.declared.object.FileFault.TheVariants.{NotJson}
-use Rattle.pact_file.proofs.Objects.{object_ok}
-use Rattle.pact_file.proofs.Steps.{bind_ok}
-use Rattle.broker_core.specs.Contents.{ReadsAgain}
-use Rattle.broker_core.specs.Machine.Reading.{IsPact}
-use Rattle.broker_core.specs.SoundNames.{GivesDigests}
-use Rattle.broker_core.specs.Text.{Text}
+use Rattle.serde_json.specs.{Data.{Data}, Read.{read}}
+use Rattle.pact_rules.specs.{Outcome.{guard}, Reading.{Follows}}
+use Rattle.pact_file.specs.{File.{most_bytes, as_file_fault, file_of}, Normal.{Normal}, Objects.{json_of, object_of}, Pact.{Pact}}
+use Rattle.pact_file.specs.{declared.fault.PactFault.{PactFault}, declared.fault.PactFault.TheVariants.{TooLong}}
+use Rattle.pact_file.{specs.declared.object.FileFault.TheVariants.{NotJson}, proofs.{Objects.{object_ok}, Steps.{bind_ok}}}
+use Rattle.broker_core.specs.{Contents.{ReadsAgain}, Machine.Reading.{IsPact}, SoundNames.{GivesDigests}, Text.{Text}}
 use Rattle.pact_reading.specs.Readings.{reading_of}
-use Rattle.broker_tables.specs.Laws.{KeepsUtf8}
-use Rattle.broker_tables.proofs.ReadableSteps.{digest_utf8}
+use Rattle.broker_tables.{specs.Laws.{KeepsUtf8}, proofs.ReadableSteps.{digest_utf8}}
 use Rattle.command_facts.specs.Primitives.{broker_primitives}
 
 json_utf8 : (text : Text) (d : Data) → json_of text ≡ Ok d → IsUtf8 text

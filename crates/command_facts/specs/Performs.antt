@@ -14,6 +14,7 @@ use Rattle.broker_core.specs.declared.answer.Detail.{Detail}
 use Rattle.broker_core.specs.declared.command.Command.{Command}
 use Rattle.broker_core.specs.declared.policy.Caller.{Caller}
 use Rattle.broker_core.specs.Machine.{StepOfCaller, Step}
+use Rattle.broker_core.specs.SoundNames.{AreNames}
 use Rattle.broker_core.specs.Text.{Text}
 use Rattle.broker_tables.specs.Calm.{FailsFromBetween}
 use Rattle.broker_tables.specs.Holds.{Holds, HoldsAfter}
@@ -57,13 +58,19 @@ abbrev pub IsToChange : (Broker → Transition → Type 0) → Broker → Type 0
 IsToChange P s = (detail : Detail) × (t : Broker) × P s (record { answer = Done detail; state = t })
 
 -- Why a call fails, in a transaction that shows a state which can be read back: as the store failed, or since a growth
--- was refused; or, only at such states, since a change of its own was refused.
-abbrev pub FailsOnlyAtBetween : {A : Type 0} → State → State → (Broker → Type 0) → Result A StoreFault → Type 0
-FailsOnlyAtBetween old new At r = FailsFromBetween old new r (λ _. ⊤) At
+-- was refused; or, only at such states, since a change of its own was refused. TooBig is what is so where a row was too
+-- big for the store.
+abbrev pub FailsOnlyAtBetween : {A : Type 0} → State → State → Type 0 → (Broker → Type 0) → Result A StoreFault → Type 0
+FailsOnlyAtBetween old new TooBig At r = FailsFromBetween old new r TooBig (λ _. ⊤) At
 
 -- why a command fails: only of one that was to change something the change may be refused
-abbrev pub FailsToChangeBetween : State → State → (Broker → Transition → Type 0) → Result Answer StoreFault → Type 0
-FailsToChangeBetween old new P r = FailsOnlyAtBetween old new (IsToChange P) r
+abbrev pub FailsToChangeBetween : State → State → Type 0 → (Broker → Transition → Type 0) → Result Answer StoreFault
+    → Type 0
+FailsToChangeBetween old new TooBig P r = FailsOnlyAtBetween old new TooBig (IsToChange P) r
+
+-- a name of the command is none, as no name of a request is
+abbrev pub IsMisnamed : Command → Type 0
+IsMisnamed command = ¬ AreNames command
 
 -- ---- the same of a connection over this store
 
@@ -74,12 +81,21 @@ module _ {X : Type 0} (store : Ghosts X) (old new : Held X) where
   abbrev pub PerformsWhere : Result Answer StoreFault → (Broker → Type 0) → (Broker → Transition → Type 0) → Type 0
   PerformsWhere r Allows P = PerformsWhereBetween (state store old) (state store new) Allows P r
 
-  abbrev pub FailsToChange : Result Answer StoreFault → (Broker → Transition → Type 0) → Type 0
-  FailsToChange r P = FailsToChangeBetween (state store old) (state store new) P r
+  abbrev pub FailsToChange : Result Answer StoreFault → Type 0 → (Broker → Transition → Type 0) → Type 0
+  FailsToChange r TooBig P = FailsToChangeBetween (state store old) (state store new) TooBig P r
 
-  abbrev pub FailsOnlyAt : {A : Type 0} → Result A StoreFault → (Broker → Type 0) → Type 0
-  FailsOnlyAt r At = FailsOnlyAtBetween (state store old) (state store new) At r
+  -- of a known caller's command, whose rows are never too big
+  abbrev pub FailsToDo : Result Answer StoreFault → Caller → Command → Type 0
+  FailsToDo r caller command = FailsToChange r (IsMisnamed command) (IsStepOf caller command)
+
+  abbrev pub FailsOnlyAt : {A : Type 0} → Result A StoreFault → Type 0 → (Broker → Type 0) → Type 0
+  FailsOnlyAt r TooBig At = FailsOnlyAtBetween (state store old) (state store new) TooBig At r
 
   -- and from states that allow the command
-  abbrev pub FailsToChangeFrom : Result Answer StoreFault → (Broker → Type 0) → (Broker → Transition → Type 0) → Type 0
-  FailsToChangeFrom r Allows P = FailsFromBetween (state store old) (state store new) r Allows (IsToChange P)
+  abbrev pub FailsToChangeFrom : Result Answer StoreFault → Type 0 → (Broker → Type 0) → (Broker → Transition → Type 0)
+      → Type 0
+  FailsToChangeFrom r TooBig Allows P =
+      FailsFromBetween (state store old) (state store new) r TooBig Allows (IsToChange P)
+
+  abbrev pub FailsToDoFrom : Result Answer StoreFault → (Broker → Type 0) → Caller → Command → Type 0
+  FailsToDoFrom r Allows caller command = FailsToChangeFrom r (IsMisnamed command) Allows (IsStepOf caller command)

@@ -1,33 +1,19 @@
 -- The version that a branch shows, from the numbers of versions.
+use Rattle.std.specs.{Prelude.{is_some, option_and_then, Result, Ok, Err}, List.{AllByRecursion, enumerate_from, last_or}}
 use Rattle.std.proofs.Common.{◌≡◌, ◌≤◌, ◌<◌, ◌+◌, ℕ, ℤ, pos, List, [], ◌∷◌, map, length, filter, Bool, true, false, cond, ◌&&◌, nat_lt, Option, Some, None, refl, sym, ap, ◌∙◌, subst, arith}
-use Rattle.std.specs.Prelude.{is_some, option_and_then, Result, Ok, Err}
-use Rattle.std.specs.List.{AllByRecursion, enumerate_from, last_or}
 use Rattle.std.proofs.lemmas.Bool.{ltb-true, ltb-false}
-use Rattle.sqlite.specs.Order.{Row}
-use Rattle.sqlite.specs.Effect.{Database}
-use Rattle.table_access.specs.Columns.{text, whole_at}
-use Rattle.table_access.proofs.SoundLemmas.{all_of}
-use Rattle.broker_core.specs.Text.{Text, same_text, version}
-use Rattle.broker_core.specs.State.{State}
-use Rattle.broker_core.specs.Change.{text_of, unchanged_with}
-use Rattle.broker_core.specs.Machine.{StepOfCaller}
-use Rattle.broker_core.specs.Request.{branch_version, refusal, refused, unless, has_grant}
-use Rattle.broker_core.specs.declared.answer.Answer.{Answer}
-use Rattle.broker_core.specs.declared.answer.Missing.TheVariants as missing
-use Rattle.broker_core.specs.declared.command.Command.TheVariants.{GetBranchPact}
-use Rattle.broker_core.specs.declared.command.Version.{Version}
-use Rattle.broker_core.specs.declared.policy.Caller.{Caller}
+use Rattle.sqlite.specs.{Order.{Row}, Effect.{Database}}
+use Rattle.table_access.{specs.Columns.{text, whole_at}, proofs.SoundLemmas.{all_of}}
+use Rattle.broker_core.specs.{Text.{Text, same_text, version}, State.{State}, Change.{text_of, unchanged_with}, Machine.{StepOfCaller}}
+use Rattle.broker_core.specs.{Request.{branch_version, refusal, refused, unless, has_grant}, declared.answer.Answer.{Answer}}
+use Rattle.broker_core.specs.{declared.command.Command.TheVariants.{GetBranchPact}, declared.command.Version.{Version}, declared.policy.Caller.{Caller}}
 use Rattle.broker_core.specs.declared.policy.Rule.TheVariants.{A5}
-use Rattle.broker_tables.specs.Numbers.{number_of}
-use Rattle.broker_tables.specs.Holds.{Holds}
-use Rattle.broker_tables.proofs.NumberLemmas.{within, one_version}
-use Rattle.broker_tables.proofs.VersionRows.{row_number, false_if}
+use Rattle.broker_tables.{specs.{Numbers.{number_of}, Holds.{Holds}}, proofs.{NumberLemmas.{within, one_version}, VersionRows.{row_number, false_if}}}
 use Rattle.content_store.proofs.TextNumbers.{same_is, same_itself}
 use Rattle.contract_commands.specs.BranchPact.{NoneFrom, IsNextBelow, IsBranchContent, ReachesBranch}
-use Rattle.contract_commands.specs.Pacts.{AreSidesRead, missing_of_branch, Admits, ShowsReached}
-use Rattle.contract_commands.specs.declared.sides.Sides.{Sides}
-use Rattle.command_facts.specs.Primitives.{broker_primitives}
-use Rattle.command_facts.proofs.CallerSteps.{refuses, acts}
+use Rattle.contract_commands.specs.{Pacts.{AreSidesRead, missing_of_branch, Admits, ShowsReached}, declared.sides.Sides.{Sides}}
+use Rattle.command_facts.{specs.Primitives.{broker_primitives}, proofs.CallerSteps.{refuses, acts}}
+use Rattle.broker_core.specs.declared.answer.Missing.TheVariants as missing
 
 -- ---- versions that stand where their numbers say
 

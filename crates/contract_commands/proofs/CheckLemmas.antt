@@ -1,35 +1,19 @@
 -- What replies that are well formed lead to, from what was read.
+use Rattle.std.specs.Prelude.{option_and_then}
 use Rattle.std.proofs.Common.{◌≡◌, ◌==◌, ℕ, suc, false, arith, List, [], ◌∷◌, length, Some, None, Result, Ok, Err, refl, ap, sym, subst, ◌∙◌, inl, inr}
 use Rattle.std.proofs.lemmas.Bool.Decides.{nat_tests}
-use Rattle.std.specs.Prelude.{option_and_then}
-use Rattle.broker_core.specs.Text.{Text}
-use Rattle.broker_core.specs.State.{State}
-use Rattle.broker_core.specs.Contents.{HasSoundContents}
-use Rattle.broker_core.specs.Change.{Transition, text_of, unchanged_with}
-use Rattle.broker_core.specs.Request.{consumer_version, refusal}
-use Rattle.broker_core.specs.Machine.{FindsFault, StepOfCaller, is_empty}
-use Rattle.broker_core.specs.Machine.Reading.{IsPact}
-use Rattle.broker_core.specs.declared.policy.Caller.{Caller}
-use Rattle.broker_core.specs.declared.command.Command.TheVariants.{PostReplies}
-use Rattle.broker_core.specs.declared.command.FormFault.{FormFault}
-use Rattle.broker_core.specs.declared.command.PactPath.{PactPath}
-use Rattle.broker_core.specs.declared.command.Report.{Report}
-use Rattle.broker_core.specs.declared.answer.Answer.{Answer}
-use Rattle.broker_core.specs.declared.answer.Answer.TheVariants.{BadForm, Done}
-use Rattle.broker_core.specs.declared.answer.Answer.TheVariants as answer
-use Rattle.broker_core.specs.declared.answer.Detail.{Detail}
-use Rattle.pact_file.specs.Normal.{Normal}
-use Rattle.pact_file.specs.Pact.{Pact}
-use Rattle.pact_file.specs.declared.fault.PactFault.{PactFault}
-use Rattle.reply_check.specs.Recorded.{Reply}
-use Rattle.reply_check.specs.Replies.{RepliesRead}
-use Rattle.pact_reading.specs.Readings.{PactHasPattern, HasPatternIfPact, Tells, reading_of}
-use Rattle.pact_reading.specs.declared.checking.Comparison.{Comparison}
+use Rattle.broker_core.specs.{Text.{Text}, State.{State}, Contents.{HasSoundContents}, Change.{Transition, text_of, unchanged_with}}
+use Rattle.broker_core.specs.{Request.{consumer_version, refusal}, Machine.{FindsFault, StepOfCaller, is_empty}, Machine.Reading.{IsPact}}
+use Rattle.broker_core.specs.{declared.policy.Caller.{Caller}, declared.command.Command.TheVariants.{PostReplies}, declared.command.FormFault.{FormFault}}
+use Rattle.broker_core.specs.{declared.command.PactPath.{PactPath}, declared.command.Report.{Report}, declared.answer.Answer.{Answer}}
+use Rattle.broker_core.specs.{declared.answer.Answer.TheVariants.{BadForm, Done}, declared.answer.Detail.{Detail}}
+use Rattle.pact_file.specs.{Normal.{Normal}, Pact.{Pact}, declared.fault.PactFault.{PactFault}}
+use Rattle.reply_check.specs.{Recorded.{Reply}, Replies.{RepliesRead}}
+use Rattle.pact_reading.specs.{Readings.{PactHasPattern, HasPatternIfPact, Tells, reading_of}, declared.checking.Comparison.{Comparison}}
 use Rattle.pact_reading.specs.declared.checking.Comparison.TheVariants.{Failing, UnknownReply, Pattern, NoPact}
 use Rattle.contract_commands.specs.Checks.{Leads, Checks}
-use Rattle.command_facts.specs.Performs.{CallersStep}
-use Rattle.command_facts.specs.Primitives.{broker_primitives}
-use Rattle.command_facts.proofs.CallerSteps.{acts, refuses}
+use Rattle.command_facts.{specs.{Performs.{CallersStep}, Primitives.{broker_primitives}}, proofs.CallerSteps.{acts, refuses}}
+use Rattle.broker_core.specs.declared.answer.Answer.TheVariants as answer
 
 -- a stored text is read as a pact, so it has the pattern that it would have
 stored_pattern : (s : State) (content : ℕ) (text : Text) → HasSoundContents broker_primitives s → text_of s content ≡ Some text → HasPatternIfPact text → PactHasPattern text

@@ -1,33 +1,17 @@
 -- The content of each contract has a text, as the table of contracts REFERENCES that of contents.
+use Rattle.std.specs.{Prelude.{option_and_then, option_map, Result, Ok, Err}, List.{enumerate_from}}
 use Rattle.std.proofs.Common.{◌≡◌, ◌==◌, ◌+◌, ◌-◌, ◌<◌, ◌≤◌, inl, inr, ℕ, zero, suc, ℤ, pos, List, [], ◌∷◌, map, length, false, cond, get_or, slice_get, Option, Some, None, refl, sym, ap, ◌∙◌, arith}
-use Rattle.std.specs.Prelude.{option_and_then, option_map, Result, Ok, Err}
-use Rattle.std.specs.List.{enumerate_from}
-use Rattle.std.proofs.lemmas.Bool.Decides.{nat_tests}
-use Rattle.std.proofs.lemmas.List.{length-map}
-use Rattle.std.proofs.lemmas.Option.{slice_get-get_or, slice_get_within}
-use Rattle.sqlite.specs.Order.{Row}
-use Rattle.sqlite.specs.Effect.{Database}
+use Rattle.std.proofs.{lemmas.Bool.Decides.{nat_tests}, lemmas.List.{length-map}, lemmas.Option.{slice_get-get_or, slice_get_within}}
+use Rattle.sqlite.specs.{Order.{Row}, Effect.{Database}}
 use Rattle.sqlite_rules.specs.Lists.{Has}
-use Rattle.table_access.specs.Columns.{text, whole_at}
-use Rattle.table_access.proofs.Maps.{find_has}
-use Rattle.table_access.proofs.SoundLemmas.{has_place}
-use Rattle.broker_core.specs.Text.{Text}
-use Rattle.broker_core.specs.State.{State}
-use Rattle.broker_core.specs.Change.{text_of}
-use Rattle.broker_core.specs.Request.{consumer_version}
-use Rattle.broker_core.specs.declared.answer.Answer.{Answer}
-use Rattle.broker_core.specs.declared.command.PactPath.{PactPath}
-use Rattle.broker_core.specs.declared.command.Version.{Version}
-use Rattle.broker_core.specs.declared.policy.Caller.{Caller}
+use Rattle.table_access.{specs.Columns.{text, whole_at}, proofs.{Maps.{find_has}, SoundLemmas.{has_place}}}
+use Rattle.broker_core.specs.{Text.{Text}, State.{State}, Change.{text_of}, Request.{consumer_version}, declared.answer.Answer.{Answer}}
+use Rattle.broker_core.specs.{declared.command.PactPath.{PactPath}, declared.command.Version.{Version}, declared.policy.Caller.{Caller}}
 use Rattle.broker_core.specs.declared.policy.Rule.{Rule}
-use Rattle.broker_tables.specs.Holds.{Holds, with_digest}
-use Rattle.broker_tables.specs.Numbers.{number_of}
-use Rattle.broker_tables.proofs.Orders.{marked_total, exact_marked}
-use Rattle.broker_tables.proofs.Placed.{contracts, contracts_there}
-use Rattle.broker_tables.proofs.References.{refers_content}
+use Rattle.broker_tables.{specs.{Holds.{Holds, with_digest}, Numbers.{number_of}}, proofs.Orders.{marked_total, exact_marked}}
+use Rattle.broker_tables.proofs.{Placed.{contracts, contracts_there}, References.{refers_content}}
 use Rattle.contract_tables.proofs.ContractRows.{key, content_at, contents}
-use Rattle.contract_commands.specs.BranchPact.{ReachesBranch}
-use Rattle.contract_commands.specs.Pacts.{HasContent, Reaches, HasReachedContent}
+use Rattle.contract_commands.specs.{BranchPact.{ReachesBranch}, Pacts.{HasContent, Reaches, HasReachedContent}}
 
 -- rows that are numbered from m on have the numbers from m to the last
 within : {X : Type 0} (f : Row → X) (rows : List Row) (xs : List X) (m n : ℕ) → map {B = ℤ × X} (λ r. (whole_at 0 r, f r)) rows ≡ map (λ e. (pos e.0, e.1)) (enumerate_from m xs) → (r : Row) → Has rows r → whole_at 0 r ≡ pos n → (m ≤ n) × (n < m + length xs)

@@ -1,16 +1,11 @@
 -- The numbers that versions and results have or get.
-use Rattle.std.proofs.Common.{◌≡◌, ◌+◌, ◌<◌, ◌≤◌, ◌||◌, ℕ, List, length, true, false, true≢false, is_some, IsTrue, Bool, Option, Some, None, ◌∷◌, [], ◌++◌, refl, sym, ap, ◌∙◌, subst, arith}
 use Rattle.std.specs.Prelude.{IfSome, IfNone, if◌then◌else◌}
-use Rattle.broker_core.specs.Limit.{HasRoom, has_room}
-use Rattle.broker_core.specs.Change.{can_name}
-use Rattle.broker_core.specs.Request.{is_known}
-use Rattle.broker_core.specs.State.{State}
-use Rattle.broker_core.specs.declared.command.Version.{Version}
+use Rattle.std.proofs.Common.{◌≡◌, ◌+◌, ◌<◌, ◌≤◌, ◌||◌, ℕ, List, length, true, false, true≢false, is_some, IsTrue, Bool, Option, Some, None, ◌∷◌, [], ◌++◌, refl, sym, ap, ◌∙◌, subst, arith}
+use Rattle.broker_core.specs.{Limit.{HasRoom, has_room}, Change.{can_name}, Request.{is_known}, State.{State}, declared.command.Version.{Version}}
 use Rattle.broker_tables.specs.Numbers.{number_of}
 use Rattle.registry_tables.specs.Registry.{AddsVersion, AllowsVersionAs}
 use Rattle.content_store.proofs.TextNumbers.{room_is}
-use Rattle.contract_commands.specs.Numbering.{IsNextNumber, IsNextOf, IsNumberFor, CanName, NamesAs}
-use Rattle.contract_commands.specs.declared.numbers.VersionNumber.{VersionNumber}
+use Rattle.contract_commands.specs.{Numbering.{IsNextNumber, IsNextOf, IsNumberFor, CanName, NamesAs}, declared.numbers.VersionNumber.{VersionNumber}}
 use Rattle.contract_commands.specs.declared.numbers.VersionNumber.TheVariants.{Old, New}
 
 -- ---- the next number

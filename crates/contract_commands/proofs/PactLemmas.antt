@@ -1,44 +1,25 @@
 -- What the commands on contracts lead to, from what was read.
-use Rattle.std.proofs.Common.{◌≡◌, ℕ, ◌+◌, ◌≤◌, List, [], ◌∷◌, ◌++◌, length, Bool, true, false, not, ◌&&◌, ◌||◌, cond, is_some, Option, Some, None, MatchOption, refl, sym, ap, ◌∙◌, subst, arith}
-use Rattle.std.proofs.Common.{if◌then◌else◌}
-use Rattle.std.specs.List.{cons_option, position_or_len, list_any}
-use Rattle.std.specs.Option.{option_map_or}
-use Rattle.std.specs.Prelude.{filter_map, option_and_then, Result, Ok, Err}
-use Rattle.broker_core.specs.Text.{Text, same_text, same_pair, same_version, put_at}
-use Rattle.broker_core.specs.State.{State}
-use Rattle.broker_core.specs.Policy.{allows}
-use Rattle.broker_core.specs.Limit.{has_room}
+use Rattle.std.specs.{List.{cons_option, position_or_len, list_any}, Option.{option_map_or}, Prelude.{filter_map, option_and_then, Result, Ok, Err}}
+use Rattle.std.proofs.Common.{◌≡◌, ℕ, ◌+◌, ◌≤◌, List, [], ◌∷◌, ◌++◌, length, Bool, true, false, not, ◌&&◌, ◌||◌, cond, is_some, Option, Some, None, MatchOption, refl, sym, ap, ◌∙◌, subst, arith, if◌then◌else◌}
+use Rattle.broker_core.specs.{Text.{Text, same_text, same_pair, same_version, put_at}, State.{State}, Policy.{allows}, Limit.{has_room}}
 use Rattle.broker_core.specs.Change.{Transition, unchanged_with, put_pact, republished, text_of, can_name, named, stored, is_stored, content_number}
 use Rattle.broker_core.specs.Request.{consumer_version, unless, unless_contract, refused, refusal, has_grant, is_known, is_allowed, first_missing, target_of}
-use Rattle.broker_core.specs.Machine.{TakesEffect, FindsFault, StepOfCaller, fault_of_reading}
-use Rattle.broker_core.specs.Machine.Reading.{IsPact}
-use Rattle.broker_core.specs.declared.policy.Caller.{Caller}
-use Rattle.broker_core.specs.declared.policy.Caller.TheVariants.{Office, Team}
-use Rattle.broker_core.specs.declared.policy.Rule.TheVariants.{A3, A4, A5}
-use Rattle.broker_core.specs.declared.command.Command.{Command}
-use Rattle.broker_core.specs.declared.command.Command.TheVariants.{PutPact, GetPact}
-use Rattle.broker_core.specs.declared.command.PactPath.{PactPath}
-use Rattle.broker_core.specs.declared.command.Version.{Version}
-use Rattle.broker_core.specs.declared.command.FormFault.{FormFault}
-use Rattle.broker_core.specs.declared.command.FormFault.TheVariants as fault
-use Rattle.broker_core.specs.declared.answer.Answer.{Answer}
-use Rattle.broker_core.specs.declared.answer.Answer.TheVariants.{Done, Full, BadForm, Shown}
-use Rattle.broker_core.specs.declared.answer.Detail.TheVariants.{Content}
-use Rattle.broker_core.specs.declared.answer.Missing.TheVariants as missing
-use Rattle.broker_core.specs.declared.answer.Shown.TheVariants as shown
+use Rattle.broker_core.specs.{Machine.{TakesEffect, FindsFault, StepOfCaller, fault_of_reading}, Machine.Reading.{IsPact}, declared.policy.Caller.{Caller}}
+use Rattle.broker_core.specs.{declared.policy.Caller.TheVariants.{Office, Team}, declared.policy.Rule.TheVariants.{A3, A4, A5}}
+use Rattle.broker_core.specs.{declared.command.Command.{Command}, declared.command.Command.TheVariants.{PutPact, GetPact}, declared.command.PactPath.{PactPath}}
+use Rattle.broker_core.specs.{declared.command.Version.{Version}, declared.command.FormFault.{FormFault}, declared.answer.Answer.{Answer}}
+use Rattle.broker_core.specs.{declared.answer.Answer.TheVariants.{Done, Full, BadForm, Shown}, declared.answer.Detail.TheVariants.{Content}}
 use Rattle.broker_core.specs.declared.policy.Rule.{Rule}
-use Rattle.content_store.specs.Contents.{is_among}
-use Rattle.content_store.proofs.TextNumbers.{same_itself, none_before}
+use Rattle.content_store.{specs.Contents.{is_among}, proofs.TextNumbers.{same_itself, none_before}}
 use Rattle.contract_tables.specs.Verified.{AddsContract}
 use Rattle.pact_reading.specs.declared.reading.ReadFault.TheVariants.{Form}
-use Rattle.command_facts.specs.Owners.{owners_of}
+use Rattle.command_facts.{specs.{Owners.{owners_of}, Primitives.{broker_primitives}}, proofs.CallerSteps.{refuses, acts}}
 use Rattle.contract_commands.specs.Numbering.{NamesAs}
 use Rattle.contract_commands.specs.Pacts.{AreSidesRead, missing_side, missing_part, Admits, IsPlaceRead, CanPublish, CanRecord, contracted, Publishes, AsksContract, Reaches, ShowsReached}
-use Rattle.contract_commands.specs.declared.numbers.VersionNumber.{VersionNumber}
-use Rattle.contract_commands.specs.declared.sides.ContractPlace.{ContractPlace}
-use Rattle.contract_commands.specs.declared.sides.Sides.{Sides}
-use Rattle.command_facts.specs.Primitives.{broker_primitives}
-use Rattle.command_facts.proofs.CallerSteps.{refuses, acts}
+use Rattle.contract_commands.specs.{declared.numbers.VersionNumber.{VersionNumber}, declared.sides.ContractPlace.{ContractPlace}, declared.sides.Sides.{Sides}}
+use Rattle.broker_core.specs.declared.command.FormFault.TheVariants as fault
+use Rattle.broker_core.specs.declared.answer.Missing.TheVariants as missing
+use Rattle.broker_core.specs.declared.answer.Shown.TheVariants as shown
 
 -- ---- refusals
 

@@ -1,47 +1,26 @@
 -- What the commands on results lead to, from what was read.
+use Rattle.std.specs.{Prelude.{option_map, if◌then◌else◌}, Option.{option_map_or}}
 use Rattle.std.proofs.Common.{◌≡◌, ℕ, ◌+◌, ◌==◌, List, [], ◌∷◌, ◌++◌, length, Bool, true, false, ◌&&◌, is_some, Option, Some, None, refl, sym, ap, subst, ◌∙◌, ◌≤◌, Ok, Result, arith}
-use Rattle.std.specs.Prelude.{option_map, if◌then◌else◌}
-use Rattle.std.specs.Option.{option_map_or}
 use Rattle.sqlite.specs.State.{State as Connection}
-use Rattle.table_access.specs.declared.StoreFault.{StoreFault}
-use Rattle.table_access.proofs.CallLemmas.{statement_ok, statement_seq}
-use Rattle.broker_tables.specs.Calm.{CalmQueriesInPlaceBetween}
-use Rattle.broker_tables.specs.Holds.{AnswersTakingBetween}
-use Rattle.broker_tables.proofs.QueryLemmas.{stays_held, in_store}
-use Rattle.broker_tables.proofs.RoomLemmas.{takes_none}
+use Rattle.table_access.{specs.declared.StoreFault.{StoreFault}, proofs.CallLemmas.{statement_ok, statement_seq}}
+use Rattle.broker_tables.specs.{Calm.{CalmQueriesInPlaceBetween}, Holds.{AnswersTakingBetween}, Numbers.{number_of}}
+use Rattle.broker_tables.proofs.{QueryLemmas.{stays_held, in_store}, RoomLemmas.{takes_none}, NumberLemmas.{number_ties}, Ties.{nat_ties}}
 use Rattle.command_facts.proofs.PerformLemmas.{after_read}
-use Rattle.broker_core.specs.Text.{Text, same_bool, same_version, version}
-use Rattle.broker_core.specs.State.{State, Verification}
-use Rattle.broker_core.specs.Limit.{has_room}
+use Rattle.broker_core.specs.{Text.{Text, same_bool, same_version, version}, State.{State, Verification}, Limit.{has_room}}
 use Rattle.broker_core.specs.Change.{Transition, unchanged_with, named, can_name, report, result_of_run, says_same}
-use Rattle.broker_core.specs.Request.{is_known, unless, unless_contract, is_allowed, refused, refusal}
-use Rattle.broker_core.specs.declared.policy.Caller.{Caller}
-use Rattle.broker_core.specs.declared.policy.Rule.TheVariants.{A4}
-use Rattle.broker_core.specs.declared.command.Command.{Command}
-use Rattle.broker_core.specs.declared.command.Command.TheVariants.{PostResult, PostReplies}
-use Rattle.broker_core.specs.declared.command.PactPath.{PactPath}
-use Rattle.broker_core.specs.declared.command.Report.{Report}
-use Rattle.broker_core.specs.declared.command.Version.{Version}
-use Rattle.broker_core.specs.declared.answer.Answer.{Answer}
-use Rattle.broker_core.specs.declared.answer.Answer.TheVariants as answer
-use Rattle.broker_core.specs.declared.answer.Detail.{Detail}
-use Rattle.broker_core.specs.declared.answer.Clash.TheVariants as clash
-use Rattle.broker_core.specs.declared.answer.Missing.{Missing}
-use Rattle.broker_core.specs.declared.answer.Missing.TheVariants as missing
-use Rattle.broker_tables.specs.Numbers.{number_of}
-use Rattle.broker_core.proofs.Judgement.{version_is}
-use Rattle.broker_tables.proofs.NumberLemmas.{number_ties}
-use Rattle.broker_tables.proofs.Ties.{nat_ties}
-use Rattle.contract_tables.specs.Verified.{Told, told_of, result_for, RecordsResult, AllowsResult}
-use Rattle.contract_tables.specs.declared.lookups.ResultRow.{ResultRow}
-use Rattle.contract_commands.specs.Numbering.{NamesAs}
-use Rattle.contract_commands.specs.Pacts.{AsksContract}
+use Rattle.broker_core.specs.{Request.{is_known, unless, unless_contract, is_allowed, refused, refusal}, declared.policy.Caller.{Caller}}
+use Rattle.broker_core.specs.{declared.policy.Rule.TheVariants.{A4}, declared.command.Command.{Command}}
+use Rattle.broker_core.specs.{declared.command.Command.TheVariants.{PostResult, PostReplies}, declared.command.PactPath.{PactPath}}
+use Rattle.broker_core.specs.{declared.command.Report.{Report}, declared.command.Version.{Version}, declared.answer.Answer.{Answer}}
+use Rattle.broker_core.{specs.{declared.answer.Detail.{Detail}, declared.answer.Missing.{Missing}}, proofs.Judgement.{version_is}}
+use Rattle.contract_tables.specs.{Verified.{Told, told_of, result_for, RecordsResult, AllowsResult}, declared.lookups.ResultRow.{ResultRow}}
+use Rattle.contract_commands.specs.{Numbering.{NamesAs}, Pacts.{AsksContract}}
 use Rattle.contract_commands.specs.Results.{HasPacticipant, reported_version, reported_result, Reports, told_row, IsRowOf, IsNumbered, AllowsReport, recorded}
-use Rattle.contract_commands.specs.declared.results.Finding.{Finding}
-use Rattle.contract_commands.specs.declared.results.Reported.TheVariants.{Recorded, Known, RunTaken, Full}
-use Rattle.contract_commands.specs.declared.numbers.VersionNumber.{VersionNumber}
-use Rattle.contract_commands.proofs.ContentThere.{number_there}
-use Rattle.contract_commands.proofs.PactLemmas.{named_contents}
+use Rattle.contract_commands.specs.{declared.results.Finding.{Finding}, declared.results.Reported.TheVariants.{Recorded, Known, RunTaken, Full}}
+use Rattle.contract_commands.{specs.declared.numbers.VersionNumber.{VersionNumber}, proofs.{ContentThere.{number_there}, PactLemmas.{named_contents}}}
+use Rattle.broker_core.specs.declared.answer.Answer.TheVariants as answer
+use Rattle.broker_core.specs.declared.answer.Clash.TheVariants as clash
+use Rattle.broker_core.specs.declared.answer.Missing.TheVariants as missing
 
 -- ---- the two commands ask for the contract of their path
 

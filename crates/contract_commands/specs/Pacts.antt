@@ -1,5 +1,5 @@
 -- what the commands on contracts read of a state, for the clauses of private functions: no public clause cites it
-use Rattle.std.specs.Prelude.{◌≡◌, ◌≤◌, ⊤, ℕ, Option, Some, None, List, Bool, is_some, IsTrue, length, filter_map, Result, Ok, Err}
+use Rattle.std.specs.Prelude.{◌≡◌, ◌≤◌, ⊤, ℕ, Option, Some, None, List, [], ◌∷◌, Bool, is_some, IsTrue, length, filter_map, Result, Ok, Err}
 use Rattle.broker_core.specs.Text.{Text, same_pair, same_version, same_text, put_at}
 use Rattle.broker_core.specs.State.{State as Broker}
 use Rattle.broker_core.specs.Policy.{allows}
@@ -41,6 +41,10 @@ pub record AreSidesRead (s : Broker) (caller : Caller) (rule : Rule) (owned : Li
 abbrev pub missing_side : Sides → Option Missing → Option Missing
 missing_side sides rest =
     unless sides.has_provider missing.Pacticipant (unless sides.has_consumer missing.Pacticipant rest)
+
+-- the names that are stored with a contract
+abbrev pub names_in : PactPath → List Text
+names_in path = path.consumer ∷ path.version ∷ path.provider ∷ []
 
 -- the content of this number has a text
 abbrev pub HasContent : Broker → ℕ → Type 0

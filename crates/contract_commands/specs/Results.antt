@@ -1,6 +1,6 @@
 -- what the commands on results read of a state and tell of it, for the clauses of private functions: no public clause
 -- cites it
-use Rattle.std.specs.Prelude.{◌≡◌, ◌+◌, ◌++◌, ◌∷◌, [], ℕ, Option, Some, None, Bool, is_some, IsTrue, length}
+use Rattle.std.specs.Prelude.{◌≡◌, ◌+◌, ◌++◌, ◌∷◌, [], ℕ, List, unwrap_or, Option, Some, None, Bool, is_some, IsTrue, length}
 use Rattle.broker_core.specs.Text.{Text, version}
 use Rattle.broker_core.specs.State.{State as Broker, Verification, claimed_result}
 use Rattle.broker_core.specs.Request.{is_known}
@@ -13,6 +13,7 @@ use Rattle.broker_core.specs.declared.answer.Detail.{Detail}
 use Rattle.broker_core.specs.declared.answer.Detail.TheVariants as detail
 use Rattle.broker_core.specs.declared.answer.Clash.TheVariants as clash
 use Rattle.broker_tables.specs.Numbers.{number_of}
+use Rattle.broker_tables.specs.Refusals.{AreShort}
 use Rattle.contract_tables.specs.Verified.{Told, told, told_of, result_for}
 use Rattle.contract_tables.specs.declared.lookups.ResultRow.{ResultRow}
 use Rattle.contract_commands.specs.Numbering.{CanName}
@@ -33,6 +34,14 @@ CanReceive provider content s = HasPacticipant s provider × HasContent s conten
 -- the version that a report is of
 abbrev pub reported_version : Text → Report → Version
 reported_version provider report = version provider report.provider_version
+
+-- the names that are stored with a result
+abbrev pub names_of : Text → Report → List Text
+names_of provider report = provider ∷ report.provider_version ∷ unwrap_or report.run [] ∷ []
+
+-- one of them is too long to be stored
+abbrev pub AreLong : Text → Report → Type 0
+AreLong provider report = ¬ AreShort (names_of provider report)
 
 -- the result that a report and what was found come to
 abbrev pub reported_result : Text → Report → Finding → Verification

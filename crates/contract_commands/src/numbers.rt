@@ -1,9 +1,9 @@
 //! The numbers that versions and results have or get.
-ghost use Rattle.std.specs.Prelude.{Some, []};
+ghost use Rattle.std.specs.Prelude.{Some, [], ◌∷◌};
 ghost use Rattle.broker_core.specs.Text.{version as version_named};
 ghost use Rattle.broker_tables.specs.Holds.{ChangesAndAnswers};
 ghost use Rattle.broker_tables.specs.Calm.{CalmQueriesInPlace};
-ghost use Rattle.broker_tables.specs.Refusals.{IsCalmIf};
+ghost use Rattle.broker_tables.specs.Refusals.{IsCalmStoring};
 ghost use Rattle.contract_commands.specs.Numbering.{IsNextNumber, IsNextOf, IsNumberFor, CanName, NamesAs};
 
 use broker_core::limit::room;
@@ -77,7 +77,7 @@ pub(crate) fn name_version<S: Alter>(
     ensures answers { ChangesAndAnswers S.Store conn.old conn.new result
         (λ s. CanName s (version_named pacticipant.now name.now) number)
         (NamesAs (version_named pacticipant.now name.now)) }
-    ensures calm { IsCalmIf S.Store conn.old conn.new result []
+    ensures calm { IsCalmStoring S.Store conn.old conn.new result [] (pacticipant.now ∷ name.now ∷ [])
         (λ s. CanName s (version_named pacticipant.now name.now) number) }
 {
     match number {

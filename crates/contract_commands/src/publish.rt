@@ -1,5 +1,5 @@
 //! Publication of a pact.
-ghost use Rattle.std.specs.Prelude.{◌≡◌, ◌&&◌, Some, IfOk, IfErr, ⊤};
+ghost use Rattle.std.specs.Prelude.{◌≡◌, ◌&&◌, [], ◌∷◌, Some, IfOk, IfErr, ⊤};
 ghost use Rattle.broker_core.specs.State.{State as BrokerState};
 ghost use Rattle.broker_core.specs.Text.{same_text};
 ghost use Rattle.broker_core.specs.Change.{text_of, republished};
@@ -9,12 +9,12 @@ ghost use Rattle.broker_core.specs.declared.command.Command.TheVariants.{PutPact
 ghost use Rattle.broker_core.specs.declared.command.FormFault.{FormFault as FormFaultModel};
 ghost use Rattle.broker_tables.specs.Holds.{Queries, ChangesAndAnswers, AnswersTaking};
 ghost use Rattle.broker_tables.specs.Calm.{IsCalmFrom};
-ghost use Rattle.broker_tables.specs.Refusals.{IsCalmTaking};
+ghost use Rattle.broker_tables.specs.Refusals.{AreShort, IsCalmTaking};
 ghost use Rattle.pact_reading.specs.declared.reading.ReadFault.TheVariants.{Form};
 ghost use Rattle.command_facts.specs.Primitives.{broker_primitives};
-ghost use Rattle.command_facts.specs.Performs.{Performs, PerformsWhere, FailsOnlyAt, FailsToChange, FailsToChangeFrom, IsStepOf};
+ghost use Rattle.command_facts.specs.Performs.{Performs, PerformsWhere, FailsOnlyAt, FailsToChange, FailsToChangeFrom, FailsToDo, IsStepOf};
 ghost use Rattle.content_store.specs.Contents.{CanBeAdded, StoresIfRoom};
-ghost use Rattle.contract_commands.specs.Pacts.{HasContent, HasSides, HasNoContract, CanPublish, CanRecord, RecordsContract, PutsPact, Publishes, answer_to};
+ghost use Rattle.contract_commands.specs.Pacts.{names_in, HasContent, HasSides, HasNoContract, CanPublish, CanRecord, RecordsContract, PutsPact, Publishes, answer_to};
 
 use crate::numbers::{VersionNumber, name_version, number_version};
 use crate::sides::{read_contract, read_sides_to_publish, read_text, refuse_sides};
@@ -82,7 +82,8 @@ fn publish_again<S: Alter>(
 /// and then nothing changes.
 fn put_text<S: Alter>(conn: &mut Connection<S>, text: &Text) -> Result<Option<u32>, StoreFault>
     ensures answers { ChangesAndAnswers S.Store conn.old conn.new result (λ s. ⊤) (StoresIfRoom text.now) }
-    ensures calm { FailsOnlyAt S.Store conn.old conn.new result (λ s. CanBeAdded text.now s.contents) }
+    ensures calm { FailsOnlyAt S.Store conn.old conn.new result (¬ AreShort (text.now ∷ []))
+        (λ s. CanBeAdded text.now s.contents) }
 {
     put_if_room(conn, &Sha256Digester, text.as_str())
 }
@@ -96,7 +97,7 @@ fn record_contract<S: Alter>(
 ) -> Result<(), StoreFault>
     ensures answers { AnswersTaking S.Store conn.old conn.new 4 result
         (CanRecord path.now version content) (λ _. RecordsContract path.now content) }
-    ensures calm { IsCalmTaking S.Store conn.old conn.new 3 result (CanRecord path.now version content) }
+    ensures calm { IsCalmTaking S.Store conn.old conn.new 3 result (names_in path.now) (CanRecord path.now version content) }
 {
     let number = done!(name_version(conn, &path.consumer, &path.version, version));
     add_contract(conn, number, path.provider.as_str(), content)
@@ -111,7 +112,7 @@ fn publish_numbered<S: Alter>(
 ) -> Result<Answer, StoreFault>
     ensures answers { PerformsWhere S.Store conn.old conn.new result
         (CanPublish path.now version) (PutsPact path.now text.now) }
-    ensures calm { FailsToChangeFrom S.Store conn.old conn.new result
+    ensures calm { FailsToChangeFrom S.Store conn.old conn.new result (¬ AreShort (text.now ∷ names_in path.now))
         (CanPublish path.now version) (PutsPact path.now text.now) }
 {
     match done!(put_text(conn, text)) {
@@ -133,7 +134,7 @@ fn publish_first<S: Alter>(
 ) -> Result<Answer, StoreFault>
     ensures answers { PerformsWhere S.Store conn.old conn.new result
         (HasNoContract path.now number) (PutsPact path.now text.now) }
-    ensures calm { FailsToChangeFrom S.Store conn.old conn.new result
+    ensures calm { FailsToChangeFrom S.Store conn.old conn.new result (¬ AreShort (text.now ∷ names_in path.now))
         (HasNoContract path.now number) (PutsPact path.now text.now) }
 {
     match done!(number_version(conn, number)) {
@@ -150,7 +151,7 @@ fn publish_between<S: Alter>(
 ) -> Result<Answer, StoreFault>
     ensures answers { PerformsWhere S.Store conn.old conn.new result (λ s. HasSides s path.now)
         (PutsPact path.now text.now) }
-    ensures calm { FailsToChangeFrom S.Store conn.old conn.new result
+    ensures calm { FailsToChangeFrom S.Store conn.old conn.new result (¬ AreShort (text.now ∷ names_in path.now))
         (λ s. HasSides s path.now) (PutsPact path.now text.now) }
 {
     let contract = done!(read_contract(conn, &path.provider, &path.consumer, &path.version));
@@ -170,7 +171,7 @@ fn publish<S: Alter>(
 ) -> Result<Answer, StoreFault>
     ensures answers { Performs S.Store conn.old conn.new result
         (λ s out. Publishes s caller.now path.now text.now out) }
-    ensures calm { FailsToChange S.Store conn.old conn.new result
+    ensures calm { FailsToChange S.Store conn.old conn.new result (¬ AreShort (text.now ∷ names_in path.now))
         (λ s out. Publishes s caller.now path.now text.now out) }
 {
     let sides = done!(read_sides_to_publish(alloc, conn, caller, &path.provider, &path.consumer));
@@ -200,8 +201,7 @@ pub fn put_pact<S: Alter>(
 ) -> Result<Answer, StoreFault>
     ensures answers { Performs S.Store conn.old conn.new result
         (IsStepOf caller.now (PutPact path.now file.now)) }
-    ensures calm { FailsToChange S.Store conn.old conn.new result
-        (IsStepOf caller.now (PutPact path.now file.now)) }
+    ensures calm { FailsToDo S.Store conn.old conn.new result caller.now (PutPact path.now file.now) }
 {
     match read_form(alloc, path, file) {
         Ok(pact) => publish(alloc, conn, caller, path, &pact.text),

@@ -5,9 +5,9 @@ ghost use Rattle.broker_core.specs.declared.command.Command.TheVariants.{PostRep
 ghost use Rattle.pact_reading.specs.declared.checking.Comparison.TheVariants.{Failing};
 ghost use Rattle.reply_check.specs.Replies.{RepliesRead};
 ghost use Rattle.broker_core.specs.Contents.{HasSoundContents};
-ghost use Rattle.command_facts.specs.Performs.{Performs, PerformsWhere, FailsToChangeFrom, CallersStep, IsStepOf};
+ghost use Rattle.command_facts.specs.Performs.{Performs, PerformsWhere, FailsToChangeFrom, FailsToDoFrom, CallersStep, IsStepOf};
 ghost use Rattle.command_facts.specs.Primitives.{broker_primitives};
-ghost use Rattle.contract_commands.specs.Results.{HasPacticipant, CanReceive, told_as};
+ghost use Rattle.contract_commands.specs.Results.{AreLong, HasPacticipant, CanReceive, told_as};
 ghost use Rattle.contract_commands.specs.Checks.{Leads, Checks, CanLead, CanCheck};
 
 use crate::publish::tell_unread;
@@ -52,7 +52,8 @@ fn report_failing<S: Alter>(
 ) -> Result<Answer, StoreFault>
     ensures answers { PerformsWhere S.Store conn.old conn.new result (λ s. HasPacticipant s provider.now)
         (λ s out. Leads s provider.now report.now content (Failing failing) out) }
-    ensures calm { FailsToChangeFrom S.Store conn.old conn.new result (CanReceive provider.now content)
+    ensures calm { FailsToChangeFrom S.Store conn.old conn.new result
+        (AreLong provider.now report.now) (CanReceive provider.now content)
         (λ s out. Leads s provider.now report.now content (Failing failing) out) }
 {
     let pass = failing.as_slice().is_empty();
@@ -75,7 +76,8 @@ fn tell_compared<S: Alter>(
 ) -> Result<Answer, StoreFault>
     ensures answers { PerformsWhere S.Store conn.old conn.new result (λ s. HasPacticipant s provider.now)
         (λ s out. Leads s provider.now report.now content told out) }
-    ensures calm { FailsToChangeFrom S.Store conn.old conn.new result (CanLead provider.now content told)
+    ensures calm { FailsToChangeFrom S.Store conn.old conn.new result
+        (AreLong provider.now report.now) (CanLead provider.now content told)
         (λ s out. Leads s provider.now report.now content told out) }
 {
     match told {
@@ -97,7 +99,8 @@ fn check_content<S: Alter>(
 ) -> Result<Answer, StoreFault>
     ensures answers { PerformsWhere S.Store conn.old conn.new result (λ s. HasPacticipant s provider.now)
         (λ s out. Checks s provider.now report.now content replies.now out) }
-    ensures calm { FailsToChangeFrom S.Store conn.old conn.new result (CanCheck provider.now content)
+    ensures calm { FailsToChangeFrom S.Store conn.old conn.new result
+        (AreLong provider.now report.now) (CanCheck provider.now content)
         (λ s out. Checks s provider.now report.now content replies.now out) }
 {
     let text = done!(read_text(conn, content));
@@ -119,8 +122,8 @@ fn check_replies<S: Alter>(
     ensures answers { (body : List ℕ) → RepliesRead body (Ok replies.now)
         → Performs S.Store conn.old conn.new result (CallersStep caller.now (PostReplies path.now report.now body)) }
     ensures calm { (body : List ℕ) → RepliesRead body (Ok replies.now)
-        → FailsToChangeFrom S.Store conn.old conn.new result (HasSoundContents broker_primitives)
-        (IsStepOf caller.now (PostReplies path.now report.now body)) }
+        → FailsToDoFrom S.Store conn.old conn.new result (HasSoundContents broker_primitives) caller.now
+        (PostReplies path.now report.now body) }
 {
     match done!(read_contract_to_verify(alloc, conn, caller, path)) {
         Ok(content) => check_content(alloc, conn, &path.provider, report, content, replies),
@@ -139,8 +142,8 @@ pub fn post_replies<S: Alter>(
 ) -> Result<Answer, StoreFault>
     ensures answers { Performs S.Store conn.old conn.new result
         (CallersStep caller.now (PostReplies path.now report.now body.now)) }
-    ensures calm { FailsToChangeFrom S.Store conn.old conn.new result (HasSoundContents broker_primitives)
-        (IsStepOf caller.now (PostReplies path.now report.now body.now)) }
+    ensures calm { FailsToDoFrom S.Store conn.old conn.new result (HasSoundContents broker_primitives) caller.now
+        (PostReplies path.now report.now body.now) }
 {
     match read_replies_body(alloc, body.as_slice()) {
         Ok(replies) => check_replies(alloc, conn, caller, path, report, &replies),

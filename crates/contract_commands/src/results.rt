@@ -9,9 +9,9 @@ ghost use Rattle.broker_tables.specs.Holds.{AnswersTaking};
 ghost use Rattle.broker_tables.specs.Calm.{CalmQueriesInPlace, FailsFrom};
 ghost use Rattle.broker_tables.specs.Refusals.{IsCalmTaking};
 ghost use Rattle.contract_tables.specs.Verified.{told_of};
-ghost use Rattle.command_facts.specs.Performs.{Performs, PerformsWhere, FailsToChange, FailsToChangeFrom, IsStepOf};
+ghost use Rattle.command_facts.specs.Performs.{Performs, PerformsWhere, FailsToChangeFrom, FailsToDo, IsStepOf};
 ghost use Rattle.contract_commands.specs.Pacts.{HasContent};
-ghost use Rattle.contract_commands.specs.Results.{HasPacticipant, CanReceive, IsToReport, told_as, Receives, Claims, told_row, TellsSame, TellsAgain, IsUnused, CanReport, CanRecordReport, AllowsReport, RecordsReport};
+ghost use Rattle.contract_commands.specs.Results.{names_of, AreLong, HasPacticipant, CanReceive, IsToReport, told_as, Receives, Claims, told_row, TellsSame, TellsAgain, IsUnused, CanReport, CanRecordReport, AllowsReport, RecordsReport};
 
 use crate::numbers::{VersionNumber, name_version, next_result, number_version};
 use crate::sides::read_contract_to_verify;
@@ -114,7 +114,7 @@ fn record_report<S: Alter>(
 ) -> Result<(), StoreFault>
     ensures answers { AnswersTaking S.Store conn.old conn.new 4 result
         (CanRecordReport provider.now report.now version next) (λ _. RecordsReport provider.now report.now found) }
-    ensures calm { IsCalmTaking S.Store conn.old conn.new 3 result
+    ensures calm { IsCalmTaking S.Store conn.old conn.new 3 result (names_of provider.now report.now)
         (AllowsReport provider.now report.now found version next) }
 {
     let number = done!(name_version(conn, provider, &report.provider_version, version));
@@ -140,7 +140,7 @@ fn receive_numbered<S: Alter>(
 ) -> Result<Reported, StoreFault>
     ensures answers { AnswersTaking S.Store conn.old conn.new 4 result
         (CanReport provider.now report.now version) (Receives provider.now report.now found) }
-    ensures calm { FailsFrom S.Store conn.old conn.new result
+    ensures calm { FailsFrom S.Store conn.old conn.new result (AreLong provider.now report.now)
         (λ s. CanReport provider.now report.now version s × HasContent s found.content)
         (IsToReport provider.now report.now found) }
 {
@@ -163,7 +163,7 @@ fn receive_new<S: Alter>(
 ) -> Result<Reported, StoreFault>
     ensures answers { AnswersTaking S.Store conn.old conn.new 4 result
         (λ s. IsUnused s provider.now report.now number) (Receives provider.now report.now found) }
-    ensures calm { FailsFrom S.Store conn.old conn.new result
+    ensures calm { FailsFrom S.Store conn.old conn.new result (AreLong provider.now report.now)
         (λ s. IsUnused s provider.now report.now number × HasContent s found.content)
         (IsToReport provider.now report.now found) }
 {
@@ -182,7 +182,7 @@ pub(crate) fn receive<S: Alter>(
 ) -> Result<Reported, StoreFault>
     ensures answers { AnswersTaking S.Store conn.old conn.new 4 result
         (λ s. HasPacticipant s provider.now) (Receives provider.now report.now found) }
-    ensures calm { FailsFrom S.Store conn.old conn.new result
+    ensures calm { FailsFrom S.Store conn.old conn.new result (AreLong provider.now report.now)
         (CanReceive provider.now found.content) (IsToReport provider.now report.now found) }
 {
     let number = done!(version_of(conn, provider.as_str(), report.provider_version.as_str()));
@@ -214,7 +214,8 @@ fn claim<S: Alter>(
 ) -> Result<Answer, StoreFault>
     ensures answers { PerformsWhere S.Store conn.old conn.new result (λ s. HasPacticipant s provider.now)
         (Claims provider.now report.now content success) }
-    ensures calm { FailsToChangeFrom S.Store conn.old conn.new result (CanReceive provider.now content)
+    ensures calm { FailsToChangeFrom S.Store conn.old conn.new result
+        (AreLong provider.now report.now) (CanReceive provider.now content)
         (Claims provider.now report.now content success) }
 {
     let found = Finding {
@@ -237,8 +238,7 @@ pub fn post_result<S: Alter>(
 ) -> Result<Answer, StoreFault>
     ensures answers { Performs S.Store conn.old conn.new result
         (IsStepOf caller.now (PostResult path.now report.now success)) }
-    ensures calm { FailsToChange S.Store conn.old conn.new result
-        (IsStepOf caller.now (PostResult path.now report.now success)) }
+    ensures calm { FailsToDo S.Store conn.old conn.new result caller.now (PostResult path.now report.now success) }
 {
     match done!(read_contract_to_verify(alloc, conn, caller, path)) {
         Ok(content) => claim(conn, &path.provider, report, content, success),

@@ -1,15 +1,9 @@
 -- Why a command fails whose call comes after a query.
-use Rattle.std.proofs.Common.{Ok, Result}
-use Rattle.std.specs.Prelude.{⊤}
+use Rattle.std.{specs.Prelude.{⊤}, proofs.Common.{Ok, Result}}
 use Rattle.sqlite.specs.State.{State}
-use Rattle.table_access.specs.declared.StoreFault.{StoreFault}
-use Rattle.table_access.specs.Calls.{CallsTablesBetween}
-use Rattle.broker_core.specs.State.{State as Broker}
-use Rattle.broker_core.specs.Change.{Transition}
-use Rattle.broker_core.specs.declared.answer.Answer.{Answer}
-use Rattle.broker_tables.specs.Holds.{QueriesBetween}
-use Rattle.broker_tables.specs.Calm.{FailsFromBetween, FailsOnlyBy, HasFailedOrMemory}
-use Rattle.broker_tables.proofs.FailLemmas.{calm_after, fails_after}
+use Rattle.table_access.specs.{declared.StoreFault.{StoreFault}, Calls.{CallsTablesBetween}}
+use Rattle.broker_core.specs.{State.{State as Broker}, Change.{Transition}, declared.answer.Answer.{Answer}}
+use Rattle.broker_tables.{specs.{Holds.{QueriesBetween}, Calm.{FailsFromBetween, FailsOnlyBy, HasFailedOrMemory}}, proofs.FailLemmas.{calm_after, fails_after}}
 use Rattle.command_facts.specs.Performs.{IsToChange}
 
 module _ {A : Type 0} (old mid new : State) (a : A) (r : Result Answer StoreFault) (P : A → Broker → Type 0) (Q : Answer → Type 0) (one : QueriesBetween old mid (Ok a) P) (two : CallsTablesBetween mid new r Q) where
@@ -17,8 +11,9 @@ module _ {A : Type 0} (old mid new : State) (a : A) (r : Result Answer StoreFaul
   pub calm_next : FailsOnlyBy mid new r (HasFailedOrMemory mid new) → FailsOnlyBy old new r (HasFailedOrMemory old new)
   calm_next why clean s here = calm_after old mid new a r P Q (λ s. ⊤) (λ s. ⊤) (λ s held free told. tt) one two (λ clean s here free. why clean s here) clean s here tt
 
+module _ {A : Type 0} (TooBig : Type 0) (old mid new : State) (a : A) (r : Result Answer StoreFault) (P : A → Broker → Type 0) (Q : Answer → Type 0) (one : QueriesBetween old mid (Ok a) P) (two : CallsTablesBetween mid new r Q) where
   -- a command that the state allows, as the query tells
   pub fails_next : (First Then : Broker → Type 0) (Made Changes : Broker → Transition → Type 0) → ((s : Broker) → First s → P a s → Then s × ((out : Transition) → Made s out → Changes s out))
-      → FailsFromBetween mid new r Then (IsToChange Made) → FailsFromBetween old new r First (IsToChange Changes)
+      → FailsFromBetween mid new r TooBig Then (IsToChange Made) → FailsFromBetween old new r TooBig First (IsToChange Changes)
   fails_next First Then Made Changes more =
-      fails_after old mid new a r P Q First Then (IsToChange Changes) (IsToChange Made) (λ s held may told. let go = more s may told in (go.0, λ made. (made.0, made.1, go.1 _ made.2))) one two
+      fails_after TooBig old mid new a r P Q First Then (IsToChange Changes) (IsToChange Made) (λ s held may told. let go = more s may told in (go.0, λ made. (made.0, made.1, go.1 _ made.2))) one two

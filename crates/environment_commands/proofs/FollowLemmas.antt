@@ -1,21 +1,12 @@
 -- What a listing leads to, from what was read.
-use Rattle.std.proofs.Common.{◌≡◌, List, true, refl, sym, subst, ap}
-use Rattle.std.specs.Prelude.{Option, Some, None, MatchOption, IsTrue, is_some}
-use Rattle.broker_core.specs.Text.{Text}
-use Rattle.broker_core.specs.State.{State}
-use Rattle.broker_core.specs.Listing.{Lists}
-use Rattle.broker_core.specs.Request.{refused, unless}
-use Rattle.broker_core.specs.Change.{unchanged_with}
-use Rattle.broker_core.specs.Machine.{TakesEffect, StepOfCaller, deployed_cmp, version_cmp}
-use Rattle.broker_core.specs.declared.answer.Answer.TheVariants.{Shown}
-use Rattle.broker_core.specs.declared.answer.DeployedItem.{DeployedItem}
+use Rattle.std.{specs.Prelude.{Option, Some, None, MatchOption, IsTrue, is_some}, proofs.Common.{◌≡◌, List, true, refl, sym, subst, ap}}
+use Rattle.broker_core.specs.{Text.{Text}, State.{State}, Listing.{Lists}, Request.{refused, unless}, Change.{unchanged_with}}
+use Rattle.broker_core.specs.{Machine.{TakesEffect, StepOfCaller, deployed_cmp, version_cmp}, declared.answer.Answer.TheVariants.{Shown}}
+use Rattle.broker_core.specs.{declared.answer.DeployedItem.{DeployedItem}, declared.command.Command.TheVariants.{GetEnvironment}}
+use Rattle.broker_core.specs.{declared.command.Marks.{Marks}, declared.command.Version.{Version}, declared.policy.Caller.{Caller}}
+use Rattle.command_facts.specs.Primitives.{broker_primitives}
 use Rattle.broker_core.specs.declared.answer.Missing.TheVariants as missing
 use Rattle.broker_core.specs.declared.answer.Shown.TheVariants as shown
-use Rattle.broker_core.specs.declared.command.Command.TheVariants.{GetEnvironment}
-use Rattle.broker_core.specs.declared.command.Marks.{Marks}
-use Rattle.broker_core.specs.declared.command.Version.{Version}
-use Rattle.broker_core.specs.declared.policy.Caller.{Caller}
-use Rattle.command_facts.specs.Primitives.{broker_primitives}
 
 -- an environment that is there is shown with its two lists
 pub is_listed : (s : State) (caller : Caller) (e name : Text) (marks : Marks) (items : List DeployedItem) (versions : List Version) → s.environments e ≡ Some marks → name ≡ e

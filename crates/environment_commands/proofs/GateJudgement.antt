@@ -1,15 +1,8 @@
 -- The judgement of an environment with these marks, from all faults of a version there.
-use Rattle.std.proofs.Common.{◌≡◌, ◌==◌, ◌∷◌, [], List, Bool, true, false, ◌||◌, not, length, refl, subst, ap, arith}
-use Rattle.std.proofs.lemmas.Bool.{eqb-true}
-use Rattle.std.specs.Prelude.{Option, Some}
-use Rattle.std.specs.Option.{option_map_or}
-use Rattle.broker_core.specs.State.{State, is_gated, is_strict}
-use Rattle.broker_core.specs.Text.{Text}
-use Rattle.broker_core.specs.Gate.{Judges}
-use Rattle.broker_core.specs.declared.command.Marks.{Marks}
-use Rattle.broker_core.specs.declared.command.Version.{Version}
-use Rattle.broker_core.specs.declared.need.PairFault.{PairFault}
-use Rattle.broker_core.proofs.GateLemmas.{judged_by_faults}
+use Rattle.std.specs.{Prelude.{Option, Some}, Option.{option_map_or}}
+use Rattle.std.proofs.{Common.{◌≡◌, ◌==◌, ◌∷◌, [], List, Bool, true, false, ◌||◌, not, length, refl, subst, ap, arith}, lemmas.Bool.{eqb-true}}
+use Rattle.broker_core.specs.{State.{State, is_gated, is_strict}, Text.{Text}, Gate.{Judges}, declared.command.Marks.{Marks}}
+use Rattle.broker_core.{specs.{declared.command.Version.{Version}, declared.need.PairFault.{PairFault}}, proofs.GateLemmas.{judged_by_faults}}
 use Rattle.broker_core.proofs.Judgement.{is_none_left}
 use Rattle.deploy_tables.specs.Needs.{AreFaults}
 

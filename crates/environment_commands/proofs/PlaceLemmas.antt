@@ -1,38 +1,20 @@
 -- What refuses a command on a version and an environment, from what was read.
-use Rattle.std.proofs.Common.{◌≡◌, inl, inr, Bool, true, false, ◌∷◌, [], refl, ap, ◌∙◌}
 use Rattle.std.specs.Prelude.{⊤, Option, Some, None, Result, Ok, Err, is_some, filter_map}
+use Rattle.std.proofs.Common.{◌≡◌, inl, inr, Bool, true, false, ◌∷◌, [], refl, ap, ◌∙◌}
 use Rattle.sqlite.specs.State.{State as View}
-use Rattle.table_access.specs.declared.StoreFault.{StoreFault}
-use Rattle.table_access.specs.Calls.{CallsTablesBetween}
-use Rattle.broker_core.specs.Text.{Text}
-use Rattle.broker_core.specs.State.{State}
-use Rattle.broker_core.specs.Policy.{allows}
-use Rattle.broker_core.specs.Change.{Transition}
-use Rattle.broker_core.specs.Machine.{FindsFault}
-use Rattle.broker_core.specs.Request.{refusal, refused, rule_of, unless, unless_environment, unless_version, has_grant}
-use Rattle.broker_core.specs.declared.answer.Answer.{Answer}
-use Rattle.broker_core.specs.declared.answer.Answer.TheVariants.{Denied}
-use Rattle.broker_core.specs.declared.answer.Missing.{Missing}
-use Rattle.broker_core.specs.declared.answer.Missing.TheVariants as missing
-use Rattle.broker_core.specs.declared.command.Command.{Command}
-use Rattle.broker_core.specs.declared.command.Command.TheVariants.{Deploy, Undeploy, Release, EndSupport}
-use Rattle.broker_core.specs.declared.command.Marks.{Marks}
-use Rattle.broker_core.specs.declared.command.Version.{Version}
-use Rattle.broker_core.specs.declared.policy.Caller.{Caller}
-use Rattle.broker_core.specs.declared.policy.Rule.{Rule}
+use Rattle.table_access.specs.{declared.StoreFault.{StoreFault}, Calls.{CallsTablesBetween}}
+use Rattle.broker_core.specs.{Text.{Text}, State.{State}, Policy.{allows}, Change.{Transition}, Machine.{FindsFault}}
+use Rattle.broker_core.specs.{Request.{refusal, refused, rule_of, unless, unless_environment, unless_version, has_grant}, declared.answer.Answer.{Answer}}
+use Rattle.broker_core.specs.{declared.answer.Answer.TheVariants.{Denied}, declared.answer.Missing.{Missing}, declared.command.Command.{Command}}
+use Rattle.broker_core.specs.{declared.command.Command.TheVariants.{Deploy, Undeploy, Release, EndSupport}, declared.command.Marks.{Marks}}
+use Rattle.broker_core.specs.{declared.command.Version.{Version}, declared.policy.Caller.{Caller}, declared.policy.Rule.{Rule}}
 use Rattle.broker_core.specs.declared.policy.Rule.TheVariants.{A7}
-use Rattle.broker_tables.specs.Holds.{QueriesBetween}
-use Rattle.broker_tables.specs.Calm.{FailsFromBetween}
-use Rattle.command_facts.specs.Owners.{owners_of}
-use Rattle.command_facts.specs.Performs.{PerformsBetween, PerformsWhereBetween, FailsToChangeBetween, IsToChange, IsStepOf}
-use Rattle.command_facts.specs.Primitives.{broker_primitives}
-use Rattle.command_facts.proofs.CallerSteps.{refuses, acts}
-use Rattle.command_facts.proofs.PerformLemmas.{answered_then, performs_where}
-use Rattle.environment_commands.specs.Effects.{Enacts}
-use Rattle.environment_commands.specs.Places.{IsVersionRead, HasPlace, IsAdmitted, IsAdmission, ChangesPlace}
-use Rattle.environment_commands.specs.declared.places.Admitted.{Admitted}
-use Rattle.environment_commands.specs.declared.places.VersionFacts.{VersionFacts}
-use Rattle.environment_commands.proofs.FailLemmas.{fails_next}
+use Rattle.broker_tables.specs.{Holds.{QueriesBetween}, Calm.{FailsFromBetween}}
+use Rattle.command_facts.specs.{Owners.{owners_of}, Performs.{PerformsBetween, PerformsWhereBetween, FailsToChangeBetween, IsToChange, IsStepOf, IsMisnamed}}
+use Rattle.command_facts.{specs.Primitives.{broker_primitives}, proofs.{CallerSteps.{refuses, acts}, PerformLemmas.{answered_then, performs_where}}}
+use Rattle.environment_commands.specs.{Effects.{Enacts}, Places.{IsVersionRead, HasPlace, IsAdmitted, IsAdmission, ChangesPlace}}
+use Rattle.environment_commands.{specs.{declared.places.Admitted.{Admitted}, declared.places.VersionFacts.{VersionFacts}}, proofs.FailLemmas.{fails_next}}
+use Rattle.broker_core.specs.declared.answer.Missing.TheVariants as missing
 
 -- the owner of one pacticipant, as the policy asks for it
 owner_listed : (rule : Rule) (caller : Caller) (p : Text) (granted : Bool) (o : Option Text) → allows rule caller (filter_map (λ (q : Text). o) (p ∷ [])) granted ≡ allows rule caller (owners_of o) granted
@@ -85,7 +67,7 @@ module _ (old mid : View) (caller : Caller) (e : Text) (v : Version) (command : 
 
   -- it is admitted, and it fails as what is done then
   pub admitted_fails : (new : View) (place : Admitted) (r : Result Answer StoreFault) (Q : Answer → Type 0)
-      → QueriesBetween old mid (Ok (Ok place)) (IsAdmission caller e v) → CallsTablesBetween mid new r Q → FailsFromBetween mid new r (IsAdmitted e v place) (IsToChange (Enacts command)) → FailsToChangeBetween old new (IsStepOf caller command) r
+      → QueriesBetween old mid (Ok (Ok place)) (IsAdmission caller e v) → CallsTablesBetween mid new r Q → FailsFromBetween mid new r (IsMisnamed command) (IsAdmitted e v place) (IsToChange (Enacts command)) → FailsToChangeBetween old new (IsMisnamed command) (IsStepOf caller command) r
   admitted_fails new place r Q one two =
-      fails_next old mid new (Ok place) r (IsAdmission caller e v) Q one two (λ s. ⊤) (IsAdmitted e v place) (Enacts command) (IsStepOf caller command)
+      fails_next (IsMisnamed command) old mid new (Ok place) r (IsAdmission caller e v) Q one two (λ s. ⊤) (IsAdmitted e v place) (Enacts command) (IsStepOf caller command)
       (λ s all h. (h.0, λ out enacts. acts s caller command form out (h.1 command change) enacts))

@@ -1,6 +1,6 @@
 -- what the commands on a version read of a state first, and how that refuses them, for the clauses of private
 -- functions: no public clause cites it
-use Rattle.std.specs.Prelude.{◌≡◌, ◌⊎◌, ℕ, Option, Some, None, Bool, false, is_some, Result, Ok, Err}
+use Rattle.std.specs.Prelude.{◌≡◌, ◌⊎◌, [], ◌∷◌, ℕ, Option, Some, None, Bool, false, is_some, Result, Ok, Err}
 use Rattle.broker_core.specs.Text.{Text}
 use Rattle.broker_core.specs.State.{State as Broker}
 use Rattle.broker_core.specs.Request.{has_grant, is_known, refusal, unless_version}
@@ -14,6 +14,7 @@ use Rattle.broker_core.specs.declared.policy.Caller.{Caller}
 use Rattle.broker_core.specs.declared.policy.Rule.{Rule}
 use Rattle.broker_core.specs.declared.policy.Rule.TheVariants.{A6, A7}
 use Rattle.broker_tables.specs.Numbers.{number_of}
+use Rattle.broker_tables.specs.Refusals.{AreShort}
 use Rattle.command_facts.specs.Owners.{IsOwnerRead}
 use Rattle.deploy_tables.specs.Deployments.{IsEnvironment}
 use Rattle.environment_commands.specs.declared.places.Admitted.{Admitted}
@@ -40,6 +41,10 @@ HasNumber v number s = number_of s.versions v ≡ Some number
 -- the environment is there, and the version has this number
 abbrev pub HasPlace : Text → Version → ℕ → Broker → Type 0
 HasPlace e v number s = IsEnvironment e s × HasNumber v number s
+
+-- a name of it is too long to be stored
+abbrev pub IsLongPlace : Text → Version → Text → Type 0
+IsLongPlace e v instance = ¬ AreShort (e ∷ v.pacticipant ∷ instance ∷ [])
 
 -- the environment is there with these marks, and the version with this number
 abbrev pub IsAdmitted : Text → Version → Admitted → Broker → Type 0

@@ -2,9 +2,9 @@
 ghost use Rattle.std.specs.Prelude.{◌≡◌};
 ghost use Rattle.broker_core.specs.Change.{deploy as deployment};
 ghost use Rattle.broker_core.specs.declared.command.Command.TheVariants.{Deploy};
-ghost use Rattle.command_facts.specs.Performs.{Performs, PerformsWhere, FailsToChange, FailsToChangeFrom, IsStepOf};
-ghost use Rattle.environment_commands.specs.Effects.{Enacts};
-ghost use Rattle.environment_commands.specs.Places.{HasNumber, HasPlace, IsAdmitted};
+ghost use Rattle.command_facts.specs.Performs.{Performs, PerformsWhere, FailsToChangeFrom, FailsToDo, IsStepOf};
+ghost use Rattle.environment_commands.specs.Effects.{Enacts, FailsToEnact};
+ghost use Rattle.environment_commands.specs.Places.{HasNumber, HasPlace, IsLongPlace, IsAdmitted};
 
 use crate::gate::judge;
 use crate::places::{Admitted, instance_text, read_admitted};
@@ -27,7 +27,8 @@ fn record_deployment<S: Alter>(
 ) -> Result<Answer, StoreFault>
     ensures answers { PerformsWhere S.Store conn.old conn.new result
         (HasNumber version.now number) (λ s out. out ≡ deployment s environment.now version.now instance.now) }
-    ensures calm { FailsToChangeFrom S.Store conn.old conn.new result (HasPlace environment.now version.now number)
+    ensures calm { FailsToChangeFrom S.Store conn.old conn.new result
+        (IsLongPlace environment.now version.now instance.now) (HasPlace environment.now version.now number)
         (λ s out. out ≡ deployment s environment.now version.now instance.now) }
 {
     if done!(is_deployed(
@@ -61,9 +62,8 @@ fn deploy_judged<S: Alter>(
     ensures answers { PerformsWhere S.Store conn.old conn.new result
         (IsAdmitted environment.now version.now place)
         (Enacts (Deploy environment.now version.now instance.now)) }
-    ensures calm { FailsToChangeFrom S.Store conn.old conn.new result
-        (IsAdmitted environment.now version.now place)
-        (Enacts (Deploy environment.now version.now instance.now)) }
+    ensures calm { FailsToEnact S.Store conn.old conn.new result (IsAdmitted environment.now version.now place)
+        (Deploy environment.now version.now instance.now) }
 {
     let (permitted, faults) = done!(judge(alloc, conn, environment, version, place));
     if permitted {
@@ -90,8 +90,8 @@ pub fn deploy<S: Alter>(
 ) -> Result<Answer, StoreFault>
     ensures answers { Performs S.Store conn.old conn.new result
         (IsStepOf caller.now (Deploy environment.now version.now instance.now)) }
-    ensures calm { FailsToChange S.Store conn.old conn.new result
-        (IsStepOf caller.now (Deploy environment.now version.now instance.now)) }
+    ensures calm { FailsToDo S.Store conn.old conn.new result caller.now
+        (Deploy environment.now version.now instance.now) }
 {
     match done!(read_admitted(alloc, conn, caller, environment, version)) {
         Ok(place) => deploy_judged(alloc, conn, environment, version, instance, place),

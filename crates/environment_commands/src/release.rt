@@ -1,9 +1,10 @@
 //! Release of a version.
-ghost use Rattle.std.specs.Prelude.{◌≡◌};
+ghost use Rattle.std.specs.Prelude.{◌≡◌, [], ◌∷◌};
 ghost use Rattle.broker_core.specs.Change.{release as released};
 ghost use Rattle.broker_core.specs.declared.command.Command.TheVariants.{Release};
-ghost use Rattle.command_facts.specs.Performs.{Performs, PerformsWhere, FailsToChange, FailsToChangeFrom, IsStepOf};
-ghost use Rattle.environment_commands.specs.Effects.{Enacts};
+ghost use Rattle.broker_tables.specs.Refusals.{AreShort};
+ghost use Rattle.command_facts.specs.Performs.{Performs, PerformsWhere, FailsToChangeFrom, FailsToDo, IsStepOf};
+ghost use Rattle.environment_commands.specs.Effects.{Enacts, FailsToEnact};
 ghost use Rattle.environment_commands.specs.Places.{HasNumber, HasPlace, IsAdmitted};
 
 use crate::gate::judge;
@@ -26,7 +27,8 @@ fn record_release<S: Alter>(
 ) -> Result<Answer, StoreFault>
     ensures answers { PerformsWhere S.Store conn.old conn.new result
         (HasNumber version.now number) (λ s out. out ≡ released s environment.now version.now) }
-    ensures calm { FailsToChangeFrom S.Store conn.old conn.new result (HasPlace environment.now version.now number)
+    ensures calm { FailsToChangeFrom S.Store conn.old conn.new result (¬ AreShort (environment.now ∷ []))
+        (HasPlace environment.now version.now number)
         (λ s out. out ≡ released s environment.now version.now) }
 {
     if done!(is_released(conn, environment.as_str(), number)) {
@@ -47,9 +49,8 @@ fn release_judged<S: Alter>(
     ensures answers { PerformsWhere S.Store conn.old conn.new result
         (IsAdmitted environment.now version.now place)
         (Enacts (Release environment.now version.now)) }
-    ensures calm { FailsToChangeFrom S.Store conn.old conn.new result
-        (IsAdmitted environment.now version.now place)
-        (Enacts (Release environment.now version.now)) }
+    ensures calm { FailsToEnact S.Store conn.old conn.new result (IsAdmitted environment.now version.now place)
+        (Release environment.now version.now) }
 {
     let (permitted, faults) = done!(judge(alloc, conn, environment, version, place));
     if permitted {
@@ -69,8 +70,7 @@ pub fn release<S: Alter>(
 ) -> Result<Answer, StoreFault>
     ensures answers { Performs S.Store conn.old conn.new result
         (IsStepOf caller.now (Release environment.now version.now)) }
-    ensures calm { FailsToChange S.Store conn.old conn.new result
-        (IsStepOf caller.now (Release environment.now version.now)) }
+    ensures calm { FailsToDo S.Store conn.old conn.new result caller.now (Release environment.now version.now) }
 {
     match done!(read_admitted(alloc, conn, caller, environment, version)) {
         Ok(place) => release_judged(alloc, conn, environment, version, place),

@@ -1,6 +1,6 @@
 -- what the registry's commands read of a state and decide of it, for the clauses of private functions: no public clause
 -- cites it
-use Rattle.std.specs.Prelude.{◌≡◌, ℕ, Option, Some, None, is_some, false, true, IsTrue, length, option_map, string_bytes}
+use Rattle.std.specs.Prelude.{◌≡◌, ℕ, List, [], ◌∷◌, unwrap_or, Option, Some, None, is_some, false, true, IsTrue, length, option_map, string_bytes}
 use Rattle.broker_core.specs.Text.{Text, put_at, same_text, same_pair}
 use Rattle.broker_core.specs.State.{State as Broker}
 use Rattle.broker_core.specs.Machine.{IsCallerOfDigest, StepOfCaller, fault_of_marks}
@@ -169,6 +169,10 @@ NamesOrJoins found =
     (s : Broker) (caller : Caller) (v : Version) (branch : Option Text) → IsNamingRead s caller v branch found
     → CanJoin s v branch found.version.number found.versions.count
     × StepOfCaller broker_primitives s caller (PutVersion v branch) (done (joined (named s v) v branch))
+
+-- the texts that are stored of a version and its branch
+abbrev pub texts_of : Version → Option Text → List Text
+texts_of v branch = v.pacticipant ∷ v.name ∷ unwrap_or branch [] ∷ []
 
 -- the version is named, has this number, and is not on the branch
 abbrev pub IsNamedApart : Version → Option Text → ℕ → Broker → Broker → Type 0

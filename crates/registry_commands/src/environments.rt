@@ -2,7 +2,7 @@
 ghost use Rattle.std.specs.Prelude.{◌≡◌, None, IfOk, IfErr, IfSome, IfNone};
 ghost use Rattle.broker_core.specs.Machine.{fault_of_marks};
 ghost use Rattle.broker_core.specs.declared.command.Command.TheVariants.{PutEnvironment};
-ghost use Rattle.command_facts.specs.Performs.{Performs, FailsToChange, IsStepOf};
+ghost use Rattle.command_facts.specs.Performs.{Performs, FailsToDo, IsStepOf};
 ghost use Rattle.registry_commands.specs.Facts.{RefusesMarks, AnswersPutEnvironment, AddsNewEnvironment};
 
 use broker_core::answer::{Answer, Clash, Detail};
@@ -64,8 +64,7 @@ fn put_marks<S: Alter>(
     requires { fault_of_marks marks ≡ None }
     ensures answers { Performs S.Store conn.old conn.new result
         (IsStepOf caller.now (PutEnvironment environment.now marks)) }
-    ensures calm { FailsToChange S.Store conn.old conn.new result
-        (IsStepOf caller.now (PutEnvironment environment.now marks)) }
+    ensures calm { FailsToDo S.Store conn.old conn.new result caller.now (PutEnvironment environment.now marks) }
 {
     let old = done!(marks_of(conn, environment.as_str()));
     match decide_put_environment(alloc, caller, old, marks) {
@@ -91,8 +90,7 @@ pub fn put_environment<S: Alter>(
 ) -> Result<Answer, StoreFault>
     ensures answers { Performs S.Store conn.old conn.new result
         (IsStepOf caller.now (PutEnvironment environment.now marks)) }
-    ensures calm { FailsToChange S.Store conn.old conn.new result
-        (IsStepOf caller.now (PutEnvironment environment.now marks)) }
+    ensures calm { FailsToDo S.Store conn.old conn.new result caller.now (PutEnvironment environment.now marks) }
 {
     match done!(form_of_marks(alloc, marks)) {
         Some(answer) => Ok(answer),

@@ -2,7 +2,7 @@
 ghost use Rattle.std.specs.Prelude.{IfSome, IfNone};
 ghost use Rattle.broker_core.specs.declared.command.Command.TheVariants.{PutGrant, DeleteGrant};
 ghost use Rattle.broker_tables.specs.Calm.{CalmQueriesInPlace, IsCalm};
-ghost use Rattle.command_facts.specs.Performs.{Performs, FailsToChange, IsStepOf};
+ghost use Rattle.command_facts.specs.Performs.{Performs, FailsToDo, IsStepOf};
 ghost use Rattle.registry_commands.specs.Facts.{IsGrantRead, AnswersPutGrant, AddsNewGrant, AnswersDeleteGrant, TakesGrant};
 
 use broker_core::answer::{Answer, Detail, Missing};
@@ -98,8 +98,7 @@ pub fn put_grant<S: Alter>(
 ) -> Result<Answer, StoreFault>
     ensures answers { Performs S.Store conn.old conn.new result
         (IsStepOf caller.now (PutGrant team.now environment.now)) }
-    ensures calm { FailsToChange S.Store conn.old conn.new result
-        (IsStepOf caller.now (PutGrant team.now environment.now)) }
+    ensures calm { FailsToDo S.Store conn.old conn.new result caller.now (PutGrant team.now environment.now) }
 {
     let facts = done!(read_grant_facts(conn, team, environment));
     match decide_put_grant(alloc, caller, facts) {

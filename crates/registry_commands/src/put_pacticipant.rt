@@ -2,7 +2,7 @@
 
 ghost use Rattle.std.specs.Prelude.{IfSome, IfNone};
 ghost use Rattle.broker_tables.specs.Calm.{CalmQueries};
-ghost use Rattle.command_facts.specs.Performs.{Performs, FailsToChange, IsStepOf};
+ghost use Rattle.command_facts.specs.Performs.{Performs, FailsToDo, IsStepOf};
 ghost use Rattle.registry_commands.specs.Facts.{IsPacticipantRead, AnswersPutPacticipant, AddsNewPacticipant};
 ghost use Rattle.broker_core.specs.declared.command.Command.TheVariants.{PutPacticipant};
 
@@ -78,8 +78,7 @@ pub fn put_pacticipant<S: Alter>(
 ) -> Result<Answer, StoreFault>
     ensures answers { Performs S.Store conn.old conn.new result
         (IsStepOf caller.now (PutPacticipant pacticipant.now team.now)) }
-    ensures calm { FailsToChange S.Store conn.old conn.new result
-        (IsStepOf caller.now (PutPacticipant pacticipant.now team.now)) }
+    ensures calm { FailsToDo S.Store conn.old conn.new result caller.now (PutPacticipant pacticipant.now team.now) }
 {
     let facts = done!(read_pacticipant_facts(conn, pacticipant, team));
     match decide_put_pacticipant(alloc, caller, &facts, team) {

@@ -1,10 +1,11 @@
 //! PUT of a team.
 
-ghost use Rattle.std.specs.Prelude.{◌≡◌, ℕ, List, Some, IfSome, IfNone};
+ghost use Rattle.std.specs.Prelude.{◌≡◌, ℕ, List, [], ◌∷◌, Some, IfSome, IfNone};
 ghost use Rattle.broker_core.specs.State.{State as BrokerState};
 ghost use Rattle.broker_core.specs.Machine.{IsCallerOfDigest};
 ghost use Rattle.broker_tables.specs.Calm.{CalmQueries};
-ghost use Rattle.command_facts.specs.Performs.{Performs, FailsToChange, IsStepOf};
+ghost use Rattle.broker_tables.specs.Refusals.{AreShort};
+ghost use Rattle.command_facts.specs.Performs.{Performs, FailsToChange, FailsToDo, IsStepOf};
 ghost use Rattle.registry_commands.specs.Facts.{IsTeamRead, PutsTeam, AnswersPutTeam, AddsNewTeam};
 ghost use Rattle.broker_core.specs.declared.command.Command.TheVariants.{PutTeam};
 
@@ -82,7 +83,7 @@ fn put_digest<S: Alter>(
 ) -> Result<Answer, StoreFault>
     ensures answers { Performs S.Store conn.old conn.new result
         (λ s out. PutsTeam s caller.now team.now digest.now out) }
-    ensures calm { FailsToChange S.Store conn.old conn.new result
+    ensures calm { FailsToChange S.Store conn.old conn.new result (¬ AreShort (team.now ∷ digest.now ∷ []))
         (λ s out. PutsTeam s caller.now team.now digest.now out) }
 {
     let facts = done!(read_team_facts(alloc, conn, team, digest));
@@ -108,8 +109,7 @@ pub fn put_team<S: Alter>(
     token: &Token,
 ) -> Result<Answer, StoreFault>
     ensures answers { Performs S.Store conn.old conn.new result (IsStepOf caller.now (PutTeam team.now token.now)) }
-    ensures calm { FailsToChange S.Store conn.old conn.new result
-        (IsStepOf caller.now (PutTeam team.now token.now)) }
+    ensures calm { FailsToDo S.Store conn.old conn.new result caller.now (PutTeam team.now token.now) }
 {
     let digest = done!(digest_of(alloc, token.as_str()));
     put_digest(alloc, conn, caller, team, digest.as_str())

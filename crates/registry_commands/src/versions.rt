@@ -1,15 +1,15 @@
 //! Naming of a version, and putting it on a branch.
-ghost use Rattle.std.specs.Prelude.{◌≡◌, ℕ, List, [], ◌∷◌, codes, Some, IfSome, IfNone, length};
+ghost use Rattle.std.specs.Prelude.{◌≡◌, ℕ, List, [], ◌∷◌, codes, Some, None, unwrap_or, IfSome, IfNone, length};
 ghost use Rattle.broker_core.specs.Change.{named, on_branch};
 ghost use Rattle.broker_core.specs.declared.command.Command.TheVariants.{PutVersion};
 ghost use Rattle.broker_core.specs.declared.command.Version.{Version as VersionModel};
 ghost use Rattle.broker_tables.specs.Calm.{CalmQueries, CalmQueriesInPlace};
 ghost use Rattle.broker_tables.specs.Holds.{Changes, ChangesTaking, ChangesAndAnswers};
-ghost use Rattle.broker_tables.specs.Refusals.{IsCalmIf, IsCalmChange, IsCalmTaking};
+ghost use Rattle.broker_tables.specs.Refusals.{IsCalmStoring, IsCalmChange, IsCalmTaking};
 ghost use Rattle.broker_tables.specs.Numbers.{number_of};
 ghost use Rattle.registry_tables.specs.Registry.{AllowsVersion, AddsVersion};
-ghost use Rattle.command_facts.specs.Performs.{Performs, FailsToChange, IsStepOf};
-ghost use Rattle.registry_commands.specs.Facts.{IsNumberRead, IsRoomRead, IsNamingRead, CanJoin, AnswersPutVersion, NamesOrJoins, IsNamedApart, JoinsBranch, RecordsVersion};
+ghost use Rattle.command_facts.specs.Performs.{Performs, FailsToDo, IsStepOf};
+ghost use Rattle.registry_commands.specs.Facts.{texts_of, IsNumberRead, IsRoomRead, IsNamingRead, CanJoin, AnswersPutVersion, NamesOrJoins, IsNamedApart, JoinsBranch, RecordsVersion};
 
 use broker_core::answer::{Answer, Detail, Missing};
 use broker_core::command::Version;
@@ -149,7 +149,7 @@ fn add_after<S: Alter>(
 ) -> Result<u32, StoreFault>
     ensures changes { ChangesAndAnswers S.Store conn.old conn.new result
         (λ s. AllowsVersion version.now s × (count ≡ length s.versions)) (AddsVersion version.now) }
-    ensures calm { IsCalmIf S.Store conn.old conn.new result []
+    ensures calm { IsCalmStoring S.Store conn.old conn.new result [] (texts_of version.now None)
         (λ s. AllowsVersion version.now s × (count ≡ length s.versions)) }
 {
     let Some(number) = next_number(count) else {
@@ -175,7 +175,7 @@ fn ensure_version<S: Alter>(
     ensures changes { ChangesAndAnswers S.Store conn.old conn.new result
         (λ s. CanJoin s version.now branch.now number count)
         (IsNamedApart version.now branch.now) }
-    ensures calm { IsCalmIf S.Store conn.old conn.new result []
+    ensures calm { IsCalmStoring S.Store conn.old conn.new result [] (texts_of version.now None)
         (λ s. CanJoin s version.now branch.now number count) }
 {
     match number {
@@ -191,7 +191,7 @@ fn put_on_branch<S: Alter>(
     branch: &Option<Name>,
 ) -> Result<(), StoreFault>
     ensures changes { Changes S.Store conn.old conn.new result (JoinsBranch number branch.now) }
-    ensures calm { IsCalmChange S.Store conn.old conn.new result (codes "branches" ∷ [])
+    ensures calm { IsCalmChange S.Store conn.old conn.new result (codes "branches" ∷ []) (unwrap_or branch.now [] ∷ [])
         (JoinsBranch number branch.now) }
 {
     match branch {
@@ -210,7 +210,7 @@ fn record_version<S: Alter>(
 ) -> Result<(), StoreFault>
     ensures changes { ChangesTaking S.Store conn.old conn.new 4 result
         (RecordsVersion version.now branch.now old_number count) }
-    ensures calm { IsCalmTaking S.Store conn.old conn.new 3 result
+    ensures calm { IsCalmTaking S.Store conn.old conn.new 3 result (texts_of version.now branch.now)
         (λ s. CanJoin s version.now branch.now old_number count) }
 {
     let number = done!(ensure_version(conn, version, branch, old_number, count));
@@ -231,8 +231,7 @@ pub fn put_version<S: Alter>(
 ) -> Result<Answer, StoreFault>
     ensures answers { Performs S.Store conn.old conn.new result
         (IsStepOf caller.now (PutVersion version.now branch.now)) }
-    ensures calm { FailsToChange S.Store conn.old conn.new result
-        (IsStepOf caller.now (PutVersion version.now branch.now)) }
+    ensures calm { FailsToDo S.Store conn.old conn.new result caller.now (PutVersion version.now branch.now) }
 {
     let facts = done!(read_naming_facts(alloc, conn, caller, version, branch));
     match decide_put_version(facts) {

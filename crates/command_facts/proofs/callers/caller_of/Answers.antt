@@ -1,7 +1,6 @@
 use Rattle.std.proofs.Common.{Option, List, ℕ, Bor, sym, subst, ◌∙◌, option_map}
 use Rattle.sqlite.specs.Held.{state}
-use Rattle.broker_core.specs.Machine.{IsCallerOfDigest, IsCallerOfToken}
-use Rattle.broker_core.specs.Text.{Text}
+use Rattle.broker_core.specs.{Machine.{IsCallerOfDigest, IsCallerOfToken}, Text.{Text}}
 use Rattle.broker_tables.proofs.QueryLemmas.{query_with}
 use Rattle.command_facts.specs.Primitives.{broker_primitives}
 use Rattle.command_facts.proofs.callers.caller_of.Goals as goal

@@ -1,7 +1,6 @@
 use Rattle.broker_core.specs.State.{opening}
 use Rattle.broker_tables.proofs.ReadableSteps.{readable_begins, readable_stays, readable_stays_in_runs}
-use Rattle.command_facts.specs.Primitives.{broker_primitives}
-use Rattle.command_facts.proofs.ReadableTexts.{keeps_utf8}
+use Rattle.command_facts.{specs.Primitives.{broker_primitives}, proofs.ReadableTexts.{keeps_utf8}}
 use Rattle.command_facts.proofs.laws.readable_stays.Goals as goal
 
 pub returns-clause-texts : goal.returns-clause-texts

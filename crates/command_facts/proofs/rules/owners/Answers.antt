@@ -1,6 +1,4 @@
-use Rattle.std.proofs.Common.{◌≡◌, ◌↔◌, Option, List, ℕ, sym, subst}
-use Rattle.std.specs.Prelude.{IsSomeAnd, String, string_bytes}
-use Rattle.std.specs.declared.alloc.Global.{Global}
+use Rattle.std.{specs.{Prelude.{IsSomeAnd, String, string_bytes}, declared.alloc.Global.{Global}}, proofs.Common.{◌≡◌, ◌↔◌, Option, List, ℕ, sym, subst}}
 use Rattle.table_access.specs.declared.StoreFault.TheVariants.{Store}
 use Rattle.broker_core.specs.Name.{IsName}
 use Rattle.command_facts.proofs.rules.owners.Goals as goal

@@ -1,12 +1,9 @@
+use Rattle.std.specs.{Prelude.{IsSomeAnd, String, string_bytes}, declared.alloc.Global.{Global}}
 use Rattle.std.proofs.Common.{◌≡◌, ◌↔◌, Option, Some, None, ◌∙◌, ap, inr, refl, sym, option_map}
-use Rattle.std.specs.Prelude.{IsSomeAnd, String, string_bytes}
-use Rattle.std.specs.declared.alloc.Global.{Global}
 use Rattle.sqlite.specs.Held.{state}
-use Rattle.table_access.specs.declared.StoreFault.{StoreFault}
+use Rattle.table_access.{specs.declared.StoreFault.{StoreFault}, proofs.CallLemmas.{then_stop}}
+use Rattle.broker_core.specs.{Name.{IsName}, Text.{Text}}
 use Rattle.table_access.specs.declared.StoreFault.TheVariants as faults
-use Rattle.table_access.proofs.CallLemmas.{then_stop}
-use Rattle.broker_core.specs.Name.{IsName}
-use Rattle.broker_core.specs.Text.{Text}
 use Rattle.command_facts.proofs.rules.read_owner.Goals as goal
 
 -- the owner of a pacticipant has a name, so that only memory is wanting

@@ -1,14 +1,10 @@
-use Rattle.std.proofs.Common.{◌≡◌, Ok, Some, None, refl, ap, ◌∙◌, subst}
-use Rattle.std.specs.Prelude.{ℕ, Option}
+use Rattle.std.{specs.Prelude.{ℕ, Option}, proofs.Common.{◌≡◌, Ok, Some, None, refl, ap, ◌∙◌, subst}}
 use Rattle.sqlite.specs.Held.{state}
 use Rattle.table_access.proofs.CallLemmas.{idle}
-use Rattle.broker_tables.specs.Holds.{QueriesBetween}
-use Rattle.contract_commands.specs.BranchPact.{IsNextBelow}
-use Rattle.contract_commands.specs.declared.branch_pact.BranchVersion.{BranchVersion}
-use Rattle.command_facts.proofs.CalmLemmas.{place_failed}
-use Rattle.broker_tables.proofs.QueryLemmas.{placed}
+use Rattle.broker_tables.{specs.Holds.{QueriesBetween}, proofs.QueryLemmas.{placed}}
+use Rattle.contract_commands.specs.{BranchPact.{IsNextBelow}, declared.branch_pact.BranchVersion.{BranchVersion}}
 use Rattle.contract_commands.proofs.BranchLast.{none_there, none_shown, found_shown}
-use Rattle.command_facts.proofs.PerformLemmas.{read_both, read_held}
+use Rattle.command_facts.proofs.{CalmLemmas.{place_failed}, PerformLemmas.{read_both, read_held}}
 use Rattle.contract_commands.proofs.branch_pact.content_below.Goals as goal
 
 abbrev found_next : ℕ → Option ℕ → Option BranchVersion

@@ -1,13 +1,9 @@
 use Rattle.std.specs.Prelude.{⊤}
 use Rattle.sqlite.specs.Held.{state}
-use Rattle.broker_core.specs.Machine.{StepOfCaller}
-use Rattle.broker_core.specs.declared.command.Command.TheVariants.{GetBranchPact}
-use Rattle.command_facts.specs.Primitives.{broker_primitives}
-use Rattle.contract_commands.specs.Pacts.{HasReachedContent}
-use Rattle.contract_commands.proofs.ContentThere.{branch_text}
+use Rattle.broker_core.specs.{Machine.{StepOfCaller}, declared.command.Command.TheVariants.{GetBranchPact}}
+use Rattle.command_facts.{specs.Primitives.{broker_primitives}, proofs.PerformLemmas.{shown_then}}
+use Rattle.contract_commands.{specs.Pacts.{HasReachedContent}, proofs.{ContentThere.{branch_text}, BranchLast.{branch_shown}}}
 use Rattle.broker_tables.proofs.FailLemmas.{calm_after}
-use Rattle.contract_commands.proofs.BranchLast.{branch_shown}
-use Rattle.command_facts.proofs.PerformLemmas.{shown_then}
 use Rattle.contract_commands.proofs.branch_pact.get_branch_pact.Goals as goal
 
 pub returns-clause-answers : goal.returns-clause-answers

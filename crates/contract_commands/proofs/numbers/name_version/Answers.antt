@@ -1,14 +1,11 @@
-use Rattle.std.proofs.Common.{◌≡◌, sym, subst}
+use Rattle.std.proofs.Common.{[], Err, ◌≡◌, sym, subst, ◌≤◌, ◌^◌, ℕ, List, length}
 use Rattle.sqlite.specs.Held.{state}
 use Rattle.table_access.proofs.CallLemmas.{statement_ok}
-use Rattle.broker_core.specs.State.{State}
-use Rattle.broker_core.specs.Text.{version as version_named}
-use Rattle.broker_core.specs.declared.command.Version.{Version}
-use Rattle.broker_tables.specs.Holds.{HoldsAfter}
+use Rattle.broker_core.specs.{State.{State}, Text.{version as version_named}, declared.command.Version.{Version}}
+use Rattle.broker_tables.{specs.Holds.{HoldsAfter}, proofs.FailLemmas.{calm_with}}
 use Rattle.command_facts.proofs.PerformLemmas.{unchanged}
 use Rattle.registry_tables.specs.Registry.{AllowsVersionAs, AddsVersion}
-use Rattle.contract_commands.specs.Numbering.{CanName}
-use Rattle.contract_commands.specs.declared.numbers.VersionNumber.{VersionNumber}
+use Rattle.contract_commands.specs.{Numbering.{CanName}, declared.numbers.VersionNumber.{VersionNumber}}
 use Rattle.contract_commands.proofs.NumberingLemmas.{old_named, new_allowed, new_named}
 use Rattle.contract_commands.proofs.numbers.name_version.Goals as goal
 
@@ -34,4 +31,4 @@ pub returns-in-Err-clause-calm : goal.returns-in-Err-clause-calm
 returns-in-Err-clause-calm g c clean s here can =
     let v = version_named c.args.pacticipant.now c.args.name.now in
     let same : version_named c.as_str.result.now c.as_str-in-New.result.now ≡ v = λ i. version_named (c.as_str.ensures i) (c.as_str-in-New.ensures i) in
-    c.in-Err.ensures.calm clean s here (subst (λ (w : Version). AllowsVersionAs c.in-New.number w s) (sym same) (new_allowed s v c.in-New.number (subst (λ (n : VersionNumber). CanName s v n) c.in-New.is can)))
+    calm_with {A = Unit {0}} _ _ _ _ (Err c.in-Err.fault) [] _ (λ long are. long (subst (λ (t : List ℕ). length t ≤ 10 ^ 7) (sym c.as_str.ensures) are.0, (subst (λ (t : List ℕ). length t ≤ 10 ^ 7) (sym c.as_str-in-New.ensures) are.1.0, tt))) c.in-Err.ensures.calm clean s here (subst (λ (w : Version). AllowsVersionAs c.in-New.number w s) (sym same) (new_allowed s v c.in-New.number (subst (λ (n : VersionNumber). CanName s v n) c.in-New.is can)))

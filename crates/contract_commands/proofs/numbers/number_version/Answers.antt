@@ -2,8 +2,7 @@ use Rattle.std.proofs.Common.{Some, None}
 use Rattle.sqlite.specs.Held.{state}
 use Rattle.broker_tables.proofs.QueryLemmas.{place_ok}
 use Rattle.contract_tables.proofs.QueryLemmas.{calm_known}
-use Rattle.contract_commands.specs.declared.numbers.VersionNumber.TheVariants.{Old, New}
-use Rattle.contract_commands.specs.Numbering.{IsNumberFor}
+use Rattle.contract_commands.specs.{declared.numbers.VersionNumber.TheVariants.{Old, New}, Numbering.{IsNumberFor}}
 use Rattle.contract_commands.proofs.numbers.number_version.Goals as goal
 
 pub returns-in-Some : goal.returns-in-Some

@@ -1,12 +1,9 @@
-use Rattle.std.proofs.Common.{[], refl, sym, ◌∙◌}
-use Rattle.std.specs.Prelude.{⊤}
+use Rattle.std.{specs.Prelude.{⊤}, proofs.Common.{[], refl, sym, ◌∙◌}}
 use Rattle.sqlite.specs.Held.{state}
 use Rattle.broker_core.specs.declared.command.Command.TheVariants.{PutPact}
-use Rattle.command_facts.specs.Performs.{IsToChange}
-use Rattle.contract_commands.specs.Pacts.{HasSides, Publishes, PutsPact}
+use Rattle.command_facts.{specs.Performs.{IsToChange}, proofs.PerformLemmas.{answered_then, performs_where}}
+use Rattle.contract_commands.{specs.Pacts.{HasSides, Publishes, PutsPact}, proofs.PactLemmas.{publication_refused, publishes_refused, publishes, sides_there}}
 use Rattle.broker_tables.proofs.FailLemmas.{fails_after}
-use Rattle.contract_commands.proofs.PactLemmas.{publication_refused, publishes_refused, publishes, sides_there}
-use Rattle.command_facts.proofs.PerformLemmas.{answered_then, performs_where}
 use Rattle.contract_commands.proofs.publish.publish.Goals as goal
 
 pub returns-in-Some-clause-answers : goal.returns-in-Some-clause-answers
@@ -39,7 +36,7 @@ returns-in-None-clause-calm g c =
     let text = c.args.text.now in
     let sides = c.in-Ok.value in
     let both = sides_there (PutPact path []) sides.has_provider sides.has_consumer sides.is_allowed (sym c.in-None.is ∙ c.refuse_sides.ensures (PutPact path []) refl) in
-    fails_after (state g.S.Store c.args.conn.now) (state g.S.Store c.read_sides_to_publish.new.conn) (state g.S.Store c.publish_between.new.conn) sides c.publish_between.result _ _ (λ s. ⊤) (λ s. HasSides s path)
+    fails_after _ (state g.S.Store c.args.conn.now) (state g.S.Store c.read_sides_to_publish.new.conn) (state g.S.Store c.publish_between.new.conn) sides c.publish_between.result _ _ (λ s. ⊤) (λ s. HasSides s path)
     (IsToChange (λ s out. Publishes s caller path text out)) (IsToChange (PutsPact path text))
     (λ s held free h. (
       (h.provider_is ∙ both.0, h.consumer_is ∙ both.1),

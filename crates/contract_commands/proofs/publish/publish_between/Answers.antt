@@ -1,12 +1,10 @@
 use Rattle.std.proofs.Common.{Option, ℕ, subst, ◌∙◌}
 use Rattle.sqlite.specs.Held.{state}
 use Rattle.broker_core.specs.Request.{consumer_version}
-use Rattle.command_facts.specs.Performs.{IsToChange}
-use Rattle.contract_commands.specs.Pacts.{HasContent, HasSides, HasNoContract, IsContractRead, PutsPact}
-use Rattle.table_access.proofs.CallLemmas.{call_with}
-use Rattle.command_facts.proofs.PerformLemmas.{shown_then, where_then}
-use Rattle.contract_commands.proofs.ContentThere.{contract_text}
+use Rattle.command_facts.{specs.Performs.{IsToChange}, proofs.PerformLemmas.{shown_then, where_then}}
+use Rattle.contract_commands.{specs.Pacts.{HasContent, HasSides, HasNoContract, IsContractRead, PutsPact}, proofs.ContentThere.{contract_text}}
 use Rattle.contract_commands.proofs.PactLemmas.{put_again}
+use Rattle.table_access.proofs.CallLemmas.{call_with}
 use Rattle.broker_tables.proofs.FailLemmas.{calm_after, calm_fails, fails_after}
 use Rattle.contract_commands.proofs.publish.publish_between.Goals as goal
 
@@ -32,7 +30,7 @@ returns-in-Some-clause-calm g c =
     let mid = state g.S.Store c.read_contract.new.conn in
     let new = state g.S.Store c.publish_again.new.conn in
     let path = c.args.path.now in
-    calm_fails old new c.publish_again.result (λ s. HasSides s path) (IsToChange (PutsPact path c.args.text.now))
+    calm_fails _ old new c.publish_again.result (λ s. HasSides s path) (IsToChange (PutsPact path c.args.text.now))
     (calm_after old mid new c.in-Ok.value c.publish_again.result _ _ (λ s. HasSides s path) (λ s. HasContent s c.in-Some.content)
     (λ s held may read. contract_text old.now s held (consumer_version path) path.provider c.in-Some.content (read.content_is ∙ c.in-Some.is))
     c.in-Ok.ensures.call c.publish_again.ensures.answers c.publish_again.ensures.calm)
@@ -44,6 +42,6 @@ returns-in-None-clause-calm g c =
     let path = c.args.path.now in
     let version = c.in-Ok.value.version in
     let to = IsToChange (PutsPact path c.args.text.now) in
-    fails_after old mid (state g.S.Store c.publish_first.new.conn) c.in-Ok.value c.publish_first.result _ _ (λ s. HasSides s path) (HasNoContract path version) to to
+    fails_after _ old mid (state g.S.Store c.publish_first.new.conn) c.in-Ok.value c.publish_first.result _ _ (λ s. HasSides s path) (HasNoContract path version) to to
     (λ s held may read. ((may, subst (λ (o : Option ℕ). IsContractRead s (consumer_version path) path.provider version o) c.in-None.is read), λ made. made))
     c.in-Ok.ensures.call c.publish_first.ensures.answers c.publish_first.ensures.calm

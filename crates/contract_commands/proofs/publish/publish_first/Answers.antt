@@ -1,16 +1,10 @@
 use Rattle.std.proofs.Common.{◌≡◌, None, Some, false, ap, ◌&&◌, ◌||◌}
 use Rattle.sqlite.specs.Held.{state}
-use Rattle.broker_core.specs.Change.{put_pact, is_stored}
-use Rattle.broker_core.specs.Limit.{has_room}
-use Rattle.broker_core.specs.Request.{consumer_version}
-use Rattle.broker_core.specs.declared.answer.Answer.TheVariants.{Full}
-use Rattle.command_facts.specs.Performs.{IsToChange}
-use Rattle.command_facts.proofs.PerformLemmas.{where_answered, where_then}
-use Rattle.contract_commands.specs.Numbering.{IsNumberFor}
-use Rattle.contract_commands.specs.Pacts.{HasNoContract, CanPublish, PutsPact}
+use Rattle.broker_core.specs.{Change.{put_pact, is_stored}, Limit.{has_room}, Request.{consumer_version}, declared.answer.Answer.TheVariants.{Full}}
+use Rattle.command_facts.{specs.Performs.{IsToChange}, proofs.PerformLemmas.{where_answered, where_then}}
+use Rattle.contract_commands.specs.{Numbering.{IsNumberFor}, Pacts.{HasNoContract, CanPublish, PutsPact}}
+use Rattle.contract_commands.proofs.{NumberingLemmas.{may_not_be_named, as_numbered}, PactLemmas.{put_first}}
 use Rattle.broker_tables.proofs.FailLemmas.{fails_after}
-use Rattle.contract_commands.proofs.NumberingLemmas.{may_not_be_named, as_numbered}
-use Rattle.contract_commands.proofs.PactLemmas.{put_first}
 use Rattle.contract_commands.proofs.publish.publish_first.Goals as goal
 
 pub returns-in-None-clause-answers : goal.returns-in-None-clause-answers
@@ -39,6 +33,6 @@ returns-in-Some-clause-calm g c =
     let path = c.args.path.now in
     let version = c.in-Some.version in
     let to = IsToChange (PutsPact path c.args.text.now) in
-    fails_after old mid (state g.S.Store c.publish_numbered.new.conn) (Some version) c.publish_numbered.result (λ found s. IsNumberFor s.versions c.args.number found) _ (HasNoContract path c.args.number) (CanPublish path version) to to
+    fails_after _ old mid (state g.S.Store c.publish_numbered.new.conn) (Some version) c.publish_numbered.result (λ found s. IsNumberFor s.versions c.args.number found) _ (HasNoContract path c.args.number) (CanPublish path version) to to
     (λ s held may it. ((as_numbered s (consumer_version path) c.args.number version may.1.number_is may.1.known_is may.0.1 it, may.1.content_is, may.0), λ made. made))
     (rw c.in-Some.is at c.in-Ok.ensures.call) c.publish_numbered.ensures.answers c.publish_numbered.ensures.calm

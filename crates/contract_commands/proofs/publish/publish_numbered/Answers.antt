@@ -1,24 +1,14 @@
-use Rattle.std.proofs.Common.{◌≡◌, inl, inr, ◌≤◌, Ok, Err, None, Some, true, false, ◌||◌, sym, subst, ap, ◌∙◌, ◌&&◌, arith}
-use Rattle.std.specs.Prelude.{⊤}
-use Rattle.sqlite.specs.Held.{state}
-use Rattle.sqlite.specs.State.{HasCleanDisk}
-use Rattle.broker_core.specs.Change.{Transition, put_pact, content_number, named}
-use Rattle.broker_core.specs.Request.{consumer_version}
-use Rattle.broker_core.specs.State.{State}
-use Rattle.broker_core.specs.declared.answer.Answer.TheVariants.{Done, Full}
-use Rattle.broker_core.specs.declared.answer.Detail.TheVariants.{Content}
-use Rattle.content_store.specs.Contents.{has_place, StoresIfRoom}
-use Rattle.table_access.proofs.CallLemmas.{statement_with}
-use Rattle.broker_tables.specs.Room.{enough}
-use Rattle.broker_tables.proofs.FailLemmas.{fails_taking, taking_then}
-use Rattle.command_facts.specs.Performs.{IsToChange}
-use Rattle.command_facts.proofs.PerformLemmas.{where_told, where_told_then}
-use Rattle.broker_core.specs.Text.{Text}
+use Rattle.std.{specs.Prelude.{⊤}, proofs.Common.{◌≡◌, inl, inr, ◌≤◌, Ok, Err, None, Some, true, false, ◌||◌, sym, subst, ap, ◌∙◌, ◌&&◌, arith}}
+use Rattle.sqlite.specs.{Held.{state}, State.{HasCleanDisk}}
+use Rattle.broker_core.specs.{Change.{Transition, put_pact, content_number, named}, Request.{consumer_version}, State.{State}}
+use Rattle.broker_core.specs.{declared.answer.Answer.TheVariants.{Done, Full}, declared.answer.Detail.TheVariants.{Content}, Text.{Text}}
 use Rattle.broker_core.specs.declared.command.PactPath.{PactPath}
-use Rattle.contract_commands.specs.Pacts.{CanPublish, CanRecord, PutsPact, RecordsContract, contracted}
-use Rattle.contract_commands.specs.declared.numbers.VersionNumber.{VersionNumber}
-use Rattle.contract_commands.proofs.NumberingLemmas.{may_be_named}
-use Rattle.contract_commands.proofs.PactLemmas.{published, put_first, can_record, now_published}
+use Rattle.content_store.specs.Contents.{has_place, StoresIfRoom}
+use Rattle.table_access.proofs.CallLemmas.{statement_with, ended_with}
+use Rattle.broker_tables.{specs.Room.{enough}, proofs.FailLemmas.{fails_taking, taking_then}}
+use Rattle.command_facts.{specs.Performs.{IsToChange}, proofs.PerformLemmas.{where_told, where_told_then}}
+use Rattle.contract_commands.specs.{Pacts.{CanPublish, CanRecord, PutsPact, RecordsContract, contracted}, declared.numbers.VersionNumber.{VersionNumber}}
+use Rattle.contract_commands.proofs.{NumberingLemmas.{may_be_named}, PactLemmas.{published, put_first, can_record, now_published}}
 use Rattle.contract_commands.proofs.publish.publish_numbered.Goals as goal
 
 -- the pact is to be published
@@ -64,7 +54,7 @@ returns-in-Ok-record_contract-clause-answers g c =
 pub returns-in-Err-clause-calm : goal.returns-in-Err-clause-calm
 returns-in-Err-clause-calm g c clean s here can = elim (c.in-Err.ensures.calm clean s here tt) [
   | inl ended ↦ inl ended
-  | inr adds ↦ inr (to_publish c.args.path.now c.args.text.now c.args.version s can (λ i. adds.0.0 i || adds.0.1 i), adds.1)
+  | inr adds ↦ inr (to_publish c.args.path.now c.args.text.now c.args.version s can (λ i. adds.0.0 i || adds.0.1 i), λ room. ended_with _ _ _ (λ long are. long (are.0, tt)) (adds.1 room))
 ]
 
 pub returns-in-Err-record_contract-clause-calm : goal.returns-in-Err-record_contract-clause-calm
@@ -81,7 +71,7 @@ returns-in-Err-record_contract-clause-calm g c clean s here can =
     let failed = c.in-Err-record_contract.ensures in
     let stored = rw c.in-Some.is at c.in-Ok.ensures.answers in
     let it = stored.call.ok mid_clean s here.held tt in
-    fails_taking {A = Unit {0}} old new (Err c.in-Err-record_contract.fault) 5 few (CanPublish path version) (λ t. CanPublish path version t × (has_place t.contents text ≡ true)) _ (λ t held may. (may.0, to_publish path text version t may.0 may.1))
-    (taking_then old mid new (Some content) (Err c.in-Err-record_contract.fault) 2 3 _ (CanPublish path version) (StoresIfRoom text) (CanRecord path version content)
+    fails_taking {A = Unit {0}} _ old new (Err c.in-Err-record_contract.fault) 5 few (CanPublish path version) (λ t. CanPublish path version t × (has_place t.contents text ≡ true)) _ (λ t held may. (may.0, to_publish path text version t may.0 may.1))
+    (taking_then _ old mid new (Some content) (Err c.in-Err-record_contract.fault) 2 3 _ (CanPublish path version) (StoresIfRoom text) (CanRecord path version content)
     (λ t may u next. subst (CanRecord path version content) (sym next.1) (can_record t text path version content next.0 may)) (statement_with old mid (Ok (Some content)) _ _ (λ a puts t held may. puts t held tt) stored)
-    failed.answers.call failed.calm) clean s here (can, it.1.2)
+    failed.answers.call (λ clean t now may room. ended_with _ _ _ (λ long are. long are.1) (failed.calm clean t now may room))) clean s here (can, it.1.2)

@@ -1,11 +1,9 @@
-use Rattle.std.proofs.Common.{inl, inr, ℕ, Ok, Err, Option, Result, subst}
+use Rattle.std.{specs.Prelude.{⊤, IfErr}, proofs.Common.{inl, inr, ℕ, Ok, Err, Option, Result, subst, [], ◌≤◌, ◌^◌, List, length, sym}}
 use Rattle.sqlite.specs.Held.{state}
-use Rattle.std.specs.Prelude.{⊤, IfErr}
-use Rattle.table_access.specs.declared.StoreFault.{StoreFault}
+use Rattle.table_access.{specs.declared.StoreFault.{StoreFault}, proofs.CallLemmas.{ended_with}}
 use Rattle.broker_core.specs.Text.{Text}
 use Rattle.broker_tables.specs.Holds.{ChangesAndAnswersBetween}
-use Rattle.content_store.specs.Contents.{CanBeAdded, StoresIfRoom}
-use Rattle.content_store.proofs.Held.{contents_held, puts_if_room_held}
+use Rattle.content_store.{specs.Contents.{CanBeAdded, StoresIfRoom}, proofs.Held.{contents_held, puts_if_room_held}}
 use Rattle.contract_commands.proofs.publish.put_text.Goals as goal
 
 pub returns-clause-answers : goal.returns-clause-answers
@@ -23,6 +21,6 @@ pub returns-clause-calm : goal.returns-clause-calm
 returns-clause-calm g c clean s here free =
     both_told c.put_if_room.result _ _ _ (λ e ended why. elim why [
       | inl failed ↦ inl (inl failed)
-      | inr adds ↦ inr (subst (λ (body : Text). CanBeAdded body s.contents) c.as_str.ensures adds, λ room. ended)
+      | inr adds ↦ inr (subst (λ (body : Text). CanBeAdded body s.contents) c.as_str.ensures adds, λ room. ended_with _ _ e (λ long are. long (subst (λ (t : List ℕ). length t ≤ 10 ^ 7) (sym c.as_str.ensures) are.0, tt)) ended)
     ]) (c.put_if_room.ensures.calm clean s (record { inside = here.inside; unlimited = here.unlimited; held = here.held }) here.readable tt)
     (c.put_if_room.ensures.rowless clean s here (contents_held (state g.S.Store c.args.conn.now).now s here.held))

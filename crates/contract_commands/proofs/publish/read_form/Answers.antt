@@ -1,8 +1,8 @@
 use Rattle.std.proofs.Common.{Some, refl, sym, subst, ap, ◌∙◌}
 use Rattle.broker_core.specs.Machine.Reading.{IsPact, IsRefused}
-use Rattle.broker_core.specs.declared.command.FormFault.TheVariants as fault
 use Rattle.command_facts.specs.Primitives.{broker_primitives}
 use Rattle.contract_commands.proofs.PactLemmas.{names_differ, form_same}
+use Rattle.broker_core.specs.declared.command.FormFault.TheVariants as fault
 use Rattle.contract_commands.proofs.publish.read_form.Goals as goal
 
 pub returns-else-has_names-clause-fault : goal.returns-else-has_names-clause-fault

@@ -1,11 +1,9 @@
 use Rattle.std.proofs.Common.{subst, inl}
 use Rattle.sqlite.specs.Held.{state}
 use Rattle.pact_reading.specs.Readings.{Tells}
-use Rattle.command_facts.specs.Performs.{IsToChange}
-use Rattle.contract_commands.specs.Checks.{Leads, Checks, CanLead, CanCheck}
-use Rattle.contract_commands.proofs.CheckLemmas.{pact_told}
+use Rattle.command_facts.{specs.Performs.{IsToChange}, proofs.PerformLemmas.{where_then}}
+use Rattle.contract_commands.{specs.Checks.{Leads, Checks, CanLead, CanCheck}, proofs.CheckLemmas.{pact_told}}
 use Rattle.broker_tables.proofs.FailLemmas.{fails_after}
-use Rattle.command_facts.proofs.PerformLemmas.{where_then}
 use Rattle.contract_commands.proofs.replies.check_content.Goals as goal
 
 pub returns-in-Ok-compare-clause-answers : goal.returns-in-Ok-compare-clause-answers
@@ -28,7 +26,7 @@ returns-in-Ok-compare-clause-calm g c =
     let text = c.in-Ok.value in
     let told = c.in-Ok-compare.told in
     let tells = subst (λ t. Tells t replies told) c.as_str.ensures c.in-Ok-compare.ensures in
-    fails_after old mid (state g.S.Store c.tell_compared.new.conn) text c.tell_compared.result _ _ (CanCheck provider content) (CanLead provider content told)
+    fails_after _ old mid (state g.S.Store c.tell_compared.new.conn) text c.tell_compared.result _ _ (CanCheck provider content) (CanLead provider content told)
     (IsToChange (λ s out. Checks s provider r content replies out)) (IsToChange (λ s out. Leads s provider r content told out))
     (λ s held can stored. (((can.0, (text, stored)), pact_told s content text replies told stored can.1 tells), λ made. (made.0, made.1, (text, stored, (told, tells, made.2)))))
     c.in-Ok.ensures.answers c.tell_compared.ensures.answers c.tell_compared.ensures.calm

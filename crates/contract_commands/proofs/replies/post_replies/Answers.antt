@@ -4,8 +4,7 @@ use Rattle.broker_core.specs.declared.command.Command.TheVariants.{PostReplies}
 use Rattle.pact_reading.specs.Readings.{ReadsReplies}
 use Rattle.reply_check.specs.Replies.{RepliesRead}
 use Rattle.command_facts.specs.Performs.{CallersStep}
-use Rattle.contract_commands.proofs.CheckLemmas.{replies_fault}
-use Rattle.contract_commands.proofs.Unread.{unread, unread_fails}
+use Rattle.contract_commands.proofs.{CheckLemmas.{replies_fault}, Unread.{unread, unread_fails}}
 use Rattle.contract_commands.proofs.replies.post_replies.Goals as goal
 
 pub returns-in-Ok-clause-answers : goal.returns-in-Ok-clause-answers
@@ -21,4 +20,4 @@ pub returns-in-Ok-clause-calm : goal.returns-in-Ok-clause-calm
 returns-in-Ok-clause-calm g c = c.check_replies.ensures.calm c.args.body.now (subst (λ bytes. RepliesRead bytes (Ok c.in-Ok.replies)) c.as_slice.ensures c.in-Ok.ensures.replies)
 
 pub returns-in-Err-clause-calm : goal.returns-in-Err-clause-calm
-returns-in-Err-clause-calm g c = unread_fails (state g.S.Store c.args.conn.now) c.in-Err.fault c.tell_unread.result _ _ c.tell_unread.ensures
+returns-in-Err-clause-calm g c = unread_fails _ (state g.S.Store c.args.conn.now) c.in-Err.fault c.tell_unread.result _ _ c.tell_unread.ensures

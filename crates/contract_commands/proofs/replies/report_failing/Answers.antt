@@ -1,18 +1,12 @@
 use Rattle.std.proofs.Common.{true, ◌≡◌, ◌==◌, ℕ, List, Some, length, ap, ◌∙◌, arith}
 use Rattle.sqlite.specs.Held.{state}
-use Rattle.broker_core.specs.State.{checked_result}
-use Rattle.broker_core.specs.Change.{Transition, report}
-use Rattle.broker_core.specs.declared.answer.Answer.{Answer}
-use Rattle.broker_core.specs.Machine.{is_empty, report_replies}
+use Rattle.broker_core.specs.{State.{checked_result}, Change.{Transition, report}, declared.answer.Answer.{Answer}, Machine.{is_empty, report_replies}}
 use Rattle.broker_core.specs.declared.answer.Detail.TheVariants.{Replies}
 use Rattle.pact_reading.specs.declared.checking.Comparison.TheVariants.{Failing}
-use Rattle.contract_commands.specs.Checks.{Leads}
-use Rattle.contract_commands.specs.Results.{CanReceive, IsToReport, told_as, reported_version}
-use Rattle.contract_commands.specs.declared.results.Reported.{Reported}
-use Rattle.broker_tables.proofs.FailLemmas.{fails_as}
+use Rattle.contract_commands.specs.{Checks.{Leads}, Results.{CanReceive, IsToReport, told_as, reported_version}, declared.results.Reported.{Reported}}
 use Rattle.contract_commands.proofs.CheckLemmas.{empty_is}
-use Rattle.command_facts.specs.Performs.{IsToChange}
-use Rattle.command_facts.proofs.PerformLemmas.{where_told}
+use Rattle.broker_tables.proofs.FailLemmas.{fails_as}
+use Rattle.command_facts.{specs.Performs.{IsToChange}, proofs.PerformLemmas.{where_told}}
 use Rattle.contract_commands.proofs.replies.report_failing.Goals as goal
 
 pub returns-clause-answers : goal.returns-clause-answers
@@ -41,7 +35,7 @@ returns-in-Err-clause-calm g c =
     let content = c.args.content in
     let pass = c.is_empty-pass.result in
     let passes : pass ≡ is_empty failing = c.is_empty-pass.ensures ∙ ap (λ (xs : List ℕ). length xs == 0) c.as_slice.ensures ∙ empty_is failing in
-    fails_as Reported Answer (state g.S.Store c.args.conn.now) (state g.S.Store c.receive.new.conn) c.in-Err.fault (CanReceive provider content) (IsToChange (λ s out. Leads s provider r content (Failing failing) out))
+    fails_as _ Reported Answer (state g.S.Store c.args.conn.now) (state g.S.Store c.receive.new.conn) c.in-Err.fault (CanReceive provider content) (IsToChange (λ s out. Leads s provider r content (Failing failing) out))
     (IsToReport provider r (record { content = content; pass = pass; checked = true }))
     (λ s has made. (
       Replies failing made.0 pass,

@@ -2,14 +2,10 @@ use Rattle.std.proofs.Common.{Ok, refl, sym, subst}
 use Rattle.sqlite.specs.Held.{state}
 use Rattle.table_access.proofs.CallLemmas.{idle}
 use Rattle.pact_reading.specs.declared.checking.Comparison.{Comparison}
-use Rattle.broker_core.specs.declared.answer.Answer.TheVariants.{BadForm, Pattern}
-use Rattle.broker_core.specs.declared.command.FormFault.TheVariants.{UnknownReply}
+use Rattle.broker_core.specs.{declared.answer.Answer.TheVariants.{BadForm, Pattern}, declared.command.FormFault.TheVariants.{UnknownReply}}
 use Rattle.command_facts.specs.Performs.{PerformsWhereBetween, IsToChange}
-use Rattle.contract_commands.specs.Results.{HasPacticipant, CanReceive}
-use Rattle.contract_commands.specs.Checks.{Leads}
-use Rattle.broker_tables.specs.Calm.{FailsFromBetween}
-use Rattle.broker_tables.specs.Room.{enough}
-use Rattle.broker_tables.proofs.RoomLemmas.{takes_none}
+use Rattle.contract_commands.specs.{Results.{HasPacticipant, CanReceive, AreLong}, Checks.{Leads}}
+use Rattle.broker_tables.{specs.{Calm.{FailsFromBetween}, Room.{enough}}, proofs.RoomLemmas.{takes_none}}
 use Rattle.contract_commands.proofs.replies.tell_compared.Goals as goal
 
 pub returns-in-Failing-clause-answers : goal.returns-in-Failing-clause-answers
@@ -31,7 +27,7 @@ returns-in-Pattern-clause-answers g c =
 
 pub returns-in-Failing-clause-calm : goal.returns-in-Failing-clause-calm
 returns-in-Failing-clause-calm g c = λ clean s here can.
-    subst (λ (told : Comparison). FailsFromBetween (state g.S.Store c.args.conn.now) (state g.S.Store c.report_failing.new.conn) c.report_failing.result (CanReceive c.args.provider.now c.args.content) (IsToChange (λ s out. Leads s c.args.provider.now c.args.report.now c.args.content told out)))
+    subst (λ (told : Comparison). FailsFromBetween (state g.S.Store c.args.conn.now) (state g.S.Store c.report_failing.new.conn) c.report_failing.result (AreLong c.args.provider.now c.args.report.now) (CanReceive c.args.provider.now c.args.content) (IsToChange (λ s out. Leads s c.args.provider.now c.args.report.now c.args.content told out)))
     (sym c.in-Failing.is) c.report_failing.ensures.calm clean s here can.0
 
 pub returns-in-NoPact-clause-calm : goal.returns-in-NoPact-clause-calm

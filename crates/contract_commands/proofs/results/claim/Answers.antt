@@ -1,14 +1,9 @@
 use Rattle.std.proofs.Common.{◌≡◌, ◌∙◌, false, arith}
 use Rattle.sqlite.specs.Held.{state}
-use Rattle.broker_core.specs.State.{claimed_result}
-use Rattle.broker_core.specs.Change.{Transition, report}
-use Rattle.broker_core.specs.declared.answer.Answer.{Answer}
-use Rattle.broker_core.specs.declared.answer.Detail.TheVariants.{Result}
-use Rattle.contract_commands.specs.Results.{CanReceive, IsToReport, Claims, told_as, reported_version}
-use Rattle.command_facts.specs.Performs.{IsToChange}
-use Rattle.contract_commands.specs.declared.results.Reported.{Reported}
+use Rattle.broker_core.specs.{State.{claimed_result}, Change.{Transition, report}, declared.answer.Answer.{Answer}, declared.answer.Detail.TheVariants.{Result}}
+use Rattle.contract_commands.specs.{Results.{CanReceive, IsToReport, Claims, told_as, reported_version}, declared.results.Reported.{Reported}}
+use Rattle.command_facts.{specs.Performs.{IsToChange}, proofs.PerformLemmas.{where_told}}
 use Rattle.broker_tables.proofs.FailLemmas.{fails_as}
-use Rattle.command_facts.proofs.PerformLemmas.{where_told}
 use Rattle.contract_commands.proofs.results.claim.Goals as goal
 
 pub returns-clause-answers : goal.returns-clause-answers
@@ -28,5 +23,5 @@ pub returns-in-Err-clause-calm : goal.returns-in-Err-clause-calm
 returns-in-Err-clause-calm g c =
     let provider = c.args.provider.now in
     let report = c.args.report.now in
-    fails_as Reported Answer (state g.S.Store c.args.conn.now) (state g.S.Store c.receive.new.conn) c.in-Err.fault (CanReceive provider c.args.content) (IsToChange (Claims provider report c.args.content c.args.success)) (IsToReport provider report (record { content = c.args.content; pass = c.args.success; checked = false }))
+    fails_as _ Reported Answer (state g.S.Store c.args.conn.now) (state g.S.Store c.receive.new.conn) c.in-Err.fault (CanReceive provider c.args.content) (IsToChange (Claims provider report c.args.content c.args.success)) (IsToReport provider report (record { content = c.args.content; pass = c.args.success; checked = false }))
     (λ s has made. (Result made.0, made.1, made.2 Result)) c.in-Err.ensures.calm

@@ -1,20 +1,9 @@
-use Rattle.std.proofs.Common.{◌≡◌, ◌∙◌, ℕ, Ok, Option, is_some}
-use Rattle.std.specs.Prelude.{option_map}
-use Rattle.sqlite.specs.Held.{state}
-use Rattle.sqlite.specs.State.{State as Connection}
-use Rattle.broker_core.specs.State.{State}
-use Rattle.broker_core.specs.Text.{Text, version}
-use Rattle.broker_core.specs.Change.{result_of_run}
-use Rattle.broker_core.specs.Request.{is_known}
-use Rattle.broker_core.specs.declared.command.Report.{Report}
-use Rattle.broker_tables.specs.Calm.{CalmQueriesInPlaceBetween}
-use Rattle.broker_tables.specs.Numbers.{number_of}
-use Rattle.broker_tables.proofs.QueryLemmas.{place_seq, stays_held}
-use Rattle.contract_tables.specs.Verified.{told_of}
-use Rattle.contract_tables.specs.declared.lookups.ResultRow.{ResultRow}
-use Rattle.contract_commands.specs.Pacts.{HasContent}
-use Rattle.contract_commands.specs.Results.{CanReceive, IsToReport, IsUnused, reported_version, IsNumbered, told_row}
-use Rattle.broker_tables.proofs.FailLemmas.{fails_after}
+use Rattle.std.{specs.Prelude.{option_map}, proofs.Common.{◌≡◌, ◌∙◌, ℕ, Ok, Option, is_some}}
+use Rattle.sqlite.specs.{Held.{state}, State.{State as Connection}}
+use Rattle.broker_core.specs.{State.{State}, Text.{Text, version}, Change.{result_of_run}, Request.{is_known}, declared.command.Report.{Report}}
+use Rattle.broker_tables.{specs.{Calm.{CalmQueriesInPlaceBetween}, Numbers.{number_of}}, proofs.{QueryLemmas.{place_seq, stays_held}, FailLemmas.{fails_after}}}
+use Rattle.contract_tables.specs.{Verified.{told_of}, declared.lookups.ResultRow.{ResultRow}}
+use Rattle.contract_commands.specs.{Pacts.{HasContent}, Results.{CanReceive, IsToReport, IsUnused, reported_version, IsNumbered, told_row}}
 use Rattle.contract_commands.proofs.ResultLemmas.{row_told, none_told, numbered, told_read, then_taken}
 use Rattle.contract_commands.proofs.results.receive.Goals as goal
 
@@ -70,7 +59,7 @@ returns-in-None-clause-calm g c =
     let number = c.in-Ok.value in
     let found = c.in-Ok-read_run.value in
     let to = IsToReport provider report c.args.found in
-    fails_after old two new found c.receive_new.result (IsFound provider report number) _ (CanReceive provider c.args.found.content) (λ s. IsUnused s provider report number × HasContent s c.args.found.content) to to
+    fails_after _ old two new found c.receive_new.result (IsFound provider report number) _ (CanReceive provider c.args.found.content) (λ s. IsUnused s provider report number × HasContent s c.args.found.content) to to
     (λ s held can first. ((record { version = first.0; owned = can.0; unused = none_told s (result_of_run s provider report.run) found c.in-None.is first.1 }, can.1), λ made. made))
     (found_both old one two provider report _ _ number found c.as_str.ensures c.as_str-2.ensures c.in-Ok.ensures c.in-Ok-read_run.ensures).call
     c.receive_new.ensures.answers.call c.receive_new.ensures.calm

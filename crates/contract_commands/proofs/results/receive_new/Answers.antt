@@ -1,12 +1,10 @@
 use Rattle.std.proofs.Common.{◌&&◌, None, Some, ap}
 use Rattle.sqlite.specs.Held.{state}
 use Rattle.broker_core.specs.Limit.{has_room}
-use Rattle.contract_commands.specs.Pacts.{HasContent}
-use Rattle.contract_commands.specs.Results.{reported_version, reported_result, CanReport, IsUnused, IsToReport}
-use Rattle.contract_commands.specs.declared.results.Reported.TheVariants.{Full}
-use Rattle.broker_tables.proofs.FailLemmas.{fails_after}
-use Rattle.contract_commands.proofs.NumberingLemmas.{may_not_be_named, as_numbered}
+use Rattle.contract_commands.specs.{Pacts.{HasContent}, Results.{reported_version, reported_result, CanReport, IsUnused, IsToReport}}
+use Rattle.contract_commands.{specs.declared.results.Reported.TheVariants.{Full}, proofs.NumberingLemmas.{may_not_be_named, as_numbered}}
 use Rattle.contract_commands.proofs.ResultLemmas.{no_place, told_read, then_taken}
+use Rattle.broker_tables.proofs.FailLemmas.{fails_after}
 use Rattle.contract_commands.proofs.results.receive_new.Goals as goal
 
 pub returns-in-None-clause-answers : goal.returns-in-None-clause-answers
@@ -32,6 +30,6 @@ returns-in-Some-clause-calm g c =
     let report = c.args.report.now in
     let version = c.in-Some.version in
     let to = IsToReport provider report c.args.found in
-    fails_after old mid (state g.S.Store c.receive_numbered.new.conn) (Some version) c.receive_numbered.result _ _ (λ s. IsUnused s provider report c.args.number × HasContent s c.args.found.content) (λ s. CanReport provider report version s × HasContent s c.args.found.content) to to
+    fails_after _ old mid (state g.S.Store c.receive_numbered.new.conn) (Some version) c.receive_numbered.result _ _ (λ s. IsUnused s provider report c.args.number × HasContent s c.args.found.content) (λ s. CanReport provider report version s × HasContent s c.args.found.content) to to
     (λ s held can first. (((as_numbered s (reported_version provider report) c.args.number version can.0.version.number_is can.0.version.known_is can.0.owned first, can.0.unused), can.1), λ made. made))
     (rw c.in-Some.is at c.in-Ok.ensures.call) c.receive_numbered.ensures.answers.call c.receive_numbered.ensures.calm

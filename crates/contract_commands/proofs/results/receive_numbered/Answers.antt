@@ -1,12 +1,10 @@
 use Rattle.std.proofs.Common.{◌&&◌, Ok, Err, None, Some, refl, arith}
 use Rattle.sqlite.specs.Held.{state}
 use Rattle.table_access.proofs.CallLemmas.{statement_ok}
-use Rattle.contract_commands.specs.Pacts.{HasContent}
-use Rattle.contract_commands.specs.Results.{reported_version, reported_result, recorded, AllowsReport, CanReport, IsToReport, Receives}
-use Rattle.contract_commands.specs.declared.results.Reported.TheVariants.{Recorded, Full}
-use Rattle.broker_tables.proofs.FailLemmas.{fails_changing}
-use Rattle.contract_commands.proofs.NumberingLemmas.{may_be_named}
+use Rattle.contract_commands.specs.{Pacts.{HasContent}, Results.{reported_version, reported_result, recorded, AllowsReport, CanReport, IsToReport, Receives}}
+use Rattle.contract_commands.{specs.declared.results.Reported.TheVariants.{Recorded, Full}, proofs.NumberingLemmas.{may_be_named}}
 use Rattle.contract_commands.proofs.ResultLemmas.{newly_recorded, no_place, told_read, then_taken}
+use Rattle.broker_tables.proofs.FailLemmas.{fails_changing}
 use Rattle.contract_commands.proofs.results.receive_numbered.Goals as goal
 
 pub returns-in-None-clause-answers : goal.returns-in-None-clause-answers
@@ -40,7 +38,7 @@ returns-in-Err-record_report-clause-calm g c =
     let found = c.args.found in
     let r = reported_result provider report found in
     let next = c.in-Some.next in
-    fails_changing (state g.S.Store c.args.conn.now) (state g.S.Store c.next_result.new.conn) (state g.S.Store c.record_report.new.conn) (Some next) (Err c.in-Err-record_report.fault) _ _ 3 (omega arith)
+    fails_changing _ (state g.S.Store c.args.conn.now) (state g.S.Store c.next_result.new.conn) (state g.S.Store c.record_report.new.conn) (Some next) (Err c.in-Err-record_report.fault) _ _ 3 (omega arith)
     (AllowsReport provider report found c.args.version next) (λ s. CanReport provider report c.args.version s × HasContent s found.content) (IsToReport provider report found)
     (λ s held can first. (
       (can.0, first.1, can.1),

@@ -1,6 +1,5 @@
 use Rattle.std.proofs.Common.{sym, ◌∙◌}
-use Rattle.contract_commands.specs.Results.{reported_result}
-use Rattle.contract_commands.proofs.ResultLemmas.{number_told, known_again, taken_again}
+use Rattle.contract_commands.{specs.Results.{reported_result}, proofs.ResultLemmas.{number_told, known_again, taken_again}}
 use Rattle.contract_commands.proofs.results.tell_again.Goals as goal
 
 pub returns-then-says_same : goal.returns-then-says_same

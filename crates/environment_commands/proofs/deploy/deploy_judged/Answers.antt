@@ -1,22 +1,11 @@
-use Rattle.std.proofs.Common.{◌≡◌, Option, Some, Bool, true, List, sym, ap, ◌∙◌}
+use Rattle.std.{specs.Prelude.{if◌then◌else◌}, proofs.Common.{◌≡◌, Option, Some, Bool, true, List, sym, ap, ◌∙◌, ◌≤◌, ◌^◌, ℕ, length, subst}}
 use Rattle.sqlite.specs.Held.{state}
-use Rattle.std.specs.Prelude.{if◌then◌else◌}
-use Rattle.broker_core.specs.Change.{Transition, deploy as deployment, unchanged_with, instance_of}
-use Rattle.broker_core.specs.Gate.{Judges}
-use Rattle.broker_core.specs.Machine.{TakesEffect}
-use Rattle.broker_core.specs.State.{State}
-use Rattle.broker_core.specs.Text.{Text}
-use Rattle.broker_core.specs.declared.answer.Answer.TheVariants.{NotPermitted}
-use Rattle.broker_core.specs.declared.command.Command.TheVariants.{Deploy}
-use Rattle.broker_core.specs.declared.command.Version.{Version}
-use Rattle.broker_core.specs.declared.need.PairFault.{PairFault}
-use Rattle.broker_tables.specs.Numbers.{number_of}
-use Rattle.environment_commands.specs.Effects.{Enacts}
-use Rattle.environment_commands.specs.Places.{HasPlace, IsAdmitted}
-use Rattle.command_facts.specs.Primitives.{broker_primitives}
-use Rattle.command_facts.proofs.PerformLemmas.{where_then, where_answered}
-use Rattle.environment_commands.proofs.FailLemmas.{fails_next}
-use Rattle.environment_commands.proofs.PlaceLemmas.{has_place}
+use Rattle.broker_core.specs.{Change.{Transition, deploy as deployment, unchanged_with, instance_of}, Gate.{Judges}, Machine.{TakesEffect}, State.{State}}
+use Rattle.broker_core.specs.{Text.{Text}, declared.answer.Answer.TheVariants.{NotPermitted}, declared.command.Command.TheVariants.{Deploy}}
+use Rattle.broker_core.specs.{declared.command.Version.{Version}, declared.need.PairFault.{PairFault}}
+use Rattle.broker_tables.{specs.Numbers.{number_of}, proofs.FailLemmas.{fails_more}}
+use Rattle.environment_commands.{specs.{Effects.{Enacts}, Places.{HasPlace, IsAdmitted}}, proofs.{FailLemmas.{fails_next}, PlaceLemmas.{has_place}}}
+use Rattle.command_facts.{specs.Primitives.{broker_primitives}, proofs.{PerformLemmas.{where_then, where_answered}, ShortTexts.{name_short, instance_short}}}
 use Rattle.environment_commands.proofs.deploy.deploy_judged.Goals as goal
 
 -- what the gate permits is done
@@ -44,10 +33,11 @@ returns-then-permitted-clause-calm g c =
     let e = c.args.environment.now in
     let v = c.args.version.now in
     let judged = c.in-Ok.value in
-    fails_next (state g.S.Store c.args.conn.now) (state g.S.Store c.judge.new.conn) (state g.S.Store c.record_deployment.new.conn) judged c.record_deployment.result _ _ c.in-Ok.ensures.call c.record_deployment.ensures.answers
+    fails_more _ _ _ _ c.record_deployment.result _ _ (λ long named. long (name_short _ named.0, (name_short _ named.1.0, (subst (λ (t : List ℕ). length t ≤ 10 ^ 7) (sym c.instance_text.ensures) (instance_short _ named.2), tt))))
+    (fails_next _ (state g.S.Store c.args.conn.now) (state g.S.Store c.judge.new.conn) (state g.S.Store c.record_deployment.new.conn) judged c.record_deployment.result _ _ c.in-Ok.ensures.call c.record_deployment.ensures.answers
     (IsAdmitted e v c.args.place) (HasPlace e v c.args.place.number) _ (Enacts (Deploy e v c.args.instance.now))
     (λ s admitted says. (has_place s e v c.args.place admitted, permitted_deploys s e v c.args.instance.now c.instance_text.result.now judged.0 judged.1.items c.instance_text.ensures c.if-permitted.true (says admitted)))
-    c.record_deployment.ensures.calm
+    c.record_deployment.ensures.calm)
 
 pub returns-else-permitted-clause-answers : goal.returns-else-permitted-clause-answers
 returns-else-permitted-clause-answers g c =

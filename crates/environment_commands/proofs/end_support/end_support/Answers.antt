@@ -1,8 +1,7 @@
 use Rattle.std.proofs.Common.{inr, refl}
 use Rattle.sqlite.specs.Held.{state}
 use Rattle.broker_core.specs.declared.command.Command.TheVariants.{EndSupport}
-use Rattle.environment_commands.proofs.FailLemmas.{calm_next}
-use Rattle.environment_commands.proofs.PlaceLemmas.{refused_then, admitted_then}
+use Rattle.environment_commands.proofs.{FailLemmas.{calm_next}, PlaceLemmas.{refused_then, admitted_then}}
 use Rattle.environment_commands.proofs.end_support.end_support.Goals as goal
 
 pub returns-in-Ok-2-clause-answers : goal.returns-in-Ok-2-clause-answers

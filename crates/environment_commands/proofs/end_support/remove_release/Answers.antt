@@ -1,18 +1,12 @@
-use Rattle.std.proofs.Common.{◌≡◌, ℕ, Bool, true, false, Some, refl, sym, ap, ◌∙◌, arith}
+use Rattle.std.{specs.Prelude.{if◌then◌else◌}, proofs.Common.{◌≡◌, ℕ, Bool, true, false, Some, refl, sym, ap, ◌∙◌, arith}}
 use Rattle.sqlite.specs.Held.{state}
-use Rattle.std.specs.Prelude.{if◌then◌else◌}
-use Rattle.broker_core.specs.Change.{end_support as unsupported, done, unchanged_with}
-use Rattle.broker_core.specs.State.{State}
-use Rattle.broker_core.specs.Text.{Text, put_at, same_pair, same_text, same_version}
-use Rattle.broker_core.specs.declared.answer.Answer.TheVariants.{Done, Unknown}
-use Rattle.broker_core.specs.declared.answer.Detail.TheVariants.{Plain}
-use Rattle.broker_core.specs.declared.answer.Missing.TheVariants as missing
-use Rattle.broker_core.specs.declared.command.Version.{Version}
-use Rattle.broker_core.proofs.Judgement.{mark_is}
-use Rattle.broker_tables.specs.Numbers.{number_of}
-use Rattle.broker_tables.proofs.NumberLemmas.{one_version}
+use Rattle.broker_core.specs.{Change.{end_support as unsupported, done, unchanged_with}, State.{State}, Text.{Text, put_at, same_pair, same_text, same_version}}
+use Rattle.broker_core.specs.{declared.answer.Answer.TheVariants.{Done, Unknown}, declared.answer.Detail.TheVariants.{Plain}}
+use Rattle.broker_core.{specs.declared.command.Version.{Version}, proofs.Judgement.{mark_is}}
+use Rattle.broker_tables.{specs.Numbers.{number_of}, proofs.NumberLemmas.{one_version}}
 use Rattle.deploy_tables.specs.Releases.{EndsSupport}
 use Rattle.command_facts.proofs.PerformLemmas.{where_told}
+use Rattle.broker_core.specs.declared.answer.Missing.TheVariants as missing
 use Rattle.environment_commands.proofs.end_support.remove_release.Goals as goal
 
 -- what isn't released may be ended again

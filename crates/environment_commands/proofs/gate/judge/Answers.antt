@@ -1,8 +1,6 @@
-use Rattle.std.proofs.Common.{◌≡◌, ℕ, [], Bool, Option, sym, subst}
-use Rattle.std.specs.Prelude.{MatchOption}
+use Rattle.std.{specs.Prelude.{MatchOption}, proofs.Common.{◌≡◌, ℕ, [], Bool, Option, sym, subst}}
 use Rattle.sqlite.specs.Held.{state}
-use Rattle.broker_core.specs.Gate.{Judges}
-use Rattle.broker_core.specs.Text.{Text}
+use Rattle.broker_core.specs.{Gate.{Judges}, Text.{Text}}
 use Rattle.deploy_tables.specs.Needs.{AreFaults}
 use Rattle.command_facts.proofs.CalmLemmas.{calm_answers}
 use Rattle.environment_commands.proofs.GateJudgement.{judged}

@@ -1,17 +1,12 @@
 use Rattle.std.proofs.Common.{Some, None, Option, Ok, true, refl, sym, ap, ◌∙◌}
 use Rattle.sqlite.specs.Held.{state}
-use Rattle.broker_core.specs.Machine.{StepOfCaller}
-use Rattle.broker_core.specs.Request.{refused}
-use Rattle.broker_core.specs.declared.answer.Answer.TheVariants.{Unknown}
-use Rattle.broker_core.specs.declared.answer.Missing.{Missing}
-use Rattle.broker_core.specs.declared.answer.Missing.TheVariants as missing
+use Rattle.broker_core.specs.{Machine.{StepOfCaller}, Request.{refused}, declared.answer.Answer.TheVariants.{Unknown}, declared.answer.Missing.{Missing}}
 use Rattle.broker_core.specs.declared.command.Command.TheVariants.{GetEnvironment}
-use Rattle.command_facts.specs.Primitives.{broker_primitives}
-use Rattle.command_facts.proofs.CallerSteps.{refuses}
-use Rattle.command_facts.proofs.PerformLemmas.{answered_then, shown_then}
+use Rattle.command_facts.{specs.Primitives.{broker_primitives}, proofs.{CallerSteps.{refuses}, PerformLemmas.{answered_then, shown_then}}}
 use Rattle.broker_tables.proofs.QueryLemmas.{in_place}
 use Rattle.contract_tables.proofs.QueryLemmas.{calm_then}
 use Rattle.environment_commands.proofs.PlaceLemmas.{without_marks}
+use Rattle.broker_core.specs.declared.answer.Missing.TheVariants as missing
 use Rattle.environment_commands.proofs.listing.get_environment.Goals as goal
 
 pub returns-in-Some-clause-answers : goal.returns-in-Some-clause-answers

@@ -1,11 +1,8 @@
 use Rattle.std.proofs.Common.{refl, sym, subst}
 use Rattle.sqlite.specs.Held.{state}
-use Rattle.broker_core.specs.Machine.{StepOfCaller}
-use Rattle.broker_core.specs.Change.{unchanged_with}
-use Rattle.broker_core.specs.declared.answer.Answer.{Answer}
+use Rattle.broker_core.specs.{Machine.{StepOfCaller}, Change.{unchanged_with}, declared.answer.Answer.{Answer}}
 use Rattle.broker_core.specs.declared.command.Command.TheVariants.{GetEnvironment}
-use Rattle.command_facts.specs.Primitives.{broker_primitives}
-use Rattle.command_facts.proofs.CalmLemmas.{calm_answers}
+use Rattle.command_facts.{specs.Primitives.{broker_primitives}, proofs.CalmLemmas.{calm_answers}}
 use Rattle.environment_commands.proofs.FollowLemmas.{is_listed}
 use Rattle.environment_commands.proofs.listing.list_environment.Goals as goal
 

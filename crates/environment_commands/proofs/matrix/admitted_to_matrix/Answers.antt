@@ -1,7 +1,5 @@
 use Rattle.std.proofs.Common.{None, false, ◌∙◌}
-use Rattle.broker_core.specs.Request.{refused}
-use Rattle.broker_core.specs.declared.command.Command.TheVariants.{GetMatrix}
-use Rattle.broker_core.specs.declared.policy.Rule.TheVariants.{A6}
+use Rattle.broker_core.specs.{Request.{refused}, declared.command.Command.TheVariants.{GetMatrix}, declared.policy.Rule.TheVariants.{A6}}
 use Rattle.environment_commands.proofs.PlaceLemmas.{as_read}
 use Rattle.environment_commands.proofs.matrix.admitted_to_matrix.Goals as goal
 

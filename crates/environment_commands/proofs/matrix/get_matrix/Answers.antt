@@ -1,11 +1,7 @@
 use Rattle.std.proofs.Common.{refl}
 use Rattle.sqlite.specs.Held.{state}
-use Rattle.broker_core.specs.Machine.{StepOfCaller}
-use Rattle.broker_core.specs.Change.{unchanged_with}
-use Rattle.broker_core.specs.declared.command.Command.TheVariants.{GetMatrix}
-use Rattle.command_facts.specs.Primitives.{broker_primitives}
-use Rattle.command_facts.proofs.CallerSteps.{refuses, acts}
-use Rattle.command_facts.proofs.PerformLemmas.{answered_then, shown_then}
+use Rattle.broker_core.specs.{Machine.{StepOfCaller}, Change.{unchanged_with}, declared.command.Command.TheVariants.{GetMatrix}}
+use Rattle.command_facts.{specs.Primitives.{broker_primitives}, proofs.{CallerSteps.{refuses, acts}, PerformLemmas.{answered_then, shown_then}}}
 use Rattle.environment_commands.proofs.FailLemmas.{calm_next}
 use Rattle.environment_commands.proofs.matrix.get_matrix.Goals as goal
 

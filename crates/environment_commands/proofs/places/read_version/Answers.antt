@@ -1,9 +1,7 @@
 use Rattle.std.proofs.Common.{◌≡◌, Ok, sym, ap, ◌∙◌}
 use Rattle.sqlite.specs.Held.{state}
-use Rattle.broker_core.specs.Request.{is_known}
-use Rattle.broker_core.specs.Text.{version as version_named}
-use Rattle.broker_tables.specs.Numbers.{number_of}
-use Rattle.broker_tables.proofs.QueryLemmas.{in_place, query_failed}
+use Rattle.broker_core.specs.{Request.{is_known}, Text.{version as version_named}}
+use Rattle.broker_tables.{specs.Numbers.{number_of}, proofs.QueryLemmas.{in_place, query_failed}}
 use Rattle.command_facts.proofs.CalmLemmas.{calm_both}
 use Rattle.environment_commands.proofs.places.read_version.Goals as goal
 

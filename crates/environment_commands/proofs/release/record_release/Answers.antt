@@ -1,19 +1,13 @@
-use Rattle.std.proofs.Common.{◌≡◌, ◌∷◌, [], ℕ, Bool, true, false, Some, Err, refl, sym, subst, ap, ◌∙◌, arith}
-use Rattle.sqlite.specs.Held.{state}
 use Rattle.std.specs.Prelude.{codes, if◌then◌else◌}
+use Rattle.std.proofs.Common.{◌≡◌, ◌∷◌, [], ℕ, Bool, true, false, Some, Err, refl, sym, subst, ap, ◌∙◌, arith, ◌≤◌, ◌^◌, List, length}
+use Rattle.sqlite.specs.Held.{state}
 use Rattle.table_access.proofs.CallLemmas.{failed_then}
-use Rattle.broker_core.specs.Change.{release as released, already, done}
-use Rattle.broker_core.specs.State.{State}
-use Rattle.broker_core.specs.Text.{Text, put_at, same_pair, same_text, same_version}
-use Rattle.broker_core.specs.declared.answer.Answer.TheVariants.{Done, Already}
-use Rattle.broker_core.specs.declared.answer.Detail.TheVariants.{Plain}
+use Rattle.broker_core.specs.{Change.{release as released, already, done}, State.{State}, Text.{Text, put_at, same_pair, same_text, same_version}}
+use Rattle.broker_core.specs.{declared.answer.Answer.TheVariants.{Done, Already}, declared.answer.Detail.TheVariants.{Plain}}
 use Rattle.broker_core.specs.declared.command.Version.{Version}
-use Rattle.broker_tables.specs.Numbers.{number_of}
-use Rattle.deploy_tables.specs.Deployments.{IsEnvironment}
-use Rattle.deploy_tables.specs.Releases.{FindsReleased, MayBeReleased}
-use Rattle.command_facts.specs.Performs.{IsToChange}
-use Rattle.command_facts.proofs.PerformLemmas.{where_answered, where_changed}
-use Rattle.broker_tables.proofs.FailLemmas.{fails_changing, taking}
+use Rattle.broker_tables.{specs.Numbers.{number_of}, proofs.FailLemmas.{fails_changing, taking, calm_with}}
+use Rattle.deploy_tables.specs.{Deployments.{IsEnvironment}, Releases.{FindsReleased, MayBeReleased}}
+use Rattle.command_facts.{specs.Performs.{IsToChange}, proofs.PerformLemmas.{where_answered, where_changed}}
 use Rattle.environment_commands.specs.Places.{HasPlace}
 use Rattle.environment_commands.proofs.release.record_release.Goals as goal
 
@@ -53,12 +47,12 @@ returns-in-Err-record_released-clause-calm g c =
     let v = c.args.version.now in
     let mid = state g.S.Store c.is_released.new.conn in
     let new = state g.S.Store c.record_released.new.conn in
-    fails_changing (state g.S.Store c.args.conn.now) mid new c.in-Ok.value (Err c.in-Err-record_released.fault) _ _
+    fails_changing _ (state g.S.Store c.args.conn.now) mid new c.in-Ok.value (Err c.in-Err-record_released.fault) _ _
     1 (omega arith) (MayBeReleased c.as_str-2.result.now c.args.number) (HasPlace e v c.args.number) (IsToChange (λ s out. out ≡ released s e v))
     (λ s held there told.
     let free = stands s e v c.args.number c.in-Ok.value false c.as_str.result.now c.as_str.ensures there.1 told c.if-value.false in
     ((subst (λ (t : Text). IsEnvironment t s) (sym c.as_str-2.ensures) there.0, (v, there.1, (λ i. s.released (c.as_str-2.ensures i, v)) ∙ free)), (Plain, next s e v, releases s e v false free)))
-    c.in-Ok.ensures.call c.in-Err-record_released.ensures.changes.call (taking {A = Unit {0}} mid new (Err c.in-Err-record_released.fault) (codes "released" ∷ []) (refl, tt) 1 (omega arith) (MayBeReleased c.as_str-2.result.now c.args.number) c.in-Err-record_released.ensures.calm)
+    c.in-Ok.ensures.call c.in-Err-record_released.ensures.changes.call (taking {A = Unit {0}} _ mid new (Err c.in-Err-record_released.fault) (codes "released" ∷ []) (refl, tt) 1 (omega arith) (MayBeReleased c.as_str-2.result.now c.args.number) (calm_with {A = Unit {0}} _ _ mid new (Err c.in-Err-record_released.fault) (codes "released" ∷ []) _ (λ long are. long (subst (λ (t : List ℕ). length t ≤ 10 ^ 7) (sym c.as_str-2.ensures) are.0, tt)) c.in-Err-record_released.ensures.calm))
 
 pub returns-in-Err-record_released-clause-answers : goal.returns-in-Err-record_released-clause-answers
 returns-in-Err-record_released-clause-answers g c =

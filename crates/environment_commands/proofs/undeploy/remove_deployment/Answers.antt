@@ -1,15 +1,11 @@
-use Rattle.std.proofs.Common.{◌≡◌, Bool, true, false, Some, sym, ap, ◌∙◌, arith}
+use Rattle.std.{specs.Prelude.{if◌then◌else◌}, proofs.Common.{◌≡◌, Bool, true, false, Some, sym, ap, ◌∙◌, arith}}
 use Rattle.sqlite.specs.Held.{state}
-use Rattle.std.specs.Prelude.{if◌then◌else◌}
-use Rattle.broker_core.specs.Change.{undeploy as undeployment, done, unchanged_with, is_text}
-use Rattle.broker_core.specs.State.{State}
-use Rattle.broker_core.specs.declared.answer.Answer.TheVariants.{Done, Unknown}
-use Rattle.broker_core.specs.declared.answer.Detail.TheVariants.{Plain}
-use Rattle.broker_core.specs.declared.answer.Missing.TheVariants as missing
-use Rattle.broker_tables.specs.Numbers.{number_of}
-use Rattle.broker_tables.proofs.NumberLemmas.{one_version}
+use Rattle.broker_core.specs.{Change.{undeploy as undeployment, done, unchanged_with, is_text}, State.{State}}
+use Rattle.broker_core.specs.{declared.answer.Answer.TheVariants.{Done, Unknown}, declared.answer.Detail.TheVariants.{Plain}}
+use Rattle.broker_tables.{specs.Numbers.{number_of}, proofs.NumberLemmas.{one_version}}
 use Rattle.deploy_tables.specs.Deployments.{without_instance}
 use Rattle.command_facts.proofs.PerformLemmas.{where_told}
+use Rattle.broker_core.specs.declared.answer.Missing.TheVariants as missing
 use Rattle.environment_commands.proofs.undeploy.remove_deployment.Goals as goal
 
 pub returns-then-value-clause-answers : goal.returns-then-value-clause-answers

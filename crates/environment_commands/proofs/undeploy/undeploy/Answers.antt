@@ -1,10 +1,7 @@
 use Rattle.std.proofs.Common.{inl, inr, refl, ap, ◌∙◌}
 use Rattle.sqlite.specs.Held.{state}
-use Rattle.broker_core.specs.Change.{undeploy as undeployment}
-use Rattle.broker_core.specs.Text.{Text}
-use Rattle.broker_core.specs.declared.command.Command.TheVariants.{Undeploy}
-use Rattle.environment_commands.proofs.FailLemmas.{calm_next}
-use Rattle.environment_commands.proofs.PlaceLemmas.{refused_then, admitted_then}
+use Rattle.broker_core.specs.{Change.{undeploy as undeployment}, Text.{Text}, declared.command.Command.TheVariants.{Undeploy}}
+use Rattle.environment_commands.proofs.{FailLemmas.{calm_next}, PlaceLemmas.{refused_then, admitted_then}}
 use Rattle.environment_commands.proofs.undeploy.undeploy.Goals as goal
 
 pub returns-in-Ok-2-clause-answers : goal.returns-in-Ok-2-clause-answers

@@ -1,8 +1,6 @@
 use Rattle.sqlite.specs.Held.{state}
-use Rattle.broker_core.specs.Machine.{StepOfCaller}
-use Rattle.broker_core.specs.declared.command.Command.TheVariants.{PutEnvironment}
-use Rattle.command_facts.specs.Primitives.{broker_primitives}
-use Rattle.command_facts.proofs.PerformLemmas.{refused}
+use Rattle.broker_core.specs.{Machine.{StepOfCaller}, declared.command.Command.TheVariants.{PutEnvironment}}
+use Rattle.command_facts.{specs.Primitives.{broker_primitives}, proofs.PerformLemmas.{refused}}
 use Rattle.registry_commands.proofs.environments.put_environment.Goals as goal
 
 pub returns-in-Some-clause-answers : goal.returns-in-Some-clause-answers

@@ -1,19 +1,13 @@
-use Rattle.std.proofs.Common.{◌≡◌, Option, None, [], ◌∷◌, codes, refl, Err, Some, sym, ◌∙◌, ap}
+use Rattle.std.proofs.Common.{◌≡◌, Option, None, [], ◌∷◌, codes, refl, Err, Some, sym, ◌∙◌, ap, subst}
 use Rattle.sqlite.specs.Held.{state}
-use Rattle.broker_core.specs.Text.{put_at, same_text, Text}
-use Rattle.broker_core.specs.Change.{done}
-use Rattle.broker_core.specs.Machine.{StepOfCaller, fault_of_marks}
-use Rattle.broker_core.specs.State.{State}
-use Rattle.broker_core.specs.declared.command.Marks.{Marks}
-use Rattle.broker_core.specs.declared.policy.Caller.{Caller}
-use Rattle.broker_core.specs.declared.command.Command.TheVariants.{PutEnvironment}
-use Rattle.broker_core.specs.declared.answer.Answer.TheVariants.{Done}
-use Rattle.broker_core.specs.declared.answer.Detail.TheVariants.{Plain}
-use Rattle.command_facts.specs.Primitives.{broker_primitives}
-use Rattle.command_facts.proofs.FailLemmas.{change_fails}
-use Rattle.command_facts.proofs.PerformLemmas.{answered_then, changed_then}
+use Rattle.broker_core.specs.{Text.{put_at, same_text, Text}, Change.{done}, Machine.{StepOfCaller, fault_of_marks}, State.{State}}
+use Rattle.broker_core.specs.{declared.command.Marks.{Marks}, declared.policy.Caller.{Caller}, declared.command.Command.TheVariants.{PutEnvironment}}
+use Rattle.broker_core.specs.{declared.answer.Answer.TheVariants.{Done}, declared.answer.Detail.TheVariants.{Plain}, Name.{IsName}}
+use Rattle.command_facts.{specs.Primitives.{broker_primitives}, proofs.{FailLemmas.{change_fails}, PerformLemmas.{answered_then, changed_then}}}
+use Rattle.command_facts.proofs.ShortTexts.{name_short}
 use Rattle.registry_tables.specs.Registry.{AddsEnvironment}
 use Rattle.registry_commands.specs.Facts.{AddsNewEnvironment}
+use Rattle.broker_tables.proofs.FailLemmas.{calm_with}
 use Rattle.registry_commands.proofs.environments.put_marks.Goals as goal
 
 -- the environment that was found to be new is added
@@ -36,6 +30,6 @@ returns-in-Ok-add_environment-clause-answers g c =
 
 pub returns-in-Err-add_environment-clause-calm : goal.returns-in-Err-add_environment-clause-calm
 returns-in-Err-add_environment-clause-calm g c =
-    change_fails (state g.S.Store c.args.conn.now) (state g.S.Store c.marks_of.new.conn) (state g.S.Store c.add_environment.new.conn) c.in-Ok.value (Err c.in-Err-add_environment.fault) Plain (codes "environments" ∷ codes "strict_environments" ∷ []) (refl, (refl, tt)) _ _ _
+    change_fails _ (state g.S.Store c.args.conn.now) (state g.S.Store c.marks_of.new.conn) (state g.S.Store c.add_environment.new.conn) c.in-Ok.value (Err c.in-Err-add_environment.fault) Plain (codes "environments" ∷ codes "strict_environments" ∷ []) (refl, (refl, tt)) _ _ _
     (λ s out. StepOfCaller broker_primitives s c.args.caller.now (PutEnvironment c.args.environment.now c.args.marks) out)
-    (λ s h. adds s c.args.caller.now c.in-Ok.value c.args.marks c.args.environment.now c.as_str-in-None.result.now c.as_str-in-None.ensures c.requires c.in-None.ensures.changes (ap s.environments (sym c.as_str.ensures) ∙ sym h)) c.in-Ok.ensures.answers.call c.in-Err-add_environment.ensures.changes.call c.in-Err-add_environment.ensures.calm
+    (λ s h. adds s c.args.caller.now c.in-Ok.value c.args.marks c.args.environment.now c.as_str-in-None.result.now c.as_str-in-None.ensures c.requires c.in-None.ensures.changes (ap s.environments (sym c.as_str.ensures) ∙ sym h)) c.in-Ok.ensures.answers.call c.in-Err-add_environment.ensures.changes.call (calm_with {A = Unit {0}} _ _ _ _ (Err c.in-Err-add_environment.fault) (codes "environments" ∷ codes "strict_environments" ∷ []) _ (λ long named. long (name_short _ (subst IsName (sym c.as_str-in-None.ensures) named), tt)) c.in-Err-add_environment.ensures.calm)

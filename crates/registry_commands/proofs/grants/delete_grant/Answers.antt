@@ -1,17 +1,11 @@
-use Rattle.std.proofs.Common.{Ok, Err, ◌≡◌, true, false, sym, ◌∙◌, ap}
-use Rattle.std.specs.Prelude.{⊤}
+use Rattle.std.{specs.Prelude.{⊤}, proofs.Common.{Ok, Err, ◌≡◌, true, false, sym, ◌∙◌, ap}}
 use Rattle.sqlite.specs.Held.{state}
-use Rattle.broker_core.specs.Text.{put_at, same_text, same_pair, Text}
-use Rattle.table_access.proofs.CallLemmas.{statement_err}
-use Rattle.broker_core.specs.State.{State}
-use Rattle.broker_core.specs.Machine.{StepOfCaller}
-use Rattle.broker_core.specs.declared.command.Command.TheVariants.{DeleteGrant}
-use Rattle.broker_core.specs.declared.answer.Answer.{Answer}
-use Rattle.broker_core.specs.declared.answer.Answer.TheVariants.{Done}
+use Rattle.broker_core.specs.{Text.{put_at, same_text, same_pair, Text}, State.{State}, Machine.{StepOfCaller}}
+use Rattle.broker_core.specs.{declared.command.Command.TheVariants.{DeleteGrant}, declared.answer.Answer.{Answer}, declared.answer.Answer.TheVariants.{Done}}
 use Rattle.broker_core.specs.declared.answer.Detail.TheVariants.{Plain}
+use Rattle.table_access.proofs.CallLemmas.{statement_err}
 use Rattle.broker_tables.proofs.QueryLemmas.{in_place, in_calm, query_failed}
-use Rattle.command_facts.specs.Primitives.{broker_primitives}
-use Rattle.command_facts.proofs.PerformLemmas.{answered_then, changed_then}
+use Rattle.command_facts.{specs.Primitives.{broker_primitives}, proofs.PerformLemmas.{answered_then, changed_then}}
 use Rattle.registry_commands.proofs.grants.delete_grant.Goals as goal
 
 pub returns-in-Some-clause-answers : goal.returns-in-Some-clause-answers

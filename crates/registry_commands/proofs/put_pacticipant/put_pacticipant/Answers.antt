@@ -1,20 +1,13 @@
-use Rattle.std.proofs.Common.{◌≡◌, [], ◌∷◌, codes, refl, Err, Some, sym, ◌∙◌, ap}
-use Rattle.std.specs.Option.{is_some}
+use Rattle.std.{specs.Option.{is_some}, proofs.Common.{◌≡◌, [], ◌∷◌, codes, refl, Err, Some, sym, ◌∙◌, ap, subst}}
 use Rattle.sqlite.specs.Held.{state}
-use Rattle.broker_core.specs.Text.{put_at, same_text, Text}
-use Rattle.broker_core.specs.Change.{done}
-use Rattle.broker_core.specs.Machine.{StepOfCaller}
-use Rattle.broker_core.specs.State.{State}
-use Rattle.broker_core.specs.declared.policy.Caller.{Caller}
-use Rattle.broker_core.specs.declared.command.Command.TheVariants.{PutPacticipant}
-use Rattle.broker_core.specs.declared.answer.Answer.TheVariants.{Done}
-use Rattle.broker_core.specs.declared.answer.Detail.TheVariants.{Plain}
-use Rattle.command_facts.specs.Primitives.{broker_primitives}
-use Rattle.command_facts.proofs.FailLemmas.{change_fails}
-use Rattle.command_facts.proofs.PerformLemmas.{answered_then, changed_then}
+use Rattle.broker_core.specs.{Text.{put_at, same_text, Text}, Change.{done}, Machine.{StepOfCaller}, State.{State}, declared.policy.Caller.{Caller}}
+use Rattle.broker_core.specs.{declared.command.Command.TheVariants.{PutPacticipant}, declared.answer.Answer.TheVariants.{Done}}
+use Rattle.broker_core.specs.{declared.answer.Detail.TheVariants.{Plain}, Name.{IsName}}
+use Rattle.command_facts.{specs.Primitives.{broker_primitives}, proofs.{FailLemmas.{change_fails}, PerformLemmas.{answered_then, changed_then}}}
+use Rattle.command_facts.proofs.ShortTexts.{name_short}
 use Rattle.registry_tables.specs.Registry.{AddsPacticipant}
-use Rattle.registry_commands.specs.Facts.{IsPacticipantRead, AddsNewPacticipant}
-use Rattle.registry_commands.specs.declared.put_pacticipant.PacticipantFacts.{PacticipantFacts}
+use Rattle.registry_commands.specs.{Facts.{IsPacticipantRead, AddsNewPacticipant}, declared.put_pacticipant.PacticipantFacts.{PacticipantFacts}}
+use Rattle.broker_tables.proofs.FailLemmas.{calm_with}
 use Rattle.registry_commands.proofs.put_pacticipant.put_pacticipant.Goals as goal
 
 -- the pacticipant that was found to be new is added
@@ -37,6 +30,6 @@ returns-clause-answers g c =
 
 pub returns-in-Err-add_pacticipant-clause-calm : goal.returns-in-Err-add_pacticipant-clause-calm
 returns-in-Err-add_pacticipant-clause-calm g c =
-    change_fails (state g.S.Store c.args.conn.now) (state g.S.Store c.read_pacticipant_facts.new.conn) (state g.S.Store c.add_pacticipant.new.conn) c.in-Ok.value (Err c.in-Err-add_pacticipant.fault) Plain (codes "pacticipants" ∷ []) (refl, tt) _ _ _
+    change_fails _ (state g.S.Store c.args.conn.now) (state g.S.Store c.read_pacticipant_facts.new.conn) (state g.S.Store c.add_pacticipant.new.conn) c.in-Ok.value (Err c.in-Err-add_pacticipant.fault) Plain (codes "pacticipants" ∷ []) (refl, tt) _ _ _
     (λ s out. StepOfCaller broker_primitives s c.args.caller.now (PutPacticipant c.args.pacticipant.now c.args.team.now) out)
-    (λ s h. adds s c.args.caller.now c.in-Ok.value c.args.pacticipant.now c.args.team.now c.as_str.result.now c.as_str-in-None.result.now c.as_str.ensures c.as_str-in-None.ensures c.in-None.ensures.changes h) c.in-Ok.ensures.call c.in-Err-add_pacticipant.ensures.changes.call c.in-Err-add_pacticipant.ensures.calm
+    (λ s h. adds s c.args.caller.now c.in-Ok.value c.args.pacticipant.now c.args.team.now c.as_str.result.now c.as_str-in-None.result.now c.as_str.ensures c.as_str-in-None.ensures c.in-None.ensures.changes h) c.in-Ok.ensures.call c.in-Err-add_pacticipant.ensures.changes.call (calm_with {A = Unit {0}} _ _ _ _ (Err c.in-Err-add_pacticipant.fault) (codes "pacticipants" ∷ []) _ (λ long named. long (name_short _ (subst IsName (sym c.as_str.ensures) named.0), (name_short _ (subst IsName (sym c.as_str-in-None.ensures) named.1), tt))) c.in-Err-add_pacticipant.ensures.calm)

@@ -1,5 +1,4 @@
-use Rattle.std.proofs.Common.{Ok, sym, ◌∙◌, ap}
-use Rattle.std.specs.Option.{is_some}
+use Rattle.std.{specs.Option.{is_some}, proofs.Common.{Ok, sym, ◌∙◌, ap}}
 use Rattle.sqlite.specs.Held.{state}
 use Rattle.broker_tables.proofs.QueryLemmas.{in_place, query_failed}
 use Rattle.command_facts.proofs.CalmLemmas.{calm_both}

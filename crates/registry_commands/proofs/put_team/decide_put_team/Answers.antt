@@ -1,7 +1,5 @@
 use Rattle.std.proofs.Common.{Option, subst}
-use Rattle.broker_core.specs.Machine.{IsCallerOfDigest}
-use Rattle.broker_core.specs.declared.policy.Caller.{Caller}
-use Rattle.broker_core.specs.declared.policy.Caller.TheVariants.{Team}
+use Rattle.broker_core.specs.{Machine.{IsCallerOfDigest}, declared.policy.Caller.{Caller}, declared.policy.Caller.TheVariants.{Team}}
 use Rattle.registry_commands.proofs.put_team.decide_put_team.Goals as goal
 
 pub returns-in-None-holder-clause-unused : goal.returns-in-None-holder-clause-unused

@@ -1,9 +1,7 @@
-use Rattle.std.proofs.Common.{◌≡◌, ◌++◌, ◌∷◌, [], Bool, true, false, sym, ap, ◌∙◌}
-use Rattle.std.specs.Prelude.{is_some, if◌then◌else◌}
+use Rattle.std.{specs.Prelude.{is_some, if◌then◌else◌}, proofs.Common.{◌≡◌, ◌++◌, ◌∷◌, [], Bool, true, false, sym, ap, ◌∙◌}}
 use Rattle.sqlite.specs.Held.{state}
 use Rattle.table_access.proofs.CallLemmas.{statement_with}
-use Rattle.broker_core.specs.Change.{on_branch}
-use Rattle.broker_core.specs.Request.{is_known}
+use Rattle.broker_core.specs.{Change.{on_branch}, Request.{is_known}}
 use Rattle.command_facts.proofs.PerformLemmas.{unchanged}
 use Rattle.registry_commands.proofs.versions.ensure_version.Goals as goal
 

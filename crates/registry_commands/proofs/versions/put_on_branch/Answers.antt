@@ -1,12 +1,8 @@
-use Rattle.std.proofs.Common.{◌≡◌, Ok, Option, Some, sym, ap, subst, ◌∙◌, refl}
-use Rattle.sqlite.specs.Held.{state}
+use Rattle.std.{specs.Prelude.{unwrap_or}, proofs.Common.{[], ◌∷◌, codes, ◌≡◌, Ok, Option, Some, sym, ap, subst, ◌∙◌, refl, ◌≤◌, ◌^◌, length}}
+use Rattle.sqlite.specs.{Held.{state}, State.{State as View}}
 use Rattle.table_access.proofs.CallLemmas.{statement_with, idle, memory_ok}
-use Rattle.broker_core.specs.Text.{Text}
-use Rattle.broker_core.specs.Change.{joined}
-use Rattle.sqlite.specs.State.{State as View}
-use Rattle.broker_core.specs.State.{State}
-use Rattle.broker_tables.specs.Holds.{Holds, HoldsAfter}
-use Rattle.broker_tables.proofs.RoomLemmas.{takes_none}
+use Rattle.broker_core.specs.{Text.{Text}, Change.{joined}, State.{State}}
+use Rattle.broker_tables.{specs.Holds.{Holds, HoldsAfter}, proofs.{RoomLemmas.{takes_none}, FailLemmas.{calm_with}}}
 use Rattle.registry_commands.proofs.versions.put_on_branch.Goals as goal
 
 held_as : (now : View) (s t : State) → t ≡ s → Holds now.now s → HoldsAfter 2 now now t
@@ -21,7 +17,7 @@ returns-in-Some-clause-changes g c =
 pub returns-in-Some-clause-calm : goal.returns-in-Some-clause-calm
 returns-in-Some-clause-calm g c clean s here next =
     let is_branch : c.args.branch.now ≡ Some c.as_str.result.now = c.in-Some.is ∙ ap Some (sym c.as_str.ensures) in
-    c.add_branch.ensures.calm clean s here (_, (next.1.0, next.1.1, next.1.2 c.as_str.result.now is_branch, refl))
+    calm_with _ _ _ _ c.add_branch.result (codes "branches" ∷ []) _ (λ long are. long (subst (λ (o : Option Text). length (unwrap_or o []) ≤ 10 ^ 7) is_branch are.0, tt)) c.add_branch.ensures.calm clean s here (_, (next.1.0, next.1.1, next.1.2 c.as_str.result.now is_branch, refl))
 
 pub returns-in-None-clause-changes : goal.returns-in-None-clause-changes
 returns-in-None-clause-changes g c =
