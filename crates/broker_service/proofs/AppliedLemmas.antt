@@ -1,24 +1,13 @@
 -- What the broker's call leaves, put together from what its transaction leaves.
-use Rattle.std.proofs.Common.{◌≡◌, ◌↔◌, inl, inr, Option, Result, Ok, Err, IfOk, false, IsTrue, refl, sym, subst, ◌∙◌}
-use Rattle.std.specs.Prelude.{◌≢◌}
-use Rattle.sqlite.specs.Held.{Held}
-use Rattle.sqlite.specs.State.{State, HasCleanDisk}
-use Rattle.table_access.specs.Calls.{KeepsLastCommit}
-use Rattle.table_access.specs.declared.StoreFault.{StoreFault}
+use Rattle.std.{specs.Prelude.{◌≢◌}, proofs.Common.{◌≡◌, ◌↔◌, inl, inr, Option, Result, Ok, Err, IfOk, false, IsTrue, refl, sym, subst, ◌∙◌}}
+use Rattle.sqlite.specs.{Held.{Held}, State.{State, HasCleanDisk}}
+use Rattle.table_access.specs.{Calls.{KeepsLastCommit}, declared.StoreFault.{StoreFault}}
+use Rattle.broker_core.specs.{Laws.{IsDone}, State.{State as Broker}, Text.{Text}, declared.answer.Answer.{Answer}, declared.command.Command.{Command}}
+use Rattle.broker_service.specs.{BrokerView.{BrokerView}, Calls.{Applied}, Causes.{Transacted, StaysReadable, IsSoundCommand}}
+use Rattle.broker_service.specs.{Ends.{Applies, AppliesOrFails, IsAsBefore, IsUnchangedUnless, IsNoFailure}, Stored.{HoldsState}}
+use Rattle.broker_service.proofs.{EndLemmas.{deployed_exactly, released_exactly}, Transaction.{outlives_itself}}
 use Rattle.table_access.specs.declared.StoreFault.TheVariants as fault
-use Rattle.broker_core.specs.Laws.{IsDone}
-use Rattle.broker_core.specs.State.{State as Broker}
-use Rattle.broker_core.specs.Text.{Text}
-use Rattle.broker_core.specs.declared.answer.Answer.{Answer}
 use Rattle.broker_core.specs.declared.answer.Answer.TheVariants as answers
-use Rattle.broker_core.specs.declared.command.Command.{Command}
-use Rattle.broker_service.specs.BrokerView.{BrokerView}
-use Rattle.broker_service.specs.Calls.{Applied}
-use Rattle.broker_service.specs.Causes.{Transacted, StaysReadable}
-use Rattle.broker_service.specs.Ends.{Applies, AppliesOrFails, IsAsBefore, IsUnchangedUnless, IsNoFailure}
-use Rattle.broker_service.specs.Stored.{HoldsState}
-use Rattle.broker_service.proofs.EndLemmas.{deployed_exactly, released_exactly}
-use Rattle.broker_service.proofs.Transaction.{outlives_itself}
 
 -- the answer that a transaction's end is told as
 abbrev pub told : Result Answer StoreFault → Answer
@@ -57,15 +46,15 @@ module _ {X : Type 0} (shown : Held X → State) where
   -- what a running broker's transaction leaves
   pub ran : (old : BrokerView X) (token : Option Text) (command : Command) (r : Result Answer StoreFault) (answer : Answer) (new : BrokerView X) → answer ≡ told r
       → Transacted shown token command old.connection new.connection r
-      → IfOk r IsNoFailure → (IsTrue new.is_stopped ↔ (answer ≡ answers.Store)) → old.is_stopped ≡ false → StaysReadable token command → Applied shown old token command answer new
-  ran old token command r answer new is it answered stops running reads = record {
+      → IfOk r IsNoFailure → (IsTrue new.is_stopped ↔ (answer ≡ answers.Store)) → old.is_stopped ≡ false → IsSoundCommand token command → Applied shown old token command answer new
+  ran old token command r answer new is it answered stops running (named, reads) = record {
     readable = reads;
     applies = λ clean _. applies clean;
     deployments = λ clean _ step s holds. deployed_exactly s token command _ answer (applies clean s holds) step;
     releases = λ clean _ step s holds. released_exactly s token command _ answer (applies clean s holds) step;
     unchanged = λ clean _ other undone. unchanged_told _ _ r (it.unchanged clean) (subst (λ (a : Answer). a ≢ answers.Store) is other) (subst (λ (a : Answer). ¬ (IsDone a)) is undone);
     fails = λ clean store. fails_told _ _ r (it.unchanged clean) (sym is ∙ store);
-    calm = λ clean _ store s holds. it.calm clean s holds (store_told r answered (sym is ∙ store));
+    calm = λ clean _ store s holds. it.calm clean named s holds (store_told r answered (sym is ∙ store));
     room = λ clean _. it.room clean;
     over = it.over;
     stops = λ _. stops;

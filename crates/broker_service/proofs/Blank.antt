@@ -1,9 +1,6 @@
 -- A new database in memory has no tables.
 use Rattle.std.proofs.Common.{sym, subst}
-use Rattle.sqlite.specs.Tree.{Trees}
-use Rattle.sqlite.specs.Effect.{IsDatabase}
-use Rattle.sqlite.specs.Held.{Held, state}
-use Rattle.sqlite.specs.Steps.{over_memory, IsEmpty}
+use Rattle.sqlite.specs.{Tree.{Trees}, Effect.{IsDatabase}, Held.{Held, state}, Steps.{over_memory, IsEmpty}}
 use Rattle.sqlite_trees.specs.declared.memory.MemStore.{MemStore}
 use Rattle.table_access.specs.Durability.{HoldsDurably}
 use Rattle.broker_tables.specs.Making.{IsBlank}

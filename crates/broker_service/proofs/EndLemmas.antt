@@ -1,28 +1,15 @@
 -- What a transaction ends with, from what its command did.
 use Rattle.std.proofs.Common.{◌≡◌, ◌⊎◌, inl, inr, Option, Some, true, false, IsTrue, refl, sym, subst, ap, ◌∙◌}
-use Rattle.sqlite.specs.Effect.{Database}
-use Rattle.sqlite.specs.State.{State}
-use Rattle.broker_core.specs.Laws.{IsDone}
-use Rattle.broker_core.specs.Text.{Text}
-use Rattle.broker_core.specs.State.{State as Broker}
-use Rattle.broker_core.specs.Change.{Transition, instance_of}
-use Rattle.broker_core.specs.Machine.{Step, is_step}
-use Rattle.broker_core.specs.declared.answer.Answer.{Answer}
-use Rattle.broker_core.specs.declared.answer.Answer.TheVariants.{Pattern, Memory, Store}
-use Rattle.broker_core.specs.declared.command.Command.{Command}
-use Rattle.broker_core.specs.declared.command.Command.TheVariants.{Deploy, Release}
-use Rattle.broker_core.specs.declared.command.Version.{Version}
-use Rattle.broker_core.proofs.Headline as headline
-use Rattle.broker_core.proofs.StepLemmas.{step_answers}
+use Rattle.sqlite.specs.{Effect.{Database}, State.{State}}
+use Rattle.broker_core.specs.{Laws.{IsDone}, Text.{Text}, State.{State as Broker}, Change.{Transition, instance_of}, Machine.{Step, is_step}}
+use Rattle.broker_core.specs.{declared.answer.Answer.{Answer}, declared.answer.Answer.TheVariants.{Pattern, Memory, Store}, declared.command.Command.{Command}}
+use Rattle.broker_core.{specs.{declared.command.Command.TheVariants.{Deploy, Release}, declared.command.Version.{Version}}, proofs.StepLemmas.{step_answers}}
 use Rattle.broker_core.proofs.Quiet.{only_done_changes}
 use Rattle.broker_tables.specs.Holds.{Holds}
-use Rattle.command_facts.specs.Primitives.{broker_primitives}
-use Rattle.command_facts.specs.Patterns.{RefusesPattern, AsksPattern}
-use Rattle.broker_service.specs.Ends.{Steps, KeepsAtPattern, Applies}
-use Rattle.broker_service.specs.Headline.{RecordsExactly}
-use Rattle.broker_service.specs.Stored.{Stores, HoldsState}
+use Rattle.command_facts.specs.{Primitives.{broker_primitives}, Patterns.{RefusesPattern, AsksPattern}}
+use Rattle.broker_service.{specs.{Ends.{Steps, KeepsAtPattern, Applies}, Headline.{RecordsExactly}, Stored.{Stores, HoldsState}}, proofs.Sound.{stays_sound}}
 use Rattle.registry_tables.proofs.TeamRows.{teams_differ}
-use Rattle.broker_service.proofs.Sound.{stays_sound}
+use Rattle.broker_core.proofs.Headline as headline
 
 module _ (s : Broker) (token : Option Text) (command : Command) (was : Database) (stored : Stores was s) where
   abbrev pub IsStepOrPattern : Transition → Type 0

@@ -2,11 +2,8 @@
 -- opening state.
 use Rattle.std.proofs.Common.{[], refl, sym, subst}
 use Rattle.sqlite.specs.Effect.{Database}
-use Rattle.broker_core.specs.Text.{Text}
-use Rattle.broker_core.specs.State.{opening}
-use Rattle.broker_core.proofs.SoundContents.{opening_is_sound}
-use Rattle.broker_tables.specs.Making.{HasTables}
-use Rattle.broker_tables.specs.Former.{HoldsFormer, former_tables, former_format}
+use Rattle.broker_core.{specs.{Text.{Text}, State.{opening}}, proofs.SoundContents.{opening_is_sound}}
+use Rattle.broker_tables.specs.{Making.{HasTables}, Former.{HoldsFormer, former_tables, former_format}}
 use Rattle.broker_tables.specs.Holds.{AreTeams, ArePacticipants, AreVersions, AreBranches, AreEnvironments, AreGrants, AreContents, AreContracts, AreResults, AreLatest, AreDeployed, AreReleased}
 use Rattle.command_facts.specs.Primitives.{broker_primitives}
 use Rattle.broker_service.specs.Migration.{StoresFormer}

@@ -1,22 +1,14 @@
 -- What is told of a database by the format that is found in it.
-use Rattle.std.proofs.Common.{◌≡◌, ℕ, ℤ, Bool, pos, List, [], ◌∷◌, map, length, refl, sym, ap, subst, ◌∙◌, Some, None, Option, Ok, Err, true, false, ◌==◌}
 use Rattle.std.specs.Prelude.{if◌then◌else◌}
-use Rattle.std.proofs.lemmas.Bool.{eqb-true, eqb-false}
-use Rattle.std.proofs.lemmas.List.{length-map}
-use Rattle.sqlite.specs.Table.{Table}
+use Rattle.std.proofs.Common.{◌≡◌, ℕ, ℤ, Bool, pos, List, [], ◌∷◌, map, length, refl, sym, ap, subst, ◌∙◌, Some, None, Option, Ok, Err, true, false, ◌==◌}
+use Rattle.std.proofs.{lemmas.Bool.{eqb-true, eqb-false}, lemmas.List.{length-map}}
+use Rattle.sqlite.specs.{Table.{Table}, Effect.{Database}, declared.types.Value.TheVariants.{Int}, Order.{Row, column}, Edit.{id_in}}
 use Rattle.sqlite_schema.specs.Names.{same_name}
-use Rattle.sqlite.specs.Effect.{Database}
-use Rattle.sqlite.specs.declared.types.Value.TheVariants.{Int}
-use Rattle.sqlite.specs.Order.{Row, column}
-use Rattle.sqlite.specs.Edit.{id_in}
 use Rattle.table_access.specs.Columns.{whole_at}
 use Rattle.broker_core.specs.Text.{Text}
-use Rattle.broker_tables.specs.Schema.{meta, no_schema}
-use Rattle.broker_tables.specs.Making.{IsMarked}
-use Rattle.broker_tables.specs.Holds.{IsMeta}
+use Rattle.broker_tables.specs.{Schema.{meta, no_schema}, Making.{IsMarked}, Holds.{IsMeta}}
 use Rattle.registry_tables.specs.Format.{IsOfFormat, Finds, table_of}
-use Rattle.broker_service.specs.declared.opening.OpenFault.TheVariants.{Format}
-use Rattle.broker_service.specs.Opening.{OpensOrRefuses, judgement}
+use Rattle.broker_service.specs.{declared.opening.OpenFault.TheVariants.{Format}, Opening.{OpensOrRefuses, judgement}}
 
 -- the judgement by the format that is found is right, whichever format is wanted
 pub judged : (wanted : ℕ) (db : Database) (found : Option ℕ) → Finds db found → OpensOrRefuses wanted db (judgement wanted found)

@@ -2,6 +2,7 @@ pub mod Transaction
 pub mod TransactLemmas
 pub mod StoreFailures
 pub mod WorkFailures
+pub mod OpenFailures
 pub mod Sound
 pub mod EndLemmas
 pub mod AppliedLemmas

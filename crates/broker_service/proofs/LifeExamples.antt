@@ -1,16 +1,10 @@
 -- worked examples of what files keep: a broker is made at the second try and serves, and one of format 1 is migrated
-use Rattle.std.proofs.Common.{◌≡◌, ◌∙◌, inl, inr, refl, List, [], ◌∷◌}
-use Rattle.std.specs.Prelude.{codes, None}
-use Rattle.broker_core.specs.declared.command.Command.TheVariants.{GetEnvironment}
-use Rattle.broker_core.specs.declared.answer.Answer.TheVariants.{Denied}
-use Rattle.broker_core.specs.declared.policy.Rule.TheVariants.{A1}
-use Rattle.broker_core.specs.Machine.{Request, Step}
-use Rattle.broker_core.specs.Laws.Exit.{Stepped, WasCut}
-use Rattle.broker_core.specs.State.{State as Broker, opening}
+use Rattle.std.{specs.Prelude.{codes, None}, proofs.Common.{◌≡◌, ◌∙◌, inl, inr, refl, List, [], ◌∷◌}}
+use Rattle.broker_core.specs.{declared.command.Command.TheVariants.{GetEnvironment}, declared.answer.Answer.TheVariants.{Denied}}
+use Rattle.broker_core.specs.{declared.policy.Rule.TheVariants.{A1}, Machine.{Request, Step}, Laws.Exit.{Stepped, WasCut}, State.{State as Broker, opening}}
 use Rattle.broker_core.specs.Text.{Text}
 use Rattle.command_facts.specs.Primitives.{broker_primitives}
-use Rattle.broker_service.specs.Life.{Kept, Period, PeriodLeads, LifeLeads}
-use Rattle.broker_service.specs.Life.Kept.{Blank, OfFormer, OfToday}
+use Rattle.broker_service.specs.{Life.{Kept, Period, PeriodLeads, LifeLeads}, Life.Kept.{Blank, OfFormer, OfToday}}
 use Rattle.broker_service.specs.Life.Period.{Serving, Making, Migrating, NotOpened}
 
 -- somebody without a token asks what is in an environment

@@ -1,62 +1,31 @@
 -- What files keep over any number of periods.
-use Rattle.std.proofs.Common.{OnOk, IfErr, ◌≡◌, ◌≢◌, ◌<◌, ◌⊎◌, inl, inr, ℕ, List, [], ◌∷◌, ◌++◌, map, ◌==◌, length, Option, Some, None, Result, Ok, Err, true, false, IsTrue, refl, sym, subst, ap, ◌∙◌, arith}
-use base.Stored.{Coded-set}
 use Rattle.std.specs.Coded.{coded_list}
-use Rattle.std.proofs.Math.Logic.{∥∥₁_elim, ∥∥₁_map}
-use Rattle.std.proofs.Math.Path.{fun_ext}
-use Rattle.sqlite_disk.specs.declared.Disk.{Ghosts}
-use Rattle.sqlite_disk.specs.declared.Files.{Files}
+use Rattle.std.proofs.Common.{OnOk, IfErr, ◌≡◌, ◌≢◌, ◌<◌, ◌⊎◌, inl, inr, ℕ, List, [], ◌∷◌, ◌++◌, map, ◌==◌, length, Option, Some, None, Result, Ok, Err, true, false, IsTrue, refl, sym, subst, ap, ◌∙◌, arith}
+use Rattle.std.proofs.{Math.Logic.{∥∥₁_elim, ∥∥₁_map}, Math.Path.{fun_ext}}
+use Rattle.sqlite_disk.specs.{declared.Disk.{Ghosts}, declared.Files.{Files}}
 use Rattle.sqlite_trees.specs.Objects.{catalog_tree}
 use Rattle.sqlite_value.specs.contracts.row.Row.{the_row}
-use Rattle.sqlite.specs.Tree.{Trees}
-use Rattle.sqlite.specs.Recovery.{Image}
-use Rattle.sqlite.specs.Schema.{Schema}
-use Rattle.sqlite.specs.Effect.{Database, IsDatabase}
-use Rattle.sqlite.specs.declared.FileStore.{FileStore}
-use Rattle.sqlite.specs.declared.file.Leftover.{Leftover}
-use Rattle.sqlite.specs.declared.file.Leftover.TheVariants as left
-use Rattle.sqlite.specs.Held.{Held, AreDatabases}
-use Rattle.sqlite.specs.Start.{FindsIn}
-use Rattle.sqlite.specs.State.{State, HasCleanDisk}
-use Rattle.sqlite.specs.Files.{HoldsDatabase, AreFoundIn, LeavesFiles, IsOpened, IsEmpty, file_state, image_of}
-use Rattle.sqlite.proofs.ListingLemmas.{empty_is_sound}
-use Rattle.sqlite.proofs.Theorems.{opens_again}
-use Rattle.sqlite.proofs.FileLemmas.{is_something}
+use Rattle.sqlite.specs.{Tree.{Trees}, Recovery.{Image}, Schema.{Schema}, Effect.{Database, IsDatabase}, declared.FileStore.{FileStore}}
+use Rattle.sqlite.specs.{declared.file.Leftover.{Leftover}, Held.{Held, AreDatabases}, Start.{FindsIn}, State.{State, HasCleanDisk}}
+use Rattle.sqlite.{specs.Files.{HoldsDatabase, AreFoundIn, LeavesFiles, IsOpened, IsEmpty, file_state, image_of}, proofs.ListingLemmas.{empty_is_sound}}
+use Rattle.sqlite.proofs.{Theorems.{opens_again}, FileLemmas.{is_something}}
 use Rattle.sqlite_catalog.specs.Listing.{IsSound}
-use Rattle.sqlite_store.specs.FileStore.{recovers}
-use Rattle.sqlite_store.specs.Unopened.{state_of}
-use Rattle.sqlite_store.specs.declared.store.open.Unopened.{Unopened}
+use Rattle.sqlite_store.specs.{FileStore.{recovers}, Unopened.{state_of}, declared.store.open.Unopened.{Unopened}}
 use Rattle.table_access.specs.Durability.{HoldsDurably, IsOnDisk}
-use Rattle.broker_core.specs.Text.{Text}
-use Rattle.broker_core.specs.Machine.{Request}
-use Rattle.broker_core.specs.State.{State as Broker, opening}
-use Rattle.broker_core.specs.Laws.{Exit, LeavesSessions}
-use Rattle.broker_core.proofs.DoneLemmas.{sessions_run}
+use Rattle.broker_core.{specs.{Text.{Text}, Machine.{Request}, State.{State as Broker, opening}, Laws.{Exit, LeavesSessions}}, proofs.DoneLemmas.{sessions_run}}
 use Rattle.broker_core.proofs.SessionLemmas.{sessions, runs_once}
-use Rattle.broker_tables.specs.Former.{former_format, former_tables}
-use Rattle.broker_tables.specs.Holds.{format}
-use Rattle.broker_tables.specs.Making.{IsBlank, IsMarked}
-use Rattle.broker_tables.specs.Schema.{no_schema, schema_of, broker_schema}
+use Rattle.broker_tables.specs.{Former.{former_format, former_tables}, Holds.{format}, Making.{IsBlank, IsMarked}, Schema.{no_schema, schema_of, broker_schema}}
 use Rattle.command_facts.specs.Primitives.{broker_primitives}
-use Rattle.broker_service.specs.BrokerView.{BrokerView}
-use Rattle.broker_service.specs.Calls.{Created, Opened, Migrated}
-use Rattle.broker_service.specs.Ends.{AddsNoCrashState}
-use Rattle.broker_service.specs.Handed.{verdict}
+use Rattle.broker_service.specs.{BrokerView.{BrokerView}, Calls.{Created, Opened, Migrated}, Ends.{AddsNoCrashState}, Handed.{verdict}}
 use Rattle.broker_service.specs.Life.{Kept, Period, calls_of, RunsFrom, LeavesAsWas, PeriodLeads, LifeLeads, BeginsFrom, sessions_in, LivesRun, AreTreesOf, KeepsLatest, PeriodRuns, PeriodsLead, MayLeave, AreFilesOf, EndsAs, HoldsAsBefore, LeavesUnopened, PeriodOnFiles, LifeOnFiles, LivesLead, OpenedFilesHold, IsUnharmed, OpeningSpares}
-use Rattle.broker_service.specs.Life.Kept.{Blank, OfFormer, OfToday}
-use Rattle.broker_service.specs.Life.Period.{Serving, Making, Migrating, NotOpened}
-use Rattle.broker_service.specs.Migration.{StoresFormer, IsFormer}
-use Rattle.broker_service.specs.Opening.{Refuses, Judged, judgement}
-use Rattle.broker_service.specs.Sessions.{IsOpenedOn, GivenRuns}
-use Rattle.broker_service.specs.Stored.{Stores, HoldsState}
-use Rattle.broker_service.specs.declared.broker.Refused.{Refused}
-use Rattle.broker_service.specs.declared.opening.OpenFault.{OpenFault}
-use Rattle.broker_service.specs.declared.opening.OpenFault.TheVariants as fault
-use Rattle.broker_service.proofs.Judgements.{blank_none, marked_some}
-use Rattle.broker_service.proofs.MigrationLemmas.{former_marked, held_now}
-use Rattle.broker_service.proofs.SchemaLemmas.{one_schema}
-use Rattle.broker_service.proofs.SessionLemmas.{given_clean, given_lead}
+use Rattle.broker_service.specs.{Life.Kept.{Blank, OfFormer, OfToday}, Life.Period.{Serving, Making, Migrating, NotOpened}, Migration.{StoresFormer, IsFormer}}
+use Rattle.broker_service.specs.{Opening.{Refuses, Judged, judgement}, Sessions.{IsOpenedOn, GivenRuns}, Stored.{Stores, HoldsState}}
+use Rattle.broker_service.{specs.{declared.broker.Refused.{Refused}, declared.opening.OpenFault.{OpenFault}}, proofs.Judgements.{blank_none, marked_some}}
+use Rattle.broker_service.proofs.{MigrationLemmas.{former_marked, held_now}, SchemaLemmas.{one_schema}, SessionLemmas.{given_clean, given_lead}}
 use Rattle.broker_service.proofs.Transaction.{adds_nothing}
+use base.Stored.{Coded-set}
+use Rattle.sqlite.specs.declared.file.Leftover.TheVariants as left
+use Rattle.broker_service.specs.declared.opening.OpenFault.TheVariants as fault
 
 -- ---- the trees that a connection was opened on
 

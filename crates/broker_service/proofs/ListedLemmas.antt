@@ -1,26 +1,14 @@
 -- The tables of a state that a database holds are finite.
-use Rattle.std.proofs.Common.{◌≡◌, ℕ, ℤ, pos, List, [], ◌∷◌, ◌++◌, map, true, false, inl, inr, refl, sym, ap, subst, ◌∙◌, Some, None, Option, codes}
-use Rattle.std.specs.Prelude.{Contains, is_some, option_map, option_and_then}
-use Rattle.std.specs.Option.{option_map_or}
-use Rattle.std.specs.Ordering.{int_cmp}
+use Rattle.std.specs.{Prelude.{Contains, is_some, option_map, option_and_then}, Option.{option_map_or}, Ordering.{int_cmp}}
 use Rattle.std.specs.Cmp.Lexicographic.{nat_list_cmp_total}
-use Rattle.std.proofs.lemmas.List.Elements.{Contains-append_left, Contains-append_right}
-use Rattle.std.proofs.lemmas.Map.Views.{Contains-from_any}
-use Rattle.sqlite.specs.Order.{Row}
-use Rattle.sqlite.specs.Effect.{Database}
+use Rattle.std.proofs.Common.{◌≡◌, ℕ, ℤ, pos, List, [], ◌∷◌, ◌++◌, map, true, false, inl, inr, refl, sym, ap, subst, ◌∙◌, Some, None, Option, codes}
+use Rattle.std.proofs.{lemmas.List.Elements.{Contains-append_left, Contains-append_right}, lemmas.Map.Views.{Contains-from_any}}
+use Rattle.sqlite.specs.{Order.{Row}, Effect.{Database}}
 use Rattle.sqlite_rules.specs.Lists.{Has}
-use Rattle.table_access.specs.Columns.{text, text_cmp, whole_at, by_both}
-use Rattle.table_access.proofs.Maps.{find_has}
-use Rattle.broker_core.specs.declared.command.Version.{Version}
-use Rattle.broker_core.specs.Listed.{Covers, IsListed}
-use Rattle.broker_core.specs.State.{State as Broker}
-use Rattle.broker_core.specs.Text.{Text, version}
-use Rattle.broker_core.proofs.Judgement.{version_is}
-use Rattle.broker_core.proofs.Lists.{contains_none, contains_cases, contains_here, contains_later}
-use Rattle.broker_tables.specs.Holds.{Holds}
-use Rattle.broker_tables.specs.Numbers.{number_of}
-use Rattle.broker_tables.specs.Rows.{rows_of, value_at, stands_at}
-use Rattle.broker_tables.proofs.NumberLemmas.{known_numbered}
+use Rattle.table_access.{specs.Columns.{text, text_cmp, whole_at, by_both}, proofs.Maps.{find_has}}
+use Rattle.broker_core.specs.{declared.command.Version.{Version}, Listed.{Covers, IsListed}, State.{State as Broker}, Text.{Text, version}}
+use Rattle.broker_core.proofs.{Judgement.{version_is}, Lists.{contains_none, contains_cases, contains_here, contains_later}}
+use Rattle.broker_tables.{specs.{Holds.{Holds}, Numbers.{number_of}, Rows.{rows_of, value_at, stands_at}}, proofs.NumberLemmas.{known_numbered}}
 use Rattle.broker_tables.proofs.Orders.{exact_texts, marked_total, exact_marked, triples_total, exact_triple, placed_total, exact_placed}
 use Rattle.broker_tables.proofs.Standing.{stands_found}
 

@@ -1,27 +1,16 @@
 -- What the transactions leave that make a broker's tables, look for a format, and bring a database up.
-use Rattle.std.proofs.Common.{◌≡◌, ◌↔◌, Option, ℕ, Some, None, Result, Ok, Err, IsOkAnd, is_ok, Bool, false, IsTrue, refl, subst, sym}
+use Rattle.std.proofs.Common.{◌≡◌, ◌↔◌, Option, ℕ, Some, None, Result, Ok, Err, IsOkAnd, is_ok, Bool, false, IsTrue, refl, subst, sym, ◌⊎◌, inl, IfErr}
 use Rattle.std.proofs.lemmas.Result.{IfOk-weaker}
-use Rattle.sqlite.specs.Effect.{Database}
-use Rattle.sqlite.specs.State.{State, HasCleanDisk, Survives}
-use Rattle.table_access.specs.Calls.{CallsTablesBetween}
-use Rattle.table_access.specs.Durability.{HoldsDurably}
-use Rattle.table_access.specs.Unit.{Begins, IsLeft}
-use Rattle.table_access.specs.declared.StoreFault.{StoreFault}
+use Rattle.sqlite.specs.{Effect.{Database}, State.{State, HasCleanDisk, Survives}}
+use Rattle.table_access.specs.{Calls.{CallsTablesBetween}, Durability.{HoldsDurably}, Unit.{Begins, IsLeft, FailsToBegin}, declared.StoreFault.{StoreFault}}
 use Rattle.table_access.specs.declared.StoreFault.TheVariants.{Memory, Store}
-use Rattle.broker_core.specs.State.{State as Broker, opening}
-use Rattle.broker_core.specs.Text.{Text}
-use Rattle.broker_tables.specs.Former.{former_format}
-use Rattle.broker_tables.specs.Holds.{Holds}
-use Rattle.broker_tables.specs.Making.{IsBlank}
-use Rattle.broker_tables.specs.Room.{HasAllNumbers}
-use Rattle.registry_tables.specs.Format.{FindsFormer, IsOfFormat}
-use Rattle.broker_service.specs.Migration.{StoresFormer, IsFormer, BringsUp, BringsUpOrNot}
-use Rattle.broker_service.specs.Opening.{MakesOrFails, Refuses, open_fault}
-use Rattle.broker_service.specs.Stored.{Stores, HoldsState}
-use Rattle.broker_service.specs.Transaction.{Concludes}
-use Rattle.broker_service.proofs.MigrationLemmas.{former_found}
-use Rattle.broker_service.proofs.Sound.{opens_sound}
+use Rattle.broker_core.specs.{State.{State as Broker, opening}, Text.{Text}}
+use Rattle.broker_tables.specs.{Former.{former_format}, Holds.{Holds}, Making.{IsBlank}, Room.{HasAllNumbers}}
+use Rattle.registry_tables.specs.Format.{FindsFormer, IsOfFormat, FailsToFind}
+use Rattle.broker_service.specs.{Migration.{StoresFormer, IsFormer, BringsUp, BringsUpOrNot}, Opening.{MakesOrFails, Refuses, open_fault}}
+use Rattle.broker_service.{specs.{Stored.{Stores, HoldsState}, Transaction.{Concludes}}, proofs.{MigrationLemmas.{former_found}, Sound.{opens_sound}}}
 use Rattle.broker_service.proofs.Transaction.{WholeTransaction, transaction_ends, transaction_unchanged, transaction_told, transaction_spares, transaction_over, transaction_once, unbegun_ends, unbegun_unchanged, unbegun_over, adds_nothing, once_at_most}
+use Rattle.broker_service.proofs.OpenFailures.{looking_fails, unbegun_fails}
 
 -- ---- the format is looked for
 
@@ -70,13 +59,14 @@ abbrev IsBroughtUp : State → State → Option ℕ → Type 0
 IsBroughtUp mid done found = FindsFormer mid.now found × (found ≡ Some former_format → BringsUp mid.now done.now)
 
 -- nothing is committed but by a database of format 1
-former_of : (db : Database) (found : Option ℕ) → FindsFormer db found → found ≡ Some former_format → IsFormer db
+pub former_of : (db : Database) (found : Option ℕ) → FindsFormer db found → found ≡ Some former_format → IsFormer db
 former_of db None it is = absurd (cc)
 former_of db (Some n) it is = let same : n ≡ former_format = cc in (subst (λ k. IsOfFormat k db) same it.0, it.1 same)
 
 pub brought_up : (old mid done new : State) (worked result : Result (Option ℕ) StoreFault) (keeps : Bool) → (HasCleanDisk mid → Begins old mid) → Survives old mid (λ _. ⊥) → CallsTablesBetween mid done worked (IsBroughtUp mid done)
-    → (IsTrue keeps ↔ IsOkAnd worked (λ found. found ≡ Some former_format)) → Concludes done new keeps worked result → BringsUpOrNot old new result
-brought_up old mid done new worked result keeps begun begins works kept concludes = record {
+    → (IsTrue keeps ↔ IsOkAnd worked (λ found. found ≡ Some former_format)) → Concludes done new keeps worked result
+    → (HasCleanDisk done → mid.step_limit ≡ None → IfErr worked (λ fault. FailsToFind mid done fault ⊎ IsFormer mid.now)) → BringsUpOrNot old new result
+brought_up old mid done new worked result keeps begun begins works kept concludes looks = record {
   found = λ clean. IfOk-weaker result _ _ (λ found it. (it.0, subst (λ (db : Database). FindsFormer db found) it.1 it.2.0)) (transaction_told old mid done new _ _ result t clean);
   ends = λ clean s holds.
       transaction_ends old mid done new _ _ result t (λ db. StoresFormer db s) (λ db. Stores db s) (λ found. (found ≡ Some former_format) × HoldsState s new) clean holds
@@ -87,6 +77,7 @@ brought_up old mid done new worked result keeps begun begins works kept conclude
   over = transaction_over old mid done new _ _ result t;
   survives = transaction_once old mid done new _ _ result t;
   spares = λ clean other. transaction_spares old mid done new _ _ result t (λ found same up is. other (subst IsFormer same (former_of mid.now found up.0 is))) clean;
+  calm = λ clean fresh. looking_fails old mid done new _ _ result t clean fresh IsFormer looks (λ found up is. former_of mid.now found up.0 is);
 }
   where
     t : WholeTransaction old mid done new (IsBroughtUp mid done) (λ found. found ≡ Some former_format) result
@@ -96,12 +87,13 @@ brought_up old mid done new worked result keeps begun begins works kept conclude
     stored s found was up is = record { tables = up.1 is s was.tables; contents = was.contents }
 
 -- where BEGIN was refused
-pub not_brought_up : (old new : State) (why : StoreFault) → (HasCleanDisk new → IsLeft old new) → Survives old new (λ _. ⊥) → BringsUpOrNot old new (Err why)
-not_brought_up old new why refused begins = record {
+pub not_brought_up : (old new : State) (why : StoreFault) → (HasCleanDisk new → IsLeft old new) → (HasCleanDisk new → FailsToBegin old new why) → Survives old new (λ _. ⊥) → BringsUpOrNot old new (Err why)
+not_brought_up old new why refused cause begins = record {
   found = λ clean. tt;
   ends = λ clean s holds. unbegun_ends old new why refused begins (λ db. StoresFormer db s) (λ db. Stores db s) (λ found. (found ≡ Some former_format) × HoldsState s new) clean holds;
   unchanged = unbegun_unchanged old new why refused begins (λ found. found ≡ Some former_format);
   over = unbegun_over old new refused;
   survives = once_at_most old new begins;
   spares = λ clean other. adds_nothing old new begins clean;
+  calm = λ clean fresh is. inl (inl (unbegun_fails old new why fresh (cause clean) (let same : why ≡ Store = (let h = is in cc) in same)));
 }

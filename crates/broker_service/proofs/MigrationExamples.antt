@@ -1,23 +1,13 @@
 -- worked examples of a migration: what the rows of format 1 say of results, and what its gate said
-use Rattle.std.proofs.Common.{◌≡◌, refl, Bool, true, false, List, [], ◌∷◌, pos, if◌then◌else◌}
-use Rattle.std.specs.Prelude.{codes, Some, None}
-use Rattle.sqlite.specs.declared.types.Value.TheVariants.{Null, Int, Text as Words}
-use Rattle.sqlite.specs.Order.{Row}
-use Rattle.broker_core.specs.declared.answer.Answer.TheVariants.{Shown}
-use Rattle.broker_core.specs.declared.answer.Shown.TheVariants.{Gate}
-use Rattle.broker_core.specs.declared.command.Marks.{Marks}
-use Rattle.broker_core.specs.declared.command.Version.{Version}
-use Rattle.broker_core.specs.declared.need.Kind.{Kind}
-use Rattle.broker_core.specs.declared.need.Kind.TheVariants.{Missing, Failed}
-use Rattle.broker_core.specs.declared.need.PairFault.{PairFault}
-use Rattle.broker_core.specs.Change.{unchanged_with}
-use Rattle.broker_core.specs.State.{State as Broker, Verification, opening, claimed_result, checked_result}
-use Rattle.broker_core.specs.Text.{Text, same_text, put_at, version}
+use Rattle.std.{specs.Prelude.{codes, Some, None}, proofs.Common.{◌≡◌, refl, Bool, true, false, List, [], ◌∷◌, pos, if◌then◌else◌}}
+use Rattle.sqlite.specs.{declared.types.Value.TheVariants.{Null, Int, Text as Words}, Order.{Row}}
+use Rattle.broker_core.specs.{declared.answer.Answer.TheVariants.{Shown}, declared.answer.Shown.TheVariants.{Gate}, declared.command.Marks.{Marks}}
+use Rattle.broker_core.specs.{declared.command.Version.{Version}, declared.need.Kind.{Kind}, declared.need.Kind.TheVariants.{Missing, Failed}}
+use Rattle.broker_core.specs.{declared.need.PairFault.{PairFault}, Change.{unchanged_with}}
+use Rattle.broker_core.specs.{State.{State as Broker, Verification, opening, claimed_result, checked_result}, Text.{Text, same_text, put_at, version}}
 use Rattle.broker_core.proofs.Judgement.{Rows, with_rows, row_keys, judges}
-use Rattle.broker_tables.specs.Former.{IsUnmarked}
-use Rattle.broker_tables.specs.Holds.{AreResults}
-use Rattle.broker_service.specs.Migration.{Showed}
-use Rattle.broker_service.proofs.MigrationLemmas.{judges_as_before}
+use Rattle.broker_tables.specs.{Former.{IsUnmarked}, Holds.{AreResults}}
+use Rattle.broker_service.{specs.Migration.{Showed}, proofs.MigrationLemmas.{judges_as_before}}
 
 abbrev shop : Version
 shop = version (codes "shop") (codes "1")

@@ -1,46 +1,26 @@
 -- What a migration finds, and what it leaves of a state.
+use Rattle.std.specs.{Prelude.{if◌then◌else◌, option_map, IsTrue, ◌↔◌, IsSomeAnd, Result, Ok, Err, OnOk, IfErr}, Option.{option_map_or}}
 use Rattle.std.proofs.Common.{◌≡◌, ◌≢◌, ◌==◌, ◌∷◌, [], inl, inr, ℕ, List, Bool, true, false, not, ◌&&◌, refl, sym, ap, subst, ◌∙◌, drop, Option, Some, None, Result, Ok, Err}
-use Rattle.std.specs.Prelude.{if◌then◌else◌, option_map, IsTrue, ◌↔◌, IsSomeAnd, Result, Ok, Err, OnOk, IfErr}
 use Rattle.std.proofs.lemmas.Bool.{eqb-true, eqb-false}
-use Rattle.std.specs.Option.{option_map_or}
-use Rattle.sqlite.specs.Effect.{Database}
-use Rattle.sqlite.specs.State.{State}
-use Rattle.table_access.specs.declared.StoreFault.{StoreFault}
-use Rattle.table_access.specs.declared.StoreFault.TheVariants as store_fault
-use Rattle.table_access.specs.Durability.{HoldsDurably}
-use Rattle.broker_core.specs.declared.answer.Answer.TheVariants.{Shown}
-use Rattle.broker_core.specs.declared.answer.Shown.TheVariants.{Gate}
-use Rattle.broker_core.specs.declared.command.Command.TheVariants.{CanIDeploy}
-use Rattle.broker_core.specs.declared.command.Marks.{Marks}
-use Rattle.broker_core.specs.declared.command.Version.{Version}
-use Rattle.broker_core.specs.declared.need.Kind.TheVariants.{Failed, Claimed}
-use Rattle.broker_core.specs.declared.need.Latest.{Latest}
-use Rattle.broker_core.specs.declared.need.Need.{Need}
-use Rattle.broker_core.specs.declared.need.PairFault.{PairFault}
-use Rattle.broker_core.specs.Change.{Transition, unchanged_with}
-use Rattle.broker_core.specs.Faults.{fault_of, kind_of}
-use Rattle.broker_core.specs.Gate.{IsGood, IsPermitted, IsFault, Judges}
-use Rattle.broker_core.specs.Machine.{TakesEffect}
-use Rattle.broker_core.specs.State.{State as Broker, is_strict}
-use Rattle.broker_core.specs.Text.{Text}
-use Rattle.sqlite.specs.Table.{Table}
-use Rattle.sqlite_schema.specs.declared.schema.Column.{Column}
-use Rattle.sqlite_schema.specs.Names.{same_name}
-use Rattle.broker_tables.specs.Schema as tables
-use Rattle.broker_tables.specs.Schema.{no_schema, schema_of}
-use Rattle.broker_tables.specs.Making.{IsBlank, IsMarked}
-use Rattle.broker_tables.specs.Former.{HoldsFormer, IsUnmarked, former_tables, former_format}
+use Rattle.sqlite.specs.{Effect.{Database}, State.{State}, Table.{Table}}
+use Rattle.table_access.specs.{declared.StoreFault.{StoreFault}, Durability.{HoldsDurably}}
+use Rattle.broker_core.specs.{declared.answer.Answer.TheVariants.{Shown}, declared.answer.Shown.TheVariants.{Gate}}
+use Rattle.broker_core.specs.{declared.command.Command.TheVariants.{CanIDeploy}, declared.command.Marks.{Marks}, declared.command.Version.{Version}}
+use Rattle.broker_core.specs.{declared.need.Kind.TheVariants.{Failed, Claimed}, declared.need.Latest.{Latest}, declared.need.Need.{Need}}
+use Rattle.broker_core.specs.{declared.need.PairFault.{PairFault}, Change.{Transition, unchanged_with}, Faults.{fault_of, kind_of}}
+use Rattle.broker_core.specs.{Gate.{IsGood, IsPermitted, IsFault, Judges}, Machine.{TakesEffect}, State.{State as Broker, is_strict}, Text.{Text}}
+use Rattle.sqlite_schema.specs.{declared.schema.Column.{Column}, Names.{same_name}}
+use Rattle.broker_tables.specs.{Schema.{no_schema, schema_of}, Making.{IsBlank, IsMarked}, Former.{HoldsFormer, IsUnmarked, former_tables, former_format}}
 use Rattle.broker_tables.proofs.Former.{unmarked}
 use Rattle.registry_tables.specs.Format.{AreLike, AreKeys, HasForm, HasFormerTables, IsOfFormat, FindsFormer}
 use Rattle.command_facts.specs.Primitives.{broker_primitives}
-use Rattle.broker_service.specs.Calls.{Migrated}
-use Rattle.broker_service.specs.Ends.{IsUnchangedUnless}
+use Rattle.broker_service.specs.{Calls.{Migrated}, Ends.{IsUnchangedUnless}}
 use Rattle.broker_service.specs.Migration.{StoresFormer, BringsUpOrNot, MigratesOrRefuses, WasGood, WasPermitted, WasFault, WasJudged, Showed, JudgesAsBefore, former_kind, former_fault, former_marks}
-use Rattle.broker_service.specs.Opening.{Refuses, IsUnchangedUnlessStore, judgement, open_fault}
-use Rattle.broker_service.specs.Stored.{Stores, HoldsState}
-use Rattle.broker_service.specs.declared.opening.OpenFault.{OpenFault}
-use Rattle.broker_service.specs.declared.opening.OpenFault.TheVariants.{Format}
-use Rattle.broker_service.proofs.Judgements.{blank_none, marked_some}
+use Rattle.broker_service.specs.{Opening.{Refuses, IsUnchangedUnlessStore, judgement, open_fault}, Stored.{Stores, HoldsState}}
+use Rattle.broker_service.specs.{declared.opening.OpenFault.{OpenFault}, declared.opening.OpenFault.TheVariants.{Format}}
+use Rattle.broker_service.proofs.{Judgements.{blank_none, marked_some}, OpenFailures.{judgement_is_none}}
+use Rattle.table_access.specs.declared.StoreFault.TheVariants as store_fault
+use Rattle.broker_tables.specs.Schema as tables
 
 -- what is held durably is seen, while the connection is open
 pub held_now : (P : Database → Type 0) (c : State) → HoldsDurably P c → IsTrue c.is_open → P c.now
@@ -251,6 +231,7 @@ migrated old new found up = record {
       let is : Ok tt ≡ judgement former_format found = sym (ap (judgement former_format) (up.ends clean s keeps).0) in
       subst (λ (r : Result (Unit {0}) OpenFault). IfErr r (Refuses (λ db. StoresFormer db s) (λ db. Stores db s) new)) is tt;
   judges = λ clean. judged_former old.now found (up.found clean).1;
+  calm = λ clean fresh is. absurd (judgement_is_none former_format found is);
   blank = λ clean keeps.
       let it = up.found clean in
       inl (ap (judgement former_format) (blank_former old.now found (held_now IsBlank old keeps it.0).schema it.1));
@@ -269,6 +250,7 @@ unmigrated old new store_fault.Memory up = record {
   migrates = λ _ _ _. tt;
   refuses = up.ends;
   judges = λ _. tt;
+  calm = λ clean fresh is. absurd (cc);
   blank = λ _ _. inr (inl refl);
   marked = λ _ _ _ _ _. inr (inl refl);
   unchanged = up.unchanged;
@@ -280,6 +262,7 @@ unmigrated old new store_fault.Store up = record {
   migrates = λ _ _ _. tt;
   refuses = up.ends;
   judges = λ _. tt;
+  calm = λ clean fresh is. up.calm clean fresh refl;
   blank = λ _ _. inr (inr refl);
   marked = λ _ _ _ _ _. inr (inr refl);
   unchanged = up.unchanged;

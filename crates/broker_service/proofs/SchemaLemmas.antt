@@ -1,19 +1,10 @@
 -- The list of objects tells the schema.
-use Rattle.std.proofs.Common.{inl, inr, ◌≡◌, ◌∙◌, ℕ, ◌+◌, pos, List, [], ◌∷◌, filter, false, refl, sym, ap, arith}
-use Rattle.std.specs.List.{AllZip}
-use Rattle.sqlite.specs.declared.types.Value.{Value}
-use Rattle.sqlite.specs.declared.types.Value.TheVariants.{Null, Int, Real, Text, Blob}
-use Rattle.sqlite.specs.Order.{Row, column}
-use Rattle.sqlite.specs.Table.{Table}
-use Rattle.sqlite.specs.Schema.{Schema}
-use Rattle.sqlite.specs.Tree.{rowid, IsAscending}
-use Rattle.sqlite_schema.specs.declared.schema.Index.{Index}
-use Rattle.sqlite_schema.specs.declared.schema.View.{View as Stored}
-use Rattle.sqlite_schema.specs.Names.{same_name}
-use Rattle.sqlite_rules.specs.Lists.{Has}
-use Rattle.sqlite_rules.proofs.ListLemmas.{all_has}
-use Rattle.sqlite_catalog.specs.Listing.{Lists, IsTableRow, IsIndexRow, IsViewRow, IsDefined, automatic, is_index_row}
-use Rattle.sqlite_catalog.proofs.StepLemmas.{same_itself}
+use Rattle.std.{specs.List.{AllZip}, proofs.Common.{inl, inr, ◌≡◌, ◌∙◌, ℕ, ◌+◌, pos, List, [], ◌∷◌, filter, false, refl, sym, ap, arith}}
+use Rattle.sqlite.specs.{declared.types.Value.{Value}, declared.types.Value.TheVariants.{Null, Int, Real, Text, Blob}, Order.{Row, column}, Table.{Table}}
+use Rattle.sqlite.specs.{Schema.{Schema}, Tree.{rowid, IsAscending}}
+use Rattle.sqlite_schema.specs.{declared.schema.Index.{Index}, declared.schema.View.{View as Stored}, Names.{same_name}}
+use Rattle.sqlite_rules.{specs.Lists.{Has}, proofs.ListLemmas.{all_has}}
+use Rattle.sqlite_catalog.{specs.Listing.{Lists, IsTableRow, IsIndexRow, IsViewRow, IsDefined, automatic, is_index_row}, proofs.StepLemmas.{same_itself}}
 use Rattle.sqlite_catalog.proofs.AlterLemmas.{numbers_differ}
 
 zip_same : {A B : Type 0} (R : A → B → Type 0) (xs : List A) (ys zs : List B) → ((x : A) (y z : B) → R x y → R x z → y ≡ z) → AllZip R xs ys → AllZip R xs zs → ys ≡ zs

@@ -1,23 +1,14 @@
 -- Where the calls of a session lead.
 use Rattle.std.proofs.Common.{◌≡◌, ◌≢◌, ◌⊎◌, ◌≤◌, inl, inr, Bool, List, [], ◌∷◌, Result, Ok, Err, true, false, IsTrue, refl, sym, subst, ap, ◌∙◌, arith}
-use Rattle.sqlite.specs.Tree.{Trees}
+use Rattle.sqlite.specs.{Tree.{Trees}, Held.{Held}, State.{State, HasCleanDisk}}
 use Rattle.sqlite_trees.specs.View.{doubt}
-use Rattle.sqlite.specs.Held.{Held}
-use Rattle.sqlite.specs.State.{State, HasCleanDisk}
 use Rattle.table_access.specs.Durability.{IsOnDisk}
-use Rattle.broker_core.specs.State.{State as Broker}
-use Rattle.broker_core.specs.Machine.{Request, is_step}
-use Rattle.broker_core.specs.Laws.{Exit, AllNoStep, IsSession, CallLeaves, LeavesAll}
-use Rattle.broker_core.specs.Laws.Exit.{Stepped, NoStep, WasCut}
-use Rattle.broker_core.specs.declared.answer.Answer.{Answer}
-use Rattle.broker_core.specs.declared.answer.Answer.TheVariants as answer
+use Rattle.broker_core.specs.{State.{State as Broker}, Machine.{Request, is_step}, Laws.{Exit, AllNoStep, IsSession, CallLeaves, LeavesAll}}
+use Rattle.broker_core.specs.{Laws.Exit.{Stepped, NoStep, WasCut}, declared.answer.Answer.{Answer}}
 use Rattle.command_facts.specs.Primitives.{broker_primitives}
-use Rattle.broker_service.specs.BrokerView.{BrokerView}
-use Rattle.broker_service.specs.Ends.{Applies}
-use Rattle.broker_service.specs.Handed.{left_by}
-use Rattle.broker_service.specs.Sessions.{exit_of, RunsCalls, GivenRuns}
-use Rattle.broker_service.specs.Stored.{Stores, HoldsState}
-use Rattle.broker_service.specs.declared.broker.Refused.{Refused}
+use Rattle.broker_service.specs.{BrokerView.{BrokerView}, Ends.{Applies}, Handed.{left_by}, Sessions.{exit_of, RunsCalls, GivenRuns}}
+use Rattle.broker_service.specs.{Stored.{Stores, HoldsState}, declared.broker.Refused.{Refused}}
+use Rattle.broker_core.specs.declared.answer.Answer.TheVariants as answer
 
 -- ---- exits
 

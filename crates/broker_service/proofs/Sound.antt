@@ -1,12 +1,7 @@
 -- Each stored pact can be read again: so it is in a new broker's state, and each step keeps it.
 use Rattle.std.proofs.Common.{Option}
-use Rattle.broker_core.specs.Contents.{HasSoundContents}
-use Rattle.broker_core.specs.State.{State, opening}
-use Rattle.broker_core.specs.Text.{Text}
-use Rattle.broker_core.specs.Change.{Transition}
-use Rattle.broker_core.specs.Machine.{Step}
-use Rattle.broker_core.specs.declared.command.Command.{Command}
-use Rattle.broker_core.proofs.SoundContents.{contents_stay, opening_is_sound}
+use Rattle.broker_core.specs.{Contents.{HasSoundContents}, State.{State, opening}, Text.{Text}, Change.{Transition}, Machine.{Step}}
+use Rattle.broker_core.{specs.declared.command.Command.{Command}, proofs.SoundContents.{contents_stay, opening_is_sound}}
 use Rattle.pact_reading.proofs.Again.{reads_again}
 use Rattle.command_facts.specs.Primitives.{broker_primitives}
 

@@ -1,14 +1,9 @@
 -- Why a transaction is answered Store: the store failed, or what the work fails by besides.
 use Rattle.std.proofs.Common.{◌≡◌, ◌⊎◌, inl, inr, ◌≤◌, Bool, true, false, IsTrue, Result, Ok, Err, IfErr, refl, sym, ◌∙◌, arith}
 use Rattle.sqlite.specs.State.{State, HasCleanDisk}
-use Rattle.table_access.specs.Calls.{HasFailed, GoesOn, FailsAs}
-use Rattle.table_access.specs.Unit.{Begins, TellsRollback}
-use Rattle.table_access.specs.declared.StoreFault.{StoreFault}
-use Rattle.table_access.specs.declared.StoreFault.TheVariants.{Memory, Store}
-use Rattle.table_access.proofs.CallLemmas.{ended_since}
-use Rattle.table_access.proofs.RefusedEnds.{failed_idle}
-use Rattle.broker_service.specs.Transaction.{conclusion}
-use Rattle.broker_service.proofs.Transaction.{IsTransaction, WholeTransaction, transaction_begun}
+use Rattle.table_access.specs.{Calls.{HasFailed, GoesOn, FailsAs}, Unit.{Begins, TellsRollback}, declared.StoreFault.{StoreFault}}
+use Rattle.table_access.{specs.declared.StoreFault.TheVariants.{Memory, Store}, proofs.{CallLemmas.{ended_since}, RefusedEnds.{failed_idle}}}
+use Rattle.broker_service.{specs.Transaction.{conclusion}, proofs.Transaction.{IsTransaction, WholeTransaction, transaction_begun}}
 
 module _ {A : Type 0} (old mid done new : State) (X Keeps : A → Type 0) (Why : Type 0) (clean : HasCleanDisk new) where
   -- what is to be kept isn't

@@ -1,38 +1,20 @@
 -- What the transaction of a command leaves.
 use Rattle.std.proofs.Common.{◌≡◌, ◌⊎◌, ◌↔◌, ◌≤◌, inl, inr, arith, Option, Result, Ok, Err, IsOk, IfErr, IsOkAnd, Bool, IsTrue, refl, sym, subst, subst₂, ◌∙◌}
 use Rattle.std.proofs.lemmas.Result.{IfErr-weaker}
-use Rattle.sqlite.specs.Effect.{Database}
-use Rattle.sqlite.specs.Held.{Held}
-use Rattle.sqlite.specs.State.{State, HasCleanDisk, Survives}
-use Rattle.table_access.specs.Calls.{HasFailed, IsEnded, GoesOn}
-use Rattle.table_access.specs.Unit.{Begins, IsLeft, FailsToBegin, RefusesCommit, CommitIsRefused}
-use Rattle.table_access.proofs.CallLemmas.{ended_since}
-use Rattle.table_access.specs.declared.StoreFault.{StoreFault}
-use Rattle.table_access.specs.declared.StoreFault.TheVariants.{Memory, Store}
-use Rattle.table_access.proofs.EndLemmas as ends
-use Rattle.broker_core.specs.Change.{Transition}
-use Rattle.broker_core.specs.Contents.{HasSoundContents}
-use Rattle.broker_core.specs.Laws.{IsDone}
-use Rattle.broker_core.specs.Machine.{Step}
-use Rattle.broker_core.specs.State.{State as Broker}
-use Rattle.broker_core.specs.Text.{Text}
-use Rattle.broker_core.specs.declared.answer.Answer.{Answer}
-use Rattle.broker_core.specs.declared.answer.Answer.TheVariants.{Done}
-use Rattle.broker_core.specs.declared.command.Command.{Command}
-use Rattle.broker_tables.specs.Calm.{Serves, HasFailedOrMemory}
-use Rattle.broker_tables.specs.Holds.{Holds, HoldsAfter}
-use Rattle.broker_tables.specs.Room.{HasRoomFor, TakesRoom, enough}
+use Rattle.sqlite.specs.{Effect.{Database}, Held.{Held}, State.{State, HasCleanDisk, Survives}}
+use Rattle.table_access.specs.{Calls.{HasFailed, GoesOn, EndsBy}, Unit.{Begins, IsLeft, FailsToBegin, RefusesCommit, CommitIsRefused}}
+use Rattle.table_access.{specs.{declared.StoreFault.{StoreFault}, declared.StoreFault.TheVariants.{Memory, Store}}, proofs.CallLemmas.{ended_since, ended_with}}
+use Rattle.broker_core.specs.{Change.{Transition}, Contents.{HasSoundContents}, Laws.{IsDone}, Machine.{Step}, State.{State as Broker}, Text.{Text}}
+use Rattle.broker_core.specs.{declared.answer.Answer.{Answer}, declared.answer.Answer.TheVariants.{Done}, declared.command.Command.{Command}}
+use Rattle.broker_core.specs.SoundNames.{AreNames}
+use Rattle.broker_tables.specs.{Calm.{Serves, HasFailedOrMemory, FailsFromBetween}, Holds.{Holds, HoldsAfter}, Room.{HasRoomFor, TakesRoom, enough}}
 use Rattle.broker_tables.proofs.RoomLemmas.{takes_none}
-use Rattle.command_facts.specs.Performs.{PerformsBetween, TokensStep, IsToChange}
-use Rattle.command_facts.specs.Primitives.{broker_primitives}
-use Rattle.broker_tables.specs.Calm.{FailsFromBetween}
+use Rattle.command_facts.specs.{Performs.{PerformsBetween, TokensStep, IsToChange, IsMisnamed}, Primitives.{broker_primitives}}
 use Rattle.broker_service.specs.Causes.{HoldsReadable, IsToBeDone, IsGivenUp, IsNotKept, KeepsRoom, Transacted}
-use Rattle.broker_service.specs.Ends.{AppliesOrFails, HoldsNext, Steps, KeepsAtPattern}
-use Rattle.broker_service.specs.Stored.{Stores, HoldsState}
-use Rattle.broker_service.specs.Transaction.{Concludes}
+use Rattle.broker_service.specs.{Ends.{AppliesOrFails, HoldsNext, Steps, KeepsAtPattern}, Stored.{Stores, HoldsState}, Transaction.{Concludes}}
 use Rattle.broker_service.proofs.Transaction.{WholeTransaction, transaction_ends, transaction_unchanged, transaction_shows, transaction_begun, transaction_over, transaction_once, unbegun_ends, unbegun_unchanged, unbegun_over, once_at_most}
-use Rattle.broker_service.proofs.EndLemmas.{done_steps, next_stored, steps_on, undone_keeps}
-use Rattle.broker_service.proofs.StoreFailures.{transaction_fails}
+use Rattle.broker_service.proofs.{EndLemmas.{done_steps, next_stored, steps_on, undone_keeps}, StoreFailures.{transaction_fails}}
+use Rattle.table_access.proofs.EndLemmas as ends
 
 module _ (token : Option Text) (command : Command) where
   -- what the work promises of its answer
@@ -95,16 +77,16 @@ module _ (token : Option Text) (command : Command) where
       was : Stores (shown mid).now s
       was = ends.begins (λ db. Stores db s) (shown old) (shown mid) begun_there ready.held
 
-      given_up : IsEnded (shown mid) (shown done) Store ⊎ (HoldsNext s token command (shown done).now × RefusesCommit shown done new Memory) → IsGivenUp shown s token command old new
+      given_up : HasFailed (shown mid) (shown done) Store ⊎ (HoldsNext s token command (shown done).now × RefusesCommit shown done new Memory) → IsGivenUp shown s token command old new
       given_up why = record { begun = mid; worked = done; begins = begun_there; refused = why }
 
       -- what a refused change was to do is to be done
-      work_fails : (fault : StoreFault) → HasFailedOrMemory (shown mid) (shown done) fault ⊎ (IsToChange (TokensStep token command) s × (HasRoomFor enough (shown mid).now → IsEnded (shown mid) (shown done) fault)) → fault ≡ Store
+      work_fails : AreNames command → (fault : StoreFault) → HasFailedOrMemory (shown mid) (shown done) fault ⊎ (IsToChange (TokensStep token command) s × (HasRoomFor enough (shown mid).now → EndsBy (IsMisnamed command) (shown mid) (shown done) fault)) → fault ≡ Store
           → HasFailed (shown mid) (shown done) fault ⊎ IsNotKept shown s token command old new
-      work_fails fault (inl (inl failed)) is = inl failed
-      work_fails fault (inl (inr memory)) is = absurd (let clash : Memory ≡ Store = sym memory ∙ is in cc)
-      work_fails fault (inr (change, ended)) is =
-          inr (to_be_done s (shown mid).now was change, λ room. given_up (inl (subst (IsEnded (shown mid) (shown done)) is (ended (subst (HasRoomFor enough) (sym begun_there.1.now_is) room)))))
+      work_fails named fault (inl (inl failed)) is = inl failed
+      work_fails named fault (inl (inr memory)) is = absurd (let clash : Memory ≡ Store = sym memory ∙ is in cc)
+      work_fails named fault (inr (change, ended)) is =
+          inr (to_be_done s (shown mid).now was change, λ room. given_up (inl (subst (HasFailed (shown mid) (shown done)) is (ended_with (shown mid) (shown done) fault (λ long. long named) (ended (subst (HasRoomFor enough) (sym begun_there.1.now_is) room))))))
 
       -- and what was done isn't kept
       not_kept : (answer : Answer) → IsPerformed (shown mid) (shown done) answer → IsDone answer → GoesOn (shown mid) (shown done) → (fault : StoreFault) → RefusesCommit shown done new fault → HasFailed (shown old) (shown new) Store ⊎ IsNotKept shown s token command old new
@@ -115,23 +97,23 @@ module _ (token : Option Text) (command : Command) where
           inr ((record { answer = answer; state = next.0 }, is_done, next.1), λ room. given_up (inr ((answer, next.0, next.1, next.2), refused)))
 
       -- why it is answered Store
-      transacted_calm : FailsFromBetween (shown mid) (shown done) t.worked (HasSoundContents broker_primitives) (IsToChange (TokensStep token command)) → (IsTrue t.keeps → IsOk t.worked → IfErr result (λ _. CommitIsRefused shown done new))
+      transacted_calm : AreNames command → FailsFromBetween (shown mid) (shown done) t.worked (IsMisnamed command) (HasSoundContents broker_primitives) (IsToChange (TokensStep token command)) → (IsTrue t.keeps → IsOk t.worked → IfErr result (λ _. CommitIsRefused shown done new))
           → result ≡ Err Store → HasFailed (shown old) (shown new) Store ⊎ IsNotKept shown s token command old new
-      transacted_calm why refused is =
+      transacted_calm named why refused is =
           let served : Serves (shown mid) s = record { inside = begun_there.1.mode; unlimited = t.begins.limit ∙ ready.unlimited; held = was.tables; readable = ready.readable } in
           let worked : HasCleanDisk (shown done) = omega (arith, t.concludes.ends.survives.clean, clean) in
           transaction_fails (shown old) (shown mid) (shown done) (shown new) _ _ (IsNotKept shown s token command old new) clean result t
-          (IfErr-weaker t.worked _ _ (λ fault it store. work_fails fault it store) (why worked s served was.contents))
+          (IfErr-weaker t.worked _ _ (λ fault it store. work_fails named fault it store) (why worked s served was.contents))
           (λ answer performs is_done kept on. let cause = subst (λ (r : Result Answer StoreFault). IfErr r (λ _. CommitIsRefused shown done new)) is (refused kept (done_is_ok t.worked (t.kept.0 kept))) in not_kept answer performs is_done on cause.0 cause.1) is
 
     pub transacted : (old mid done new : Held X) (worked result : Result Answer StoreFault) (keeps : Bool) → (HasCleanDisk (shown mid) → Begins (shown old) (shown mid)) → Survives (shown old) (shown mid) (λ _. ⊥)
         → PerformsBetween (shown mid) (shown done) (TokensStep token command) worked
-        → FailsFromBetween (shown mid) (shown done) worked (HasSoundContents broker_primitives) (IsToChange (TokensStep token command)) → (IsTrue keeps ↔ IsOkAnd worked IsDone) → Concludes (shown done) (shown new) keeps worked result
+        → FailsFromBetween (shown mid) (shown done) worked (IsMisnamed command) (HasSoundContents broker_primitives) (IsToChange (TokensStep token command)) → (IsTrue keeps ↔ IsOkAnd worked IsDone) → Concludes (shown done) (shown new) keeps worked result
         → (HasCleanDisk (shown new) → IsTrue keeps → IsOk worked → IfErr result (λ _. CommitIsRefused shown done new)) → Transacted shown token command old new result
     transacted old mid done new worked result keeps begun begins works calm kept concludes refused = record {
       ends = transacted_ends (shown old) (shown mid) (shown done) (shown new) result t;
       unchanged = transaction_unchanged (shown old) (shown mid) (shown done) (shown new) _ _ result t;
-      calm = λ clean s ready. transacted_calm old mid done new result t clean s ready calm (refused clean);
+      calm = λ clean named s ready. transacted_calm old mid done new result t clean s ready named calm (refused clean);
       room = transacted_room (shown old) (shown mid) (shown done) (shown new) result t;
       over = transaction_over (shown old) (shown mid) (shown done) (shown new) _ _ result t;
       survives = transaction_once (shown old) (shown mid) (shown done) (shown new) _ _ result t;
@@ -146,7 +128,7 @@ module _ (token : Option Text) (command : Command) where
     untransacted old new why refused cause begins = record {
       ends = λ clean s holds. unbegun_ends (shown old) (shown new) why refused begins (λ db. Stores db s) (HoldsNext s token command) (λ answer. Steps s token command (shown new) answer ⊎ KeepsAtPattern s token command (shown new) answer) clean holds;
       unchanged = unbegun_unchanged (shown old) (shown new) why refused begins IsDone;
-      calm = λ clean s ready is. let same : why ≡ Store = (let h = is in cc) in inl (subst (HasFailed (shown old) (shown new)) same (begin_fails s (shown old) (shown new) why ready.held (cause clean)));
+      calm = λ clean named s ready is. let same : why ≡ Store = (let h = is in cc) in inl (subst (HasFailed (shown old) (shown new)) same (begin_fails s (shown old) (shown new) why ready.held (cause clean)));
       room = λ clean s holds now. takes_none enough (shown old).now (shown new).now (unbegun_shows (shown old) (shown new) holds (refused clean) now);
       over = unbegun_over (shown old) (shown new) refused;
       survives = once_at_most (shown old) (shown new) begins;

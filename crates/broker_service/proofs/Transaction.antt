@@ -1,19 +1,13 @@
 -- What a transaction leaves of the connection that it began on.
-use Rattle.std.proofs.Common.{◌≡◌, ◌⊎◌, ◌↔◌, inl, inr, Bool, true, false, refl, IsTrue, IsOkAnd, IfOk, Result, Ok, Err, sym, subst, ◌∙◌, arith}
-use Rattle.sqlite.specs.Effect.{Database, IsDatabase}
 use Rattle.std.specs.Prelude.{⊤, is_ok}
-use Rattle.sqlite.specs.Tree.{Trees}
-use Rattle.sqlite.proofs.StateLemmas.{survives_then}
-use Rattle.sqlite.specs.State.{State, HasCleanDisk, Survives}
-use Rattle.table_access.specs.Unit.{Begins, IsLeft, IsOver}
-use Rattle.table_access.specs.declared.StoreFault.{StoreFault}
-use Rattle.table_access.specs.declared.StoreFault.TheVariants as fault
-use Rattle.table_access.specs.Calls.{CallsTablesBetween, CallsStoreBetween, KeepsLastCommit, GoesOn}
-use Rattle.table_access.specs.Durability.{HoldsDurably, HoldsEither}
-use Rattle.table_access.proofs.CallLemmas.{left_commit, statement_err, statement_seq}
-use Rattle.table_access.proofs.EndLemmas.{begins, commits, refused, keeps_unsure}
+use Rattle.std.proofs.Common.{◌≡◌, ◌⊎◌, ◌↔◌, inl, inr, Bool, true, false, refl, IsTrue, IsOkAnd, IfOk, Result, Ok, Err, sym, subst, ◌∙◌, arith}
+use Rattle.sqlite.{specs.{Effect.{Database, IsDatabase}, Tree.{Trees}, State.{State, HasCleanDisk, Survives}}, proofs.StateLemmas.{survives_then}}
+use Rattle.table_access.specs.{Unit.{Begins, IsLeft, IsOver}, declared.StoreFault.{StoreFault}}
+use Rattle.table_access.specs.{Calls.{CallsTablesBetween, CallsStoreBetween, KeepsLastCommit, GoesOn}, Durability.{HoldsDurably, HoldsEither}}
+use Rattle.table_access.proofs.{CallLemmas.{left_commit, statement_err, statement_seq}, EndLemmas.{begins, commits, refused, keeps_unsure}}
 use Rattle.broker_service.specs.Ends.{IsAsBefore, IsUnchangedUnless, AddsNoCrashState, CommitsAtMostOnce, LeavesNoTransaction}
 use Rattle.broker_service.specs.Transaction.{Finishes, Concludes, EndsOrFails, worst, conclusion}
+use Rattle.table_access.specs.declared.StoreFault.TheVariants as fault
 
 ended_left : (old new : State) → IsLeft old new → old.in_transaction ≡ false → old.now ≡ old.committed → IsTrue new.is_open → (new.in_transaction ≡ false) × (new.now ≡ new.committed)
 ended_left old new (inl same) outside settled now = (same.0.mode ∙ outside, same.0.now_is ∙ settled ∙ sym same.0.committed_is)

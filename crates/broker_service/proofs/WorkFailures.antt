@@ -1,25 +1,16 @@
 -- Why the work of a command fails: the store failed, a growth was refused, or its change was.
-use Rattle.std.proofs.Common.{◌≡◌, inl, inr, true, false, Ok, Some, Option, Result, sym, ap, subst, ◌∙◌}
-use Rattle.std.proofs.lemmas.Result.{IfErr-weaker}
+use Rattle.std.proofs.{Common.{◌≡◌, inl, inr, true, false, Ok, Some, Option, Result, sym, ap, subst, ◌∙◌, ◌⊎◌}, lemmas.Result.{IfErr-weaker}}
 use Rattle.sqlite.specs.State.{State, HasCleanDisk}
-use Rattle.table_access.specs.Calls.{CallsTablesBetween}
-use Rattle.table_access.specs.declared.StoreFault.{StoreFault}
-use Rattle.broker_core.specs.Contents.{HasSoundContents}
-use Rattle.broker_core.specs.Change.{Transition}
-use Rattle.broker_core.specs.Machine.{IsCallerOfToken, is_step}
-use Rattle.broker_core.specs.State.{State as Broker}
-use Rattle.broker_core.specs.Text.{Text}
-use Rattle.broker_core.specs.declared.answer.Answer.{Answer}
-use Rattle.broker_core.specs.declared.answer.Answer.TheVariants as answers
-use Rattle.broker_core.specs.declared.command.Command.{Command}
-use Rattle.broker_core.specs.declared.policy.Caller.{Caller}
+use Rattle.table_access.{specs.{Calls.{CallsTablesBetween, EndsBy}, declared.StoreFault.{StoreFault}}, proofs.CallLemmas.{ended_with}}
+use Rattle.broker_core.specs.{Contents.{HasSoundContents}, Change.{Transition}, Machine.{IsCallerOfToken, is_step}, State.{State as Broker}, Text.{Text}}
+use Rattle.broker_core.specs.{declared.answer.Answer.{Answer}, declared.command.Command.{Command}, declared.policy.Caller.{Caller}, SoundNames.{AreNames}}
 use Rattle.broker_core.proofs.StepLemmas.{step_answers}
-use Rattle.broker_tables.specs.Calm.{Serves, FailsOnlyBy, HasFailedOrMemory, CalmQueriesBetween}
+use Rattle.broker_tables.specs.{Calm.{Serves, FailsOnlyBy, HasFailedOrMemory, CalmQueriesBetween, FailsFromBetween}, Room.{HasRoomFor, enough}}
 use Rattle.broker_tables.proofs.FailLemmas.{fails_after}
-use Rattle.command_facts.specs.Performs.{PerformsBetween, FailsToChangeBetween, IsStepOf, CallersStep, TokensStep, IsToChange}
+use Rattle.command_facts.specs.Performs.{PerformsBetween, FailsToChangeBetween, IsStepOf, CallersStep, TokensStep, IsToChange, IsMisnamed}
 use Rattle.command_facts.specs.Primitives.{broker_primitives}
-use Rattle.broker_tables.specs.Calm.{FailsFromBetween}
 use Rattle.broker_service.specs.Ends.{IsNoFailure}
+use Rattle.broker_core.specs.declared.answer.Answer.TheVariants as answers
 
 module _ (old new : State) (r : Result Answer StoreFault) (caller : Caller) (given command : Command) (same : given ≡ command) where
   -- a step of the command is what its caller does by it
@@ -28,26 +19,31 @@ module _ (old new : State) (r : Result Answer StoreFault) (caller : Caller) (giv
       let out : Transition = record { answer = answers.Done it.0; state = it.1 } in
       (it.0, it.1, λ sound. inl (subst (λ (c : Command). IsStepOf caller c s out) (sym same) it.2))
 
+  told : (s : Broker) (fault : StoreFault) → HasFailedOrMemory old new fault ⊎ (IsToChange (IsStepOf caller command) s × (HasRoomFor enough old.now → EndsBy (IsMisnamed command) old new fault))
+      → HasFailedOrMemory old new fault ⊎ (IsToChange (CallersStep caller given) s × (HasRoomFor enough old.now → EndsBy (IsMisnamed given) old new fault))
+  told s fault (inl calm) = inl calm
+  told s fault (inr change) = inr (changes s change.0, λ room. ended_with old new fault (λ long named. long (subst AreNames same named)) (change.1 room))
+
   -- a command that may change something
-  pub change_may_fail : FailsToChangeBetween old new (IsStepOf caller command) r → FailsFromBetween old new r (HasSoundContents broker_primitives) (IsToChange (CallersStep caller given))
-  change_may_fail why clean s here sound = IfErr-weaker r _ _ (λ fault it. elim it [ inl calm ↦ inl calm | inr change ↦ inr (changes s change.0, change.1) ]) (why clean s here tt)
+  pub change_may_fail : FailsToChangeBetween old new (IsMisnamed command) (IsStepOf caller command) r → FailsFromBetween old new r (IsMisnamed given) (HasSoundContents broker_primitives) (IsToChange (CallersStep caller given))
+  change_may_fail why clean s here sound = IfErr-weaker r _ _ (told s) (why clean s here tt)
 
   -- one that does so only where each stored pact can be read again
-  pub sound_may_fail : FailsFromBetween old new r (HasSoundContents broker_primitives) (IsToChange (IsStepOf caller command)) → FailsFromBetween old new r (HasSoundContents broker_primitives) (IsToChange (CallersStep caller given))
-  sound_may_fail why clean s here sound = IfErr-weaker r _ _ (λ fault it. elim it [ inl calm ↦ inl calm | inr change ↦ inr (changes s change.0, change.1) ]) (why clean s here sound)
+  pub sound_may_fail : FailsFromBetween old new r (IsMisnamed command) (HasSoundContents broker_primitives) (IsToChange (IsStepOf caller command)) → FailsFromBetween old new r (IsMisnamed given) (HasSoundContents broker_primitives) (IsToChange (CallersStep caller given))
+  sound_may_fail why clean s here sound = IfErr-weaker r _ _ (told s) (why clean s here sound)
 
 -- a command that no change of it is refused of
-pub never_by_change : (old new : State) (r : Result Answer StoreFault) (Allows Changes : Broker → Type 0) → FailsOnlyBy old new r (HasFailedOrMemory old new) → FailsFromBetween old new r Allows Changes
-never_by_change old new r Allows Changes why clean s here allowed = IfErr-weaker r _ _ (λ fault it. inl it) (why clean s here)
+pub never_by_change : (TooBig : Type 0) (old new : State) (r : Result Answer StoreFault) (Allows Changes : Broker → Type 0) → FailsOnlyBy old new r (HasFailedOrMemory old new) → FailsFromBetween old new r TooBig Allows Changes
+never_by_change TooBig old new r Allows Changes why clean s here allowed = IfErr-weaker r _ _ (λ fault it. inl it) (why clean s here)
 
 -- what a known caller's command does, the token's does
 pub tokens_step : (s : Broker) (token : Option Text) (command : Command) (caller : Caller) → IsCallerOfToken broker_primitives s token (Some caller) → (out : Transition) → CallersStep caller command s out → TokensStep token command s out
 tokens_step s token command caller who out it sound = elim (it sound) [ inl step ↦ inl (Some caller, who, step) | inr pattern ↦ inr (pattern.0, (caller, who, pattern.1)) ]
 
 -- a query, and then a command
-pub fails_then : {A : Type 0} (old mid new : State) (a : A) (r : Result Answer StoreFault) (P : A → Broker → Type 0) (Q : Answer → Type 0) (Allows Made Changes : Broker → Type 0) → ((s : Broker) → P a s → Made s → Changes s)
-    → CalmQueriesBetween old mid (Ok a) P → CallsTablesBetween mid new r Q → FailsFromBetween mid new r Allows Made → FailsFromBetween old new r Allows Changes
-fails_then old mid new a r P Q Allows Made Changes more one = fails_after old mid new a r P Q Allows Allows Changes Made (λ s held allowed read. (allowed, more s read)) one.call
+pub fails_then : {A : Type 0} (TooBig : Type 0) (old mid new : State) (a : A) (r : Result Answer StoreFault) (P : A → Broker → Type 0) (Q : Answer → Type 0) (Allows Made Changes : Broker → Type 0) → ((s : Broker) → P a s → Made s → Changes s)
+    → CalmQueriesBetween old mid (Ok a) P → CallsTablesBetween mid new r Q → FailsFromBetween mid new r TooBig Allows Made → FailsFromBetween old new r TooBig Allows Changes
+fails_then TooBig old mid new a r P Q Allows Made Changes more one = fails_after TooBig old mid new a r P Q Allows Allows Changes Made (λ s held allowed read. (allowed, more s read)) one.call
 
 -- ---- what a command came to is no failure
 

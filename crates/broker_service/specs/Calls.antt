@@ -1,5 +1,5 @@
 -- what a public call of the broker promises, on any disk and any database: one record a call
-use Rattle.std.specs.Prelude.{◌≡◌, ◌≢◌, ◌⊎◌, ◌↔◌, ℕ, List, false, IsTrue, Option, Some, None, Result, OnOk, IfOk, IfErr, IsErrAnd}
+use Rattle.std.specs.Prelude.{◌≡◌, ◌≢◌, ◌⊎◌, ◌↔◌, ℕ, List, false, IsTrue, Option, Some, None, Result, Err, OnOk, IfOk, IfErr, IsErrAnd}
 use Rattle.sqlite.specs.Held.{Held}
 use Rattle.sqlite.specs.State.{State, HasCleanDisk, Survives}
 use Rattle.table_access.specs.Calls.{KeepsLastCommit, HasFailed}
@@ -25,7 +25,7 @@ use Rattle.broker_service.specs.Ends.{Applies, IsAsBefore, AddsNoCrashState, Com
 use Rattle.broker_service.specs.Handed.{left_by, verdict}
 use Rattle.broker_service.specs.Headline.{RecordsExactly}
 use Rattle.broker_service.specs.Migration.{StoresFormer, HoldsFormerState, MigratesOrRefuses, IsFormer}
-use Rattle.broker_service.specs.Opening.{Refuses, MakesNew, RefusesNew, IsUnchangedUnlessStore, OpensOrRefuses, Judged}
+use Rattle.broker_service.specs.Opening.{Refuses, MakesNew, RefusesNew, IsUnchangedUnlessStore, OpensOrRefuses, Judged, IsFresh, TellsNothing, OnlyIfUntold}
 use Rattle.broker_service.specs.Stored.{Stores, HoldsState}
 use Rattle.broker_service.specs.declared.broker.Refused.{Refused}
 use Rattle.broker_service.specs.declared.opening.OpenFault.{OpenFault}
@@ -58,8 +58,8 @@ module _ {X : Type 0} (shown : Held X → State) where
     pub fails : HasCleanDisk (shown new.connection) → answer ≡ answers.Store
         → KeepsLastCommit (shown old.connection) (shown new.connection)
     -- Store, from a state that can be read back: the store failed, unless the command was to be done; so no refusal, no
-    -- request without a token and none that only reads stops a broker whose disk works. And one that was to be done only
-    -- if a row was too big, or COMMIT was refused for want of memory.
+    -- request without a token and none that only reads stops a broker whose disk works. And one that was to be done, if
+    -- the tables have numbers for its rows, only if the store failed or COMMIT was refused for want of memory.
     pub calm : HasCleanDisk (shown new.connection) → old.is_stopped ≡ false → answer ≡ answers.Store
         → (s : Broker) → HoldsReadable s (shown old.connection)
         → HasFailed (shown old.connection) (shown new.connection) faults.Store
@@ -106,6 +106,8 @@ module _ {X : Type 0} (shown : Held X → State) where
     -- of a database without tables: NotABroker, or a failure
     pub blank : HasCleanDisk (shown (left_by given)) → HoldsDurably IsBlank (shown old)
         → Judged format None (verdict given)
+    -- Store: on a connection as it is opened, the store failed, or meta has no number as its format
+    pub calm : OnlyIfUntold (shown old) (shown (left_by given)) (verdict given ≡ Err fault.Store)
     -- of one that is marked with a format: whether that is today's, or a failure
     pub marked : HasCleanDisk (shown (left_by given)) → (n : ℕ) (office : List ℕ)
         → HoldsDurably (IsMarked n office) (shown old) → Judged format (Some n) (verdict given)
@@ -134,6 +136,9 @@ pub record Migrated (old new : State) (given : Result (Unit {0}) OpenFault) : Ty
       → IfErr given (Refuses (λ db. StoresFormer db s) (λ db. Stores db s) new)
   -- a failure aside: the database had the tables of format 1, or it is told what it is instead
   pub judges : HasCleanDisk new → MigratesOrRefuses old.now given
+  -- Store: on a connection as it is opened, the store failed, or meta has no number as its format; or the database had
+  -- the tables of format 1, and a change or the commit was refused
+  pub calm : HasCleanDisk new → IsFresh old → given ≡ Err fault.Store → TellsNothing old new ⊎ IsFormer old.now
   -- of a database without tables: NotABroker, or a failure
   pub blank : HasCleanDisk new → HoldsDurably IsBlank old → Judged former_format None given
   -- of one that is marked with another format: which that is, or a failure

@@ -3,6 +3,7 @@ use Rattle.std.specs.Prelude.{◌≡◌, ◌≢◌, ◌⊎◌, ◌↔◌, ℕ, L
 use Rattle.sqlite.specs.Effect.{Database}
 use Rattle.sqlite.specs.State.{State, HasCleanDisk}
 use Rattle.table_access.specs.declared.StoreFault.{StoreFault}
+use Rattle.table_access.specs.declared.StoreFault.TheVariants as faults
 use Rattle.table_access.specs.Durability.{HoldsDurably}
 use Rattle.broker_core.specs.declared.answer.Answer.TheVariants.{Shown}
 use Rattle.broker_core.specs.declared.answer.Shown.TheVariants.{Gate}
@@ -24,9 +25,10 @@ use Rattle.broker_core.specs.State.{State as Broker, is_gated}
 use Rattle.broker_core.specs.Text.{Text}
 use Rattle.broker_tables.specs.Holds.{Holds}
 use Rattle.broker_tables.specs.Former.{HoldsFormer, IsUnmarked, former_format}
-use Rattle.registry_tables.specs.Format.{IsOfFormat, IsForeign, HasFormerTables, FindsFormer}
+use Rattle.registry_tables.specs.Format.{IsOfFormat, IsForeign, HasFormerTables, FindsFormer, FailsToFind}
 use Rattle.command_facts.specs.Primitives.{broker_primitives}
 use Rattle.broker_service.specs.Ends.{AddsNoCrashState, CommitsAtMostOnce, IsUnchangedUnless, LeavesNoTransaction}
+use Rattle.broker_service.specs.Opening.{IsFresh, TellsNothing}
 use Rattle.broker_service.specs.Stored.{Stores, HoldsState}
 use Rattle.broker_service.specs.Transaction.{EndsOrFails}
 use Rattle.broker_service.specs.declared.opening.OpenFault.{OpenFault}
@@ -103,6 +105,10 @@ BringsUp old new = (s : Broker) → HoldsFormer old s → Holds new s
 abbrev pub IsFormer : Database → Type 0
 IsFormer db = IsOfFormat former_format db × HasFormerTables db.schema
 
+-- For private clauses: no format is told, or the tables of format 1 are there.
+abbrev pub FailsToBringUp : State → State → StoreFault → Type 0
+FailsToBringUp old new fault = FailsToFind old new fault ⊎ IsFormer old.now
+
 -- What is told of a database that is to be migrated, a failure aside: it has the tables of format 1; or its format is
 -- another; or it is no broker's, or of format 1 by its meta alone.
 abbrev pub MigratesOrRefuses : Database → Result (Unit {0}) OpenFault → Type 0
@@ -128,3 +134,4 @@ pub record BringsUpOrNot (old new : State) (result : Result (Option ℕ) StoreFa
   pub over : LeavesNoTransaction old new
   pub survives : CommitsAtMostOnce old new
   pub spares : HasCleanDisk new → ¬ (IsFormer old.now) → AddsNoCrashState old new
+  pub calm : HasCleanDisk new → IsFresh old → result ≡ Err faults.Store → TellsNothing old new ⊎ IsFormer old.now

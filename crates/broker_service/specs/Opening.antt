@@ -1,11 +1,11 @@
 -- how a broker is made on a database, or opened; and, for private clauses, the steps of its making
-use Rattle.std.specs.Prelude.{◌≡◌, ◌≢◌, ◌⊎◌, ◌==◌, ◌++◌, ◌∷◌, ℕ, List, if◌then◌else◌, Option, Some, None, Result, Ok, Err}
+use Rattle.std.specs.Prelude.{◌≡◌, ◌≢◌, ◌⊎◌, ◌==◌, ◌++◌, ◌∷◌, ℕ, false, List, if◌then◌else◌, Option, Some, None, Result, Ok, Err}
 use Rattle.sqlite.specs.Effect.{Database}
 use Rattle.sqlite.specs.Table.{Table}
 use Rattle.sqlite.specs.State.{State, HasCleanDisk}
 use Rattle.table_access.specs.declared.StoreFault.{StoreFault}
 use Rattle.table_access.specs.declared.StoreFault.TheVariants as fault
-use Rattle.table_access.specs.Calls.{KeepsLastCommit}
+use Rattle.table_access.specs.Calls.{KeepsLastCommit, HasFailed}
 use Rattle.table_access.specs.Durability.{HoldsDurably, HoldsEither}
 use Rattle.broker_core.specs.State.{opening}
 use Rattle.broker_core.specs.Text.{Text}
@@ -13,7 +13,7 @@ use Rattle.broker_tables.specs.Holds.{format}
 use Rattle.broker_tables.specs.Making.{IsBlank, HasTables}
 use Rattle.broker_tables.specs.Room.{HasAllNumbers}
 use Rattle.broker_tables.specs.Schema.{no_schema, registry_part, contents, contract_part, all_tables}
-use Rattle.registry_tables.specs.Format.{IsOfFormat, IsForeign}
+use Rattle.registry_tables.specs.Format.{IsOfFormat, IsForeign, HasNoFormat, SharesTree}
 use Rattle.broker_service.specs.Ends.{IsAsBefore}
 use Rattle.broker_service.specs.Stored.{Stores, HoldsState}
 use Rattle.broker_service.specs.Transaction.{EndsOrFails}
@@ -88,3 +88,17 @@ module _ (wanted : ℕ) where
   -- the judgement, or a failure
   abbrev pub Judged : Option ℕ → Result (Unit {0}) OpenFault → Type 0
   Judged found r = (r ≡ judgement found) ⊎ ((r ≡ Err Memory) ⊎ (r ≡ Err Store))
+
+-- ---- why nothing is told of it
+
+-- as a connection is opened: no transaction is open, and no query has a limit of steps
+abbrev pub IsFresh : State → Type 0
+IsFresh c = (c.in_transaction ≡ false) × (c.step_limit ≡ None)
+
+-- the store failed, or the table meta is such that no format is told
+abbrev pub TellsNothing : State → State → Type 0
+TellsNothing old new = HasFailed old new fault.Store ⊎ (HasNoFormat old.now ⊎ SharesTree old.now)
+
+-- so it is where this is answered of a connection as it is opened
+abbrev pub OnlyIfUntold : State → State → Type 0 → Type 0
+OnlyIfUntold old new Answered = HasCleanDisk new → IsFresh old → Answered → TellsNothing old new

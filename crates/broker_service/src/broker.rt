@@ -4,7 +4,7 @@ ghost use Rattle.sqlite.specs.Held.{state};
 ghost use Rattle.command_facts.specs.Callers.{token_of};
 ghost use Rattle.command_facts.specs.Primitives.{broker_primitives};
 ghost use Rattle.broker_service.specs.Calls.{Applied, Created, Opened};
-ghost use Rattle.broker_service.specs.Causes.{StaysReadable};
+ghost use Rattle.broker_service.specs.Causes.{IsSoundCommand};
 
 use crate::opening::{self, OpenFault};
 use crate::work::transact;
@@ -115,8 +115,8 @@ impl<S: Alter> Broker<S> {
     /// has changed. `Memory`: an allocation failed, or the database has no memory, be it for a rollback; nothing has
     /// changed. `Store`: the database refused the commit, or another call for another cause than memory, or a row broke
     /// the rules of the tables: from a state that can be read back, and on a disk that works, this comes only of a
-    /// command that is to change something, and only if its commit was refused for want of memory or a row was too big.
-    /// From then on each answer is `Stopped`, and nothing changes. After a refused commit a crash may leave the next
+    /// command that is to change something, and only if its commit was refused for want of memory, or a table has no
+    /// numbers left for its rows. From then on each answer is `Stopped`, and nothing changes. After a refused commit a crash may leave the next
     /// state.
     pub fn apply(&mut self, alloc: Global, token: Option<&str>, command: &Command) -> Answer
         ensures { Applied (state S.Store) self.old (token_of token.entry) command.now result self.new }
@@ -132,7 +132,7 @@ impl<S: Alter> Broker<S> {
 
     /// Runs one command of the caller with this token, in one transaction. If the database fails the broker is stopped.
     fn run(&mut self, alloc: Global, token: Option<&str>, command: &Command) -> Answer
-        ensures { self.old.is_stopped ≡ false → StaysReadable (token_of token.entry) command.now →
+        ensures { self.old.is_stopped ≡ false → IsSoundCommand (token_of token.entry) command.now →
             Applied (state S.Store) self.old (token_of token.entry) command.now result self.new }
     {
         let answer = match transact(alloc, &mut self.conn, token, command) {

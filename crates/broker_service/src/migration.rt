@@ -1,13 +1,13 @@
 //! Making today's database of one that a broker of format 1 left.
-ghost use Rattle.std.specs.Prelude.{◌≡◌, ◌↔◌, Some, IsTrue, IfOk, IsOkAnd};
+ghost use Rattle.std.specs.Prelude.{◌≡◌, ◌↔◌, Some, None, IsTrue, IsOkAnd};
 ghost use Rattle.sqlite.specs.Held.{state};
 ghost use Rattle.table_access.specs.Calls.{CallsStore};
 ghost use Rattle.broker_core.specs.State.{State as BrokerState};
 ghost use Rattle.broker_tables.specs.Holds.{format};
 ghost use Rattle.broker_tables.specs.Former.{HoldsFormer, HoldsUnmarked, former_format, added_tables};
-ghost use Rattle.registry_tables.specs.Format.{FindsFormer};
+ghost use Rattle.registry_tables.specs.Format.{FindsFormer, FailsOnlyFor};
 ghost use Rattle.broker_service.specs.Calls.{Migrated};
-ghost use Rattle.broker_service.specs.Migration.{BringsUp, BringsUpOrNot};
+ghost use Rattle.broker_service.specs.Migration.{BringsUp, BringsUpOrNot, FailsToBringUp};
 
 use crate::ending::conclude;
 use crate::opening::{OpenFault, judge, make_indexes, open_fault};
@@ -37,8 +37,9 @@ fn add_all<S: Alter>(conn: &mut Connection<S>) -> Result<(), StoreFault>
 /// Looks for the format, and if it is 1 and its tables are there, makes the database one of today's. The answer is the
 /// format that was found.
 fn bring_up<S: Alter>(conn: &mut Connection<S>) -> Result<Option<u32>, StoreFault>
-    ensures { CallsStore S.Store conn.old conn.new result
+    ensures brings { CallsStore S.Store conn.old conn.new result
         (λ found old new. FindsFormer old.now found × (found ≡ Some former_format → BringsUp old.now new.now)) }
+    ensures cause { FailsOnlyFor (state S.Store conn.old) (state S.Store conn.new) result FailsToBringUp }
 {
     match done!(format_to_migrate(conn)) {
         Some(1) => {

@@ -15,7 +15,7 @@ ghost use Rattle.broker_service.specs.Ends.{IsAsBefore, IsUnchangedUnless, Commi
 ghost use Rattle.broker_service.specs.Stored.{Stores};
 ghost use Rattle.broker_tables.specs.Room.{HasAllNumbers};
 ghost use Rattle.broker_service.specs.Opening as spec;
-ghost use Rattle.broker_service.specs.Opening.{MakesRest, MakesOrFails, MakesNew, RefusesNew, IsUnchangedUnlessStore, Judged, OpensOrRefuses, judgement};
+ghost use Rattle.broker_service.specs.Opening.{MakesRest, MakesOrFails, MakesNew, RefusesNew, IsUnchangedUnlessStore, Judged, OpensOrRefuses, OnlyIfUntold, judgement};
 
 use crate::ending::conclude;
 use broker_core::name::Token;
@@ -162,6 +162,7 @@ fn find_format<S: Alter>(conn: &mut Connection<S>) -> Result<Option<u32>, StoreF
     ensures found { HasCleanDisk (state S.Store conn.new)
         → IfOk result (λ found. IsTrue (state S.Store conn.old).is_open × Finds (state S.Store conn.old).now found) }
     ensures same { HasCleanDisk (state S.Store conn.new) → IsAsBefore (state S.Store conn.old) (state S.Store conn.new) }
+    ensures calm { OnlyIfUntold (state S.Store conn.old) (state S.Store conn.new) (result ≡ Err StoreFault.Store) }
     ensures over { LeavesNoTransaction (state S.Store conn.old) (state S.Store conn.new) }
     ensures survives { Survives (state S.Store conn.old) (state S.Store conn.new) (λ _. ⊥) }
 {
@@ -174,6 +175,7 @@ fn find_format<S: Alter>(conn: &mut Connection<S>) -> Result<Option<u32>, StoreF
 /// each other table.
 pub(crate) fn open<S: Alter>(conn: &mut Connection<S>) -> Result<(), OpenFault>
     ensures judges { HasCleanDisk (state S.Store conn.new) → OpensOrRefuses format (state S.Store conn.old).now result }
+    ensures calm { OnlyIfUntold (state S.Store conn.old) (state S.Store conn.new) (result ≡ Err OpenFault.Store) }
     ensures blank { HasCleanDisk (state S.Store conn.new) → HoldsDurably IsBlank (state S.Store conn.old)
         → Judged format None result }
     ensures marked { HasCleanDisk (state S.Store conn.new) → (n : ℕ) (office : List ℕ)

@@ -5,7 +5,7 @@ ghost use Rattle.broker_core.specs.Contents.{HasSoundContents};
 ghost use Rattle.broker_core.specs.Laws.{IsDone};
 ghost use Rattle.broker_core.specs.declared.answer.Answer.TheVariants.{BadForm};
 ghost use Rattle.command_facts.specs.Callers.{token_of};
-ghost use Rattle.command_facts.specs.Performs.{Performs, FailsToChangeFrom, CallersStep, TokensStep};
+ghost use Rattle.command_facts.specs.Performs.{Performs, FailsToChangeFrom, IsMisnamed, CallersStep, TokensStep};
 ghost use Rattle.command_facts.specs.Primitives.{broker_primitives};
 ghost use Rattle.broker_service.specs.Causes.{Transacted};
 ghost use Rattle.broker_service.specs.Ends.{IsNoFailure};
@@ -56,8 +56,8 @@ fn follow<S: Alter>(
     command: &Command,
 ) -> Result<Outcome, StoreFault>
     ensures answers { Performs S.Store conn.old conn.new result (CallersStep caller.now command.now) }
-    ensures calm { FailsToChangeFrom S.Store conn.old conn.new result (HasSoundContents broker_primitives)
-        (CallersStep caller.now command.now) }
+    ensures calm { FailsToChangeFrom S.Store conn.old conn.new result (IsMisnamed command.now)
+        (HasSoundContents broker_primitives) (CallersStep caller.now command.now) }
 {
     match command {
         Command::PutTeam { team, token } => put_team(alloc, conn, caller, team, token),
@@ -150,8 +150,8 @@ fn step_of<S: Alter>(
     command: &Command,
 ) -> Result<Outcome, StoreFault>
     ensures answers { Performs S.Store conn.old conn.new result (TokensStep (token_of token.entry) command.now) }
-    ensures calm { FailsToChangeFrom S.Store conn.old conn.new result (HasSoundContents broker_primitives)
-        (TokensStep (token_of token.entry) command.now) }
+    ensures calm { FailsToChangeFrom S.Store conn.old conn.new result (IsMisnamed command.now)
+        (HasSoundContents broker_primitives) (TokensStep (token_of token.entry) command.now) }
 {
     match done!(caller_of(alloc, conn, token)) {
         Some(caller) => follow(alloc, conn, &caller, command),
@@ -182,8 +182,8 @@ fn work<S: Alter>(
     command: &Command,
 ) -> Result<Answer, StoreFault>
     ensures performs { Performs S.Store conn.old conn.new result (TokensStep (token_of token.entry) command.now) }
-    ensures calm { FailsToChangeFrom S.Store conn.old conn.new result (HasSoundContents broker_primitives)
-        (TokensStep (token_of token.entry) command.now) }
+    ensures calm { FailsToChangeFrom S.Store conn.old conn.new result (IsMisnamed command.now)
+        (HasSoundContents broker_primitives) (TokensStep (token_of token.entry) command.now) }
     ensures answers { IfOk result IsNoFailure }
 {
     let outcome = done!(step_of(alloc, conn, token, command));

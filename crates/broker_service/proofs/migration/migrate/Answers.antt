@@ -1,9 +1,6 @@
-use Rattle.std.specs.Prelude.{Result, Err}
-use Rattle.std.proofs.Common.{sym, subst}
+use Rattle.std.{specs.Prelude.{Result, Err}, proofs.Common.{sym, subst}}
 use Rattle.sqlite.specs.Held.{state}
-use Rattle.broker_service.specs.Calls.{Migrated}
-use Rattle.broker_service.specs.declared.opening.OpenFault.{OpenFault}
-use Rattle.broker_service.proofs.MigrationLemmas.{migrated, unmigrated}
+use Rattle.broker_service.{specs.{Calls.{Migrated}, declared.opening.OpenFault.{OpenFault}}, proofs.MigrationLemmas.{migrated, unmigrated}}
 use Rattle.broker_service.proofs.migration.migrate.Goals as goal
 
 pub returns-in-Ok : goal.returns-in-Ok

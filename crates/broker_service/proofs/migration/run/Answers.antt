@@ -5,7 +5,7 @@ use Rattle.broker_service.proofs.migration.run.Goals as goal
 pub returns : goal.returns
 returns g c =
     brought_up (state g.S.Store c.args.conn.now) (state g.S.Store c.begin.new.conn) (state g.S.Store c.bring_up-found.new.conn) (state g.S.Store c.conclude.new.conn) c.bring_up-found.result c.conclude.result c.is_former-keeps.result
-    c.in-Ok.ensures.begun c.begin.ensures.survives c.bring_up-found.ensures.call c.is_former-keeps.ensures c.conclude.ensures.concludes
+    c.in-Ok.ensures.begun c.begin.ensures.survives c.bring_up-found.ensures.brings.call c.is_former-keeps.ensures c.conclude.ensures.concludes c.bring_up-found.ensures.cause
 
 pub returns-in-Err : goal.returns-in-Err
-returns-in-Err g c = not_brought_up (state g.S.Store c.args.conn.now) (state g.S.Store c.begin.new.conn) c.in-Err.fault c.in-Err.ensures.refused c.begin.ensures.survives
+returns-in-Err g c = not_brought_up (state g.S.Store c.args.conn.now) (state g.S.Store c.begin.new.conn) c.in-Err.fault c.in-Err.ensures.refused c.in-Err.ensures.cause c.begin.ensures.survives

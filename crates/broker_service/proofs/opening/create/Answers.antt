@@ -1,13 +1,9 @@
 use Rattle.std.proofs.Common.{◌≡◌, ◌∙◌, sym, ap, subst}
 use Rattle.sqlite.specs.Held.{state}
-use Rattle.broker_core.specs.State.{opening}
-use Rattle.broker_core.specs.Text.{Text}
+use Rattle.broker_core.specs.{State.{opening}, Text.{Text}}
 use Rattle.broker_tables.specs.Making.{IsBlank}
 use Rattle.command_facts.specs.Primitives.{broker_primitives}
-use Rattle.broker_service.specs.Opening.{Refuses, open_fault}
-use Rattle.broker_service.specs.Stored.{Stores}
-use Rattle.broker_service.specs.declared.opening.OpenFault.{OpenFault}
-use Rattle.broker_service.proofs.MakeLemmas.{refuses_as}
+use Rattle.broker_service.{specs.{Opening.{Refuses, open_fault}, Stored.{Stores}, declared.opening.OpenFault.{OpenFault}}, proofs.MakeLemmas.{refuses_as}}
 use Rattle.broker_service.proofs.Transaction.{once_at_most, outlives_itself}
 use Rattle.broker_service.proofs.opening.create.Goals as goal
 

@@ -1,10 +1,9 @@
-use Rattle.std.proofs.Common.{refl, subst}
-use Rattle.std.proofs.lemmas.Result.{IfOk-weaker}
-use Rattle.sqlite.specs.Effect.{Database}
-use Rattle.sqlite.specs.Held.{state}
+use Rattle.std.proofs.{Common.{refl, subst, inl, inr}, lemmas.Result.{IfOk-weaker, IfErr-weaker}}
+use Rattle.sqlite.specs.{Effect.{Database}, Held.{state}}
 use Rattle.registry_tables.specs.Format.{Finds}
 use Rattle.broker_service.proofs.MakeLemmas.{looked}
 use Rattle.broker_service.proofs.Transaction.{transaction_told, transaction_undone, transaction_as_before, transaction_over, not_begun, unbegun_over}
+use Rattle.broker_service.proofs.OpenFailures.{looking_fails, unbegun_fails}
 use Rattle.broker_service.proofs.opening.find_format.Goals as goal
 
 pub returns-clause-found : goal.returns-clause-found
@@ -33,3 +32,13 @@ returns-in-Err-clause-same g c clean = not_begun (state g.S.Store c.args.conn.no
 
 pub returns-in-Err-clause-over : goal.returns-in-Err-clause-over
 returns-in-Err-clause-over g c = unbegun_over (state g.S.Store c.args.conn.now) (state g.S.Store c.begin.new.conn) c.in-Err.ensures.refused
+
+pub returns-clause-calm : goal.returns-clause-calm
+returns-clause-calm g c clean fresh is =
+    elim (looking_fails (state g.S.Store c.args.conn.now) (state g.S.Store c.begin.new.conn) (state g.S.Store c.format_of-found.new.conn) (state g.S.Store c.conclude.new.conn) _ _ c.conclude.result
+    (looked (state g.S.Store c.args.conn.now) (state g.S.Store c.begin.new.conn) (state g.S.Store c.format_of-found.new.conn) (state g.S.Store c.conclude.new.conn) _ c.format_of-found.result c.conclude.result c.in-Ok.ensures.begun c.begin.ensures.survives c.format_of-found.ensures.finds.call c.conclude.ensures.concludes) clean fresh
+    (λ _. ⊥) (λ worked unlimited. IfErr-weaker c.format_of-found.result _ _ (λ fault why. inl why) (c.format_of-found.ensures.cause worked unlimited)) (λ found it never. never) is) [ inl why ↦ why | inr never ↦ absurd never ]
+
+pub returns-in-Err-clause-calm : goal.returns-in-Err-clause-calm
+returns-in-Err-clause-calm g c clean fresh is =
+    inl (unbegun_fails (state g.S.Store c.args.conn.now) (state g.S.Store c.begin.new.conn) c.in-Err.fault fresh (c.in-Err.ensures.cause clean) (let same = is in cc))

@@ -1,10 +1,8 @@
 use Rattle.sqlite.specs.Held.{state}
 use Rattle.broker_core.specs.State.{opening}
-use Rattle.broker_tables.specs.Making.{IsBlank}
+use Rattle.broker_tables.specs.{Making.{IsBlank}, Room.{HasAllNumbers}}
 use Rattle.table_access.specs.Durability.{HoldsDurably}
-use Rattle.broker_tables.specs.Room.{HasAllNumbers}
-use Rattle.broker_service.specs.Stored.{Stores, HoldsState}
-use Rattle.broker_service.proofs.MakeLemmas.{made, make_ends}
+use Rattle.broker_service.{specs.Stored.{Stores, HoldsState}, proofs.MakeLemmas.{made, make_ends}}
 use Rattle.broker_service.proofs.Transaction.{transaction_unchanged, transaction_over, transaction_once, unbegun_ends, unbegun_unchanged, unbegun_over, once_at_most}
 use Rattle.broker_service.proofs.opening.make.Goals as goal
 

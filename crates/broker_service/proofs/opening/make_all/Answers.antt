@@ -1,10 +1,7 @@
 use Rattle.std.proofs.Common.{Ok}
 use Rattle.sqlite.specs.Held.{state}
 use Rattle.table_access.proofs.CallLemmas.{statement_seq}
-use Rattle.broker_tables.specs.Schema.{all_tables}
-use Rattle.broker_tables.specs.Holds.{format}
-use Rattle.broker_tables.specs.Making.{IsBlank, HasTables}
-use Rattle.broker_tables.proofs.Opening.{has_all, opens, opens_with_room}
+use Rattle.broker_tables.{specs.{Schema.{all_tables}, Holds.{format}, Making.{IsBlank, HasTables}}, proofs.Opening.{has_all, opens, opens_with_room}}
 use Rattle.broker_service.proofs.Transaction.{second_fails}
 use Rattle.broker_service.proofs.opening.make_all.Goals as goal
 

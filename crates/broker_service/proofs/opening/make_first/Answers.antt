@@ -1,10 +1,7 @@
 use Rattle.std.proofs.Common.{◌++◌, ◌∷◌, [], Ok, inl, refl}
 use Rattle.sqlite.specs.Held.{state}
 use Rattle.table_access.proofs.CallLemmas.{statement_seq}
-use Rattle.broker_tables.specs.Schema.{registry_part, contents, contract_part}
-use Rattle.broker_tables.specs.Holds.{format}
-use Rattle.broker_tables.specs.Making.{IsBlank, HasTables}
-use Rattle.broker_tables.proofs.Opening.{has_more}
+use Rattle.broker_tables.{specs.{Schema.{registry_part, contents, contract_part}, Holds.{format}, Making.{IsBlank, HasTables}}, proofs.Opening.{has_more}}
 use Rattle.broker_service.proofs.Transaction.{second_fails}
 use Rattle.broker_service.proofs.opening.make_first.Goals as goal
 

@@ -1,9 +1,6 @@
 use Rattle.std.proofs.Common.{◌≡◌, ◌∷◌, [], Ok, refl, ap, ◌∙◌}
-use Rattle.sqlite.specs.Held.{state}
-use Rattle.sqlite.specs.Change.{indexed}
-use Rattle.table_access.specs.Statements.{MakesIndexes, indexed_by}
-use Rattle.table_access.proofs.CallLemmas.{statement_seq}
-use Rattle.table_access.proofs.Indexing.{indexes_schema, indexes_then}
+use Rattle.sqlite.specs.{Held.{state}, Change.{indexed}}
+use Rattle.table_access.{specs.Statements.{MakesIndexes, indexed_by}, proofs.{CallLemmas.{statement_seq}, Indexing.{indexes_schema, indexes_then}}}
 use Rattle.broker_tables.specs.Schema.{schema_of, all_tables, contents_by_digest, contract_indexes, versions_by_pacticipant}
 use Rattle.broker_service.proofs.opening.make_indexes.Goals as goal
 

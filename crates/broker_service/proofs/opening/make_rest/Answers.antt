@@ -1,10 +1,8 @@
 use Rattle.std.proofs.Common.{◌++◌, ◌∷◌, [], List, ℕ, Ok, inl, refl}
 use Rattle.sqlite.specs.Held.{state}
 use Rattle.table_access.proofs.CallLemmas.{statement_seq, statement_with}
-use Rattle.broker_tables.specs.Schema.{registry_part, contents, contract_part, deploy_part, checked_results, strict_environments}
-use Rattle.broker_tables.specs.Holds.{format}
-use Rattle.broker_tables.specs.Making.{HasTables}
-use Rattle.broker_tables.proofs.Opening.{has_more}
+use Rattle.broker_tables.specs.{Schema.{registry_part, contents, contract_part, deploy_part, checked_results, strict_environments}, Holds.{format}}
+use Rattle.broker_tables.{specs.Making.{HasTables}, proofs.Opening.{has_more}}
 use Rattle.broker_service.proofs.opening.make_rest.Goals as goal
 
 pub returns : goal.returns

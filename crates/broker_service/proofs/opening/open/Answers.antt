@@ -1,10 +1,8 @@
-use Rattle.std.proofs.Common.{inl, sym, subst, ap, ◌∙◌}
+use Rattle.std.proofs.Common.{inl, sym, subst, ap, ◌∙◌, Err}
 use Rattle.sqlite.specs.Held.{state}
-use Rattle.broker_tables.specs.Making.{IsBlank, IsMarked}
-use Rattle.broker_tables.specs.Holds.{format}
-use Rattle.broker_service.specs.Opening.{OpensOrRefuses, judgement}
-use Rattle.broker_service.proofs.Judgements.{judged, blank_none, marked_some}
-use Rattle.broker_service.proofs.MigrationLemmas.{held_now}
+use Rattle.broker_tables.specs.{Making.{IsBlank, IsMarked}, Holds.{format}}
+use Rattle.broker_service.{specs.Opening.{OpensOrRefuses, judgement}, proofs.{Judgements.{judged, blank_none, marked_some}, MigrationLemmas.{held_now}}}
+use Rattle.broker_service.proofs.OpenFailures.{judgement_is_none, told_store}
 use Rattle.broker_service.proofs.opening.open.Goals as goal
 
 pub returns-in-Ok-clause-judges : goal.returns-in-Ok-clause-judges
@@ -23,3 +21,9 @@ returns-in-Ok-clause-marked g c clean n office keeps =
     let old = state g.S.Store c.args.conn.now in
     let it = c.in-Ok.ensures.found clean in
     inl (c.judge.ensures ∙ ap (judgement format) (marked_some n office old.now c.in-Ok.found (held_now (IsMarked n office) old keeps it.0) it.1))
+
+pub returns-in-Ok-clause-calm : goal.returns-in-Ok-clause-calm
+returns-in-Ok-clause-calm g c clean fresh is = absurd (judgement_is_none format c.in-Ok.found (sym c.judge.ensures ∙ is))
+
+pub returns-in-Err-clause-calm : goal.returns-in-Err-clause-calm
+returns-in-Err-clause-calm g c clean fresh is = c.in-Err.ensures.calm clean fresh (ap Err (told_store c.in-Err.fault (ap Err (sym c.open_fault.ensures) ∙ is)))

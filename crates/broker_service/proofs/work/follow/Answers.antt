@@ -2,10 +2,8 @@ use Rattle.std.proofs.Common.{inl, sym, subst, refl, Ok, Some}
 use Rattle.sqlite.specs.Held.{state}
 use Rattle.broker_core.specs.declared.command.Command.{Command}
 use Rattle.broker_core.specs.declared.command.Command.TheVariants.{PutTeam, PutPacticipant, PutEnvironment, PutGrant, DeleteGrant, PutVersion, PutPact, GetPact, GetBranchPact, PostResult, PostReplies, GetEnvironment, Deploy, Undeploy, Release, EndSupport, CanIDeploy, GetMatrix, Malformed}
-use Rattle.broker_core.specs.declared.answer.Answer.{Answer}
-use Rattle.broker_core.specs.declared.answer.Answer.TheVariants.{BadForm}
-use Rattle.command_facts.specs.Performs.{PerformsBetween, CallersStep}
-use Rattle.command_facts.proofs.PerformLemmas.{refused, always_steps}
+use Rattle.broker_core.specs.{declared.answer.Answer.{Answer}, declared.answer.Answer.TheVariants.{BadForm}}
+use Rattle.command_facts.{specs.Performs.{PerformsBetween, CallersStep}, proofs.PerformLemmas.{refused, always_steps}}
 use Rattle.broker_service.proofs.WorkFailures.{change_may_fail, sound_may_fail, never_by_change}
 use Rattle.broker_service.proofs.work.follow.Goals as goal
 
@@ -55,7 +53,7 @@ returns-in-DeleteGrant-clause-answers g c =
     (DeleteGrant c.in-DeleteGrant.team c.in-DeleteGrant.environment) c.in-DeleteGrant.is c.delete_grant.ensures.answers
 
 pub returns-in-DeleteGrant-clause-calm : goal.returns-in-DeleteGrant-clause-calm
-returns-in-DeleteGrant-clause-calm g c = never_by_change (state g.S.Store c.args.conn.now) (state g.S.Store c.delete_grant.new.conn) c.delete_grant.result _ _ c.delete_grant.ensures.calm
+returns-in-DeleteGrant-clause-calm g c = never_by_change _ (state g.S.Store c.args.conn.now) (state g.S.Store c.delete_grant.new.conn) c.delete_grant.result _ _ c.delete_grant.ensures.calm
 
 pub returns-in-PutVersion-clause-answers : goal.returns-in-PutVersion-clause-answers
 returns-in-PutVersion-clause-answers g c =
@@ -83,7 +81,7 @@ returns-in-GetPact-clause-answers g c =
     (GetPact c.in-GetPact.path) c.in-GetPact.is c.get_pact.ensures.answers
 
 pub returns-in-GetPact-clause-calm : goal.returns-in-GetPact-clause-calm
-returns-in-GetPact-clause-calm g c = never_by_change (state g.S.Store c.args.conn.now) (state g.S.Store c.get_pact.new.conn) c.get_pact.result _ _ c.get_pact.ensures.calm
+returns-in-GetPact-clause-calm g c = never_by_change _ (state g.S.Store c.args.conn.now) (state g.S.Store c.get_pact.new.conn) c.get_pact.result _ _ c.get_pact.ensures.calm
 
 pub returns-in-GetBranchPact-clause-answers : goal.returns-in-GetBranchPact-clause-answers
 returns-in-GetBranchPact-clause-answers g c =
@@ -91,7 +89,7 @@ returns-in-GetBranchPact-clause-answers g c =
     (GetBranchPact c.in-GetBranchPact.provider c.in-GetBranchPact.consumer c.in-GetBranchPact.branch) c.in-GetBranchPact.is c.get_branch_pact.ensures.answers
 
 pub returns-in-GetBranchPact-clause-calm : goal.returns-in-GetBranchPact-clause-calm
-returns-in-GetBranchPact-clause-calm g c = never_by_change (state g.S.Store c.args.conn.now) (state g.S.Store c.get_branch_pact.new.conn) c.get_branch_pact.result _ _ c.get_branch_pact.ensures.calm
+returns-in-GetBranchPact-clause-calm g c = never_by_change _ (state g.S.Store c.args.conn.now) (state g.S.Store c.get_branch_pact.new.conn) c.get_branch_pact.result _ _ c.get_branch_pact.ensures.calm
 
 pub returns-in-PostResult-clause-answers : goal.returns-in-PostResult-clause-answers
 returns-in-PostResult-clause-answers g c =
@@ -118,7 +116,7 @@ returns-in-GetEnvironment-clause-answers g c =
     (GetEnvironment c.in-GetEnvironment.environment) c.in-GetEnvironment.is c.get_environment.ensures.answers
 
 pub returns-in-GetEnvironment-clause-calm : goal.returns-in-GetEnvironment-clause-calm
-returns-in-GetEnvironment-clause-calm g c = never_by_change (state g.S.Store c.args.conn.now) (state g.S.Store c.get_environment.new.conn) c.get_environment.result _ _ c.get_environment.ensures.calm
+returns-in-GetEnvironment-clause-calm g c = never_by_change _ (state g.S.Store c.args.conn.now) (state g.S.Store c.get_environment.new.conn) c.get_environment.result _ _ c.get_environment.ensures.calm
 
 pub returns-in-Deploy-clause-answers : goal.returns-in-Deploy-clause-answers
 returns-in-Deploy-clause-answers g c =
@@ -136,7 +134,7 @@ returns-in-Undeploy-clause-answers g c =
     (Undeploy c.in-Undeploy.environment c.in-Undeploy.version c.in-Undeploy.instance) c.in-Undeploy.is c.undeploy.ensures.answers
 
 pub returns-in-Undeploy-clause-calm : goal.returns-in-Undeploy-clause-calm
-returns-in-Undeploy-clause-calm g c = never_by_change (state g.S.Store c.args.conn.now) (state g.S.Store c.undeploy.new.conn) c.undeploy.result _ _ c.undeploy.ensures.calm
+returns-in-Undeploy-clause-calm g c = never_by_change _ (state g.S.Store c.args.conn.now) (state g.S.Store c.undeploy.new.conn) c.undeploy.result _ _ c.undeploy.ensures.calm
 
 pub returns-in-Release-clause-answers : goal.returns-in-Release-clause-answers
 returns-in-Release-clause-answers g c =
@@ -154,7 +152,7 @@ returns-in-EndSupport-clause-answers g c =
     (EndSupport c.in-EndSupport.environment c.in-EndSupport.version) c.in-EndSupport.is c.end_support.ensures.answers
 
 pub returns-in-EndSupport-clause-calm : goal.returns-in-EndSupport-clause-calm
-returns-in-EndSupport-clause-calm g c = never_by_change (state g.S.Store c.args.conn.now) (state g.S.Store c.end_support.new.conn) c.end_support.result _ _ c.end_support.ensures.calm
+returns-in-EndSupport-clause-calm g c = never_by_change _ (state g.S.Store c.args.conn.now) (state g.S.Store c.end_support.new.conn) c.end_support.result _ _ c.end_support.ensures.calm
 
 pub returns-in-CanIDeploy-clause-answers : goal.returns-in-CanIDeploy-clause-answers
 returns-in-CanIDeploy-clause-answers g c =
@@ -162,7 +160,7 @@ returns-in-CanIDeploy-clause-answers g c =
     (CanIDeploy c.in-CanIDeploy.version c.in-CanIDeploy.environment) c.in-CanIDeploy.is c.can_i_deploy.ensures.answers
 
 pub returns-in-CanIDeploy-clause-calm : goal.returns-in-CanIDeploy-clause-calm
-returns-in-CanIDeploy-clause-calm g c = never_by_change (state g.S.Store c.args.conn.now) (state g.S.Store c.can_i_deploy.new.conn) c.can_i_deploy.result _ _ c.can_i_deploy.ensures.calm
+returns-in-CanIDeploy-clause-calm g c = never_by_change _ (state g.S.Store c.args.conn.now) (state g.S.Store c.can_i_deploy.new.conn) c.can_i_deploy.result _ _ c.can_i_deploy.ensures.calm
 
 pub returns-in-GetMatrix-clause-answers : goal.returns-in-GetMatrix-clause-answers
 returns-in-GetMatrix-clause-answers g c =
@@ -170,7 +168,7 @@ returns-in-GetMatrix-clause-answers g c =
     (GetMatrix c.in-GetMatrix.version) c.in-GetMatrix.is c.get_matrix.ensures.answers
 
 pub returns-in-GetMatrix-clause-calm : goal.returns-in-GetMatrix-clause-calm
-returns-in-GetMatrix-clause-calm g c = never_by_change (state g.S.Store c.args.conn.now) (state g.S.Store c.get_matrix.new.conn) c.get_matrix.result _ _ c.get_matrix.ensures.calm
+returns-in-GetMatrix-clause-calm g c = never_by_change _ (state g.S.Store c.args.conn.now) (state g.S.Store c.get_matrix.new.conn) c.get_matrix.result _ _ c.get_matrix.ensures.calm
 
 pub returns-in-Ok-clause-answers : goal.returns-in-Ok-clause-answers
 returns-in-Ok-clause-answers g c =

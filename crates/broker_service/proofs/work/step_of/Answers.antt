@@ -1,11 +1,7 @@
 use Rattle.std.proofs.Common.{inl, Some, None, refl}
 use Rattle.sqlite.specs.Held.{state}
-use Rattle.broker_core.specs.Contents.{HasSoundContents}
-use Rattle.broker_core.specs.declared.answer.Answer.TheVariants.{Denied}
-use Rattle.broker_core.specs.declared.policy.Rule.TheVariants.{A1}
-use Rattle.command_facts.specs.Callers.{token_of}
-use Rattle.command_facts.specs.Performs.{CallersStep, TokensStep, IsToChange}
-use Rattle.command_facts.specs.Primitives.{broker_primitives}
+use Rattle.broker_core.specs.{Contents.{HasSoundContents}, declared.answer.Answer.TheVariants.{Denied}, declared.policy.Rule.TheVariants.{A1}}
+use Rattle.command_facts.specs.{Callers.{token_of}, Performs.{CallersStep, TokensStep, IsToChange}, Primitives.{broker_primitives}}
 use Rattle.command_facts.proofs.PerformLemmas.{answered_then, performs_then}
 use Rattle.broker_service.proofs.WorkFailures.{tokens_step, fails_then}
 use Rattle.broker_service.proofs.work.step_of.Goals as goal
@@ -17,7 +13,7 @@ returns-in-Some-clause-answers g c =
 
 pub returns-in-Some-clause-calm : goal.returns-in-Some-clause-calm
 returns-in-Some-clause-calm g c =
-    fails_then (state g.S.Store c.args.conn.now) (state g.S.Store c.caller_of.new.conn) (state g.S.Store c.follow.new.conn) (Some c.in-Some.caller) c.follow.result _ _ (HasSoundContents broker_primitives) (IsToChange (CallersStep c.in-Some.caller c.args.command.now)) (IsToChange (TokensStep (token_of c.args.token) c.args.command.now))
+    fails_then _ (state g.S.Store c.args.conn.now) (state g.S.Store c.caller_of.new.conn) (state g.S.Store c.follow.new.conn) (Some c.in-Some.caller) c.follow.result _ _ (HasSoundContents broker_primitives) (IsToChange (CallersStep c.in-Some.caller c.args.command.now)) (IsToChange (TokensStep (token_of c.args.token) c.args.command.now))
     (λ s who change. (change.0, change.1, tokens_step s (token_of c.args.token) c.args.command.now c.in-Some.caller who _ change.2)) (rw c.in-Some.is at c.in-Ok.ensures) c.follow.ensures.answers c.follow.ensures.calm
 
 pub returns-in-None-clause-answers : goal.returns-in-None-clause-answers

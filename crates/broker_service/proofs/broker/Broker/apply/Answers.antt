@@ -1,14 +1,12 @@
 use Rattle.std.proofs.Common.{sym, subst}
 use Rattle.sqlite.specs.Held.{state}
 use Rattle.broker_core.specs.declared.answer.Answer.{Answer}
-use Rattle.broker_service.specs.BrokerView.{BrokerView}
+use Rattle.broker_service.{specs.{BrokerView.{BrokerView}, Calls.{Applied}}, proofs.AppliedLemmas.{refused_stopped}}
 use Rattle.command_facts.specs.Callers.{token_of}
-use Rattle.broker_service.specs.Calls.{Applied}
-use Rattle.broker_service.proofs.AppliedLemmas.{refused_stopped}
 use Rattle.broker_service.proofs.broker.Broker.apply.Goals as goal
 
 pub returns : goal.returns
-returns g c = c.run.ensures (cc) (λ s out. c.readable_stays.ensures.steps s (token_of c.args.token) c.args.command.now out c.has_readable_names.ensures)
+returns g c = c.run.ensures (cc) (c.has_readable_names.ensures.0, λ s out. c.readable_stays.ensures.steps s (token_of c.args.token) c.args.command.now out c.has_readable_names.ensures)
 
 pub returns-then-self : goal.returns-then-self
 returns-then-self g c =

@@ -5,6 +5,7 @@ use Rattle.broker_service.proofs.broker.Broker.open.Goals as goal
 pub returns-in-Ok : goal.returns-in-Ok
 returns-in-Ok g c = record {
   judges = c.in-Ok.ensures.judges;
+  calm = c.in-Ok.ensures.calm;
   blank = c.in-Ok.ensures.blank;
   marked = c.in-Ok.ensures.marked;
   kept = c.in-Ok.ensures.kept;
@@ -18,6 +19,7 @@ returns-in-Ok g c = record {
 pub returns-in-Err : goal.returns-in-Err
 returns-in-Err g c = record {
   judges = c.in-Err.ensures.judges;
+  calm = c.in-Err.ensures.calm;
   blank = c.in-Err.ensures.blank;
   marked = c.in-Err.ensures.marked;
   kept = tt;

@@ -1,17 +1,15 @@
 use Rattle.std.proofs.Common.{◌≡◌, ◌↔◌, Err, IsTrue, sym, subst, ap, ◌∙◌}
 use Rattle.sqlite.specs.Held.{state}
-use Rattle.broker_core.specs.declared.answer.Answer.TheVariants as answers
-use Rattle.broker_service.specs.BrokerView.{BrokerView}
-use Rattle.command_facts.specs.Callers.{token_of}
-use Rattle.broker_service.specs.Calls.{Applied}
-use Rattle.broker_service.proofs.AppliedLemmas.{told, ran}
-use Rattle.broker_service.proofs.broker.Broker.run.Goals as goal
+use Rattle.broker_service.{specs.{BrokerView.{BrokerView}, Calls.{Applied}}, proofs.AppliedLemmas.{told, ran}}
 use Rattle.broker_service.proofs.broker.Broker.run.Goals.{in-Ok, in-Err-Memory, in-Err-Store, in-Store, in_default}
+use Rattle.command_facts.specs.Callers.{token_of}
+use Rattle.broker_core.specs.declared.answer.Answer.TheVariants as answers
+use Rattle.broker_service.proofs.broker.Broker.run.Goals as goal
 
 pub returns : goal.returns
-returns g c running reads =
+returns g c running sound =
     subst (λ (b : BrokerView g.row.S.Denot). Applied (state g.S.Store) b (token_of c.args.token) c.args.command.now c.match-transact.answer after) c.self.view_is
-    (ran (state g.S.Store) (record { connection = c.self.inside.conn; is_stopped = c.self.inside.stopped }) (token_of c.args.token) c.args.command.now c.transact.result c.match-transact.answer after is c.transact.ensures.transacts c.transact.ensures.answers stops (cc) reads)
+    (ran (state g.S.Store) (record { connection = c.self.inside.conn; is_stopped = c.self.inside.stopped }) (token_of c.args.token) c.args.command.now c.transact.result c.match-transact.answer after is c.transact.ensures.transacts c.transact.ensures.answers stops (cc) sound)
   where
     after : BrokerView g.row.S.Denot
     after = record { connection = c.transact.new.conn; is_stopped = c.match-matches.self }
