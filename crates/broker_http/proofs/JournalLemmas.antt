@@ -1,20 +1,13 @@
 -- What is answered by steps is a run of the machine.
 use Rattle.std.proofs.Common.{◌≡◌, ◌⊎◌, inl, inr, ℕ, if◌then◌else◌, List, [], ◌∷◌, ◌++◌, map, Option, refl, sym, ap, ◌∙◌, subst}
-use Rattle.broker_core.specs.Laws.{TeamsDiffer}
-use Rattle.broker_core.specs.Machine.{Request as Asked, Run, Step}
-use Rattle.broker_core.specs.State.{State as Broker}
-use Rattle.broker_core.specs.Text.{Text}
-use Rattle.broker_core.specs.declared.answer.Answer.{Answer}
+use Rattle.broker_core.specs.{Laws.{TeamsDiffer}, Machine.{Request as Asked, Run, Step}, State.{State as Broker}, Text.{Text}, declared.answer.Answer.{Answer}}
 use Rattle.broker_core.specs.declared.command.Command.{Command}
 use Rattle.command_facts.specs.Primitives.{broker_primitives}
 use Rattle.http_responses.specs.Responses.{Response}
-use Rattle.http_requests.specs.declared.requests.Request.{Request}
-use Rattle.http_requests.specs.declared.requests.Request.TheVariants.{Refused, NoRoute, NoMethod, Asks}
-use Rattle.broker_http.specs.Stream.{Responses}
-use Rattle.broker_http.specs.Exchange as exchange
-use Rattle.broker_http.specs.Serving.{Mode, ModeStep}
-use Rattle.broker_http.specs.Serving.Mode.{Running, IsStopped}
+use Rattle.http_requests.specs.{declared.requests.Request.{Request}, declared.requests.Request.TheVariants.{Refused, NoRoute, NoMethod, Asks}}
+use Rattle.broker_http.specs.{Stream.{Responses}, Serving.{Mode, ModeStep}, Serving.Mode.{Running, IsStopped}}
 use Rattle.broker_http.specs.Journal.{Journal, JournalStep, written, state_of, blank, IsRunFrom}
+use Rattle.broker_http.specs.Exchange as exchange
 
 -- ---- every answer of the machine can be written down
 

@@ -1,34 +1,20 @@
 -- From brokers to the machine.
-use Rattle.std.proofs.Common.{◌≡◌, ◌≢◌, ◌↔◌, ◌⊎◌, inl, inr, ℕ, suc, ◌≤◌, Bool, true, false, IsTrue, List, [], ◌∷◌, Option, refl, sym, ap, ◌∙◌, subst, arith}
 use Rattle.std.specs.Prelude.{length, Contains}
+use Rattle.std.proofs.Common.{◌≡◌, ◌≢◌, ◌↔◌, ◌⊎◌, inl, inr, ℕ, suc, ◌≤◌, Bool, true, false, IsTrue, List, [], ◌∷◌, Option, refl, sym, ap, ◌∙◌, subst, arith}
 use Rattle.std.proofs.lemmas.Bool.{cases_Bool}
-use Rattle.sqlite.specs.Tree.{Trees}
-use Rattle.sqlite.proofs.StateLemmas.{survives_then}
-use Rattle.sqlite.specs.Held.{Held}
-use Rattle.sqlite.specs.State.{State, HasCleanDisk, Survives, HasCause, store_error}
+use Rattle.sqlite.{specs.{Tree.{Trees}, Held.{Held}, State.{State, HasCleanDisk, Survives, HasCause, store_error}}, proofs.StateLemmas.{survives_then}}
 use Rattle.sqlite_trees.specs.declared.error.StoreError.{StoreError}
 use Rattle.sqlite_trees.specs.declared.error.StoreError.TheVariants.{OutOfMemory, Io, Corrupt, Full, Broken, Unstorable}
-use Rattle.table_access.specs.Calls.{HasFailed, fault_of}
-use Rattle.table_access.specs.declared.StoreFault.TheVariants.{Memory, Store}
-use Rattle.broker_core.specs.Machine.{is_step}
-use Rattle.broker_core.specs.State.{State as Broker}
-use Rattle.broker_core.specs.Text.{Text}
-use Rattle.broker_core.specs.declared.answer.Answer.{Answer}
-use Rattle.broker_core.specs.declared.answer.Answer.TheVariants as answers
-use Rattle.broker_core.specs.declared.command.Command.{Command}
+use Rattle.table_access.specs.{Calls.{HasFailed, fault_of}, declared.StoreFault.TheVariants.{Memory, Store}}
+use Rattle.broker_core.specs.{Machine.{is_step}, State.{State as Broker}, Text.{Text}, declared.answer.Answer.{Answer}, declared.command.Command.{Command}}
 use Rattle.broker_tables.specs.Readable.{IsReadable}
-use Rattle.broker_service.specs.Causes.{StaysReadable}
-use Rattle.broker_service.specs.BrokerView.{BrokerView}
-use Rattle.broker_service.specs.Calls.{Applied}
-use Rattle.broker_service.specs.Ends.{Applies, CommitsAtMostOnce}
+use Rattle.broker_service.specs.{Causes.{StaysReadable}, BrokerView.{BrokerView}, Calls.{Applied}, Ends.{Applies, CommitsAtMostOnce}}
 use Rattle.broker_service.proofs.Transaction.{outlives_itself}
 use Rattle.http_responses.specs.Responses.{Response}
-use Rattle.broker_http.specs.Stream.{Responses}
-use Rattle.http_requests.specs.declared.requests.Request.{Request}
-use Rattle.http_requests.specs.declared.requests.Request.TheVariants.{Refused, NoRoute, NoMethod, Asks}
+use Rattle.broker_http.specs.{Stream.{Responses}, Serving.{Mode, ModeStep, IsInMode, IsDiskAtFault, StopsOnlyBy}, Serving.Mode.{Running, IsStopped}}
+use Rattle.http_requests.specs.{declared.requests.Request.{Request}, declared.requests.Request.TheVariants.{Refused, NoRoute, NoMethod, Asks}}
+use Rattle.broker_core.specs.declared.answer.Answer.TheVariants as answers
 use Rattle.broker_http.specs.Exchange as exchange
-use Rattle.broker_http.specs.Serving.{Mode, ModeStep, IsInMode, IsDiskAtFault, StopsOnlyBy}
-use Rattle.broker_http.specs.Serving.Mode.{Running, IsStopped}
 
 not_true : (b : Bool) → ¬ (b ≡ true) → b ≡ false
 not_true true differs = absurd (differs refl)

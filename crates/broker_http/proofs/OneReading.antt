@@ -1,19 +1,12 @@
 -- A stream has one reading, whatever answers its messages: so it doesn't matter how the stream is cut.
 use Rattle.std.proofs.Common.{◌≡◌, ◌⊎◌, inl, inr, ℕ, suc, true, false, List, [], ◌∷◌, ◌++◌, length, Option, refl, sym, ap, ap₂, ◌∙◌, subst, arith, length-append}
-use Rattle.broker_core.specs.declared.answer.Answer.{Answer}
-use Rattle.broker_core.specs.declared.command.Command.{Command}
-use Rattle.http_messages.specs.Message.{Message}
+use Rattle.broker_core.specs.{declared.answer.Answer.{Answer}, declared.command.Command.{Command}}
+use Rattle.http_messages.{specs.{Message.{Message}, Messages.{BeginsWithMessage}}, proofs.MessagesLemmas.{BeginsWithMessage-unique, none_in_nothing}}
+use Rattle.http_requests.specs.{declared.requests.Request.{Request}, declared.requests.Request.TheVariants.{Refused, NoRoute, NoMethod, Asks}}
 use Rattle.http_requests.proofs.OneRequest.{request_one}
-use Rattle.http_requests.specs.declared.requests.Request.{Request}
-use Rattle.http_requests.specs.declared.requests.Request.TheVariants.{Refused, NoRoute, NoMethod, Asks}
 use Rattle.http_responses.specs.Responses.{Response}
-use Rattle.broker_http.specs.Exchange.{Exchange, Responds}
-use Rattle.broker_http.specs.Laws.{IsOneReading, closes_at}
-use Rattle.broker_http.specs.Stream.{Responses, StreamEnds, AllOpen}
-use Rattle.broker_http.specs.declared.served.Ended.{Ended}
-use Rattle.broker_http.specs.declared.served.Ended.TheVariants.{AtEnd, Rest, Closed}
-use Rattle.http_messages.specs.Messages.{BeginsWithMessage}
-use Rattle.http_messages.proofs.MessagesLemmas.{BeginsWithMessage-unique, none_in_nothing}
+use Rattle.broker_http.specs.{Exchange.{Exchange, Responds}, Laws.{IsOneReading, closes_at}, Stream.{Responses, StreamEnds, AllOpen}}
+use Rattle.broker_http.specs.{declared.served.Ended.{Ended}, declared.served.Ended.TheVariants.{AtEnd, Rest, Closed}}
 
 pub same_message : (m n : Message) → m.head ≡ n.head → m.body ≡ n.body → m ≡ n
 same_message m n p q =

@@ -1,39 +1,22 @@
 -- A worked example from the bytes of a request to the bytes of its answer, computed from the definitions: a deployment
 -- into a strict environment is refused, since the only result between the two versions is a claim, and nothing changes.
+use Rattle.std.specs.{Fmt.{digits}, Prelude.{codes, Some, None}}
 use Rattle.std.proofs.Common.{◌≡◌, ◌∙◌, ◌⊎◌, ap, ap₂, sym, subst, append-nil, Bool, ℕ, List, [], ◌∷◌, ◌++◌, true, false, refl, inl, inr, if◌then◌else◌}
-use Rattle.std.specs.Fmt.{digits}
-use Rattle.std.specs.Prelude.{codes, Some, None}
-use Rattle.broker_core.specs.Change.{Transition}
-use Rattle.broker_core.specs.Laws.{TeamsDiffer}
-use Rattle.broker_core.proofs.Once.{step_once}
-use Rattle.broker_core.specs.declared.answer.Answer.{Answer}
-use Rattle.broker_core.specs.declared.command.Command.TheVariants.{Deploy}
-use Rattle.broker_core.specs.declared.policy.Caller.TheVariants.{Team}
-use Rattle.broker_core.specs.Machine.{Request, Step}
-use Rattle.broker_core.specs.State.{State as Broker, claimed_result}
-use Rattle.broker_core.specs.Text.{Text, put_at, same_pair, same_place, same_text, same_version, version}
+use Rattle.broker_core.specs.{Change.{Transition}, Laws.{TeamsDiffer}, declared.answer.Answer.{Answer}, declared.command.Command.TheVariants.{Deploy}}
+use Rattle.broker_core.specs.{declared.policy.Caller.TheVariants.{Team}, Machine.{Request, Step}, State.{State as Broker, claimed_result}}
+use Rattle.broker_core.{specs.Text.{Text, put_at, same_pair, same_place, same_text, same_version, version}, proofs.Once.{step_once}}
 use Rattle.broker_core.proofs.Judgement.{Rows, row_keys, judges, text_is}
 use Rattle.command_facts.specs.Primitives.{broker_primitives}
 use Rattle.answer_texts.proofs.TextExamples.{is_claimed, refused_for_a_claim, the_body_of_a_refusal}
 use Rattle.http_responses.specs.Head.{phrase, status_line, content_fields, own_field, close_field}
 use Rattle.http_responses.specs.Responses.{Response, answer_response, response_of, sent_part}
-use Rattle.http_messages.proofs.MessagesLemmas.{BeginsWithMessage-unique, none_in_nothing}
-use Rattle.http_messages.specs.Messages.{BeginsWithMessage}
+use Rattle.http_messages.{specs.Messages.{BeginsWithMessage}, proofs.MessagesLemmas.{BeginsWithMessage-unique, none_in_nothing}}
+use Rattle.http_requests.specs.{Requests.{IsRequest}, declared.requests.Request.{Request as Asked}, declared.requests.Request.TheVariants.{Asks}}
 use Rattle.http_requests.proofs.OneRequest.{request_one}
-use Rattle.http_requests.specs.Requests.{IsRequest}
-use Rattle.http_requests.specs.declared.requests.Request.{Request as Asked}
-use Rattle.http_requests.specs.declared.requests.Request.TheVariants.{Asks}
 use Rattle.http_requests.proofs.RequestExamples.{deployment_head, deployment_body, deployment_message, the_stream_begins_with_the_message, the_message_asks_a_deployment}
-use Rattle.broker_http.specs.Calls.{ByMachine}
-use Rattle.broker_http.specs.Exchange.{Responds}
-use Rattle.broker_http.specs.Journal.{Journal, JournalStep, blank, written}
-use Rattle.broker_http.specs.Serving.{Mode, ModeStep, Serves}
-use Rattle.broker_http.specs.Serving.Mode.{Running, IsStopped}
-use Rattle.broker_http.specs.Stream.{Responses, StreamEnds, texts}
-use Rattle.broker_http.specs.declared.served.Ended.{Ended}
-use Rattle.broker_http.specs.declared.served.Ended.TheVariants.{AtEnd}
-use Rattle.broker_http.specs.declared.served.Served.{Served}
-use Rattle.broker_http.proofs.OneReading.{none_left, same_message}
+use Rattle.broker_http.specs.{Calls.{ByMachine}, Exchange.{Responds}, Journal.{Journal, JournalStep, blank, written}, Serving.{Mode, ModeStep, Serves}}
+use Rattle.broker_http.specs.{Serving.Mode.{Running, IsStopped}, Stream.{Responses, StreamEnds, texts}, declared.served.Ended.{Ended}}
+use Rattle.broker_http.{specs.{declared.served.Ended.TheVariants.{AtEnd}, declared.served.Served.{Served}}, proofs.OneReading.{none_left, same_message}}
 
 abbrev pub red : Text
 red = codes "red"

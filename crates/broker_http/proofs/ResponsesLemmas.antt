@@ -1,25 +1,16 @@
 -- Responses go on.
-use Rattle.std.proofs.Common.{◌≡◌, ℕ, ◌+◌, ◌<◌, false, List, [], ◌∷◌, ◌++◌, Option, Result, length, take, drop, refl, sym, ap, ◌∙◌, subst, append_assoc, append-nil, arith}
-use Rattle.http_messages.specs.Message.{Message}
-use Rattle.http_messages.specs.Reading.{LeavesAtFault, IsOutcome}
-use Rattle.http_messages.specs.declared.reading.ReadFault.{ReadFault}
-use Rattle.http_messages.specs.declared.reading.ReadFault.TheVariants as reads
-use Rattle.broker_http.specs.Faults.{fault_of_read}
-use Rattle.broker_http.specs.Serving.{ServesUntil}
-use Rattle.http_messages.specs.declared.head.Head.{Head}
-use Rattle.http_messages.specs.declared.head.Refused.{Refused}
-use Rattle.http_messages.specs.declared.reading.ReadOutcome.{ReadOutcome}
-use Rattle.http_messages.specs.declared.reading.ReadOutcome.TheVariants as outcomes
-use Rattle.http_responses.specs.Responses.{Response}
-use Rattle.broker_http.specs.Stream.{texts, AllOpen, Responses, ExchangeCut, StreamCut, StreamEnds}
-use Rattle.broker_http.specs.declared.served.ServeFault.{ServeFault}
-use Rattle.broker_http.specs.declared.served.ServeFault.TheVariants as faults
-use Rattle.broker_http.specs.declared.served.Ended.{Ended}
-use Rattle.broker_http.specs.declared.served.Ended.TheVariants.{AtEnd, Rest, Closed}
-use Rattle.http_messages.specs.Messages.{BeginsWithMessage, HasNoMessage, message_of}
 use Rattle.std.specs.Io.KnownBytes.{Appends, Consumes}
+use Rattle.std.proofs.Common.{◌≡◌, ℕ, ◌+◌, ◌<◌, false, List, [], ◌∷◌, ◌++◌, Option, Result, length, take, drop, refl, sym, ap, ◌∙◌, subst, append_assoc, append-nil, arith}
 use Rattle.std.proofs.KnownBytes.{Appends-trans, Consumes-trans}
-use Rattle.http_messages.proofs.MessagesLemmas.{BeginsWithMessage-more}
+use Rattle.http_messages.specs.{Message.{Message}, Reading.{LeavesAtFault, IsOutcome}, declared.reading.ReadFault.{ReadFault}, declared.head.Head.{Head}}
+use Rattle.http_messages.specs.{declared.head.Refused.{Refused}, declared.reading.ReadOutcome.{ReadOutcome}}
+use Rattle.http_messages.{specs.Messages.{BeginsWithMessage, HasNoMessage, message_of}, proofs.MessagesLemmas.{BeginsWithMessage-more}}
+use Rattle.broker_http.specs.{Faults.{fault_of_read}, Serving.{ServesUntil}, Stream.{texts, AllOpen, Responses, ExchangeCut, StreamCut, StreamEnds}}
+use Rattle.broker_http.specs.{declared.served.ServeFault.{ServeFault}, declared.served.Ended.{Ended}, declared.served.Ended.TheVariants.{AtEnd, Rest, Closed}}
+use Rattle.http_responses.specs.Responses.{Response}
+use Rattle.http_messages.specs.declared.reading.ReadFault.TheVariants as reads
+use Rattle.http_messages.specs.declared.reading.ReadOutcome.TheVariants as outcomes
+use Rattle.broker_http.specs.declared.served.ServeFault.TheVariants as faults
 
 module _ {S : Type 0} (Exchange : S → Message → Response → S → Type 0) where
   -- more of the stream

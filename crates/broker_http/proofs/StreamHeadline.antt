@@ -1,16 +1,10 @@
 -- Each deployment and each release of a stream is recorded exactly where it may be.
 use Rattle.std.proofs.Common.{List, [], ◌∷◌, ◌++◌, inl, inr, length, refl, sym, ap, ◌∙◌, subst, arith, length-append}
-use Rattle.broker_core.specs.Change.{Transition}
-use Rattle.broker_core.specs.Laws.{TeamsDiffer}
-use Rattle.broker_core.specs.Machine.{Request, Step}
-use Rattle.broker_core.specs.State.{State as Broker}
-use Rattle.broker_core.specs.declared.answer.Answer.{Answer}
-use Rattle.broker_core.specs.declared.command.Command.TheVariants.{Deploy, Release}
-use Rattle.broker_core.proofs.Callers.{teams_differ_step}
+use Rattle.broker_core.specs.{Change.{Transition}, Laws.{TeamsDiffer}, Machine.{Request, Step}, State.{State as Broker}, declared.answer.Answer.{Answer}}
+use Rattle.broker_core.{specs.declared.command.Command.TheVariants.{Deploy, Release}, proofs.Callers.{teams_differ_step}}
 use Rattle.broker_core.proofs.Headline.{deploys_exactly, releases_exactly}
 use Rattle.command_facts.specs.Primitives.{broker_primitives}
-use Rattle.broker_http.specs.Journal.{state_of}
-use Rattle.broker_http.specs.Laws.{RunsSteps, IsServedExactly, EachServed, StreamsDeployExactly, StreamsReleaseExactly}
+use Rattle.broker_http.specs.{Journal.{state_of}, Laws.{RunsSteps, IsServedExactly, EachServed, StreamsDeployExactly, StreamsReleaseExactly}}
 
 module _ (r : Request) (IsExactly : Broker → Transition → Type 0)
     (each : (s : Broker) (out : Transition) → TeamsDiffer s → Step broker_primitives s r.token r.command out → IsExactly s out) where

@@ -1,7 +1,6 @@
 -- One more wait keeps to a limit. A sum of vain waits was a0 as so much was spent (s0), is a now that s is spent, and b
 -- after the wait, which counts c, so that t is spent.
-use Rattle.std.proofs.Common.{◌≡◌, ◌+◌, ◌-◌, ◌≤◌, min, ℕ, Result, inl, inr, arith}
-use Rattle.std.specs.declared.io.Error.{Error}
+use Rattle.std.{specs.declared.io.Error.{Error}, proofs.Common.{◌≡◌, ◌+◌, ◌-◌, ◌≤◌, min, ℕ, Result, inl, inr, arith}}
 use Rattle.broker_http.specs.Waits.{IsVain, Waits}
 
 module _ {A : Type 0} (r : Result A Error) (limit most a0 s0 a s within b : ℕ) (counted : a + s0 ≤ a0 + s) (left : s + within ≤ limit) where

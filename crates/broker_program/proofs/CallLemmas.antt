@@ -1,22 +1,12 @@
 -- The commands of peers that are served one after another are those of one session.
 use Rattle.std.proofs.Common.{inl, ℕ, zero, suc, List, [], ◌∷◌, Option, None, Ok, Err, Result, refl, subst}
-use Rattle.sqlite.specs.Held.{Held}
-use Rattle.sqlite.specs.State.{State}
-use Rattle.sqlite.specs.Files.{file_state}
+use Rattle.sqlite.specs.{Held.{Held}, State.{State}, Files.{file_state}, declared.FileStore.{FileStore}}
 use Rattle.sqlite_disk.specs.declared.Disk.{Ghosts}
-use Rattle.sqlite.specs.declared.FileStore.{FileStore}
-use Rattle.broker_core.specs.Laws.{Exit}
-use Rattle.broker_core.specs.Machine.{Request as Asked}
-use Rattle.http_requests.specs.declared.requests.Request.{Request}
-use Rattle.http_requests.specs.declared.requests.Request.TheVariants.{Refused, NoRoute, NoMethod, Asks}
+use Rattle.broker_core.specs.{Laws.{Exit}, Machine.{Request as Asked}}
+use Rattle.http_requests.specs.{declared.requests.Request.{Request}, declared.requests.Request.TheVariants.{Refused, NoRoute, NoMethod, Asks}}
 use Rattle.http_responses.specs.Responses.{Response}
-use Rattle.broker_service.specs.BrokerView.{BrokerView}
-use Rattle.broker_service.specs.Calls.{Applied}
-use Rattle.broker_service.specs.Sessions.{RunsCalls, exit_of}
-use Rattle.broker_http.specs.Calls.{ByBroker, IsServed}
-use Rattle.broker_http.specs.Exchange.{Responds}
-use Rattle.broker_http.specs.Stream.{Responses}
-use Rattle.broker_http.specs.declared.served.ServeFault.{ServeFault}
+use Rattle.broker_service.specs.{BrokerView.{BrokerView}, Calls.{Applied}, Sessions.{RunsCalls, exit_of}}
+use Rattle.broker_http.specs.{Calls.{ByBroker, IsServed}, Exchange.{Responds}, Stream.{Responses}, declared.served.ServeFault.{ServeFault}}
 use Rattle.broker_http.specs.declared.served.Served.{Served}
 use Rattle.broker_program.specs.Serving.{ServesPeers}
 

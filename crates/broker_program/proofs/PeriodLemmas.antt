@@ -1,22 +1,13 @@
 -- The openings of a file, one after another, are periods of its life.
-use Rattle.std.proofs.Common.{List, [], ◌∷◌, ◌++◌, Ok, refl, subst}
-use Rattle.std.proofs.Math.Logic.{∥∥₁_elim, ∥∥₁_map}
+use Rattle.std.proofs.{Common.{List, [], ◌∷◌, ◌++◌, Ok, refl, subst}, Math.Logic.{∥∥₁_elim, ∥∥₁_map}}
 use Rattle.sqlite_disk.specs.declared.Disk.{Ghosts}
 use Rattle.sqlite_store.specs.Laws.{settled_at, stays_at}
-use Rattle.sqlite.specs.Files.{IsOpened, file_state, image_of}
-use Rattle.sqlite.specs.Held.{Held}
-use Rattle.sqlite.specs.Recovery.{Image}
-use Rattle.sqlite.specs.Start.{FindsIn}
-use Rattle.sqlite.specs.State.{HasCleanDisk}
-use Rattle.sqlite.specs.declared.FileStore.{FileStore}
-use Rattle.sqlite.specs.declared.file.Leftover.{Leftover}
+use Rattle.sqlite.specs.{Files.{IsOpened, file_state, image_of}, Held.{Held}, Recovery.{Image}, Start.{FindsIn}, State.{HasCleanDisk}}
+use Rattle.sqlite.specs.{declared.FileStore.{FileStore}, declared.file.Leftover.{Leftover}}
+use Rattle.broker_service.specs.{BrokerView.{BrokerView}, Life.{Kept, Period, PeriodLeads, LifeLeads, PeriodRuns, AreFilesOf, EndsAs, MayLeave}}
+use Rattle.broker_service.{specs.Life.Period.{Serving}, proofs.LifeLemmas.{file_leads}}
+use Rattle.broker_program.specs.{Life.{periods_of}, Serving.{StartsAfter, Work, Works}}
 use Rattle.sqlite.specs.declared.file.Leftover.TheVariants as left
-use Rattle.broker_service.specs.BrokerView.{BrokerView}
-use Rattle.broker_service.specs.Life.{Kept, Period, PeriodLeads, LifeLeads, PeriodRuns, AreFilesOf, EndsAs, MayLeave}
-use Rattle.broker_service.specs.Life.Period.{Serving}
-use Rattle.broker_service.proofs.LifeLemmas.{file_leads}
-use Rattle.broker_program.specs.Life.{periods_of}
-use Rattle.broker_program.specs.Serving.{StartsAfter, Work, Works}
 
 -- one more period
 then_period : (old mid new : Kept) (life : List Period) (period : Period) → LifeLeads old life mid → PeriodLeads mid period new → LifeLeads old (life ++ (period ∷ [])) new

@@ -2,20 +2,12 @@
 use Rattle.std.proofs.Common.{◌≡◌, ◌≤◌, sym, subst, arith}
 use Rattle.sqlite_disk.specs.declared.Disk.{Ghosts}
 use Rattle.sqlite_trees.specs.View.{doubt}
-use Rattle.sqlite.specs.Files.{file_state}
-use Rattle.sqlite.specs.FileStore.{view}
-use Rattle.sqlite.specs.Held.{Held}
-use Rattle.sqlite.specs.Recovery.{Image}
-use Rattle.sqlite.specs.State.{HasCleanDisk}
-use Rattle.sqlite.specs.View.{IsClean}
+use Rattle.sqlite.specs.{Files.{file_state}, FileStore.{view}, Held.{Held}, Recovery.{Image}, State.{HasCleanDisk}, View.{IsClean}}
 use Rattle.sqlite.specs.declared.FileStore.{FileStore}
 use Rattle.broker_service.specs.declared.opening.OpenFault.{OpenFault}
-use Rattle.broker_program.specs.Files.{GivesUpAs, LeavesStore, OpensOn}
-use Rattle.broker_program.specs.Refusals.{FailsThere, IsOfDatabase}
-use Rattle.broker_program.specs.declared.fault.RunFault.{RunFault}
+use Rattle.broker_program.specs.{Files.{GivesUpAs, LeavesStore, OpensOn}, Refusals.{FailsThere, IsOfDatabase}, declared.fault.RunFault.{RunFault}}
+use Rattle.broker_program.specs.{declared.left.Left.{Left}, declared.left.Left.TheVariants.{Closed, GivenUp, Nothing, Served}}
 use Rattle.broker_program.specs.declared.fault.RunFault.TheVariants as run_fault
-use Rattle.broker_program.specs.declared.left.Left.{Left}
-use Rattle.broker_program.specs.declared.left.Left.TheVariants.{Closed, GivenUp, Nothing, Served}
 
 module _ {D : Type 0} {g : Ghosts D} where
   pub store_weaker : (P Q : FileStore D g → Type 0) (rest : Left D g) → ((store : FileStore D g) → P store → Q store) → LeavesStore P rest → LeavesStore Q rest

@@ -1,24 +1,13 @@
 -- A connection on the files of a store that was given up is one on files after it.
 use Rattle.std.proofs.Common.{◌≡◌, ◌∙◌, false, IsTrue, refl, ap, subst, arith}
-use Rattle.sqlite_disk.specs.declared.Disk.{Ghosts}
-use Rattle.sqlite_disk.specs.declared.Files.{Files}
+use Rattle.sqlite_disk.specs.{declared.Disk.{Ghosts}, declared.Files.{Files}}
 use Rattle.sqlite_pool.proofs.StateLemmas.{clean_is, may_leave_is}
-use Rattle.sqlite_trees.proofs.Doubt.{no_doubt}
-use Rattle.sqlite_trees.specs.View.{View}
-use Rattle.sqlite.specs.FileStore.{files as store_files, state as store_state, view}
-use Rattle.sqlite.specs.Files.{Finds, IsOpened, image_of}
-use Rattle.sqlite.specs.Held.{Held}
-use Rattle.sqlite.specs.Recovery.{Image}
-use Rattle.sqlite.specs.View.{IsClean}
-use Rattle.sqlite.specs.WalFiles.{outcomes}
-use Rattle.sqlite.specs.WalReads.{AreClean}
-use Rattle.sqlite.specs.declared.FileStore.{FileStore}
+use Rattle.sqlite_trees.{specs.View.{View}, proofs.Doubt.{no_doubt}}
+use Rattle.sqlite.specs.{FileStore.{files as store_files, state as store_state, view}, Files.{Finds, IsOpened, image_of}, Held.{Held}, Recovery.{Image}}
+use Rattle.sqlite.specs.{View.{IsClean}, WalFiles.{outcomes}, WalReads.{AreClean}, declared.FileStore.{FileStore}}
+use Rattle.broker_service.specs.{BrokerView.{BrokerView}, Life.{IsOpenedAfter}}
+use Rattle.broker_program.specs.{Files.{GivesUpAs}, Reopening.{EmptiesLog, IsStillGiven}, Serving.{OpensAfter}}
 use Rattle.sqlite.specs.declared.file.Leftover.TheVariants as left
-use Rattle.broker_service.specs.BrokerView.{BrokerView}
-use Rattle.broker_service.specs.Life.{IsOpenedAfter}
-use Rattle.broker_program.specs.Files.{GivesUpAs}
-use Rattle.broker_program.specs.Reopening.{EmptiesLog, IsStillGiven}
-use Rattle.broker_program.specs.Serving.{OpensAfter}
 
 pub opened_after : {D : Type 0} (g : Ghosts D) (stays : (file : D) → g.may_leave file (g.seen file)) (old store : FileStore D g) (files : Files D) (conn : Held (FileStore D g))
     → EmptiesLog old (store, false) → (files.log, files.db) ≡ store_files store → IsOpened conn → Finds files conn

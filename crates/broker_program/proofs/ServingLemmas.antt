@@ -1,22 +1,14 @@
 -- peers that are served one after another, over one opening of the files after another
 use Rattle.std.proofs.Common.{◌≡◌, ◌≤◌, inl, inr, ℕ, ◌+◌, ◌-◌, suc, [], ◌∷◌, Option, None, Some, MatchOption, refl, sym, subst, ◌∙◌, arith}
-use Rattle.sqlite_disk.specs.declared.Disk.{Ghosts}
-use Rattle.sqlite_disk.specs.declared.Files.{Files}
-use Rattle.sqlite.specs.Files.{file_state}
-use Rattle.sqlite.specs.Recovery.{Image}
-use Rattle.sqlite.specs.State.{HasCleanDisk}
-use Rattle.sqlite.specs.WalReads.{AreClean}
-use Rattle.sqlite.specs.declared.FileStore.{FileStore}
+use Rattle.sqlite_disk.specs.{declared.Disk.{Ghosts}, declared.Files.{Files}}
+use Rattle.sqlite.specs.{Files.{file_state}, Recovery.{Image}, State.{HasCleanDisk}, WalReads.{AreClean}, declared.FileStore.{FileStore}}
 use Rattle.sqlite.specs.declared.file.Leftover.{Leftover}
-use Rattle.sqlite.specs.declared.file.Leftover.TheVariants as left
-use Rattle.broker_service.specs.BrokerView.{BrokerView}
-use Rattle.broker_service.specs.Life.{EndsAs, IsGivenBack}
-use Rattle.broker_program.specs.Files.{ClosesAs, OpensBroker}
-use Rattle.broker_program.specs.Refusals.{IsLeftUnserved}
+use Rattle.broker_service.specs.{BrokerView.{BrokerView}, Life.{EndsAs, IsGivenBack}}
+use Rattle.broker_program.specs.{Files.{ClosesAs, OpensBroker}, Refusals.{IsLeftUnserved}}
 use Rattle.broker_program.specs.Reopening.{HasServed, OpensBrokerAgain, ServesAll, ServesMore, ServesOn, ServesSoFar}
-use Rattle.broker_program.specs.Serving.{LosesFiles, ServesFile, ServesNext, ServesOver, Work, Works, peers_of}
-use Rattle.broker_program.specs.declared.left.Service.{Service}
+use Rattle.broker_program.specs.{Serving.{LosesFiles, ServesFile, ServesNext, ServesOver, Work, Works, peers_of}, declared.left.Service.{Service}}
 use Rattle.broker_program.proofs.CallLemmas.{peers_call}
+use Rattle.sqlite.specs.declared.file.Leftover.TheVariants as left
 
 module _ {D : Type 0} {g : Ghosts D} where
   pub none_served : (held : Image) (count : ℕ) (broker : BrokerView (FileStore D g)) → OpensBroker held broker → ServesMore held count count broker

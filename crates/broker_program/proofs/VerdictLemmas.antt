@@ -1,6 +1,5 @@
 -- what is told of a verdict, by whether no interaction fails
-use Rattle.std.proofs.Common.{◌≡◌, ◌↔◌, ◌++◌, ℕ, List, [], ◌∷◌, Bool, true, false, IsTrue, codes, refl}
-use Rattle.std.specs.List.{flat_map}
+use Rattle.std.{specs.List.{flat_map}, proofs.Common.{◌≡◌, ◌↔◌, ◌++◌, ℕ, List, [], ◌∷◌, Bool, true, false, IsTrue, codes, refl}}
 use Rattle.broker_program.specs.Told.{is_pass, place_text, verdict_text}
 
 pub pass_text : (places : List ℕ) (text : List ℕ) → places ≡ [] → text ≡ codes "pass" → text ≡ verdict_text places

@@ -1,18 +1,11 @@
 -- What is handed on of an answer, by what the broker promises of it.
 use Rattle.std.proofs.Common.{◌≡◌, false, true, inl, inr, Bool, Option, Some, Ok, Err, IsTrue, refl, ap, subst}
-use Rattle.sqlite.specs.Held.{Held}
-use Rattle.sqlite.specs.State.{State}
-use Rattle.broker_core.specs.Change.{instance_of}
-use Rattle.broker_core.specs.Headline.{IsRefusal}
-use Rattle.broker_core.specs.Machine.{is_step}
-use Rattle.broker_core.specs.State.{State as Broker}
-use Rattle.broker_core.specs.Text.{Text}
+use Rattle.sqlite.specs.{Held.{Held}, State.{State}}
+use Rattle.broker_core.specs.{Change.{instance_of}, Headline.{IsRefusal}, Machine.{is_step}, State.{State as Broker}, Text.{Text}}
 use Rattle.broker_core.specs.declared.answer.Answer.{Answer}
 use Rattle.broker_core.specs.declared.answer.Answer.TheVariants.{Done, Already, Shown, Denied, Unknown, BadForm, Taken, Full, NotPermitted, Pattern, Memory, Store, Stopped}
 use Rattle.broker_core.specs.declared.command.Version.{Version}
-use Rattle.broker_service.specs.BrokerView.{BrokerView}
-use Rattle.broker_service.specs.Headline.{RecordsExactly}
-use Rattle.broker_service.specs.Stored.{HoldsState}
+use Rattle.broker_service.specs.{BrokerView.{BrokerView}, Headline.{RecordsExactly}, Stored.{HoldsState}}
 use Rattle.command_facts.specs.Primitives.{broker_primitives}
 use Rattle.uses.specs.Deploying.{is_accepted, DeploysExactly}
 

@@ -1,30 +1,14 @@
 -- What files keep that were closed, and what is left of them if they can't be opened.
-use Rattle.std.proofs.Common.{◌≡◌, ◌⊎◌, ◌∙◌, inl, inr, [], false, Some, Result, Ok, Err, IfOk, IfErr, ap, arith}
-use Rattle.std.proofs.Math.Logic.{∥∥₁_elim, ∥∥₁_map}
-use Rattle.sqlite_disk.specs.declared.Disk.{Ghosts}
-use Rattle.sqlite_disk.specs.declared.Files.{Files}
-use Rattle.sqlite.specs.Closing.{IsCopied, HoldsAlone}
-use Rattle.sqlite.specs.Files.{HoldsDatabase, Finds, IsCleanLeft, IsOpened, LeavesFiles, file_state, image_of}
-use Rattle.sqlite.specs.Held.{Held}
-use Rattle.sqlite.specs.Recovery.{Image}
-use Rattle.sqlite.specs.Effect.{Database}
-use Rattle.sqlite.specs.State.{State, HasCleanDisk}
-use Rattle.sqlite.specs.Tree.{Trees}
-use Rattle.sqlite.specs.WalReads.{AreClean}
-use Rattle.sqlite.specs.declared.FileStore.{FileStore}
-use Rattle.sqlite.specs.declared.file.Leftover.{Leftover}
-use Rattle.sqlite.proofs.Callers.{finds_again}
+use Rattle.std.proofs.{Common.{◌≡◌, ◌⊎◌, ◌∙◌, inl, inr, [], false, Some, Result, Ok, Err, IfOk, IfErr, ap, arith}, Math.Logic.{∥∥₁_elim, ∥∥₁_map}}
+use Rattle.sqlite_disk.specs.{declared.Disk.{Ghosts}, declared.Files.{Files}}
+use Rattle.sqlite.specs.{Closing.{IsCopied, HoldsAlone}, Files.{HoldsDatabase, Finds, IsCleanLeft, IsOpened, LeavesFiles, file_state, image_of}, Held.{Held}}
+use Rattle.sqlite.specs.{Recovery.{Image}, Effect.{Database}, State.{State, HasCleanDisk}, Tree.{Trees}, WalReads.{AreClean}, declared.FileStore.{FileStore}}
+use Rattle.sqlite.{specs.declared.file.Leftover.{Leftover}, proofs.Callers.{finds_again}}
 use Rattle.table_access.specs.Durability.{HoldsDurably}
 use Rattle.broker_core.specs.State.{State as Broker}
-use Rattle.broker_tables.specs.Holds.{format}
-use Rattle.broker_tables.specs.Making.{IsMarked}
-use Rattle.broker_service.specs.BrokerView.{BrokerView}
-use Rattle.broker_service.specs.Calls.{Opened}
-use Rattle.broker_service.specs.Life.{AreTreesOf, AreFilesOf, HoldsAsBefore, OpenedFilesHold, OpeningSpares}
-use Rattle.broker_service.specs.Life.Kept.{Blank, OfToday}
-use Rattle.broker_service.specs.Opening.{Judged}
-use Rattle.broker_service.specs.Stored.{Stores, HoldsState}
-use Rattle.broker_service.specs.declared.broker.Refused.{Refused}
+use Rattle.broker_tables.specs.{Holds.{format}, Making.{IsMarked}}
+use Rattle.broker_service.specs.{BrokerView.{BrokerView}, Calls.{Opened}, Life.{AreTreesOf, AreFilesOf, HoldsAsBefore, OpenedFilesHold, OpeningSpares}}
+use Rattle.broker_service.specs.{Life.Kept.{Blank, OfToday}, Opening.{Judged}, Stored.{Stores, HoldsState}, declared.broker.Refused.{Refused}}
 use Rattle.broker_service.specs.declared.opening.OpenFault.{OpenFault}
 use Rattle.uses.specs.Reopening.{KeepState, KeepsOverCrash, KeepsAsFiles, AreClosed, IsLeftOf, IsOpenedOver, IsOpenedAgain, IsOfDatabase, LosesNothing}
 use Rattle.uses.specs.declared.reopening.NotReopened.{NotReopened}

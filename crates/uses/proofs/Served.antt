@@ -1,13 +1,9 @@
 -- What is served to a writer that had taken nothing.
 use Rattle.std.proofs.Common.{◌≡◌, ℕ, List, [], Some, Ok, subst}
-use Rattle.sqlite.specs.Held.{Held}
-use Rattle.sqlite.specs.State.{State}
+use Rattle.sqlite.specs.{Held.{Held}, State.{State}}
 use Rattle.broker_core.specs.State.{State as Broker}
 use Rattle.broker_service.specs.BrokerView.{BrokerView}
-use Rattle.broker_http.specs.Calls.{ByMachine}
-use Rattle.broker_http.specs.Journal.{Journal, IsRunFrom, blank}
-use Rattle.broker_http.specs.Serving.{IsInMode, Serves, ServesStream}
-use Rattle.broker_http.specs.Serving.Mode.{Running}
+use Rattle.broker_http.specs.{Calls.{ByMachine}, Journal.{Journal, IsRunFrom, blank}, Serving.{IsInMode, Serves, ServesStream}, Serving.Mode.{Running}}
 use Rattle.broker_http.specs.declared.served.Served.{Served}
 use Rattle.uses.specs.Streams.{MachineAnswers}
 

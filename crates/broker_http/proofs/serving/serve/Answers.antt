@@ -1,18 +1,10 @@
-use Rattle.std.proofs.Common.{◌≤◌, Result, Ok, Err, IfOk, Option, List, ℕ, [], inl, inr, subst, sym}
-use Rattle.std.specs.Prelude.{length, Contains}
-use Rattle.sqlite.specs.Tree.{Trees}
-use Rattle.sqlite.specs.Held.{Held, state}
-use Rattle.sqlite.specs.State.{State, HasCleanDisk, Survives}
+use Rattle.std.{specs.Prelude.{length, Contains}, proofs.Common.{◌≤◌, Result, Ok, Err, IfOk, Option, List, ℕ, [], inl, inr, subst, sym}}
+use Rattle.sqlite.specs.{Tree.{Trees}, Held.{Held, state}, State.{State, HasCleanDisk, Survives}}
 use Rattle.broker_core.specs.State.{State as Broker, opening}
 use Rattle.broker_service.specs.BrokerView.{BrokerView}
-use Rattle.broker_http.specs.Calls.{ByBroker, ByMachine}
-use Rattle.broker_http.specs.Journal.{Journal, IsRunFrom, blank, state_of}
-use Rattle.broker_http.specs.Serving.{Mode, IsInMode, StopsOnlyBy, ServesStream}
-use Rattle.broker_http.specs.Serving.Mode.{Running, IsStopped}
-use Rattle.broker_http.specs.declared.served.ServeFault.{ServeFault}
-use Rattle.broker_http.specs.declared.served.Served.{Served}
-use Rattle.broker_http.proofs.JournalLemmas.{journaled, runs}
-use Rattle.broker_http.proofs.ModeLemmas.{StopsLater, since_itself, machine, all_survive}
+use Rattle.broker_http.specs.{Calls.{ByBroker, ByMachine}, Journal.{Journal, IsRunFrom, blank, state_of}, Serving.{Mode, IsInMode, StopsOnlyBy, ServesStream}}
+use Rattle.broker_http.specs.{Serving.Mode.{Running, IsStopped}, declared.served.ServeFault.{ServeFault}, declared.served.Served.{Served}}
+use Rattle.broker_http.proofs.{JournalLemmas.{journaled, runs}, ModeLemmas.{StopsLater, since_itself, machine, all_survive}}
 use Rattle.broker_http.proofs.serving.serve.Goals as goal
 
 -- whatever came before, one that runs or is stopped is so

@@ -1,12 +1,8 @@
-use Rattle.std.proofs.Common.{◌≢◌, ◌+◌, ◌++◌, length, drop, [], ◌∷◌, refl, sym, ◌∙◌, subst, arith, eqb-true, length-append}
-use Rattle.std.proofs.KnownBytes.{Consumes-nil, Consumes-trans, Appends-nil, Appends-trans}
-use Rattle.std.proofs.lemmas.Result.{err_from_is_err_and}
-use Rattle.std.proofs.lemmas.Bool.{eqb-false}
-use Rattle.std.specs.Io.KnownBytes.{Appends}
+use Rattle.std.{specs.Io.KnownBytes.{Appends}, proofs.Common.{◌≢◌, ◌+◌, ◌++◌, length, drop, [], ◌∷◌, refl, sym, ◌∙◌, subst, arith, eqb-true, length-append}}
+use Rattle.std.proofs.{KnownBytes.{Consumes-nil, Consumes-trans, Appends-nil, Appends-trans}, lemmas.Result.{err_from_is_err_and}, lemmas.Bool.{eqb-false}}
 use Rattle.sqlite.specs.Held.{state}
 use Rattle.http_messages.specs.Reading.{IsOutcome}
-use Rattle.broker_http.specs.Calls.{ByBroker}
-use Rattle.broker_http.specs.Stream.{texts}
+use Rattle.broker_http.specs.{Calls.{ByBroker}, Stream.{texts}}
 use Rattle.broker_http.proofs.ResponsesLemmas.{Responses-came, Responses-answered, Responses-broken, Responses-unread, AllOpen-then, texts-then, StreamEnds-at_end, StreamEnds-rest}
 use Rattle.broker_http.proofs.serving.serve_all.Goals.{then-is_empty, else-is_empty}
 use Rattle.broker_http.proofs.serving.serve_all.Goals as goal

@@ -1,9 +1,7 @@
-use Rattle.std.proofs.Common.{◌≡◌, ℕ, List, length}
-use Rattle.std.specs.Io.KnownBytes.{Appends, Consumes}
+use Rattle.std.{specs.Io.KnownBytes.{Appends, Consumes}, proofs.Common.{◌≡◌, ℕ, List, length}}
 use Rattle.sqlite.specs.Held.{state}
 use Rattle.http_responses.specs.Responses.{Response}
-use Rattle.broker_http.specs.Calls.{ByBroker}
-use Rattle.broker_http.specs.Stream.{texts, AllOpen, Responses}
+use Rattle.broker_http.specs.{Calls.{ByBroker}, Stream.{texts, AllOpen, Responses}}
 use Rattle.broker_http.proofs.serving.serve_all.Given as goal
 
 -- What was read is answered, and out, as far as the buffer.

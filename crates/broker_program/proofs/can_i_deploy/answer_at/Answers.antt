@@ -1,6 +1,5 @@
 use Rattle.std.proofs.Common.{arith}
-use Rattle.sqlite.specs.State.{HasCleanDisk}
-use Rattle.sqlite.specs.Files.{file_state}
+use Rattle.sqlite.specs.{State.{HasCleanDisk}, Files.{file_state}}
 use Rattle.broker_program.proofs.UnchangedLemmas.{still_as_before}
 use Rattle.broker_program.proofs.can_i_deploy.answer_at.Goals as goal
 

@@ -1,5 +1,4 @@
-use Rattle.std.proofs.Common.{inl, inr}
-use Rattle.std.proofs.lemmas.Result.{IfErr-weaker, IfOk-weaker, on_err_weaker}
+use Rattle.std.proofs.{Common.{inl, inr}, lemmas.Result.{IfErr-weaker, IfOk-weaker, on_err_weaker}}
 use Rattle.broker_program.proofs.can_i_deploy.ask.Goals as goal
 
 pub returns-in-Ok-clause-ok : goal.returns-in-Ok-clause-ok

@@ -1,5 +1,4 @@
-use Rattle.std.proofs.Common.{◌≡◌, ◌++◌, drop, string_bytes, codes}
-use Rattle.std.specs.List.{flat_map}
+use Rattle.std.{specs.List.{flat_map}, proofs.Common.{◌≡◌, ◌++◌, drop, string_bytes, codes}}
 use Rattle.broker_program.specs.Told.{place_text}
 use Rattle.broker_program.proofs.check.failing_text.Given as goal
 

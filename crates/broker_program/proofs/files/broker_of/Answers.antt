@@ -1,5 +1,4 @@
-use Rattle.broker_program.specs.Refusals.{OpensNone}
-use Rattle.broker_program.proofs.RefusalLemmas.{fails_there}
+use Rattle.broker_program.{specs.Refusals.{OpensNone}, proofs.RefusalLemmas.{fails_there}}
 use Rattle.broker_program.proofs.files.broker_of.Goals as goal
 
 pub returns-in-Err-clause-cause : goal.returns-in-Err-clause-cause

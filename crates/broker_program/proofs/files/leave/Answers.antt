@@ -1,6 +1,5 @@
 use Rattle.std.proofs.Common.{arith}
-use Rattle.sqlite.specs.State.{HasCleanDisk}
-use Rattle.sqlite.specs.Files.{file_state}
+use Rattle.sqlite.specs.{State.{HasCleanDisk}, Files.{file_state}}
 use Rattle.broker_program.proofs.files.leave.Goals as goal
 
 pub returns : goal.returns

@@ -1,7 +1,5 @@
-use Rattle.std.proofs.Common.{arith, inr}
-use Rattle.std.proofs.lemmas.Result.{IfErr-weaker, IfOk-weaker}
-use Rattle.sqlite.specs.State.{HasCleanDisk}
-use Rattle.sqlite.specs.Files.{file_state}
+use Rattle.std.proofs.{Common.{arith, inr}, lemmas.Result.{IfErr-weaker, IfOk-weaker}}
+use Rattle.sqlite.specs.{State.{HasCleanDisk}, Files.{file_state}}
 use Rattle.broker_program.proofs.files.open_broker.Goals as goal
 
 pub returns-clause-opened : goal.returns-clause-opened

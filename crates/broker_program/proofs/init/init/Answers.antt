@@ -1,5 +1,4 @@
-use Rattle.std.proofs.Common.{inr}
-use Rattle.std.proofs.lemmas.Result.{IfErr-weaker}
+use Rattle.std.proofs.{Common.{inr}, lemmas.Result.{IfErr-weaker}}
 use Rattle.broker_program.proofs.ResultLemmas.{if_ok}
 use Rattle.broker_program.proofs.init.init.Goals as goal
 

@@ -1,5 +1,4 @@
-use Rattle.std.proofs.Common.{inl}
-use Rattle.std.proofs.lemmas.Result.{IfErr-weaker, IfOk-weaker}
+use Rattle.std.proofs.{Common.{inl}, lemmas.Result.{IfErr-weaker, IfOk-weaker}}
 use Rattle.broker_program.proofs.init.make.Goals as goal
 
 pub returns-clause-made : goal.returns-clause-made

@@ -1,5 +1,4 @@
-use Rattle.std.proofs.lemmas.Result.{IfErr-weaker, IfOk-weaker}
-use Rattle.std.proofs.Common.{inl}
+use Rattle.std.proofs.{lemmas.Result.{IfErr-weaker, IfOk-weaker}, Common.{inl}}
 use Rattle.broker_program.proofs.migrate.migrate.Goals as goal
 
 pub returns-clause-ok : goal.returns-clause-ok

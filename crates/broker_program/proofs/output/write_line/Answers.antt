@@ -1,7 +1,6 @@
-use Rattle.std.proofs.Common.{ℕ, ◌+◌, List, ◌++◌, Option, Result, Err, Ok, OnErr, length, length-append, take, sym, subst, arith}
-use Rattle.std.proofs.KnownBytes.{Appends-trans}
-use Rattle.std.proofs.Math.Seq.{take-append-add}
 use Rattle.std.specs.Io.KnownBytes.{Appends}
+use Rattle.std.proofs.{Common.{ℕ, ◌+◌, List, ◌++◌, Option, Result, Err, Ok, OnErr, length, length-append, take, sym, subst, arith}, KnownBytes.{Appends-trans}}
+use Rattle.std.proofs.Math.Seq.{take-append-add}
 use Rattle.broker_program.specs.Told.{IsBegun, newline}
 use Rattle.broker_program.proofs.output.write_line.Goals as goal
 

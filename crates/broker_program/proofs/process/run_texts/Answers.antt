@@ -3,8 +3,7 @@ use Rattle.sqlite_disk.specs.declared.Disk.{Ghosts}
 use Rattle.sqlite.specs.Recovery.{Image}
 use Rattle.clap.specs.Words.{Text}
 use Rattle.command_line.specs.Lines.{texts_of}
-use Rattle.broker_program.specs.Running.{Ran}
-use Rattle.broker_program.specs.declared.left.Left.{Left}
+use Rattle.broker_program.specs.{Running.{Ran}, declared.left.Left.{Left}}
 use Rattle.broker_program.proofs.process.run_texts.Goals as goal
 
 -- the words that are run are the texts

@@ -1,7 +1,5 @@
-use Rattle.std.proofs.Common.{◌≡◌, ◌&&◌, false, subst, sym, ◌∙◌}
-use Rattle.std.proofs.lemmas.Bool.{and_parts}
-use Rattle.broker_program.specs.Reopening.{EmptiesLog}
-use Rattle.broker_program.proofs.ReopeningLemmas.{opened_after}
+use Rattle.std.proofs.{Common.{◌≡◌, ◌&&◌, false, subst, sym, ◌∙◌}, lemmas.Bool.{and_parts}}
+use Rattle.broker_program.{specs.Reopening.{EmptiesLog}, proofs.ReopeningLemmas.{opened_after}}
 use Rattle.broker_program.proofs.reopening.connect_again.Goals as goal
 
 pub open_files_with-requires-clause-log : goal.open_files_with-requires-clause-log

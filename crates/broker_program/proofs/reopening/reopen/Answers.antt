@@ -1,8 +1,6 @@
 use Rattle.std.proofs.Common.{subst, arith}
-use Rattle.sqlite.specs.State.{HasCleanDisk}
-use Rattle.sqlite.specs.Files.{file_state}
-use Rattle.broker_program.specs.Reopening.{OpensFilesAgain}
-use Rattle.broker_program.proofs.ReopeningLemmas.{opens_after}
+use Rattle.sqlite.specs.{State.{HasCleanDisk}, Files.{file_state}}
+use Rattle.broker_program.{specs.Reopening.{OpensFilesAgain}, proofs.ReopeningLemmas.{opens_after}}
 use Rattle.broker_program.proofs.reopening.reopen.Goals as goal
 
 pub returns-in-Ok-clause-again : goal.returns-in-Ok-clause-again

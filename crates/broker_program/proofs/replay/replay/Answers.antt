@@ -1,7 +1,6 @@
 use Rattle.std.proofs.Common.{inr, refl, subst}
 use Rattle.sqlite_trees.specs.View.{doubt}
-use Rattle.sqlite.specs.Held.{state}
-use Rattle.sqlite.specs.Steps.{over_memory}
+use Rattle.sqlite.specs.{Held.{state}, Steps.{over_memory}}
 use Rattle.broker_http.specs.Serving.{IsInMode}
 use Rattle.broker_program.specs.Replays.{Replays, ReplaysUpTo, new_broker}
 use Rattle.broker_program.proofs.replay.replay.Goals as goal

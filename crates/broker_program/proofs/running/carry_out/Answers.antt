@@ -1,5 +1,4 @@
-use Rattle.std.proofs.Common.{◌≡◌, ◌⊎◌, refl, ap, inl, inr}
-use Rattle.std.proofs.lemmas.Result.{IfErr-weaker, IfOk-weaker, on_err_weaker}
+use Rattle.std.proofs.{Common.{◌≡◌, ◌⊎◌, refl, ap, inl, inr}, lemmas.Result.{IfErr-weaker, IfOk-weaker, on_err_weaker}}
 use Rattle.broker_program.proofs.running.carry_out.Goals as goal
 
 pub returns-in-Ok-init-clause-ends : goal.returns-in-Ok-init-clause-ends

@@ -1,7 +1,5 @@
-use Rattle.std.proofs.Common.{inl, inr}
-use Rattle.std.proofs.lemmas.Result.{IfErr-weaker}
-use Rattle.broker_program.proofs.ResultLemmas.{if_ok}
-use Rattle.broker_program.proofs.ServingLemmas.{unserved}
+use Rattle.std.proofs.{Common.{inl, inr}, lemmas.Result.{IfErr-weaker}}
+use Rattle.broker_program.proofs.{ResultLemmas.{if_ok}, ServingLemmas.{unserved}}
 use Rattle.broker_program.proofs.serve.serve_at.Goals as goal
 
 pub returns-in-Ok-clause-said : goal.returns-in-Ok-clause-said

@@ -1,7 +1,6 @@
 use Rattle.std.proofs.Common.{◌≡◌, false, refl, sym, subst, inl, inr, arith, ◌∙◌, IfSome}
 use Rattle.sqlite.specs.WalFiles.{image_at}
-use Rattle.broker_program.specs.Reopening.{ServesOn}
-use Rattle.broker_program.proofs.ServingLemmas.{all_served, next_served, none_served}
+use Rattle.broker_program.{specs.Reopening.{ServesOn}, proofs.ServingLemmas.{all_served, next_served, none_served}}
 use Rattle.broker_program.proofs.serve.serve_over.Goals as goal
 
 pub loop-connections-init : goal.loop-connections-init

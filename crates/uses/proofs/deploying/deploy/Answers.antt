@@ -1,7 +1,6 @@
 use Rattle.std.proofs.Common.{◌≡◌, true, false, sym, ap, ◌∙◌}
 use Rattle.sqlite.specs.Held.{state}
-use Rattle.uses.specs.Deploying.{is_accepted}
-use Rattle.uses.proofs.Deployed.{accepted_is_step, stepped, done, refused}
+use Rattle.uses.{specs.Deploying.{is_accepted}, proofs.Deployed.{accepted_is_step, stepped, done, refused}}
 use Rattle.uses.proofs.deploying.deploy.Goals as goal
 
 pub returns-then-is_accepted : goal.returns-then-is_accepted

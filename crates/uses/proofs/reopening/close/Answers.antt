@@ -1,8 +1,5 @@
 use Rattle.std.proofs.Common.{subst}
-use Rattle.sqlite.specs.Closing.{IsCopied}
-use Rattle.sqlite.specs.FileStore.{recovers}
-use Rattle.sqlite.specs.Held.{Held}
-use Rattle.sqlite.specs.declared.FileStore.{FileStore}
+use Rattle.sqlite.specs.{Closing.{IsCopied}, FileStore.{recovers}, Held.{Held}, declared.FileStore.{FileStore}}
 use Rattle.uses.proofs.Reopened.{closed}
 use Rattle.uses.proofs.reopening.close.Goals as goal
 

@@ -1,5 +1,4 @@
-use Rattle.std.proofs.Common.{◌≡◌, length}
-use Rattle.std.specs.Io.KnownBytes.{Keeps}
+use Rattle.std.{specs.Io.KnownBytes.{Keeps}, proofs.Common.{◌≡◌, length}}
 use Rattle.broker_http.proofs.patience.Incoming.begin.Given as goal
 
 -- Nothing that the peer sent is lost so far.

@@ -1,6 +1,4 @@
-use Rattle.std.proofs.Common.{◌≡◌, ◌+◌, ◌-◌, ◌≤◌, length}
-use Rattle.std.specs.Duration.{as_nanos}
-use Rattle.std.specs.Io.KnownBytes.{Keeps}
+use Rattle.std.{specs.{Duration.{as_nanos}, Io.KnownBytes.{Keeps}}, proofs.Common.{◌≡◌, ◌+◌, ◌-◌, ◌≤◌, length}}
 use Rattle.broker_http.specs.Waits.{millis}
 use Rattle.broker_http.proofs.patience.Incoming.read_on.Given as goal
 

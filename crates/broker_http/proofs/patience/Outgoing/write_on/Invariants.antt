@@ -1,6 +1,4 @@
-use Rattle.std.proofs.Common.{◌+◌, ◌-◌, ◌≤◌}
-use Rattle.std.specs.Duration.{as_nanos}
-use Rattle.std.specs.Io.KnownBytes.{Keeps}
+use Rattle.std.{specs.{Duration.{as_nanos}, Io.KnownBytes.{Keeps}}, proofs.Common.{◌+◌, ◌-◌, ◌≤◌}}
 use Rattle.broker_http.specs.Waits.{millis}
 use Rattle.broker_http.proofs.patience.Outgoing.write_on.Given as goal
 
