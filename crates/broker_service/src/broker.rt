@@ -115,9 +115,9 @@ impl<S: Alter> Broker<S> {
     /// has changed. `Memory`: an allocation failed, or the database has no memory, be it for a rollback; nothing has
     /// changed. `Store`: the database refused the commit, or another call for another cause than memory, or a row broke
     /// the rules of the tables: from a state that can be read back, and on a disk that works, this comes only of a
-    /// command that is to change something, and only if its commit was refused for want of memory, or a table has no
-    /// numbers left for its rows. From then on each answer is `Stopped`, and nothing changes. After a refused commit a crash may leave the next
-    /// state.
+    /// command that is to change something, and only if its commit was refused for lack of memory, or a table has no
+    /// numbers left for its rows. From then on each answer is `Stopped`, and nothing changes. After a refused commit a
+    /// crash may leave the next state.
     pub fn apply(&mut self, alloc: Global, token: Option<&str>, command: &Command) -> Answer
         ensures { Applied (state S.Store) self.old (token_of token.entry) command.now result self.new }
     {
