@@ -2,11 +2,19 @@
 use Rattle.std.proofs.Common.{ℕ, List, refl, take}
 use Rattle.sqlite.specs.{Listing.{understood}, Table.{Table}}
 use Rattle.sqlite_tied.specs.Compute.{everything}
+use Rattle.sqlite_trees.specs.Sound.{fits_kind, is_free_name, same_name, begins}
+use Rattle.sqlite_value.specs.Order.{value_cmp}
 use Rattle.table_access.specs.Statements.{indexed_by}
 use Rattle.broker_tables.specs.{Schema.{no_schema, schema_of, all_tables, all_indexes}, Making.{table_texts, index_texts}}
 use Rattle.broker_tables.specs.declared.create.TheConstants.{META, TEAMS, PACTICIPANTS, VERSIONS, BRANCHES, ENVIRONMENTS, GRANTS, CONTENTS, CONTRACTS, RESULTS, LATEST, DEPLOYED, RELEASED, CHECKED_RESULTS, STRICT_ENVIRONMENTS, CONTENTS_BY_DIGEST, CONTRACTS_BY_CONTENT, LATEST_BY_PROVIDER_VERSION, VERSIONS_BY_PACTICIPANT}
-use Rattle.broker_tables.proofs.Written.{DefinesTable, DefinesIndex, AreDefinedTables, AreDefinedIndexes}
+use Rattle.broker_tables.proofs.{CreationRefused.{DefinesTable, DefinesIndex}, Written.{AreDefinedTables, AreDefinedIndexes}}
+use Rattle.std.specs.Float.Ieee
 use Rattle.broker_tables.specs.Schema as schema
+
+-- what unfolds as SQLite judges a row of its list of tables and indexes
+unfoldable listed : Unit {0}
+unfolding fits_kind is_free_name same_name begins value_cmp Ieee.is_nan Ieee.lt
+listed = tt
 
 -- the text defines the table over the schema of those before it
 abbrev Defines : ℕ → List ℕ → Table → Type 0
@@ -27,40 +35,40 @@ each_table : Defines 0 META.now schema.meta
     × Defines 12 RELEASED.now schema.released
     × Defines 13 CHECKED_RESULTS.now schema.checked_results
     × Defines 14 STRICT_ENVIRONMENTS.now schema.strict_environments
-unfolding understood everything
+unfolding understood everything listed
 each_table = (
-  record { means = record { is = refl; plain = (refl, refl); unlisted = refl }; whole = refl; defined = refl; uncounted = refl },
-  record { means = record { is = refl; plain = (refl, refl); unlisted = refl }; whole = refl; defined = refl; uncounted = refl },
-  record { means = record { is = refl; plain = (refl, refl); unlisted = refl }; whole = refl; defined = refl; uncounted = refl },
-  record { means = record { is = refl; plain = (refl, refl); unlisted = refl }; whole = refl; defined = refl; uncounted = refl },
-  record { means = record { is = refl; plain = (refl, refl); unlisted = refl }; whole = refl; defined = refl; uncounted = refl },
-  record { means = record { is = refl; plain = (refl, refl); unlisted = refl }; whole = refl; defined = refl; uncounted = refl },
-  record { means = record { is = refl; plain = (refl, refl); unlisted = refl }; whole = refl; defined = refl; uncounted = refl },
-  record { means = record { is = refl; plain = (refl, refl); unlisted = refl }; whole = refl; defined = refl; uncounted = refl },
-  record { means = record { is = refl; plain = (refl, refl); unlisted = refl }; whole = refl; defined = refl; uncounted = refl },
-  record { means = record { is = refl; plain = (refl, refl); unlisted = refl }; whole = refl; defined = refl; uncounted = refl },
-  record { means = record { is = refl; plain = (refl, refl); unlisted = refl }; whole = refl; defined = refl; uncounted = refl },
-  record { means = record { is = refl; plain = (refl, refl); unlisted = refl }; whole = refl; defined = refl; uncounted = refl },
-  record { means = record { is = refl; plain = (refl, refl); unlisted = refl }; whole = refl; defined = refl; uncounted = refl },
-  record { means = record { is = refl; plain = (refl, refl); unlisted = refl }; whole = refl; defined = refl; uncounted = refl },
-  record { means = record { is = refl; plain = (refl, refl); unlisted = refl }; whole = refl; defined = refl; uncounted = refl },
+  record { alone = record { means = record { is = refl; plain = (refl, refl); unlisted = refl }; whole = refl; text = refl }; defined = refl; uncounted = refl; new = record { written = refl; named = refl; free = refl; own = refl; room = refl; short = refl }; keys_free = refl; formed = refl; fit = refl; whole_numbers = refl },
+  record { alone = record { means = record { is = refl; plain = (refl, refl); unlisted = refl }; whole = refl; text = refl }; defined = refl; uncounted = refl; new = record { written = refl; named = refl; free = refl; own = refl; room = refl; short = refl }; keys_free = refl; formed = refl; fit = refl; whole_numbers = refl },
+  record { alone = record { means = record { is = refl; plain = (refl, refl); unlisted = refl }; whole = refl; text = refl }; defined = refl; uncounted = refl; new = record { written = refl; named = refl; free = refl; own = refl; room = refl; short = refl }; keys_free = refl; formed = refl; fit = refl; whole_numbers = refl },
+  record { alone = record { means = record { is = refl; plain = (refl, refl); unlisted = refl }; whole = refl; text = refl }; defined = refl; uncounted = refl; new = record { written = refl; named = refl; free = refl; own = refl; room = refl; short = refl }; keys_free = refl; formed = refl; fit = refl; whole_numbers = refl },
+  record { alone = record { means = record { is = refl; plain = (refl, refl); unlisted = refl }; whole = refl; text = refl }; defined = refl; uncounted = refl; new = record { written = refl; named = refl; free = refl; own = refl; room = refl; short = refl }; keys_free = refl; formed = refl; fit = refl; whole_numbers = refl },
+  record { alone = record { means = record { is = refl; plain = (refl, refl); unlisted = refl }; whole = refl; text = refl }; defined = refl; uncounted = refl; new = record { written = refl; named = refl; free = refl; own = refl; room = refl; short = refl }; keys_free = refl; formed = refl; fit = refl; whole_numbers = refl },
+  record { alone = record { means = record { is = refl; plain = (refl, refl); unlisted = refl }; whole = refl; text = refl }; defined = refl; uncounted = refl; new = record { written = refl; named = refl; free = refl; own = refl; room = refl; short = refl }; keys_free = refl; formed = refl; fit = refl; whole_numbers = refl },
+  record { alone = record { means = record { is = refl; plain = (refl, refl); unlisted = refl }; whole = refl; text = refl }; defined = refl; uncounted = refl; new = record { written = refl; named = refl; free = refl; own = refl; room = refl; short = refl }; keys_free = refl; formed = refl; fit = refl; whole_numbers = refl },
+  record { alone = record { means = record { is = refl; plain = (refl, refl); unlisted = refl }; whole = refl; text = refl }; defined = refl; uncounted = refl; new = record { written = refl; named = refl; free = refl; own = refl; room = refl; short = refl }; keys_free = refl; formed = refl; fit = refl; whole_numbers = refl },
+  record { alone = record { means = record { is = refl; plain = (refl, refl); unlisted = refl }; whole = refl; text = refl }; defined = refl; uncounted = refl; new = record { written = refl; named = refl; free = refl; own = refl; room = refl; short = refl }; keys_free = refl; formed = refl; fit = refl; whole_numbers = refl },
+  record { alone = record { means = record { is = refl; plain = (refl, refl); unlisted = refl }; whole = refl; text = refl }; defined = refl; uncounted = refl; new = record { written = refl; named = refl; free = refl; own = refl; room = refl; short = refl }; keys_free = refl; formed = refl; fit = refl; whole_numbers = refl },
+  record { alone = record { means = record { is = refl; plain = (refl, refl); unlisted = refl }; whole = refl; text = refl }; defined = refl; uncounted = refl; new = record { written = refl; named = refl; free = refl; own = refl; room = refl; short = refl }; keys_free = refl; formed = refl; fit = refl; whole_numbers = refl },
+  record { alone = record { means = record { is = refl; plain = (refl, refl); unlisted = refl }; whole = refl; text = refl }; defined = refl; uncounted = refl; new = record { written = refl; named = refl; free = refl; own = refl; room = refl; short = refl }; keys_free = refl; formed = refl; fit = refl; whole_numbers = refl },
+  record { alone = record { means = record { is = refl; plain = (refl, refl); unlisted = refl }; whole = refl; text = refl }; defined = refl; uncounted = refl; new = record { written = refl; named = refl; free = refl; own = refl; room = refl; short = refl }; keys_free = refl; formed = refl; fit = refl; whole_numbers = refl },
+  record { alone = record { means = record { is = refl; plain = (refl, refl); unlisted = refl }; whole = refl; text = refl }; defined = refl; uncounted = refl; new = record { written = refl; named = refl; free = refl; own = refl; room = refl; short = refl }; keys_free = refl; formed = refl; fit = refl; whole_numbers = refl },
 )
 
 contents_by_digest_text : DefinesIndex (indexed_by (schema_of all_tables) (take 0 all_indexes)) CONTENTS_BY_DIGEST.now schema.contents_by_digest
-unfolding understood everything
-contents_by_digest_text = record { at = 7; means = record { is = refl; plain = (refl, refl); unlisted = refl }; whole = refl; there = refl; defined = refl }
+unfolding understood everything listed
+contents_by_digest_text = record { at = 7; alone = record { means = record { is = refl; plain = (refl, refl); unlisted = refl }; whole = refl; text = refl }; there = refl; defined = refl; new = record { written = refl; named = refl; free = refl; own = refl; room = refl; short = refl }; parent = refl; fit = refl; whole_numbers = refl; repeats = refl; other = refl }
 
 contracts_by_content_text : DefinesIndex (indexed_by (schema_of all_tables) (take 1 all_indexes)) CONTRACTS_BY_CONTENT.now schema.contracts_by_content
-unfolding understood everything
-contracts_by_content_text = record { at = 8; means = record { is = refl; plain = (refl, refl); unlisted = refl }; whole = refl; there = refl; defined = refl }
+unfolding understood everything listed
+contracts_by_content_text = record { at = 8; alone = record { means = record { is = refl; plain = (refl, refl); unlisted = refl }; whole = refl; text = refl }; there = refl; defined = refl; new = record { written = refl; named = refl; free = refl; own = refl; room = refl; short = refl }; parent = refl; fit = refl; whole_numbers = refl; repeats = refl; other = refl }
 
 latest_by_provider_version_text : DefinesIndex (indexed_by (schema_of all_tables) (take 2 all_indexes)) LATEST_BY_PROVIDER_VERSION.now schema.latest_by_provider_version
-unfolding understood everything
-latest_by_provider_version_text = record { at = 10; means = record { is = refl; plain = (refl, refl); unlisted = refl }; whole = refl; there = refl; defined = refl }
+unfolding understood everything listed
+latest_by_provider_version_text = record { at = 10; alone = record { means = record { is = refl; plain = (refl, refl); unlisted = refl }; whole = refl; text = refl }; there = refl; defined = refl; new = record { written = refl; named = refl; free = refl; own = refl; room = refl; short = refl }; parent = refl; fit = refl; whole_numbers = refl; repeats = refl; other = refl }
 
 versions_by_pacticipant_text : DefinesIndex (indexed_by (schema_of all_tables) (take 3 all_indexes)) VERSIONS_BY_PACTICIPANT.now schema.versions_by_pacticipant
-unfolding understood everything
-versions_by_pacticipant_text = record { at = 3; means = record { is = refl; plain = (refl, refl); unlisted = refl }; whole = refl; there = refl; defined = refl }
+unfolding understood everything listed
+versions_by_pacticipant_text = record { at = 3; alone = record { means = record { is = refl; plain = (refl, refl); unlisted = refl }; whole = refl; text = refl }; there = refl; defined = refl; new = record { written = refl; named = refl; free = refl; own = refl; room = refl; short = refl }; parent = refl; fit = refl; whole_numbers = refl; repeats = refl; other = refl }
 
 pub tables_defined : AreDefinedTables no_schema table_texts
 tables_defined =

@@ -4,15 +4,9 @@ use Rattle.std.proofs.lemmas.Result.{IfErr-weaker}
 use Rattle.sqlite.specs.State.{State, HasCleanDisk}
 use Rattle.table_access.{specs.{declared.StoreFault.{StoreFault}, Calls.{CallsTablesBetween}}, proofs.CallLemmas.{ended_since, ended_with}}
 use Rattle.broker_core.specs.State.{State as Broker}
-use Rattle.broker_tables.specs.Holds.{Holds, QueriesBetween, AnswersTakingBetween}
-use Rattle.broker_tables.specs.Calm.{Serves, HasFailedOrMemory, CalmQueriesBetween, IsCalmFromBetween, FailsFromBetween}
+use Rattle.broker_tables.specs.{Holds.{Holds, QueriesBetween, AnswersTakingBetween}, Calm.{Serves, IsCalmFromBetween, FailsFromBetween}}
 use Rattle.broker_tables.specs.{Refusals.{IsCalmTakingBetween, IsCalmUnlessBetween}, Room.{HasRoomFor, enough}}
-use Rattle.broker_tables.proofs.{QueryLemmas.{serves_on, ended_or_memory, query_failed}, RoomLemmas.{is_counted, numbers_of, room_for}}
-
--- the failure of a query after another
-pub failed_after : {A B : Type 0} (old mid new : State) (a : A) (e : StoreFault) (P : A → Broker → Type 0) (Q : B → Broker → Type 0) → CalmQueriesBetween old mid (Ok a) P → CalmQueriesBetween mid new (Err e) Q
-    → HasCleanDisk new → (s : Broker) → Serves old s → HasFailedOrMemory old new e
-failed_after {A} {B} old mid new a e P Q one two = (query_failed {A = A} {B = B} {C = B} old mid new a e P Q Q one two).calm
+use Rattle.broker_tables.proofs.{QueryLemmas.{serves_on, ended_or_memory}, RoomLemmas.{is_counted, numbers_of, room_for}}
 
 module _ {A B : Type 0} (old mid new : State) (a : A) (r : Result B StoreFault) (P : A → Broker → Type 0) (Q : B → Type 0) (First Then : Broker → Type 0) where
   -- a query tells that the state allows the next call

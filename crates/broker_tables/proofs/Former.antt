@@ -6,22 +6,23 @@ use Rattle.table_access.specs.{Columns.{text, whole_at}, Sound.{IsKept}, Stateme
 use Rattle.table_access.proofs.{Creation.{made_kept, all_front}, Indexing.{indexes_schema, indexes_keep, indexes_kept}, Maps.{find_has}}
 use Rattle.sqlite_keyed.proofs.ListLemmas.{all_weaker}
 use Rattle.broker_core.specs.{declared.command.Marks.{Marks}, declared.command.Version.{Version}, State.{State as Broker, Verification}}
-use Rattle.broker_tables.specs.{Schema.{schema_of, all_tables, all_indexes, checked_results, strict_environments}, Rows.{rows_of}}
+use Rattle.broker_tables.specs.Schema.{schema_of, all_tables, all_indexes, checked_results, strict_environments, in_meta, in_environments, in_results, in_checked_results, in_strict_environments}
+use Rattle.broker_tables.specs.Rows.{rows_of}
 use Rattle.broker_tables.specs.Holds.{Holds, IsMeta, format, AreTeams, ArePacticipants, AreVersions, AreBranches, AreEnvironments, AreGrants, AreContents, AreContracts, AreResults, AreLatest, AreDeployed, AreReleased, ResultRow, result_in, result_of, marks_in}
 use Rattle.broker_tables.{specs.Former.{HoldsUnmarked, IsUnmarked, former_tables, added_tables}, proofs.Orders.{exact_texts}}
 
 -- ---- the tables of format 1 keep their rows
 
--- the table has the rows that it had, unless it is the one at tree 0, which is meta
+-- the table has the rows that it had, unless it is meta
 abbrev pub KeepsOthers : Trees → Trees → Table → Type 0
-KeepsOthers old new t = t.tree ≢ 0 → new t.tree ≡ old t.tree
+KeepsOthers old new t = t.tree ≢ in_meta.tree → new t.tree ≡ old t.tree
 
 unless_meta : (old new : Trees) (ts : List Table) → KeepsRows ts old new → AllByRecursion (KeepsOthers old new) ts
 unless_meta old new = all_weaker (λ t. new t.tree ≡ old t.tree) (KeepsOthers old new) (λ t same _. same)
 
 -- The tables but meta have the rows that they had, meta has its row, and the tables that are added have none.
 pub still_unmarked : (n m : ℕ) (more next : List Table) (old new : Database) (s : Broker) → HoldsUnmarked n more old s
-    → AllByRecursion (KeepsOthers old.trees new.trees) (schema_of former_tables).tables → IsMeta m s.office (new.trees 0)
+    → AllByRecursion (KeepsOthers old.trees new.trees) (schema_of former_tables).tables → IsMeta m s.office (new.trees in_meta.tree)
     → new.schema ≡ schema_of (former_tables ++ next) → IsKept new → AllByRecursion (λ t. rows_of new t.name ≡ []) next → HoldsUnmarked m next new s
 still_unmarked n m more next old new s held same meta schema kept empty = record {
   schema = schema;
@@ -56,15 +57,15 @@ module _ (n : ℕ) (old new : Database) (s : Broker) where
   strict_made held made =
       let before = former_tables ++ checked_results ∷ [] in
       let keeps : KeepsRows (schema_of before).tables old.trees new.trees = subst (λ (c : Schema). KeepsRows c.tables old.trees new.trees) held.schema made.others in
-      let front = all_front (λ t. new.trees t.tree ≡ old.trees t.tree) (schema_of former_tables).tables (record checked_results { tree = 25 } ∷ []) keeps in
+      let front = all_front (λ t. new.trees t.tree ≡ old.trees t.tree) (schema_of former_tables).tables (record checked_results { tree = in_checked_results.tree } ∷ []) keeps in
       still_unmarked n n (checked_results ∷ []) added_tables old new s held (unless_meta old.trees new.trees (schema_of former_tables).tables front) (subst (IsMeta n s.office) (sym keeps.0) held.meta)
       (made.schema ∙ ap (λ c. created c strict_environments) held.schema) (made_kept (strict_environments ∷ []) old new (new, made, refl) held.kept)
       (keeps.1.1.1.1.1.1.1.1.1.1.1.1.1.0 ∙ held.empty.0, (subst (λ c. new.trees (next_tree c) ≡ []) held.schema made.empty, tt))
 
   -- meta tells another format
-  pub format_told : (m : ℕ) → HoldsUnmarked n added_tables old s → new.schema ≡ old.schema → IsKept new → AllByRecursion (KeepsOthers old.trees new.trees) (schema_of all_tables).tables → IsMeta m s.office (new.trees 0) → HoldsUnmarked m added_tables new s
+  pub format_told : (m : ℕ) → HoldsUnmarked n added_tables old s → new.schema ≡ old.schema → IsKept new → AllByRecursion (KeepsOthers old.trees new.trees) (schema_of all_tables).tables → IsMeta m s.office (new.trees in_meta.tree) → HoldsUnmarked m added_tables new s
   format_told m held same kept others meta =
-      let front = all_front (KeepsOthers old.trees new.trees) (schema_of former_tables).tables (record checked_results { tree = 25 } ∷ record strict_environments { tree = 26 } ∷ []) others in
+      let front = all_front (KeepsOthers old.trees new.trees) (schema_of former_tables).tables (record checked_results { tree = in_checked_results.tree } ∷ record strict_environments { tree = in_strict_environments.tree } ∷ []) others in
       still_unmarked n m added_tables added_tables old new s held front meta (same ∙ held.schema) kept
       (others.1.1.1.1.1.1.1.1.1.1.1.1.1.0 (omega arith) ∙ held.empty.0, (others.1.1.1.1.1.1.1.1.1.1.1.1.1.1.0 (omega arith) ∙ held.empty.1.0, tt))
 
@@ -94,12 +95,12 @@ migrated old new s held makes =
 -- ---- every result is claimed, and no environment is strict
 
 claims : (versions : List Version) (m : ℕ) (rows : List Row) (results : List Verification)
-    → map {B = ℤ × ResultRow} (λ r. (whole_at 0 r, result_in [] r)) rows ≡ map {B = ℤ × ResultRow} (λ e. (pos e.0, e.1)) (enumerate_from m (map (result_of versions) results)) → AllByRecursion (λ r. r.checked ≡ false) results
+    → map {B = ℤ × ResultRow} (λ r. (whole_at in_results.number r, result_in [] r)) rows ≡ map {B = ℤ × ResultRow} (λ e. (pos e.0, e.1)) (enumerate_from m (map (result_of versions) results)) → AllByRecursion (λ r. r.checked ≡ false) results
 claims versions m rows [] e = tt
 claims versions m [] (r ∷ results) e = absurd cc
 claims versions m (row ∷ rows) (r ∷ results) e =
-    let pair : ◌≡◌ {A = ℤ × ResultRow} (whole_at 0 row, result_in [] row) (pos m, result_of versions r) = cc in
-    let later : map {B = ℤ × ResultRow} (λ x. (whole_at 0 x, result_in [] x)) rows ≡ map {B = ℤ × ResultRow} (λ x. (pos x.0, x.1)) (enumerate_from (m + 1) (map (result_of versions) results)) = cc in
+    let pair : ◌≡◌ {A = ℤ × ResultRow} (whole_at in_results.number row, result_in [] row) (pos m, result_of versions r) = cc in
+    let later : map {B = ℤ × ResultRow} (λ x. (whole_at in_results.number x, result_in [] x)) rows ≡ map {B = ℤ × ResultRow} (λ x. (pos x.0, x.1)) (enumerate_from (m + 1) (map (result_of versions) results)) = cc in
     (sym (ap (λ (x : ℤ × ResultRow). x.1.checked) pair), claims versions (m + 1) rows results later)
 
 -- a state that is held without the added tables' rows: every result is claimed, and no environment is strict
@@ -107,6 +108,6 @@ pub unmarked : (n : ℕ) (more : List Table) (db : Database) (s : Broker) → Ho
 unmarked n more db s held = record {
   claimed = claims s.versions 1 (rows_of db (codes "results")) s.results held.results;
   lenient = λ e marks is.
-      let row = find_has nat_list_cmp_total exact_texts (text 1) (marks_in []) e marks (rows_of db (codes "environments")) (held.environments e ∙ is) in
+      let row = find_has nat_list_cmp_total exact_texts (text in_environments.name) (marks_in []) e marks (rows_of db (codes "environments")) (held.environments e ∙ is) in
       sym (ap (λ (m : Marks). m.strict) row.3);
 }

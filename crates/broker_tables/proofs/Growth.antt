@@ -6,7 +6,8 @@ use Rattle.sqlite_rules.specs.Lists.{Has}
 use Rattle.sqlite_schema.specs.{declared.schema.Column.{Column}, Names.{is_key}}
 use Rattle.table_access.{specs.Columns.{text, text_cmp, whole_at, by_both}, proofs.SoundLemmas.{whole_in, has_place}}
 use Rattle.broker_core.specs.{declared.command.Version.{Version}, Text.{Text, version}, State.{State as Broker, Verification}, Request.{is_known}}
-use Rattle.broker_tables.specs.{Schema.{to}, Rows.{rows_of, value_at, stands_at}, Numbers.{numbered, number_of}}
+use Rattle.broker_tables.specs.{Schema.{to, in_branches, in_contracts, in_results, in_latest, in_deployed, in_released}, Rows.{rows_of, value_at, stands_at}}
+use Rattle.broker_tables.specs.Numbers.{numbered, number_of}
 use Rattle.broker_tables.specs.Holds.{Holds, AreVersions, AreBranches, AreContracts, AreResults, AreLatest, AreDeployed, AreReleased, ResultRow, result_in, result_of}
 use Rattle.broker_tables.proofs.{Frames.{Frame, held_next, same}, NumberLemmas.{grown, still_numbered as stays_numbered}, References.{not_next}}
 use Rattle.broker_tables.proofs.Placed.{branches, branches_there, contracts, contracts_there, latest, latest_there, released, released_there}
@@ -39,16 +40,16 @@ module _ (versions : List Version) (v : Version) (checked : List Row) where
   same_result r q is = go (number_of versions q.version) refl
     where
       go : (o : Option ℕ) → number_of versions q.version ≡ o → result_of versions q ≡ result_of (versions ++ v ∷ []) q
-      go None e = absurd (let there : Some (whole_at 4 r) ≡ option_map pos (number_of versions q.version) = ap (λ (x : ResultRow). x.version) is in let none : Some (whole_at 4 r) ≡ None = there ∙ ap (option_map pos) e in cc)
+      go None e = absurd (let there : Some (whole_at in_results.provider_version r) ≡ option_map pos (number_of versions q.version) = ap (λ (x : ResultRow). x.version) is in let none : Some (whole_at in_results.provider_version r) ≡ None = there ∙ ap (option_map pos) e in cc)
       go (Some k) e = ap (λ (o : Option ℤ). record (result_of versions q) { version = o }) (ap (option_map pos) e ∙ ap (option_map pos) (sym (stays_numbered versions v q.version k e)))
 
-  same_results : (n : ℕ) (rows : List Row) (rs : List Verification) → map {B = ℤ × ResultRow} (λ r. (whole_at 0 r, result_in checked r)) rows ≡ map (λ e. (pos e.0, e.1)) (enumerate_from n (map (result_of versions) rs))
+  same_results : (n : ℕ) (rows : List Row) (rs : List Verification) → map {B = ℤ × ResultRow} (λ r. (whole_at in_results.number r, result_in checked r)) rows ≡ map (λ e. (pos e.0, e.1)) (enumerate_from n (map (result_of versions) rs))
       → map (result_of versions) rs ≡ map (result_of (versions ++ v ∷ [])) rs
   same_results n rows [] is = refl
   same_results n [] (q ∷ rs) is = absurd (let e = is in cc)
   same_results n (r ∷ rows) (q ∷ rs) is =
-      let pair : ◌≡◌ {A = ℤ × ResultRow} (whole_at 0 r, result_in checked r) (pos n, result_of versions q) = cc in
-      let later : map {B = ℤ × ResultRow} (λ r. (whole_at 0 r, result_in checked r)) rows ≡ map (λ e. (pos e.0, e.1)) (enumerate_from (n + 1) (map (result_of versions) rs)) = cc in
+      let pair : ◌≡◌ {A = ℤ × ResultRow} (whole_at in_results.number r, result_in checked r) (pos n, result_of versions q) = cc in
+      let later : map {B = ℤ × ResultRow} (λ r. (whole_at in_results.number r, result_in checked r)) rows ≡ map (λ e. (pos e.0, e.1)) (enumerate_from (n + 1) (map (result_of versions) rs)) = cc in
       λ i. same_result r q (ap (λ (x : ℤ × ResultRow). x.1) pair) i ∷ same_results (n + 1) rows rs later i
 
 -- ---- each table that names versions
@@ -68,15 +69,17 @@ module _ (db : Database) (s : Broker) (held : Holds db s) (v : Version) (free : 
 
   branches_grow : AreBranches more s.branches (rows_of db (codes "branches"))
   branches_grow w b =
-      grown (λ o. option_map_or (λ n. stands_at (by_both int_cmp text_cmp) (λ r. (whole_at 1 r, text 2 r)) (db.trees 8) (pos n, b)) o false) s.versions v w free
-      (none_stands (by_both int_cmp text_cmp) (λ r. (whole_at 1 r, text 2 r)) (text 2) (pos next, b) (db.trees 8)
+      grown (λ o. option_map_or (λ n. stands_at (by_both int_cmp text_cmp) (λ r. (whole_at in_branches.version_number r, text in_branches.branch r)) (db.trees in_branches.tree) (pos n, b)) o false) s.versions v w free
+      (none_stands (by_both int_cmp text_cmp) (λ r. (whole_at in_branches.version_number r, text in_branches.branch r)) (text in_branches.branch) (pos next, b)
+      (db.trees in_branches.tree)
       (λ r has. first_apart _ _ (apart branches (has_place _ 4 branches (branches_there db held.broker)) 0 _ refl refl refl refl refl (inl refl) r has)))
       ∙ held.branches w b
 
   contracts_grow : AreContracts more s.contracts (rows_of db (codes "contracts"))
   contracts_grow w p =
-      grown (λ o. option_and_then (λ n. value_at (by_both int_cmp text_cmp) (λ r. (whole_at 1 r, text 2 r)) (whole_at 3) (db.trees 15) (pos n, p)) o) s.versions v w free
-      (none_found (by_both int_cmp text_cmp) (λ r. (whole_at 1 r, text 2 r)) (whole_at 3) (pos next, p) (db.trees 15)
+      grown (λ o. option_and_then (λ n. value_at (by_both int_cmp text_cmp) (λ r. (whole_at in_contracts.version_number r, text in_contracts.provider r)) (whole_at in_contracts.content) (db.trees in_contracts.tree) (pos n, p)) o) s.versions v w free
+      (none_found (by_both int_cmp text_cmp) (λ r. (whole_at in_contracts.version_number r, text in_contracts.provider r)) (whole_at in_contracts.content)
+      (pos next, p) (db.trees in_contracts.tree)
       (λ r has. first_apart _ _ (apart contracts (has_place _ 8 contracts (contracts_there db held.broker)) 0 _ refl refl refl refl refl (inl refl) r has)))
       ∙ held.contracts w p
 
@@ -85,8 +88,8 @@ module _ (db : Database) (s : Broker) (held : Holds db s) (v : Version) (free : 
 
   latest_grow : AreLatest (record s { versions = more }) (rows_of db (codes "latest"))
   latest_grow content w =
-      grown (λ o. option_and_then (λ n. value_at (by_both int_cmp int_cmp) (λ r. (whole_at 1 r, whole_at 2 r)) (whole_at 3) (db.trees 19) (pos content, pos n)) o) s.versions v w free
-      (none_found (by_both int_cmp int_cmp) (λ r. (whole_at 1 r, whole_at 2 r)) (whole_at 3) (pos content, pos next) (db.trees 19)
+      grown (λ o. option_and_then (λ n. value_at (by_both int_cmp int_cmp) (λ r. (whole_at in_latest.content r, whole_at in_latest.provider_version r)) (whole_at in_latest.result) (db.trees in_latest.tree) (pos content, pos n)) o) s.versions v w free
+      (none_found (by_both int_cmp int_cmp) (λ r. (whole_at in_latest.content r, whole_at in_latest.provider_version r)) (whole_at in_latest.result) (pos content, pos next) (db.trees in_latest.tree)
       (λ r has. second_apart _ _ (apart latest (has_place _ 10 latest (latest_there db held.broker)) 1 _ refl refl refl refl refl (inr (inl refl)) r has)))
       ∙ held.latest content w
 
@@ -94,7 +97,7 @@ module _ (db : Database) (s : Broker) (held : Holds db s) (v : Version) (free : 
   deployed_grow e p instance = go (s.deployed (e, p, instance)) (held.deployed e p instance)
     where
       found : Option ℤ
-      found = value_at (by_both text_cmp (by_both text_cmp text_cmp)) (λ r. (text 1 r, (text 2 r, text 3 r))) (whole_at 4) (db.trees 21) (e, (p, instance))
+      found = value_at (by_both text_cmp (by_both text_cmp text_cmp)) (λ r. (text in_deployed.environment r, (text in_deployed.pacticipant r, text in_deployed.instance r))) (whole_at in_deployed.version_number) (db.trees in_deployed.tree) (e, (p, instance))
 
       inner : (o : Option ℤ) (name : Text) (k : Option ℕ) → number_of s.versions (version p name) ≡ k → option_map Some o ≡ Some (option_map pos k) → option_map Some o ≡ Some (option_map pos (number_of more (version p name)))
       inner None name k e is = absurd cc
@@ -107,8 +110,9 @@ module _ (db : Database) (s : Broker) (held : Holds db s) (v : Version) (free : 
 
   released_grow : AreReleased more s.released (rows_of db (codes "released"))
   released_grow e w =
-      grown (λ o. option_map_or (λ n. stands_at (by_both text_cmp int_cmp) (λ r. (text 1 r, whole_at 2 r)) (db.trees 23) (e, pos n)) o false) s.versions v w free
-      (none_stands (by_both text_cmp int_cmp) (λ r. (text 1 r, whole_at 2 r)) (text 1) (e, pos next) (db.trees 23)
+      grown (λ o. option_map_or (λ n. stands_at (by_both text_cmp int_cmp) (λ r. (text in_released.environment r, whole_at in_released.version_number r)) (db.trees in_released.tree) (e, pos n)) o false) s.versions v w free
+      (none_stands (by_both text_cmp int_cmp) (λ r. (text in_released.environment r, whole_at in_released.version_number r)) (text in_released.environment)
+      (e, pos next) (db.trees in_released.tree)
       (λ r has. second_apart _ _ (apart released (has_place _ 12 released (released_there db held.broker)) 1 _ refl refl refl refl refl (inr (inl refl)) r has)))
       ∙ held.released e w
 

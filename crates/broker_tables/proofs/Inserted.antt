@@ -1,5 +1,5 @@
 -- Why an INSERT of one row into a table of the broker fails: if the row suits its table, only as the store fails.
-use Rattle.std.specs.{Prelude.{⊤, is_some}, List.{AllByRecursion, list_all}, Ordering.{int_cmp, eq_by_cmp, is_eq}}
+use Rattle.std.specs.{Prelude.{is_some}, List.{AllByRecursion, list_all}, Ordering.{int_cmp, eq_by_cmp, is_eq}}
 use Rattle.std.specs.{Cmp.{Equal-is, eq_by_cmp_equiv, int_cmp_total, IsTotalOrder}, Cmp.Lexicographic.{nat_list_cmp_total}, FinMap.{int_cmp-IsAntisymmetric}}
 use Rattle.std.proofs.Common.{◌≡◌, inl, inr, ℕ, ℤ, List, [], ◌∷◌, map, filter, length, slice_get, Bool, true, false, not, ◌&&◌, nat_lt, refl, sym, ap, subst, ◌∙◌, ◌<◌, ◌≤◌, ◌⊎◌, ◌/◌, arith, Some, None, Option, Ok, Err, append-nil, ◌+◌, pos, IsTrue, Ordering, codes}
 use Rattle.std.proofs.lemmas.Bool.{false_from_ne_true, and_parts, or_right, ltb-true, and_from}
@@ -24,8 +24,8 @@ use Rattle.table_access.proofs.{Edits.{Suits as EditSuits, goes, refers, one_uni
 use Rattle.table_access.proofs.{Members.{has_map, map_has}, Refused.{insert_fails, caused_by}, SoundLemmas.{has_place, at_has, all_of, text_at}}
 use Rattle.table_access.proofs.{Steps.{Means, inserts, went, same_value}, Maps.{find_has}, Parts.{Part, text_part, whole_part, agree_last, agree_and}}
 use Rattle.table_access.proofs.Values.{same_texts, same_ints}
-use Rattle.broker_tables.specs.{Schema.{broker_schema, to}, Holds.{IsBroker, Holds, marks_in}, Refusals.{AreShort}, Numbers.{numbered, number_of}}
-use Rattle.broker_tables.{specs.Rows.{rows_of, value_at, stands_at}, proofs.Frames.{meant}}
+use Rattle.broker_tables.specs.{Schema.{broker_schema, to, in_teams, in_pacticipants, in_versions, in_environments}, Holds.{IsBroker, Holds, marks_in}}
+use Rattle.broker_tables.{specs.{Refusals.{AreShort}, Numbers.{numbered, number_of}, Rows.{rows_of, value_at, stands_at}}, proofs.Frames.{meant}}
 use Rattle.broker_tables.proofs.{Placed.{calm, teams, teams_there, pacticipants, pacticipants_there, environments, environments_there}, References.{row_number}}
 use Rattle.broker_tables.proofs.{Orders.{exact_texts}, VersionRows.{find_version, version_number}}
 use Rattle.broker_core.specs.{declared.command.Version.{Version}, State.{State as Broker}}
@@ -34,11 +34,11 @@ use Rattle.sqlite.specs.Kind.TheVariants as kind
 -- ---- the tables of a broker
 
 -- tables whose trees rise are apart
-abbrev rising : List Table → Bool
+abbrev pub rising : List Table → Bool
 rising [] = true
 rising (t ∷ ts) = list_all (λ u. nat_lt t.tree u.tree) ts && rising ts
 
-apart_of : (ts : List Table) → rising ts ≡ true → IsAscending (λ a b. a.tree ≡ b.tree → ⊥) ts
+pub apart_of : (ts : List Table) → rising ts ≡ true → IsAscending (λ a b. a.tree ≡ b.tree → ⊥) ts
 apart_of [] h = tt
 apart_of (t ∷ ts) h =
     let both = and_parts _ _ h in
@@ -101,23 +101,24 @@ pub record Suits (db : Database) (t : Table) (made : Row) : Type 0 where
   pub free : AllByRecursion (IsFree (db.trees t.tree) made) t.uniques
   pub parents : AllByRecursion (λ ref. has_parent broker_schema.tables db.trees made ref ≡ true) t.references
 
-module _ (db : Database) (broker : IsBroker db) (t : Table) (listed : Has db.schema.tables t) (made : Row) (suits : Suits db t made) (texts : List (List ℕ)) (short : AreShort texts → IsShortRow made) where
-  abbrev putting : Edit
-  putting = record { table = t; gone = []; news = made ∷ [] }
+-- the edit that puts one row in
+abbrev pub putting : Table → Row → Edit
+putting t made = record { table = t; gone = []; news = made ∷ [] }
 
+module _ (db : Database) (broker : IsBroker db) (t : Table) (listed : Has db.schema.tables t) (made : Row) (suits : Suits db t made) (texts : List (List ℕ)) (short : AreShort texts → IsShortRow made) where
   free : (i : Index) → Has db.schema.indexes i → guards i t ≡ true → (r : Row) → Has (db.trees t.tree) r → agree i.order i.columns r i.columns made ≡ false
   free i known guard r has = ap (λ (k : Order × List ℕ). agree k.0 k.1 r k.1 made) places.2 ∙ at_has _ t.uniques places.0 suits.free places.1 r has
     where
       places : (ps : List ℕ) × Has t.uniques ps × (key_of i ≡ (plain, ps))
       places = map_has (λ ps. (plain, ps)) t.uniques (key_of i) (subst (λ keys. Has keys (key_of i)) (ap (λ (x : Need). x.1) (ready_at db broker t listed)) (has_map key_of _ i (has_kept (λ i. guards i t) db.schema.indexes i known guard)))
 
-  referred : (keys : Keys) → is_referred db.schema keys putting ≡ true
+  referred : (keys : Keys) → is_referred db.schema keys (putting t made) ≡ true
   referred Enforced = ap (λ (x : Need). x.2 && true) (ready_at db broker t listed)
   referred Deferred = ap (λ (x : Need). x.2 && true) (ready_at db broker t listed)
   referred Off = refl
 
   -- so the edit that puts it in suits the table
-  edit_suits : (keys : Keys) → EditSuits (¬ AreShort texts) db.schema keys db.trees putting
+  edit_suits : (keys : Keys) → EditSuits (¬ AreShort texts) db.schema keys db.trees (putting t made)
   edit_suits keys = record {
     apart = subst (λ (s : Schema). IsAscending (λ a b. a.tree ≡ b.tree → ⊥) s.tables) (sym broker.schema) apart;
     calm = calm db broker;
@@ -144,14 +145,49 @@ module _ (db : Database) (broker : IsBroker db) (t : Table) (listed : Has db.sch
 abbrev pub EndsOnly : List (List ℕ) → List ℕ → Row → State → State → Type 0
 EndsOnly texts sql params old new = old.step_limit ≡ None → (fault : StoreFault) → FailsToRun sql params old new fault → EndsBy (¬ AreShort texts) old new fault
 
--- the text, with these parameters, puts one row into the table at this place
-pub record Puts (at : ℕ) (sql : List ℕ) (params row : Row) : Type 0 where
+-- the text, with these parameters, puts one row into the table at this place of the schema
+pub record PutsInto (schema : Schema) (at : ℕ) (sql : List ℕ) (params row : Row) : Type 0 where
   pub terms : List Term
   pub width : ℕ
-  pub means : Means broker_schema sql (Insert at (Values terms width))
-  pub whole : is_whole sql (length params) (understood broker_schema sql) ≡ true
+  pub means : Means schema sql (Insert at (Values terms width))
+  pub whole : is_whole sql (length params) (understood schema sql) ≡ true
   pub kinds : accepts_terms terms params ≡ true
   pub one : value_rows params width (length terms / width) terms ≡ row ∷ []
+
+abbrev pub Puts : ℕ → List ℕ → Row → Row → Type 0
+Puts = PutsInto broker_schema
+
+-- without a limit of steps it fails only as the store fails, if the edit that puts the row in suits the table
+module _ (sql : List ℕ) (params : Row) (old new : State) (t : Table) (at : ℕ) (there : slice_get old.now.schema.tables at ≡ Some t) (same : plainly t ≡ t)
+    (row made : Row) (puts : PutsInto old.now.schema at sql params row) (stored : with_rowid Chosen (old.now.trees t.tree) (cast_row t row) ≡ made)
+    (TooBig : Type 0) (suits : EditSuits TooBig old.now.schema (mode_of old).keys old.now.trees (putting t made)) where
+  -- the edit is the one of this row
+  edit_is : (rows : List Row) → rows ≡ row ∷ [] → edit_of old.now.trees (plainly t) [] Chosen 0 rows ≡ putting t made
+  edit_is rows is =
+      ap (edit_of old.now.trees (plainly t) [] Chosen 0) is ∙ ap (λ u. edit_of old.now.trees u [] Chosen 0 (row ∷ [])) same ∙ ap (λ r. record { table = t; gone = []; news = r ∷ [] }) stored
+
+  left : (w : Written) → Inserts (record { limit = old.step_limit; keys = (mode_of old).keys; schema = old.now.schema; table = plainly t; params = params }) (Values puts.terms puts.width) old.now.trees (Ok w) → Refers All old.now.schema w.trees
+  left w h =
+      let given = went h in
+      let written = went (went given.2).2 in
+      let counted = went written.2 in
+      let one = subst (λ (e : Edit). Edited old.now.schema (mode_of old).keys old.now.trees e (Ok written.0))
+      (edit_is _ (given.1.1 ∙ ap (λ ps. value_rows ps puts.width (length puts.terms / puts.width) puts.terms) (append-nil params) ∙ puts.one)) written.1 in
+      subst (λ trees. Refers All old.now.schema trees) (sym (ap (λ (it : Written). it.trees) (same_value counted.2) ∙ same_value counted.1))
+      (refers TooBig old.now.schema (mode_of old).keys old.now.trees (putting t made) suits written.0 one)
+
+  pub row_fails : old.step_limit ≡ None → (error : Error) → Executes sql params old new (Err error) → Fails old new TooBig error
+  row_fails unlimited error h =
+      elim (insert_fails t.name t.tree t.columns t.key t.primary t.uniques t.orders t.checks t.references sql params old new at
+      (there ∙ ap Some (sym same)) puts.terms puts.width puts.means puts.whole puts.kinds unlimited error h) [
+        | inl store ↦ caused_by old new error (λ unfit. (stops None unfit).1) store
+        | inr unfit ↦ absurd (let clash : Some error ≡ None = (stops (Some error) unfit).0 in cc)
+      ]
+    where
+      stops : (stop : Option Error) → Edited old.now.schema (mode_of old).keys old.now.trees (edit_of old.now.trees (plainly t) [] Chosen 0 (value_rows params puts.width (length puts.terms / puts.width) puts.terms)) (Err stop)
+          ⊎ ((w : Written) × Inserts (record { limit = old.step_limit; keys = (mode_of old).keys; schema = old.now.schema; table = plainly t; params = params }) (Values puts.terms puts.width) old.now.trees (Ok w) × (¬ Refers (due (mode_of old)) old.now.schema w.trees)) → (stop ≡ None) × TooBig
+      stops stop (inl edited) = goes TooBig old.now.schema (mode_of old).keys old.now.trees (putting t made) suits stop (subst (λ (e : Edit). Edited old.now.schema (mode_of old).keys old.now.trees e (Err stop)) (edit_is _ puts.one) edited)
+      stops stop (inr (w, writes, stray)) = absurd (stray (left w writes))
 
 module _ (sql : List ℕ) (params : Row) (old new : State) (broker : IsBroker old.now) (t : Table) (at : ℕ) (there : slice_get old.now.schema.tables at ≡ Some t) (row made : Row) (puts : Puts at sql params row)
     (stored : with_rowid Chosen (old.now.trees t.tree) (cast_row t row) ≡ made) where
@@ -166,37 +202,11 @@ module _ (sql : List ℕ) (params : Row) (old new : State) (broker : IsBroker ol
   inserted count h =
       inserts t.name t.tree t.columns t.key t.primary t.uniques t.orders t.checks t.references sql params old new at (there ∙ ap Some (sym same)) puts.terms puts.width row made puts.one stored (meant old.now broker sql puts.means) count h
 
-  module _ (suits : Suits old.now t made) (texts : List (List ℕ)) (short : AreShort texts → IsShortRow made) where
-    -- the edit is the one of this row
-    edit_is : (rows : List Row) → rows ≡ row ∷ [] → edit_of old.now.trees (plainly t) [] Chosen 0 rows ≡ putting old.now broker t listed made suits texts short
-    edit_is rows is =
-        ap (edit_of old.now.trees (plainly t) [] Chosen 0) is ∙ ap (λ u. edit_of old.now.trees u [] Chosen 0 (row ∷ [])) same ∙ ap (λ r. record { table = t; gone = []; news = r ∷ [] }) stored
-
-    left : (w : Written) → Inserts (record { limit = old.step_limit; keys = (mode_of old).keys; schema = old.now.schema; table = plainly t; params = params }) (Values puts.terms puts.width) old.now.trees (Ok w) → Refers All old.now.schema w.trees
-    left w h =
-        let given = went h in
-        let written = went (went given.2).2 in
-        let counted = went written.2 in
-        let one = subst (λ (e : Edit). Edited old.now.schema (mode_of old).keys old.now.trees e (Ok written.0))
-        (edit_is _ (given.1.1 ∙ ap (λ ps. value_rows ps puts.width (length puts.terms / puts.width) puts.terms) (append-nil params) ∙ puts.one)) written.1 in
-        subst (λ trees. Refers All old.now.schema trees) (sym (ap (λ (it : Written). it.trees) (same_value counted.2) ∙ same_value counted.1))
-        (refers (¬ AreShort texts) old.now.schema (mode_of old).keys old.now.trees (putting old.now broker t listed made suits texts short) (edit_suits old.now broker t listed made suits texts short (mode_of old).keys) written.0 one)
-
-    fails : old.step_limit ≡ None → (error : Error) → Executes sql params old new (Err error) → Fails old new (¬ AreShort texts) error
-    fails unlimited error h =
-        elim (insert_fails t.name t.tree t.columns t.key t.primary t.uniques t.orders t.checks t.references sql params old new at (there ∙ ap Some (sym same)) puts.terms puts.width (meant old.now broker sql puts.means)
-        (subst (λ (s : Schema). is_whole sql (length params) (understood s sql) ≡ true) (sym broker.schema) puts.whole) puts.kinds unlimited error h) [
-          | inl store ↦ caused_by old new error (λ unfit. (stops None unfit).1) store
-          | inr unfit ↦ absurd (let clash : Some error ≡ None = (stops (Some error) unfit).0 in cc)
-        ]
-      where
-        stops : (stop : Option Error) → Edited old.now.schema (mode_of old).keys old.now.trees (edit_of old.now.trees (plainly t) [] Chosen 0 (value_rows params puts.width (length puts.terms / puts.width) puts.terms)) (Err stop)
-            ⊎ ((w : Written) × Inserts (record { limit = old.step_limit; keys = (mode_of old).keys; schema = old.now.schema; table = plainly t; params = params }) (Values puts.terms puts.width) old.now.trees (Ok w) × (¬ Refers (due (mode_of old)) old.now.schema w.trees)) → (stop ≡ None) × (¬ AreShort texts)
-        stops stop (inl edited) = goes (¬ AreShort texts) old.now.schema (mode_of old).keys old.now.trees (putting old.now broker t listed made suits texts short) (edit_suits old.now broker t listed made suits texts short (mode_of old).keys) stop (subst (λ (e : Edit). Edited old.now.schema (mode_of old).keys old.now.trees e (Err stop)) (edit_is _ puts.one) edited)
-        stops stop (inr (w, writes, stray)) = absurd (stray (left w writes))
-
-    pub insert_ends : EndsOnly texts sql params old new
-    insert_ends unlimited fault (error, is, h) = let it = fails unlimited error h in record { cause = it.0; fault_is = is ∙ ap fault_of it.1; has = it.2; over = it.3.autocommit; blamed = it.4 }
+  pub insert_ends : Suits old.now t made → (texts : List (List ℕ)) → (AreShort texts → IsShortRow made) → EndsOnly texts sql params old new
+  insert_ends suits texts short unlimited fault (error, is, h) =
+      let it = row_fails sql params old new t at there same row made (subst (λ s. PutsInto s at sql params row) (sym broker.schema) puts) stored
+      (¬ AreShort texts) (edit_suits old.now broker t listed made suits texts short (mode_of old).keys) unlimited error h in
+      record { cause = it.0; fault_is = is ∙ ap fault_of it.1; has = it.2; over = it.3.autocommit; blamed = it.4 }
 
 -- ---- keys
 
@@ -233,7 +243,10 @@ module _ (rows : List Row) (made : Row) where
 abbrev IsTo : ℕ → List ℕ → List ℕ → ℕ → ℕ → Type 0
 IsTo p parent key tree place = (o : Order) × (parent_key broker_schema.tables (to p parent key) ≡ Some (tree, place ∷ [], o)) × ((first_key o).collation ≡ Binary)
 
-leads : (p : ℕ) → IsTo p (codes "teams") (codes "name") 1 1 × IsTo p (codes "pacticipants") (codes "name") 4 1 × IsTo p (codes "environments") (codes "name") 10 1 × IsTo p (codes "versions") (codes "number") 6 0
+leads : (p : ℕ) → IsTo p (codes "teams") (codes "name") in_teams.tree in_teams.name
+    × IsTo p (codes "pacticipants") (codes "name") in_pacticipants.tree in_pacticipants.name
+    × IsTo p (codes "environments") (codes "name") in_environments.tree in_environments.name
+    × IsTo p (codes "versions") (codes "number") in_versions.tree in_versions.number
 unfolding everything
 leads p = ((_, refl, refl), (_, refl, refl), (_, refl, refl), (_, refl, refl))
 
@@ -246,31 +259,31 @@ module _ (db : Database) (s : Broker) (held : Holds db s) (made : Row) (p : ℕ)
       let tied : equal (first_key o).collation (column r place) (column made p) ≡ true = ap (λ c. equal c (column r place) (column made p)) binary ∙ ties in
       or_right _ _ (ap (is_held db.trees (p ∷ []) made) keyed ∙ some_from (λ x. agree o (place ∷ []) x (p ∷ []) made) (db.trees tree) r has (and_from _ _ tied refl))
 
-  names : (at : ℕ) (t : Table) → slice_get db.schema.tables at ≡ Some t → (c : Column) → slice_get t.columns 0 ≡ Some c → is_key t.key 0 ≡ false → c.is_strict ≡ true → c.not_null ≡ true → c.kind ≡ kind.Text → (r : Row) → Has (db.trees t.tree) r → column r 1 ≡ Text (text 1 r)
-  names at t there c first free strict needed is r has = text_at db held.broker.kept.sound t (has_place _ at t there) r has 0 c first free strict needed is
+  names : (at i : ℕ) (t : Table) → slice_get db.schema.tables at ≡ Some t → (c : Column) → slice_get t.columns i ≡ Some c → is_key t.key i ≡ false → c.is_strict ≡ true → c.not_null ≡ true → c.kind ≡ kind.Text → (r : Row) → Has (db.trees t.tree) r → column r (i + 1) ≡ Text (text (i + 1) r)
+  names at i t there c first free strict needed is r has = text_at db held.broker.kept.sound t (has_place _ at t there) r has i c first free strict needed is
 
-  named : {V : Type 0} (parent : List ℕ) (tree : ℕ) → IsTo p parent (codes "name") tree 1 → ((r : Row) → Has (db.trees tree) r → column r 1 ≡ Text (text 1 r)) → (value : Row → V) (name : List ℕ) (found : Option V)
-      → value_at text_cmp (text 1) value (db.trees tree) name ≡ found → IsTrue (is_some found) → column made p ≡ Text name → IsThere parent (codes "name")
-  named parent tree leads typed value name None is has refer = absurd cc
-  named parent tree leads typed value name (Some v) is has refer =
-      let row = find_has nat_list_cmp_total exact_texts (text 1) value name v (db.trees tree) is in
-      stands parent (codes "name") tree 1 leads row.0 row.1 (ap (λ v. equal Binary v (column made p)) (typed row.0 row.1 ∙ ap Text (sym row.2)) ∙ ap (equal Binary (Text name)) refer ∙ same_texts name name ∙ (eq_by_cmp_equiv nat_list_cmp_total).refl name)
+  named : {V : Type 0} (parent : List ℕ) (tree place : ℕ) → IsTo p parent (codes "name") tree place → ((r : Row) → Has (db.trees tree) r → column r place ≡ Text (text place r)) → (value : Row → V) (name : List ℕ) (found : Option V)
+      → value_at text_cmp (text place) value (db.trees tree) name ≡ found → IsTrue (is_some found) → column made p ≡ Text name → IsThere parent (codes "name")
+  named parent tree place leads typed value name None is has refer = absurd cc
+  named parent tree place leads typed value name (Some v) is has refer =
+      let row = find_has nat_list_cmp_total exact_texts (text place) value name v (db.trees tree) is in
+      stands parent (codes "name") tree place leads row.0 row.1 (ap (λ v. equal Binary v (column made p)) (typed row.0 row.1 ∙ ap Text (sym row.2)) ∙ ap (equal Binary (Text name)) refer ∙ same_texts name name ∙ (eq_by_cmp_equiv nat_list_cmp_total).refl name)
 
   -- a team that is there has the row that a reference to its name leads to
   pub team_there : (name : List ℕ) → IsTrue (is_some (s.teams name)) → column made p ≡ Text name → IsThere (codes "teams") (codes "name")
-  team_there name = named (codes "teams") 1 (leads p).0 (names 1 teams (teams_there db held.broker) _ refl refl refl refl refl) (text 2) name (s.teams name) (held.teams name)
+  team_there name = named (codes "teams") in_teams.tree in_teams.name (leads p).0 (names 1 0 teams (teams_there db held.broker) _ refl refl refl refl refl) (text in_teams.token_digest) name (s.teams name) (held.teams name)
 
   -- and so do a pacticipant, an environment, and a version for its number
   pub pacticipant_there : (name : List ℕ) → IsTrue (is_some (s.pacticipants name)) → column made p ≡ Text name → IsThere (codes "pacticipants") (codes "name")
-  pacticipant_there name = named (codes "pacticipants") 4 (leads p).1 (names 2 pacticipants (pacticipants_there db held.broker) _ refl refl refl refl refl) (text 2) name (s.pacticipants name) (held.pacticipants name)
+  pacticipant_there name = named (codes "pacticipants") in_pacticipants.tree in_pacticipants.name (leads p).1 (names 2 0 pacticipants (pacticipants_there db held.broker) _ refl refl refl refl refl) (text in_pacticipants.team) name (s.pacticipants name) (held.pacticipants name)
 
   pub environment_there : (name : List ℕ) → IsTrue (is_some (s.environments name)) → column made p ≡ Text name → IsThere (codes "environments") (codes "name")
-  environment_there name = named (codes "environments") 10 (leads p).2 (names 5 environments (environments_there db held.broker) _ refl refl refl refl refl) (marks_in (rows_of db (codes "strict_environments"))) name (s.environments name) (held.environments name)
+  environment_there name = named (codes "environments") in_environments.tree in_environments.name (leads p).2 (names 5 0 environments (environments_there db held.broker) _ refl refl refl refl refl) (marks_in (rows_of db (codes "strict_environments"))) name (s.environments name) (held.environments name)
 
   pub version_there : (v : Version) (n : ℕ) → number_of s.versions v ≡ Some n → column made p ≡ Int (pos n) → IsThere (codes "versions") (codes "number")
   version_there v n is refer =
       let row = find_version db held.broker s.versions v n held.versions is in
-      stands (codes "versions") (codes "number") 6 0 (leads p).3 row.0 row.1
+      stands (codes "versions") (codes "number") in_versions.tree in_versions.number (leads p).3 row.0 row.1
       (ap (λ x. equal Binary x (column made p)) (version_number db held.broker row.0 row.1 ∙ ap Int row.4) ∙ ap (equal Binary (Int (pos n))) refer ∙ same_ints (pos n) (pos n) ∙ (eq_by_cmp_equiv int_cmp_total).refl (pos n))
 
 -- ---- numbers

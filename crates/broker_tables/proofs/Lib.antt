@@ -25,3 +25,5 @@ pub mod RoomLemmas
 pub mod FailLemmas
 pub mod Inserted
 pub mod Upserted
+mod CreationRefused
+pub mod MakingFails

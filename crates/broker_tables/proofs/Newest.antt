@@ -5,7 +5,7 @@ use Rattle.std.proofs.{lemmas.Grind.{reverse_onto}, lemmas.List.{length-map}}
 use Rattle.sqlite.specs.Order.{Row}
 use Rattle.table_access.specs.Columns.{whole_at}
 use Rattle.broker_core.specs.{declared.command.Version.{Version}, State.{Verification}}
-use Rattle.broker_tables.specs.{Numbers.{numbered}, Holds.{AreResults, result_in, result_of}}
+use Rattle.broker_tables.specs.{Numbers.{numbered}, Holds.{AreResults, result_in, result_of}, Schema.{in_results}}
 
 abbrev last_of : {A : Type 0} → A → List A → A
 last_of x [] = x
@@ -46,6 +46,6 @@ module _ {X : Type 0} (entry : Row → X) where
       same ∙ (let f : 1 + length xs ≡ length (x ∷ xs) = omega arith in f)
 
 -- how many results there are
-pub newest_result : (versions : List Version) (results : List Verification) (rows checked : List Row) (found : Option ℕ) → AreResults versions results rows checked → option_map pos found ≡ option_map (whole_at 0) (slice_get (reverse rows) 0)
+pub newest_result : (versions : List Version) (results : List Verification) (rows checked : List Row) (found : Option ℕ) → AreResults versions results rows checked → option_map pos found ≡ option_map (whole_at in_results.number) (slice_get (reverse rows) 0)
     → unwrap_or found 0 ≡ length results
 newest_result versions results rows checked found are read = newest (result_in checked) rows (map (result_of versions) results) found are read ∙ length-map results (result_of versions)

@@ -5,7 +5,8 @@ use Rattle.sqlite_sql.specs.{Ops.{binary, is_true}, declared.ops.BinaryOp.TheVar
 use Rattle.sqlite_rules.specs.Lists.{Has}
 use Rattle.table_access.specs.{Columns.{text, whole_at}, Reading.{AreRead}}
 use Rattle.broker_core.specs.{declared.command.Version.{Version}, Text.{version}, State.{State as Broker}}
-use Rattle.broker_tables.{specs.{Schema.{to}, Numbers.{number_of}, Holds.{Holds}}, proofs.{References.{refers_version}, VersionRows.{row_number, whole_test}}}
+use Rattle.broker_tables.{specs.{Schema.{to, in_versions}, Numbers.{number_of}, Holds.{Holds}}, proofs.References.{refers_version}}
+use Rattle.broker_tables.proofs.VersionRows.{row_number, whole_test}
 
 -- a row whose column refers to versions has the number of one
 pub no_row : (db : Database) (s : Broker) → Holds db s → (n : ℕ) → ((v : Version) → ¬ (number_of s.versions v ≡ Some n)) → (t : Table) → Has db.schema.tables t → (p : ℕ) → Has t.references (to p (codes "versions") (codes "number"))
@@ -16,7 +17,7 @@ no_row db s held n none t listed p among r has typed tested =
     let is : whole_at p r ≡ pos n = (whole_test (column r p) (Int (pos n)) (whole_at p r) (pos n) typed refl).0 tested in
     let ints : pos k.0 ≡ pos n = sym k.2 ∙ x.2 ∙ is in
     let same : k.0 ≡ n = cc in
-    none (version (text 2 x.0) (text 3 x.0)) (k.1 ∙ ap Some same)
+    none (version (text in_versions.pacticipant x.0) (text in_versions.version x.0)) (k.1 ∙ ap Some same)
 
 -- ---- where no row is shown, nothing is read
 

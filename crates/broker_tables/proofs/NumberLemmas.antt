@@ -8,7 +8,7 @@ use Rattle.sqlite_keyed.proofs.ListLemmas.{map-map}
 use Rattle.broker_core.specs.{declared.command.Version.{Version}, Text.{Text, same_text, same_version, version}, State.{State}, Request.{is_known}}
 use Rattle.broker_core.proofs.Judgement.{version_is, version_refl}
 use Rattle.table_access.specs.Columns.{text, text_cmp, pair_cmp, whole_at}
-use Rattle.broker_tables.{specs.{Numbers.{number_of}, Rows.{value_at}, Holds.{AreVersions}}, proofs.Ties.{pair_ties, nat_ties}}
+use Rattle.broker_tables.{specs.{Numbers.{number_of}, Rows.{value_at}, Holds.{AreVersions}, Schema.{in_versions}}, proofs.Ties.{pair_ties, nat_ties}}
 
 abbrev key_of : Version → Text × Text
 key_of v = (v.pacticipant, v.name)
@@ -109,7 +109,7 @@ grown g versions v w free same = go (number_of versions w) refl (cases_Bool (sam
 -- ---- a version's number by its row
 
 -- the row of a version has its number
-pub version_row : (rows : List Row) (versions : List Version) (p name : Text) → AreVersions versions rows → value_at pair_cmp (λ r. (text 2 r, text 3 r)) (whole_at 0) rows (p, name) ≡ option_map pos (number_of versions (version p name))
+pub version_row : (rows : List Row) (versions : List Version) (p name : Text) → AreVersions versions rows → value_at pair_cmp (λ r. (text in_versions.pacticipant r, text in_versions.version r)) (whole_at in_versions.number) rows (p, name) ≡ option_map pos (number_of versions (version p name))
 version_row rows versions p name is = ap (find pair_cmp (p, name)) (sym (map-map turn _ rows) ∙ ap (map turn) is) ∙ numbers 1 versions
   where
     turn : ℤ × Version → (Text × Text) × ℤ

@@ -8,7 +8,7 @@ use Rattle.table_access.specs.{Statements.{Makes, new_trees, MakesIndexes, index
 use Rattle.table_access.proofs.{Creation.{made_schema, made_keeps, made_empty, made_kept}, Indexing.{indexes_schema, indexes_keep, indexes_kept}}
 use Rattle.table_access.proofs.SoundLemmas.{at_has}
 use Rattle.broker_core.specs.{Text.{Text, same_text}, State.{opening}}
-use Rattle.broker_tables.specs.{Schema.{schema_of, all_tables, all_indexes}, Room.{LeaveNumbers, HasAllNumbers}, Making.{IsBlank, HasTables, HasAll}}
+use Rattle.broker_tables.specs.{Schema.{schema_of, all_tables, all_indexes, in_meta}, Room.{LeaveNumbers, HasAllNumbers}, Making.{IsBlank, HasTables, HasAll}}
 use Rattle.broker_tables.specs.Holds.{Holds, IsMeta, format, AreTeams, ArePacticipants, AreVersions, AreBranches, AreEnvironments, AreGrants, AreContents, AreContracts, AreResults, AreLatest, AreDeployed, AreReleased}
 use Rattle.broker_tables.proofs.Placed.{meta}
 use Rattle.broker_tables.specs.Schema as schema
@@ -17,7 +17,7 @@ use Rattle.broker_tables.specs.Schema as schema
 pub blank_kept : (db : Database) → IsBlank db → IsKept db
 blank_kept db blank = record { sound = blank.sound; numbered = subst (λ (s : Schema). AllByRecursion (λ t. IsNumbered (db.trees t.tree)) s.tables) (sym blank.schema) tt }
 
-abbrev IsEmpty : Trees → Table → Type 0
+abbrev pub IsEmpty : Trees → Table → Type 0
 IsEmpty trees t = same_text t.name (codes "meta") ≡ false → trees t.tree ≡ []
 
 -- tables that were empty, and new ones
@@ -25,14 +25,14 @@ all_empty : (trees : Trees) (s : Schema) (part : List Table) → AllByRecursion 
 all_empty trees s [] one two = one
 all_empty trees s (t ∷ part) one two = all_empty trees (created s t) part (all-append (IsEmpty trees) s.tables (record t { tree = next_tree s } ∷ []) one ((λ _. two.0), tt)) two.1
 
-still_empty : (old new : Trees) (ts : List Table) → KeepsRows ts old new → AllByRecursion (IsEmpty old) ts → AllByRecursion (IsEmpty new) ts
+pub still_empty : (old new : Trees) (ts : List Table) → KeepsRows ts old new → AllByRecursion (IsEmpty old) ts → AllByRecursion (IsEmpty new) ts
 still_empty old new = all_both (λ t. new t.tree ≡ old t.tree) (IsEmpty old) (IsEmpty new) (λ t same was other. same ∙ was other)
 
 -- more tables are made, after these
 pub has_more : (before part : List Table) (n : ℕ) (office : Text) (old new : Database) → Has (schema_of before).tables meta → HasTables before n office old → Makes part old new → HasTables (before ++ part) n office new
 has_more before part n office old new among has makes =
     let keeps : KeepsRows (schema_of before).tables old.trees new.trees = subst (λ (s : Schema). KeepsRows s.tables old.trees new.trees) has.schema (made_keeps part old new makes) in
-    let rows : new.trees 0 ≡ old.trees 0 = at_has (λ t. new.trees t.tree ≡ old.trees t.tree) (schema_of before).tables meta keeps among in
+    let rows : new.trees in_meta.tree ≡ old.trees in_meta.tree = at_has (λ t. new.trees t.tree ≡ old.trees t.tree) (schema_of before).tables meta keeps among in
     let is : fold created (schema_of before) part ≡ schema_of (before ++ part) = sym (fold-append created schema.no_schema before part) in
     record {
       schema = made_schema part old new makes ∙ ap (λ s. fold created s part) has.schema ∙ is;

@@ -9,9 +9,9 @@ use Rattle.sqlite_keyed.proofs.RuleLemmas.{first_of_both}
 use Rattle.table_access.{specs.{Columns.{text, text_cmp, whole_at}, Reading.{IsNumberAt}}, proofs.{Keys.{apart_by, text_keys}, Maps.{has_find}}}
 use Rattle.table_access.proofs.{Members.{map_has, has_contains}, SoundLemmas.{whole_in, checks_hold, has_place}}
 use Rattle.broker_core.specs.{declared.command.Version.{Version}, Limit.{limit}, Text.{Text, version}, State.{State as Broker}}
-use Rattle.broker_tables.specs.{Schema.{to}, Rows.{IsTruthAt}, Names.{IsNameAt}, Numbers.{numbered}, Holds.{Holds, with_digest, result_in, result_of}}
-use Rattle.broker_tables.{specs.Readable.{IsReadable, IsNamed, AreFew}, proofs.Orders.{exact_texts}}
-use Rattle.broker_tables.proofs.Placed.{pacticipants, pacticipants_there, results, results_there}
+use Rattle.broker_tables.specs.{Schema.{to, in_pacticipants, in_versions, in_contents, in_results, in_checked_results}, Rows.{IsTruthAt}, Names.{IsNameAt}}
+use Rattle.broker_tables.specs.{Numbers.{numbered}, Holds.{Holds, with_digest, result_in, result_of}, Readable.{IsReadable, IsNamed, AreFew}}
+use Rattle.broker_tables.proofs.{Orders.{exact_texts}, Placed.{pacticipants, pacticipants_there, results, results_there}}
 use Rattle.broker_tables.proofs.References.{row_number, row_entry, refers_version, refers_content, refers_result, refers_pacticipant, pacticipant_names}
 use Rattle.broker_tables.proofs.TruthLemmas.{is_low}
 
@@ -39,14 +39,14 @@ mapped_few : {X Y : Type 0} (f : X → Y) (xs : List X) → AreFew xs → AreFew
 mapped_few f xs few = subst (λ n. n ≤ limit) (sym (length-map xs f)) few
 
 module _ (db : Database) (s : Broker) (held : Holds db s) (readable : IsReadable s) where
-  pub version_low : (r : Row) → Has (db.trees 6) r → IsLow (whole_at 0 r)
-  version_low = low_in (λ r. version (text 2 r) (text 3 r)) (db.trees 6) s.versions held.versions readable.few_versions
+  pub version_low : (r : Row) → Has (db.trees in_versions.tree) r → IsLow (whole_at in_versions.number r)
+  version_low = low_in (λ r. version (text in_versions.pacticipant r) (text in_versions.version r)) (db.trees in_versions.tree) s.versions held.versions readable.few_versions
 
-  pub content_low : (r : Row) → Has (db.trees 14) r → IsLow (whole_at 0 r)
-  content_low = low_in (λ r. (text 2 r, text 3 r)) (db.trees 14) (map with_digest s.contents) held.contents (mapped_few with_digest s.contents readable.few_contents)
+  pub content_low : (r : Row) → Has (db.trees in_contents.tree) r → IsLow (whole_at in_contents.number r)
+  content_low = low_in (λ r. (text in_contents.digest r, text in_contents.body r)) (db.trees in_contents.tree) (map with_digest s.contents) held.contents (mapped_few with_digest s.contents readable.few_contents)
 
-  pub result_low : (r : Row) → Has (db.trees 17) r → IsLow (whole_at 0 r)
-  result_low = low_in (result_in (db.trees 25)) (db.trees 17) (map (result_of s.versions) s.results) held.results (mapped_few (result_of s.versions) s.results readable.few_results)
+  pub result_low : (r : Row) → Has (db.trees in_results.tree) r → IsLow (whole_at in_results.number r)
+  result_low = low_in (result_in (db.trees in_checked_results.tree)) (db.trees in_results.tree) (map (result_of s.versions) s.results) held.results (mapped_few (result_of s.versions) s.results readable.few_results)
 
   -- a number that refers to one of these
   module _ (t : Table) (listed : Has db.schema.tables t) (p : ℕ) (r : Row) (has : Has (db.trees t.tree) r) (typed : column r p ≡ Int (whole_at p r)) where
@@ -60,27 +60,27 @@ module _ (db : Database) (s : Broker) (held : Holds db s) (readable : IsReadable
     to_result_low among = let x = refers_result db held.broker t listed p among r has typed in subst IsLow x.2 (result_low x.0 x.1)
 
   -- the names of a version
-  pub version_named : (r : Row) → Has (db.trees 6) r → IsNamed (text 2 r) × IsNamed (text 3 r)
+  pub version_named : (r : Row) → Has (db.trees in_versions.tree) r → IsNamed (text in_versions.pacticipant r) × IsNamed (text in_versions.version r)
   version_named r has =
-      let one = row_entry (λ x. version (text 2 x) (text 3 x)) (db.trees 6) s.versions 1 held.versions r has in
-      All-contains (λ (v : Version). IsNamed v.pacticipant × IsNamed v.name) s.versions (version (text 2 r) (text 3 r)) readable.versions (has_contains s.versions (version (text 2 r) (text 3 r)) one)
+      let one = row_entry (λ x. version (text in_versions.pacticipant x) (text in_versions.version x)) (db.trees in_versions.tree) s.versions 1 held.versions r has in
+      All-contains (λ (v : Version). IsNamed v.pacticipant × IsNamed v.name) s.versions (version (text in_versions.pacticipant r) (text in_versions.version r)) readable.versions (has_contains s.versions (version (text in_versions.pacticipant r) (text in_versions.version r)) one)
 
   -- a body is a text in UTF-8
-  pub body_utf8 : (r : Row) → Has (db.trees 14) r → IsUtf8 (text 3 r)
+  pub body_utf8 : (r : Row) → Has (db.trees in_contents.tree) r → IsUtf8 (text in_contents.body r)
   body_utf8 r has =
-      let one = row_entry (λ x. (text 2 x, text 3 x)) (db.trees 14) (map with_digest s.contents) 1 held.contents r has in
-      let it = map_has with_digest s.contents (text 2 r, text 3 r) one in
-      let same : text 3 r ≡ it.0 = ap (λ (e : Text × Text). e.1) it.2 in
+      let one = row_entry (λ x. (text in_contents.digest x, text in_contents.body x)) (db.trees in_contents.tree) (map with_digest s.contents) 1 held.contents r has in
+      let it = map_has with_digest s.contents (text in_contents.digest r, text in_contents.body r) one in
+      let same : text in_contents.body r ≡ it.0 = ap (λ (e : Text × Text). e.1) it.2 in
       subst IsUtf8 (sym same) (All-contains IsUtf8 s.contents it.0 readable.contents (has_contains s.contents it.0 it.1))
 
-  pacticipant_keys : IsAscending (λ a b. eq_by_cmp text_cmp (text 1 a) (text 1 b) ≡ false) (db.trees 4)
-  pacticipant_keys = text_keys (db.trees 4) 1 (pacticipant_names db held.broker) (apart_by db held.broker.kept pacticipants 2 (pacticipants_there db held.broker) _ 2 (ap (λ (x : Schema). slice_get x.indexes 2) held.broker.schema) refl)
+  pacticipant_keys : IsAscending (λ a b. eq_by_cmp text_cmp (text in_pacticipants.name a) (text in_pacticipants.name b) ≡ false) (db.trees in_pacticipants.tree)
+  pacticipant_keys = text_keys (db.trees in_pacticipants.tree) in_pacticipants.name (pacticipant_names db held.broker) (apart_by db held.broker.kept pacticipants 2 (pacticipants_there db held.broker) _ 2 (ap (λ (x : Schema). slice_get x.indexes 2) held.broker.schema) refl)
 
   -- the name of a pacticipant
-  pub pacticipant_named : (r : Row) → Has (db.trees 4) r → IsNamed (text 1 r)
+  pub pacticipant_named : (r : Row) → Has (db.trees in_pacticipants.tree) r → IsNamed (text in_pacticipants.name r)
   pacticipant_named r has =
-      let found = has_find nat_list_cmp_total exact_texts (text 1) (text 2) (db.trees 4) r pacticipant_keys has in
-      (readable.pacticipants (text 1 r) (text 2 r) (sym (held.pacticipants (text 1 r)) ∙ found)).0
+      let found = has_find nat_list_cmp_total exact_texts (text in_pacticipants.name) (text in_pacticipants.team) (db.trees in_pacticipants.tree) r pacticipant_keys has in
+      (readable.pacticipants (text in_pacticipants.name r) (text in_pacticipants.team r) (sym (held.pacticipants (text in_pacticipants.name r)) ∙ found)).0
 
   -- a name that refers to one
   pub to_pacticipant_named : (t : Table) → Has db.schema.tables t → (p : ℕ) → Has t.references (to p (codes "pacticipants") (codes "name")) → (r : Row) → Has (db.trees t.tree) r → column r p ≡ SqlText (text p r) → IsNamed (text p r)
@@ -88,8 +88,8 @@ module _ (db : Database) (s : Broker) (held : Holds db s) (readable : IsReadable
       let x = refers_pacticipant db held.broker t listed p among r has typed in subst IsNamed x.2 (pacticipant_named x.0 x.1)
 
   -- whether a result is a pass
-  pub pass_low : (r : Row) → Has (db.trees 17) r → (n : ℕ) × (whole_at 5 r ≡ pos n) × (n ≤ 1)
+  pub pass_low : (r : Row) → Has (db.trees in_results.tree) r → (n : ℕ) × (whole_at in_results.pass r ≡ pos n) × (n ≤ 1)
   pass_low r has =
       let listed = has_place _ 9 results (results_there db held.broker) in
-      let typed : column r 5 ≡ Int (whole_at 5 r) = whole_in db held.broker.kept.sound results listed r has 4 _ refl refl refl refl refl in
-      is_low r 5 (whole_at 5 r) typed (first_of_both _ true (checks_hold db held.broker.kept.sound results listed r has))
+      let typed : column r in_results.pass ≡ Int (whole_at in_results.pass r) = whole_in db held.broker.kept.sound results listed r has 4 _ refl refl refl refl refl in
+      is_low r in_results.pass (whole_at in_results.pass r) typed (first_of_both _ true (checks_hold db held.broker.kept.sound results listed r has))

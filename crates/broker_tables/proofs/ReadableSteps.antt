@@ -1,18 +1,16 @@
 -- A state that can be read back stays such.
-use Rattle.std.specs.{Prelude.{Option, Some, None, IfSome, IsUtf8, All, MatchOption}, Option.{option_map_or}, List.{list_any}}
+use Rattle.std.specs.{Prelude.{Option, Some, None, IfSome, IsUtf8, All}, Option.{option_map_or}, List.{list_any}}
 use Rattle.std.proofs.Common.{◌≡◌, ◌⊎◌, ◌∷◌, [], ◌++◌, ◌<◌, ℕ, List, refl, sym, ap, subst, inl, inr, Bool, true, false, ◌&&◌, ◌||◌, if◌then◌else◌, arith}
 use Rattle.std.proofs.{lemmas.List.{length_push}, lemmas.Bool.Decides.{nat_tests}, lemmas.List.Elements.{All-nil, All-cons, All-append}}
 use Rattle.std.proofs.{lemmas.Str.{IsUtf8-nil, IsUtf8-from_ascii}, lemmas.Str.Ascii.{IsAscii-from_all}}
 use Rattle.broker_core.specs.declared.command.Command.{Command}
 use Rattle.broker_core.specs.declared.command.Command.TheVariants.{PutTeam, PutPacticipant, PutEnvironment, PutGrant, DeleteGrant, PutVersion, PutPact, GetPact, GetBranchPact, PostResult, PostReplies, Deploy, Undeploy, Release, EndSupport, GetEnvironment, CanIDeploy, GetMatrix, Malformed}
-use Rattle.broker_core.specs.{declared.command.Marks.{Marks}, declared.command.Version.{Version}}
-use Rattle.broker_core.specs.{declared.answer.Answer.TheVariants.{Full, NotPermitted, Denied, BadForm}, declared.answer.Detail.{Detail}}
-use Rattle.broker_core.specs.{Text.{Text, same_text, same_place, put_at}, Limit.{has_room}, State.{State as Broker, Verification}}
-use Rattle.broker_core.specs.Request.{is_known, consumer_version, refusal}
+use Rattle.broker_core.specs.{declared.command.Marks.{Marks}, declared.command.Version.{Version}, declared.answer.Answer.TheVariants.{Full, NotPermitted}}
+use Rattle.broker_core.specs.{declared.answer.Detail.{Detail}, Text.{Text, same_text, same_place, put_at}, Limit.{has_room}}
+use Rattle.broker_core.specs.{State.{State as Broker, Verification}, Request.{is_known, consumer_version}}
 use Rattle.broker_core.specs.Change.{Transition, unchanged_with, repeated, put_team, put_pacticipant, put_environment, put_version, named, joined, put_pact, stored, is_stored, report, is_text, instance_of, can_name, on_branch}
-use Rattle.broker_core.specs.{Machine.{Primitives, TakesEffect, report_replies, StepOfCaller}, SoundNames.{IsDigest, IsHexDigit}}
-use Rattle.broker_core.specs.{declared.answer.Answer.{Answer}, declared.command.FormFault.{FormFault}, declared.policy.Caller.{Caller}}
-use Rattle.broker_core.{specs.declared.policy.Rule.TheVariants.{A1}, proofs.{Lists.{some_is}, Judgement.{and_both, text_is, place_is}}}
+use Rattle.broker_core.{specs.{Machine.{Primitives, TakesEffect, report_replies}, SoundNames.{IsDigest, IsHexDigit}}, proofs.Effects.{by_step}}
+use Rattle.broker_core.proofs.{Lists.{some_is}, Judgement.{and_both, text_is, place_is}}
 use Rattle.broker_tables.specs.{Readable.{IsReadable, IsNamed, AreFew}, Laws.{HasReadableNames, KeepsUtf8, ReadableBegins, ReadableStays, ReadableStaysInRuns}}
 
 -- ---- a digest is in UTF-8
@@ -199,25 +197,6 @@ module _ (parts : Primitives) (keeps : KeepsUtf8 parts) (s : Broker) (n : IsRead
   acts_readable (GetMatrix v) out are x = is_left out _ x.2 n
   acts_readable (Malformed fault) out are x = absurd x
 
-  -- ---- a step
-
-  same_readable : (out : Transition) (answer : Answer) → out ≡ unchanged_with s answer → IsReadable out.state
-  same_readable out answer is = subst (λ (o : Transition). IsReadable o.state) (sym is) n
-
-  unless_refused : (c : Command) (out : Transition) → HasReadableNames c → (r : Option Answer) → MatchOption r (TakesEffect parts s c out) (λ answer. out ≡ unchanged_with s answer) → IsReadable out.state
-  unless_refused c out are None x = acts_readable c out are x
-  unless_refused c out are (Some answer) is = same_readable out answer is
-
-  unless_faulty : (caller : Caller) (c : Command) (out : Transition) → HasReadableNames c → (found : Option FormFault)
-      → MatchOption found (MatchOption (refusal s caller c) (TakesEffect parts s c out) (λ answer. out ≡ unchanged_with s answer)) (λ fault. out ≡ unchanged_with s (BadForm fault)) → IsReadable out.state
-  unless_faulty caller c out are None x = unless_refused c out are (refusal s caller c) x
-  unless_faulty caller c out are (Some fault) is = same_readable out (BadForm fault) is
-
-  unless_unknown : (c : Command) (out : Transition) → HasReadableNames c → (who : Option Caller)
-      → MatchOption who (out ≡ unchanged_with s (Denied A1)) (λ caller. StepOfCaller parts s caller c out) → IsReadable out.state
-  unless_unknown c out are None is = same_readable out (Denied A1) is
-  unless_unknown c out are (Some caller) x = unless_faulty caller c out are x.0 x.2
-
 -- ---- the laws
 
 pub readable_begins : ReadableBegins
@@ -234,7 +213,8 @@ readable_begins office is = record {
 }
 
 pub readable_stays : (parts : Primitives) → KeepsUtf8 parts → ReadableStays parts
-readable_stays parts keeps s token c out are n x = unless_unknown parts keeps s n c out are x.0 x.2
+readable_stays parts keeps s token c out are n x =
+    by_step parts s c (λ (o : Transition). IsReadable o.state) (λ answer is. n) (λ o acts. acts_readable parts keeps s n c o are acts) token out x
 
 pub readable_stays_in_runs : (parts : Primitives) → KeepsUtf8 parts → ReadableStaysInRuns parts
 readable_stays_in_runs parts keeps s last [] [] all n run = subst IsReadable (sym run) n

@@ -14,7 +14,8 @@ use Rattle.sqlite_tied.specs.Compute.{everything}
 use Rattle.table_access.{specs.Columns.{text, text_cmp, whole_at}, proofs.{Values.{same_ints, same_texts}, Members.{has_map, map_has}}}
 use Rattle.table_access.proofs.SoundLemmas.{at_has, has_place, text_at}
 use Rattle.broker_core.specs.declared.command.Version.{Version}
-use Rattle.broker_tables.{specs.{Schema.{broker_schema, to}, Holds.{IsBroker, AreVersions}}, proofs.Orders.{exact_texts}}
+use Rattle.broker_tables.specs.Schema.{broker_schema, to, in_pacticipants, in_versions, in_environments, in_contents, in_results}
+use Rattle.broker_tables.{specs.Holds.{IsBroker, AreVersions}, proofs.Orders.{exact_texts}}
 use Rattle.broker_tables.proofs.Placed.{pacticipants, pacticipants_there, versions, versions_there, environments, environments_there, contents, contents_there, results, results_there}
 pub use Rattle.table_access.proofs.Members.{any_has}
 
@@ -22,8 +23,11 @@ pub use Rattle.table_access.proofs.Members.{any_has}
 abbrev LeadsTo : ℕ → List ℕ → List ℕ → ℕ → ℕ → Type 0
 LeadsTo p name key tree at = (o : Order) × (parent_key broker_schema.tables (to p name key) ≡ Some (tree, at ∷ [], o)) × ((first_key o).collation ≡ Binary)
 
-leads : (p : ℕ) → LeadsTo p (codes "versions") (codes "number") 6 0 × LeadsTo p (codes "contents") (codes "number") 14 0 × LeadsTo p (codes "results") (codes "number") 17 0
-    × LeadsTo p (codes "environments") (codes "name") 10 1 × LeadsTo p (codes "pacticipants") (codes "name") 4 1
+leads : (p : ℕ) → LeadsTo p (codes "versions") (codes "number") in_versions.tree in_versions.number
+    × LeadsTo p (codes "contents") (codes "number") in_contents.tree in_contents.number
+    × LeadsTo p (codes "results") (codes "number") in_results.tree in_results.number
+    × LeadsTo p (codes "environments") (codes "name") in_environments.tree in_environments.name
+    × LeadsTo p (codes "pacticipants") (codes "name") in_pacticipants.tree in_pacticipants.name
 unfolding everything
 leads p = ((_, refl, refl), (_, refl, refl), (_, refl, refl), (_, refl, refl), (_, refl, refl))
 
@@ -54,13 +58,13 @@ module _ (db : Database) (broker : IsBroker db) (t : Table) (listed : Has db.sch
       (found.0, found.1, int_cmp-IsAntisymmetric _ _ ((Equal-is (int_cmp (whole_at 0 found.0) (whole_at p r))).0 ints))
 
   -- a text in a column that REFERENCES the names of a table is the name in a row of it
-  refers_name : (name key : List ℕ) (tree : ℕ) → LeadsTo p name key tree 1 → ((x : Row) → Has (db.trees tree) x → column x 1 ≡ Text (text 1 x))
-      → Has t.references (to p name key) → column r p ≡ Text (text p r) → (x : Row) × Has (db.trees tree) x × (text 1 x ≡ text p r)
-  refers_name name key tree keyed names among typed =
-      let found = refers name key tree 1 keyed among (ap is_null typed) in
-      let texts : is_eq (text_cmp (text 1 found.0) (text p r)) ≡ true =
-      sym (same_texts (text 1 found.0) (text p r)) ∙ ap (λ v. equal Binary v (Text (text p r))) (sym (names found.0 found.1)) ∙ ap (equal Binary (column found.0 1)) (sym typed) ∙ found.2 in
-      (found.0, found.1, exact_texts _ _ ((Equal-is (text_cmp (text 1 found.0) (text p r))).0 texts))
+  refers_name : (name key : List ℕ) (tree q : ℕ) → LeadsTo p name key tree q → ((x : Row) → Has (db.trees tree) x → column x q ≡ Text (text q x))
+      → Has t.references (to p name key) → column r p ≡ Text (text p r) → (x : Row) × Has (db.trees tree) x × (text q x ≡ text p r)
+  refers_name name key tree q keyed names among typed =
+      let found = refers name key tree q keyed among (ap is_null typed) in
+      let texts : is_eq (text_cmp (text q found.0) (text p r)) ≡ true =
+      sym (same_texts (text q found.0) (text p r)) ∙ ap (λ v. equal Binary v (Text (text p r))) (sym (names found.0 found.1)) ∙ ap (equal Binary (column found.0 q)) (sym typed) ∙ found.2 in
+      (found.0, found.1, exact_texts _ _ ((Equal-is (text_cmp (text q found.0) (text p r))).0 texts))
 
 module _ (db : Database) (broker : IsBroker db) where
   -- the numbers of a table that has them as its rowids
@@ -68,30 +72,30 @@ module _ (db : Database) (broker : IsBroker db) where
   ids_of t listed x has = int_is (rowid x) (at_has _ (db.trees t.tree) x (at_has _ db.schema.tables t broker.kept.numbered listed).1 has)
 
   pub refers_version : (t : Table) → Has db.schema.tables t → (p : ℕ) → Has t.references (to p (codes "versions") (codes "number")) → (r : Row) → Has (db.trees t.tree) r → column r p ≡ Int (whole_at p r)
-      → (x : Row) × Has (db.trees 6) x × (whole_at 0 x ≡ whole_at p r)
-  refers_version t listed p among r has typed = refers_number db broker t listed p r has (codes "versions") (codes "number") 6 (leads p).0 (ids_of versions (has_place _ 3 versions (versions_there db broker))) among typed
+      → (x : Row) × Has (db.trees in_versions.tree) x × (whole_at in_versions.number x ≡ whole_at p r)
+  refers_version t listed p among r has typed = refers_number db broker t listed p r has (codes "versions") (codes "number") in_versions.tree (leads p).0 (ids_of versions (has_place _ 3 versions (versions_there db broker))) among typed
 
   pub refers_content : (t : Table) → Has db.schema.tables t → (p : ℕ) → Has t.references (to p (codes "contents") (codes "number")) → (r : Row) → Has (db.trees t.tree) r → column r p ≡ Int (whole_at p r)
-      → (x : Row) × Has (db.trees 14) x × (whole_at 0 x ≡ whole_at p r)
-  refers_content t listed p among r has typed = refers_number db broker t listed p r has (codes "contents") (codes "number") 14 (leads p).1 (ids_of contents (has_place _ 7 contents (contents_there db broker))) among typed
+      → (x : Row) × Has (db.trees in_contents.tree) x × (whole_at in_contents.number x ≡ whole_at p r)
+  refers_content t listed p among r has typed = refers_number db broker t listed p r has (codes "contents") (codes "number") in_contents.tree (leads p).1 (ids_of contents (has_place _ 7 contents (contents_there db broker))) among typed
 
   pub refers_result : (t : Table) → Has db.schema.tables t → (p : ℕ) → Has t.references (to p (codes "results") (codes "number")) → (r : Row) → Has (db.trees t.tree) r → column r p ≡ Int (whole_at p r)
-      → (x : Row) × Has (db.trees 17) x × (whole_at 0 x ≡ whole_at p r)
-  refers_result t listed p among r has typed = refers_number db broker t listed p r has (codes "results") (codes "number") 17 (leads p).2 (ids_of results (has_place _ 9 results (results_there db broker))) among typed
+      → (x : Row) × Has (db.trees in_results.tree) x × (whole_at in_results.number x ≡ whole_at p r)
+  refers_result t listed p among r has typed = refers_number db broker t listed p r has (codes "results") (codes "number") in_results.tree (leads p).2 (ids_of results (has_place _ 9 results (results_there db broker))) among typed
 
-  environment_names : (x : Row) → Has (db.trees 10) x → column x 1 ≡ Text (text 1 x)
+  environment_names : (x : Row) → Has (db.trees in_environments.tree) x → column x in_environments.name ≡ Text (text in_environments.name x)
   environment_names x has = text_at db broker.kept.sound environments (has_place _ 5 environments (environments_there db broker)) x has 0 _ refl refl refl refl refl
 
   pub refers_environment : (t : Table) → Has db.schema.tables t → (p : ℕ) → Has t.references (to p (codes "environments") (codes "name")) → (r : Row) → Has (db.trees t.tree) r → column r p ≡ Text (text p r)
-      → (x : Row) × Has (db.trees 10) x × (text 1 x ≡ text p r)
-  refers_environment t listed p among r has typed = refers_name db broker t listed p r has (codes "environments") (codes "name") 10 (leads p).3 environment_names among typed
+      → (x : Row) × Has (db.trees in_environments.tree) x × (text in_environments.name x ≡ text p r)
+  refers_environment t listed p among r has typed = refers_name db broker t listed p r has (codes "environments") (codes "name") in_environments.tree in_environments.name (leads p).3 environment_names among typed
 
-  pub pacticipant_names : (x : Row) → Has (db.trees 4) x → column x 1 ≡ Text (text 1 x)
+  pub pacticipant_names : (x : Row) → Has (db.trees in_pacticipants.tree) x → column x in_pacticipants.name ≡ Text (text in_pacticipants.name x)
   pacticipant_names x has = text_at db broker.kept.sound pacticipants (has_place _ 2 pacticipants (pacticipants_there db broker)) x has 0 _ refl refl refl refl refl
 
   pub refers_pacticipant : (t : Table) → Has db.schema.tables t → (p : ℕ) → Has t.references (to p (codes "pacticipants") (codes "name")) → (r : Row) → Has (db.trees t.tree) r → column r p ≡ Text (text p r)
-      → (x : Row) × Has (db.trees 4) x × (text 1 x ≡ text p r)
-  refers_pacticipant t listed p among r has typed = refers_name db broker t listed p r has (codes "pacticipants") (codes "name") 4 (leads p).4 pacticipant_names among typed
+      → (x : Row) × Has (db.trees in_pacticipants.tree) x × (text in_pacticipants.name x ≡ text p r)
+  refers_pacticipant t listed p among r has typed = refers_name db broker t listed p r has (codes "pacticipants") (codes "name") in_pacticipants.tree in_pacticipants.name (leads p).4 pacticipant_names among typed
 
 -- ---- the numbers of the versions
 
@@ -120,13 +124,13 @@ row_entry {X} f rows xs n is r has =
     let it = map_has (λ (e : ℕ × X). (pos e.0, e.1)) (enumerate_from n xs) (whole_at 0 r, f r) one in
     subst (Has xs) (sym (ap (λ (p : ℤ × X). p.1) it.2)) (entry_has n xs it.0 it.1)
 
-module _ (db : Database) (broker : IsBroker db) (vs : List Version) (are : AreVersions vs (db.trees 6)) where
+module _ (db : Database) (broker : IsBroker db) (vs : List Version) (are : AreVersions vs (db.trees in_versions.tree)) where
   -- no row names a version of a number that isn't there
   pub not_next : (t : Table) → Has db.schema.tables t → (p : ℕ) → Has t.references (to p (codes "versions") (codes "number")) → (r : Row) → Has (db.trees t.tree) r → column r p ≡ Int (whole_at p r)
       → is_eq (int_cmp (pos (length vs + 1)) (whole_at p r)) ≡ false
   not_next t listed p among r has typed =
       let x = refers_version db broker t listed p among r has typed in
-      let it = row_number _ (db.trees 6) vs 1 are x.0 x.1 in
+      let it = row_number _ (db.trees in_versions.tree) vs 1 are x.0 x.1 in
       elim (cases_Bool (is_eq (int_cmp (pos (length vs + 1)) (whole_at p r)))) [
         | inl hit ↦ absurd (let same : pos (length vs + 1) ≡ pos it.0 = int_cmp-IsAntisymmetric _ _ ((Equal-is (int_cmp (pos (length vs + 1)) (whole_at p r))).0 hit) ∙ sym x.2 ∙ it.1 in let nats : length vs + 1 ≡ it.0 = cc in omega (arith, it.2, nats))
         | inr none ↦ none

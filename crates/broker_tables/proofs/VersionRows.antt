@@ -6,14 +6,12 @@ use Rattle.std.proofs.Common.{true≢false, slice_get, ◌≡◌, inl, inr, ℕ,
 use Rattle.sqlite.specs.{declared.types.Value.{Value}, declared.types.Value.TheVariants.{Int, Text}, Order.{Row, column}, Tree.{IsAscending, rowid}}
 use Rattle.sqlite.specs.{Term.{Term}, Schema.{Schema}, Collation.TheVariants.{Binary}, Effect.{Database}}
 use Rattle.sqlite_sql.specs.{declared.ops.BinaryOp.TheVariants.{Compare}, declared.ops.CompareOp.TheVariants.{Eq}, Ops.{binary, is_true}}
-use Rattle.sqlite_value.specs.declared.keys.Key.{Key}
 use Rattle.sqlite_rules.{specs.Lists.{Has}, proofs.TableLemmas.{int_is}}
 use Rattle.table_access.specs.{Columns.{text, text_cmp, whole_at, pair_cmp}, Sound.{IsNumbered}, Statements.{keeps_both, pairs_kept}}
 use Rattle.table_access.proofs.{Values.{same_ints, same_texts}, SoundLemmas.{at_has, has_place, text_at}, Keys.{ascending_on, apart_by}}
 use Rattle.table_access.proofs.{Parts.{text_part, agree_last, agree_and, once, numbers_once}, Maps.{find_has, has_find}, Changes.{apart_or_same}}
-use Rattle.table_access.proofs.Members.{pairs_rise}
 use Rattle.broker_core.specs.{declared.command.Version.{Version}, Text.{Text as Words, version}}
-use Rattle.broker_tables.{specs.{Numbers.{number_of}, Holds.{IsBroker, AreVersions}}, proofs.NumberLemmas.{version_row}}
+use Rattle.broker_tables.{specs.{Numbers.{number_of}, Holds.{IsBroker, AreVersions}, Schema.{in_versions}}, proofs.NumberLemmas.{version_row}}
 use Rattle.broker_tables.proofs.{Orders.{exact_texts, pairs_total, exact_pair}, Placed.{versions, versions_there}, Listed.{sorts}}
 -- a truth value that can't be true is false
 pub use Rattle.std.proofs.lemmas.Bool.{false_from_ne_true as false_if}
@@ -61,39 +59,41 @@ numbered_as z None h = absurd cc
 numbered_as z (Some k) h = (k, refl, cc)
 
 module _ (db : Database) (broker : IsBroker db) where
-  pub versions_numbered : IsNumbered (db.trees 6)
+  pub versions_numbered : IsNumbered (db.trees in_versions.tree)
   versions_numbered = at_has _ db.schema.tables versions broker.kept.numbered (has_place _ 3 versions (versions_there db broker))
 
-  -- column 0 of a row of versions is a whole number: the version's number
-  pub version_number : (v : Row) → Has (db.trees 6) v → column v 0 ≡ Int (whole_at 0 v)
-  version_number v has = int_is (rowid v) (at_has _ (db.trees 6) v versions_numbered.1 has)
+  -- the number in a row of versions is a whole number
+  pub version_number : (v : Row) → Has (db.trees in_versions.tree) v → column v in_versions.number ≡ Int (whole_at in_versions.number v)
+  version_number v has = int_is (rowid v) (at_has _ (db.trees in_versions.tree) v versions_numbered.1 has)
 
-  -- column 2 of a row of versions is a text: the pacticipant's name
-  pub owners : (v : Row) → Has (db.trees 6) v → column v 2 ≡ Text (text 2 v)
+  -- the pacticipant in a row of versions is a text
+  pub owners : (v : Row) → Has (db.trees in_versions.tree) v → column v in_versions.pacticipant ≡ Text (text in_versions.pacticipant v)
   owners v has = text_at db broker.kept.sound versions (has_place _ 3 versions (versions_there db broker)) v has 1 _ refl refl refl refl refl
 
-  -- column 3 of a row of versions is a text: the version's name
-  pub names : (v : Row) → Has (db.trees 6) v → column v 3 ≡ Text (text 3 v)
+  -- the version's name in a row of versions is a text
+  pub names : (v : Row) → Has (db.trees in_versions.tree) v → column v in_versions.version ≡ Text (text in_versions.version v)
   names v has = text_at db broker.kept.sound versions (has_place _ 3 versions (versions_there db broker)) v has 2 _ refl refl refl refl refl
 
-  pub version_keys : IsAscending (λ a b. eq_by_cmp pair_cmp (text 2 a, text 3 a) (text 2 b, text 3 b) ≡ false) (db.trees 6)
-  version_keys = once pair_cmp (db.trees 6) (2 ∷ 3 ∷ []) (λ r. (text 2 r, text 3 r))
-      (λ a b ha hb. agree_and nat_list_cmp_total (db.trees 6) 2 (text 2) (text_part (db.trees 6) 2 owners) text_cmp (text 3) (3 ∷ []) a b ha hb
-      (agree_last nat_list_cmp_total (db.trees 6) 3 (text 3) (text_part (db.trees 6) 3 names) a b ha hb))
+  pub version_keys : IsAscending (λ a b. eq_by_cmp pair_cmp (text in_versions.pacticipant a, text in_versions.version a) (text in_versions.pacticipant b, text in_versions.version b) ≡ false) (db.trees in_versions.tree)
+  version_keys = once pair_cmp (db.trees in_versions.tree) (in_versions.pacticipant ∷ in_versions.version ∷ []) (λ r. (text in_versions.pacticipant r, text in_versions.version r))
+      (λ a b ha hb. agree_and nat_list_cmp_total (db.trees in_versions.tree) in_versions.pacticipant (text in_versions.pacticipant) (text_part (db.trees in_versions.tree) in_versions.pacticipant owners) text_cmp (text in_versions.version) (in_versions.version ∷ []) a b ha hb
+      (agree_last nat_list_cmp_total (db.trees in_versions.tree) in_versions.version (text in_versions.version)
+      (text_part (db.trees in_versions.tree) in_versions.version names) a b ha hb))
       (apart_by db broker.kept versions 3 (versions_there db broker) _ 3 (ap (λ (s : Schema). slice_get s.indexes 3) broker.schema) refl)
 
   -- rows of one version's names are one
-  pub same_version : (v w : Row) → Has (db.trees 6) v → Has (db.trees 6) w → text 2 v ≡ text 2 w → text 3 v ≡ text 3 w → v ≡ w
-  same_version v w hv hw owner name = one_row pairs_total (λ r. (text 2 r, text 3 r)) (db.trees 6) version_keys v w hv hw (λ i. (owner i, name i))
+  pub same_version : (v w : Row) → Has (db.trees in_versions.tree) v → Has (db.trees in_versions.tree) w
+      → text in_versions.pacticipant v ≡ text in_versions.pacticipant w → text in_versions.version v ≡ text in_versions.version w → v ≡ w
+  same_version v w hv hw owner name = one_row pairs_total (λ r. (text in_versions.pacticipant r, text in_versions.version r)) (db.trees in_versions.tree) version_keys v w hv hw (λ i. (owner i, name i))
 
   -- the number that a row has is that of its version
-  pub row_number : (vs : List Version) → AreVersions vs (db.trees 6) → (v : Row) → Has (db.trees 6) v → (k : ℕ) × (number_of vs (version (text 2 v) (text 3 v)) ≡ Some k) × (whole_at 0 v ≡ pos k)
+  pub row_number : (vs : List Version) → AreVersions vs (db.trees in_versions.tree) → (v : Row) → Has (db.trees in_versions.tree) v → (k : ℕ) × (number_of vs (version (text in_versions.pacticipant v) (text in_versions.version v)) ≡ Some k) × (whole_at in_versions.number v ≡ pos k)
   row_number vs are v has =
-      numbered_as (whole_at 0 v) (number_of vs (version (text 2 v) (text 3 v)))
-      (sym (has_find pairs_total exact_pair (λ r. (text 2 r, text 3 r)) (whole_at 0) (db.trees 6) v version_keys has) ∙ version_row (db.trees 6) vs (text 2 v) (text 3 v) are)
+      numbered_as (whole_at in_versions.number v) (number_of vs (version (text in_versions.pacticipant v) (text in_versions.version v)))
+      (sym (has_find pairs_total exact_pair (λ r. (text in_versions.pacticipant r, text in_versions.version r)) (whole_at in_versions.number) (db.trees in_versions.tree) v version_keys has) ∙ version_row (db.trees in_versions.tree) vs (text in_versions.pacticipant v) (text in_versions.version v) are)
 
   -- the row of a version that has a number
-  pub find_version : (vs : List Version) (v : Version) (k : ℕ) → AreVersions vs (db.trees 6) → number_of vs v ≡ Some k → (r : Row) × Has (db.trees 6) r × (text 2 r ≡ v.pacticipant) × (text 3 r ≡ v.name) × (whole_at 0 r ≡ pos k)
+  pub find_version : (vs : List Version) (v : Version) (k : ℕ) → AreVersions vs (db.trees in_versions.tree) → number_of vs v ≡ Some k → (r : Row) × Has (db.trees in_versions.tree) r × (text in_versions.pacticipant r ≡ v.pacticipant) × (text in_versions.version r ≡ v.name) × (whole_at in_versions.number r ≡ pos k)
   find_version vs v k are known =
-      let it = find_has pairs_total exact_pair (λ r. (text 2 r, text 3 r)) (whole_at 0) (v.pacticipant, v.name) (pos k) (db.trees 6) (version_row (db.trees 6) vs v.pacticipant v.name are ∙ ap (option_map pos) known) in
+      let it = find_has pairs_total exact_pair (λ r. (text in_versions.pacticipant r, text in_versions.version r)) (whole_at in_versions.number) (v.pacticipant, v.name) (pos k) (db.trees in_versions.tree) (version_row (db.trees in_versions.tree) vs v.pacticipant v.name are ∙ ap (option_map pos) known) in
       (it.0, it.1, sym (ap (λ x. x.0) it.2), sym (ap (λ x. x.1) it.2), it.3)

@@ -1,14 +1,13 @@
 -- Texts that make tables or indexes, run one after another.
 use Rattle.std.specs.Prelude.{⊤}
-use Rattle.std.proofs.Common.{◌≡◌, ℕ, List, [], ◌∷◌, ◌++◌, false, map, fold, take, length, get_or, ◌<◌, ◌+◌, Bor, Ok, Some, slice_get, refl, sym, ap, ap₂, subst, ◌∙◌}
+use Rattle.std.proofs.Common.{◌≡◌, ℕ, List, [], ◌∷◌, ◌++◌, map, fold, take, length, get_or, ◌<◌, ◌+◌, Bor, Ok, refl, sym, ap, ap₂, subst, subst₂, ◌∙◌}
 use Rattle.std.proofs.{lemmas.List.{map-append, append_assoc, take_more}, lemmas.List.Sums.{fold-append}}
-use Rattle.sqlite.specs.{Table.{Table}, Schema.{Schema}, Command.TheVariants.{CreateTable, CreateIndex}, Compile.{table_defined_by}, Change.{created}}
-use Rattle.sqlite.{specs.{Does.{lacks_sequence}, Effect.{Database}, State.{State, Executes}, Listing.{understood}}, proofs.Callers.{statement_of}}
+use Rattle.sqlite.specs.{Table.{Table}, Schema.{Schema}, Change.{created}, Effect.{Database}, State.{State, Executes}}
 use Rattle.sqlite_schema.specs.declared.schema.Index.{Index}
-use Rattle.sqlite_resolve.specs.Compile.{index_defined_by}
-use Rattle.table_access.{specs.Statements.{Creates, IndexesTable, MakesEach, with_index}, proofs.{Steps.{Means}, Creation.{makes_one, each_schema, each_then}}}
+use Rattle.table_access.{specs.Statements.{Creates, IndexesTable, MakesEach, with_index}, proofs.Creation.{makes_one, each_schema, each_then}}
 use Rattle.table_access.proofs.Indexing.{indexes_one}
-use Rattle.broker_tables.specs.{Schema.{no_schema, schema_of, all_tables}, Making.{Maker, makes_of, MakesPart, MakesTexts, table_texts, index_texts}}
+use Rattle.broker_tables.specs.{Schema.{no_schema, schema_of, all_tables}, Making.{Maker, makes_of, texts_of, MakesPart, MakesTexts, table_texts, index_texts}}
+use Rattle.broker_tables.proofs.CreationRefused.{DefinesTable, DefinesIndex}
 
 -- a list of images that has a last one
 last_of : {A B : Type 0} (f : A → B) (bs : List B) (b : B) (all : List A) → bs ++ b ∷ [] ≡ map f all
@@ -40,66 +39,54 @@ module _ {X : Type 0} (One : Database → Database → X → Type 0) (next : Sch
   defined_at s [] after maker all = all.0
   defined_at s (first ∷ before) after maker all = defined_at (next s first.1) before after maker all.1
 
-  -- one text more is run
-  one_more : (start : Schema) (all : List (Maker X)) → AreDefined start all → (texts : List (List ℕ)) (sql : List ℕ) (old : Database) (mid new : State) (count : ℕ)
-      → MakesPart One next start all texts old mid.now → Executes sql [] mid new (Ok count) → MakesPart One next start all (texts ++ sql ∷ []) old new.now
-  one_more start all defined texts sql old mid new count made ran before part after is text there =
+  -- what these texts and one more make follows on what those before them made: the last of them defines what is made next
+  pub next_is : (start : Schema) (all : List (Maker X)) → AreDefined start all → (texts : List (List ℕ)) (sql : List ℕ) (old mid : Database) → MakesPart One next start all texts old mid
+      → (before part after : List (Maker X)) → all ≡ before ++ part ++ after → texts ++ sql ∷ [] ≡ texts_of part → old.schema ≡ fold next start (makes_of before)
+      → (front : List (Maker X)) × (last : Maker X) × (part ≡ front ++ last ∷ []) × MakesEach One (makes_of front) old mid × Defines mid.schema sql last.1
+  next_is start all defined texts sql old mid made before part after is text there =
       let it = last_of (λ maker. maker.0) texts sql part text in
       let front = it.0 in
       let last = it.1 in
       let rest : all ≡ (before ++ front) ++ last ∷ after =
       is ∙ ap (λ xs. (before ++ xs) ++ after) it.2 ∙ ap (λ xs. xs ++ after) (sym (append_assoc before front (last ∷ []))) ∙ append_assoc (before ++ front) (last ∷ []) after in
-      let so_far : MakesEach One (makes_of front) old mid.now = made before front (last ∷ after) rest it.3 there in
-      let schema : mid.now.schema ≡ fold next start (makes_of (before ++ front)) =
-      each_schema One next law (makes_of front) old mid.now so_far ∙ ap (λ s. fold next s (makes_of front)) there
+      let so_far : MakesEach One (makes_of front) old mid = made before front (last ∷ after) rest it.3 there in
+      let schema : mid.schema ≡ fold next start (makes_of (before ++ front)) =
+      each_schema One next law (makes_of front) old mid so_far ∙ ap (λ s. fold next s (makes_of front)) there
       ∙ sym (fold-append next start (makes_of before) (makes_of front)) ∙ ap (fold next start) (sym (map-append (λ maker. maker.1) before front)) in
       let known = defined_at start (before ++ front) after last (subst (AreDefined start) rest defined) in
-      let one : One mid.now new.now last.1 = runs _ sql last.1 (subst (λ t. Defines (fold next start (makes_of (before ++ front))) t last.1) (sym it.4) known) mid new count schema ran in
-      subst (λ xs. MakesEach One xs old new.now) (sym (ap makes_of it.2 ∙ map-append (λ maker. maker.1) front (last ∷ [])))
-      (each_then One (makes_of front) (last.1 ∷ []) old mid.now new.now so_far (new.now, one, refl))
+      (front, last, it.2, so_far, subst₂ (λ s t. Defines s t last.1) (sym schema) (sym it.4) known)
+
+  -- one text more is run
+  one_more : (start : Schema) (all : List (Maker X)) → AreDefined start all → (texts : List (List ℕ)) (sql : List ℕ) (old : Database) (mid new : State) (count : ℕ)
+      → MakesPart One next start all texts old mid.now → Executes sql [] mid new (Ok count) → MakesPart One next start all (texts ++ sql ∷ []) old new.now
+  one_more start all defined texts sql old mid new count made ran before part after is text there =
+      let it = next_is start all defined texts sql old mid.now made before part after is text there in
+      subst (λ xs. MakesEach One xs old new.now) (sym (ap makes_of it.2 ∙ map-append (λ maker. maker.1) it.0 (it.1 ∷ [])))
+      (each_then One (makes_of it.0) (it.1.1 ∷ []) old mid.now new.now it.3 (new.now, runs mid.now.schema sql it.1.1 it.4 mid new count refl ran, refl))
 
   none_yet : (start : Schema) (all : List (Maker X)) (db : Database) → MakesPart One next start all [] db db
   none_yet start all db before [] after is text there = refl
   none_yet start all db before (maker ∷ part) after is text there = absurd cc
 
--- ---- tables
-
--- the text is a statement over the schema that makes the table
-pub record DefinesTable (schema : Schema) (sql : List ℕ) (table : Table) : Type 0 where
-  pub means : Means schema sql CreateTable
-  pub whole : statement_of sql (understood schema sql) ≡ sql
-  pub defined : table_defined_by sql ≡ Ok table
-  pub uncounted : lacks_sequence (created schema table) ≡ false
+-- ---- tables and indexes
 
 pub table_law : (old new : Database) (table : Table) → Creates old new table → new.schema ≡ created old.schema table
 table_law old new table made = made.schema
 
 pub table_runs : (s : Schema) (sql : List ℕ) (table : Table) → DefinesTable s sql table → (old new : State) (count : ℕ) → old.now.schema ≡ s → Executes sql [] old new (Ok count) → Creates old.now new.now table
-table_runs s sql table it = makes_one sql s table it.means it.whole it.defined it.uncounted
+table_runs s sql table it = makes_one sql s table it.alone.means it.alone.text it.defined it.uncounted
 
 abbrev pub AreDefinedTables : Schema → List (Maker Table) → Type 0
 AreDefinedTables = AreDefined Creates created DefinesTable table_law table_runs
-
--- ---- indexes
-
--- the text is a statement over the schema that makes the index of the table
-pub record DefinesIndex (schema : Schema) (sql : List ℕ) (one : Table × Index) : Type 0 where
-  pub at : ℕ
-  pub means : Means schema sql (CreateIndex at)
-  pub whole : statement_of sql (understood schema sql) ≡ sql
-  pub there : slice_get schema.tables at ≡ Some one.0
-  pub defined : index_defined_by one.0 sql ≡ Ok one.1
 
 pub index_law : (old new : Database) (one : Table × Index) → IndexesTable old new one → new.schema ≡ with_index old.schema one
 index_law old new one made = made.schema
 
 pub index_runs : (s : Schema) (sql : List ℕ) (one : Table × Index) → DefinesIndex s sql one → (old new : State) (count : ℕ) → old.now.schema ≡ s → Executes sql [] old new (Ok count) → IndexesTable old.now new.now one
-index_runs s sql one it = indexes_one sql s it.at one.0 one.1 it.means it.whole it.there it.defined
+index_runs s sql one it = indexes_one sql s it.at one.0 one.1 it.alone.means it.alone.text it.there it.defined
 
 abbrev pub AreDefinedIndexes : Schema → List (Maker (Table × Index)) → Type 0
 AreDefinedIndexes = AreDefined IndexesTable with_index DefinesIndex index_law index_runs
-
--- ---- both
 
 pub no_texts : (db : Database) → MakesTexts [] db db
 no_texts db = (none_yet Creates created DefinesTable table_law table_runs no_schema table_texts db, none_yet IndexesTable with_index DefinesIndex index_law index_runs (schema_of all_tables) index_texts db)

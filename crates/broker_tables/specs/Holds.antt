@@ -17,7 +17,9 @@ use Rattle.broker_core.specs.declared.command.Version.{Version}
 use Rattle.broker_core.specs.declared.command.Marks.{Marks}
 use Rattle.broker_core.specs.Text.{Text, version}
 use Rattle.broker_core.specs.State.{State as Broker, Verification, latest_result}
-use Rattle.broker_tables.specs.Schema.{broker_schema}
+use Rattle.broker_tables.specs.Schema.{broker_schema, in_meta, in_teams, in_pacticipants, in_versions, in_branches}
+use Rattle.broker_tables.specs.Schema.{in_environments, in_grants, in_contents, in_contracts, in_results, in_latest}
+use Rattle.broker_tables.specs.Schema.{in_deployed, in_released, in_checked_results, in_strict_environments}
 use Rattle.broker_tables.specs.Rows.{rows_of, truth, maybe_text, value_at, stands_at}
 use Rattle.broker_tables.specs.Room.{TakesRoom}
 use Rattle.broker_tables.specs.Numbers.{numbered, number_of}
@@ -37,40 +39,50 @@ format = 2
 -- one row: its number, the format, and the digest of the office's token
 abbrev pub IsMeta : ℕ → Text → List Row → Type 0
 IsMeta n office rows =
-    map {B = ℤ × ℤ × Text} (λ r. (whole_at 0 r, whole_at 2 r, text 3 r)) rows ≡ (pos 1, pos n, office) ∷ []
+    map {B = ℤ × ℤ × Text} (λ r. (whole_at in_meta.one r, whole_at in_meta.format r, text in_meta.office_digest r)) rows
+    ≡ (pos 1, pos n, office) ∷ []
 
 -- a team: its name, and the digest of its token
 abbrev pub AreTeams : (Text → Option Text) → List Row → Type 0
-AreTeams teams rows = (team : Text) → value_at text_cmp (text 1) (text 2) rows team ≡ teams team
+AreTeams teams rows =
+    (team : Text) → value_at text_cmp (text in_teams.name) (text in_teams.token_digest) rows team ≡ teams team
 
 -- a pacticipant: its name, and the team that owns it
 abbrev pub ArePacticipants : (Text → Option Text) → List Row → Type 0
-ArePacticipants pacticipants rows = (p : Text) → value_at text_cmp (text 1) (text 2) rows p ≡ pacticipants p
+ArePacticipants pacticipants rows =
+    (p : Text) → value_at text_cmp (text in_pacticipants.name) (text in_pacticipants.team) rows p ≡ pacticipants p
 
 -- the versions in the order of their numbers, from 1 without gaps: the pacticipant, and the version's name
 abbrev pub AreVersions : List Version → List Row → Type 0
-AreVersions versions rows = map (λ r. (whole_at 0 r, version (text 2 r) (text 3 r))) rows ≡ numbered versions
+AreVersions versions rows =
+    map (λ r. (whole_at in_versions.number r, version (text in_versions.pacticipant r) (text in_versions.version r))) rows
+    ≡ numbered versions
 
 -- a version's number, and a branch that it is on
 abbrev pub AreBranches : List Version → (Version × Text → Bool) → List Row → Type 0
 AreBranches versions branches rows = (v : Version) (branch : Text)
     → option_map_or
-    (λ n. stands_at (by_both int_cmp text_cmp) (λ r. (whole_at 1 r, text 2 r)) rows (pos n, branch))
+    (λ n. stands_at (by_both int_cmp text_cmp) (λ r. (whole_at in_branches.version_number r, text in_branches.branch r))
+    rows (pos n, branch))
     (number_of versions v) false
     ≡ branches (v, branch)
 
 -- an environment: its name, whether it is gated, and whether its name stands among the strict ones
 abbrev pub marks_in : List Row → Row → Marks
-marks_in strict r = record { gated = truth 2 r; strict = stands_at text_cmp (text 1) strict (text 1 r) }
+marks_in strict r = record {
+  gated = truth in_environments.gated r;
+  strict = stands_at text_cmp (text in_strict_environments.environment) strict (text in_environments.name r);
+}
 
 abbrev pub AreEnvironments : (Text → Option Marks) → List Row → List Row → Type 0
 AreEnvironments environments rows strict =
-    (e : Text) → value_at text_cmp (text 1) (marks_in strict) rows e ≡ environments e
+    (e : Text) → value_at text_cmp (text in_environments.name) (marks_in strict) rows e ≡ environments e
 
 -- a team, and an environment for which it has a grant
 abbrev pub AreGrants : (Text × Text → Bool) → List Row → Type 0
 AreGrants grants rows = (team e : Text)
-    → stands_at (by_both text_cmp text_cmp) (λ r. (text 1 r, text 2 r)) rows (team, e) ≡ grants (team, e)
+    → stands_at (by_both text_cmp text_cmp) (λ r. (text in_grants.team r, text in_grants.environment r)) rows (team, e)
+    ≡ grants (team, e)
 
 -- a text with its digest
 abbrev pub with_digest : Text → Text × Text
@@ -78,13 +90,16 @@ with_digest body = (encode_lower (sha256 body), body)
 
 -- the normal texts of pacts in the order of their numbers, from 1 without gaps, each with its digest
 abbrev pub AreContents : List Text → List Row → Type 0
-AreContents contents rows = map (λ r. (whole_at 0 r, (text 2 r, text 3 r))) rows ≡ numbered (map with_digest contents)
+AreContents contents rows =
+    map (λ r. (whole_at in_contents.number r, (text in_contents.digest r, text in_contents.body r))) rows
+    ≡ numbered (map with_digest contents)
 
 -- a contract: the number of the consumer version, the provider, and the number of the content
 abbrev pub AreContracts : List Version → (Version × Text → Option ℕ) → List Row → Type 0
 AreContracts versions contracts rows = (v : Version) (provider : Text)
     → option_and_then
-    (λ n. value_at (by_both int_cmp text_cmp) (λ r. (whole_at 1 r, text 2 r)) (whole_at 3) rows (pos n, provider))
+    (λ n. value_at (by_both int_cmp text_cmp) (λ r. (whole_at in_contracts.version_number r, text in_contracts.provider r))
+    (whole_at in_contracts.content) rows (pos n, provider))
     (number_of versions v)
     ≡ option_map pos (contracts (v, provider))
 
@@ -101,12 +116,12 @@ pub record ResultRow : Type 0 where
 -- as its row has it, and as its number stands among the checked ones or doesn't
 abbrev pub result_in : List Row → Row → ResultRow
 result_in checked r = record {
-  content = whole_at 2 r;
-  provider = text 3 r;
-  version = Some (whole_at 4 r);
-  pass = truth 5 r;
-  checked = stands_at int_cmp (whole_at 0) checked (whole_at 0 r);
-  run = maybe_text 6 r;
+  content = whole_at in_results.content r;
+  provider = text in_results.provider r;
+  version = Some (whole_at in_results.provider_version r);
+  pass = truth in_results.pass r;
+  checked = stands_at int_cmp (whole_at in_checked_results.result) checked (whole_at in_results.number r);
+  run = maybe_text in_results.run r;
 }
 
 -- as the state has it: the provider is the pacticipant of the version
@@ -123,20 +138,23 @@ result_of versions r = record {
 -- the results in the order of their numbers, from 1 without gaps
 abbrev pub AreResults : List Version → List Verification → List Row → List Row → Type 0
 AreResults versions results rows checked =
-    map (λ r. (whole_at 0 r, result_in checked r)) rows ≡ numbered (map (result_of versions) results)
+    map (λ r. (whole_at in_results.number r, result_in checked r)) rows ≡ numbered (map (result_of versions) results)
 
 -- a content, the number of a version of the provider, and the number of the latest result for them
 abbrev pub AreLatest : Broker → List Row → Type 0
 AreLatest s rows = (content : ℕ) (v : Version)
     → option_and_then
-    (λ n. value_at (by_both int_cmp int_cmp) (λ r. (whole_at 1 r, whole_at 2 r)) (whole_at 3) rows (pos content, pos n))
+    (λ n. value_at (by_both int_cmp int_cmp) (λ r. (whole_at in_latest.content r, whole_at in_latest.provider_version r))
+    (whole_at in_latest.result) rows (pos content, pos n))
     (number_of s.versions v)
     ≡ option_map (λ e. pos e.0) (latest_result s content v)
 
 -- the number in the row of an environment, a pacticipant and an instance, if there is one
 abbrev pub number_at_place : List Row → Text × (Text × Text) → Option ℤ
 number_at_place rows place =
-    value_at (by_both text_cmp (by_both text_cmp text_cmp)) (λ r. (text 1 r, (text 2 r, text 3 r))) (whole_at 4) rows place
+    value_at (by_both text_cmp (by_both text_cmp text_cmp))
+    (λ r. (text in_deployed.environment r, (text in_deployed.pacticipant r, text in_deployed.instance r)))
+    (whole_at in_deployed.version_number) rows place
 
 -- the number of the version of a pacticipant with this name, if there is such a version
 abbrev pub number_named : List Version → Text → Text → Option ℤ
@@ -153,7 +171,8 @@ AreDeployed versions deployed rows = (e p instance : Text)
 abbrev pub AreReleased : List Version → (Text × Version → Bool) → List Row → Type 0
 AreReleased versions released rows = (e : Text) (v : Version)
     → option_map_or
-    (λ n. stands_at (by_both text_cmp int_cmp) (λ r. (text 1 r, whole_at 2 r)) rows (e, pos n))
+    (λ n. stands_at (by_both text_cmp int_cmp) (λ r. (text in_released.environment r, whole_at in_released.version_number r))
+    rows (e, pos n))
     (number_of versions v) false
     ≡ released (e, v)
 

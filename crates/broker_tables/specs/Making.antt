@@ -1,16 +1,21 @@
 -- What a database has while its tables are made.
-use Rattle.std.specs.Prelude.{◌≡◌, ℕ, List, [], ◌∷◌, ◌++◌, false, codes, fold, map}
+use Rattle.std.specs.Prelude.{◌≡◌, ◌⊎◌, ℕ, List, [], ◌∷◌, ◌++◌, false, IsTrue, None, Result, IfErr, codes, fold, map}
 use Rattle.std.specs.List.{AllByRecursion}
 use Rattle.sqlite.specs.Table.{Table}
 use Rattle.sqlite.specs.Schema.{Schema}
 use Rattle.sqlite.specs.Change.{created}
 use Rattle.sqlite_schema.specs.declared.schema.Index.{Index}
 use Rattle.sqlite.specs.Effect.{Database, IsDatabase}
+use Rattle.sqlite.specs.Held.{Held, state}
+use Rattle.sqlite.specs.State.{State, HasCleanDisk}
+use Rattle.sqlite_trees.specs.declared.store.Store.{Ghosts}
+use Rattle.table_access.specs.declared.StoreFault.{StoreFault}
+use Rattle.table_access.specs.Calls.{HasFailed}
 use Rattle.table_access.specs.Sound.{IsKept}
 use Rattle.table_access.specs.Statements.{Creates, IndexesTable, MakesEach, with_index}
 use Rattle.broker_core.specs.Text.{Text, same_text}
 use Rattle.broker_tables.specs.Schema as schema
-use Rattle.broker_tables.specs.Schema.{no_schema, schema_of, broker_schema, all_tables, meta}
+use Rattle.broker_tables.specs.Schema.{no_schema, schema_of, broker_schema, all_tables, meta, in_meta}
 use Rattle.broker_tables.specs.declared.create.TheConstants.{META, TEAMS, PACTICIPANTS, VERSIONS, BRANCHES, ENVIRONMENTS, GRANTS, CONTENTS, CONTRACTS, RESULTS, LATEST, DEPLOYED, RELEASED, CHECKED_RESULTS, STRICT_ENVIRONMENTS, CONTENTS_BY_DIGEST, CONTRACTS_BY_CONTENT, LATEST_BY_PROVIDER_VERSION, VERSIONS_BY_PACTICIPANT}
 use Rattle.broker_tables.specs.Rows.{rows_of}
 use Rattle.broker_tables.specs.Holds.{IsMeta}
@@ -41,7 +46,7 @@ pub record IsMarked (n : ℕ) (office : Text) (db : Database) : Type 0 where
   pub tables : List Table
   pub indexes : List Index
   pub schema : db.schema ≡ record { tables = meta ∷ tables; indexes = indexes; views = [] }
-  pub row : IsMeta n office (db.trees 0)
+  pub row : IsMeta n office (db.trees in_meta.tree)
 
 -- ---- the texts that make the tables
 
@@ -85,3 +90,32 @@ abbrev pub MakesTexts : List (List ℕ) → Database → Database → Type 0
 MakesTexts texts old new =
     MakesPart Creates created no_schema table_texts texts old new
     × MakesPart IndexesTable with_index (schema_of all_tables) index_texts texts old new
+
+-- ---- why they aren't made
+
+-- On a database with P, in an open transaction where no statement has a limit of steps: an error means that the store
+-- failed.
+abbrev pub IsCalmOverBetween : {A : Type 0} → (Database → Type 0) → State → State → Result A StoreFault → Type 0
+IsCalmOverBetween P old new r =
+    HasCleanDisk new → IsTrue old.in_transaction → old.step_limit ≡ None → P old.now → IfErr r (HasFailed old new)
+
+-- the same of a connection over this store
+abbrev pub IsCalmOver : {X A : Type 0} → Ghosts X → Held X → Held X → Result A StoreFault → (Database → Type 0) → Type 0
+IsCalmOver store old new r P = IsCalmOverBetween P (state store old) (state store new) r
+
+-- no row but that of meta, so that no row stands against an index
+pub record HasNoRows (db : Database) : Type 0 where
+  pub kept : IsKept db
+  pub empty : AllByRecursion (λ t. same_text t.name (codes "meta") ≡ false → db.trees t.tree ≡ []) db.schema.tables
+
+-- These texts are a part of all of them, and what those before them make is there.
+abbrev pub AreNext : {X : Type 0} → (Schema → X → Schema) → Schema → List (Maker X) → List (List ℕ) → Schema → Type 0
+AreNext {X} next start all texts schema =
+    (before : List (Maker X)) × (part : List (Maker X)) × (after : List (Maker X))
+    × (all ≡ before ++ part ++ after) × (texts ≡ texts_of part) × (schema ≡ fold next start (makes_of before))
+
+-- The tables of these texts can be made, or the indexes.
+abbrev pub CanMake : List (List ℕ) → Database → Type 0
+CanMake texts db =
+    AreNext created no_schema table_texts texts db.schema
+    ⊎ (AreNext with_index (schema_of all_tables) index_texts texts db.schema × HasNoRows db)

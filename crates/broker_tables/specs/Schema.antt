@@ -2,6 +2,8 @@
 -- the texts that make them.
 -- A place counts the columns from 1. Place 0 is a row's number, for which a column stands that is an INTEGER
 -- PRIMARY KEY.
+-- Before each table its places are named, and other files use these names: `in_results.provider` is the place of the
+-- column `provider` of `results`, and `in_results.tree` is the tree that has the rows of `results`.
 use Rattle.std.specs.Prelude.{ℕ, pos, true, false, List, [], ◌∷◌, ◌++◌, Some, None, codes, fold, map}
 use Rattle.sqlite.specs.Table.{Table}
 use Rattle.sqlite.specs.Schema.{Schema}
@@ -75,85 +77,225 @@ keyed name columns primary references checks = table name columns primary (prima
 
 -- ---- the tables
 
+pub record InMeta : Type 0 where
+  pub tree : ℕ
+  pub one : ℕ
+  pub format : ℕ
+  pub office_digest : ℕ
+
+abbrev pub in_meta : InMeta
+in_meta = record { tree = 0; one = 0; format = 2; office_digest = 3 }
+
 abbrev pub meta : Table
 meta = numbered_table (codes "meta") (numbers (codes "one") ∷ numbers (codes "format") ∷ texts (codes "office_digest") ∷ [])
-    [] [] (is_number 0 1 ∷ [])
+    [] [] (is_number in_meta.one 1 ∷ [])
+
+pub record InTeams : Type 0 where
+  pub tree : ℕ
+  pub name : ℕ
+  pub token_digest : ℕ
+
+abbrev pub in_teams : InTeams
+in_teams = record { tree = 1; name = 1; token_digest = 2 }
 
 abbrev pub teams : Table
 teams = table (codes "teams") (texts (codes "name") ∷ texts (codes "token_digest") ∷ [])
-    (1 ∷ []) ((1 ∷ []) ∷ (2 ∷ []) ∷ []) [] []
+    (in_teams.name ∷ []) ((in_teams.name ∷ []) ∷ (in_teams.token_digest ∷ []) ∷ []) [] []
+
+pub record InPacticipants : Type 0 where
+  pub tree : ℕ
+  pub name : ℕ
+  pub team : ℕ
+
+abbrev pub in_pacticipants : InPacticipants
+in_pacticipants = record { tree = 4; name = 1; team = 2 }
 
 abbrev pub pacticipants : Table
 pacticipants = keyed (codes "pacticipants") (texts (codes "name") ∷ texts (codes "team") ∷ [])
-    (1 ∷ []) (to 2 (codes "teams") (codes "name") ∷ []) []
+    (in_pacticipants.name ∷ []) (to in_pacticipants.team (codes "teams") (codes "name") ∷ []) []
+
+pub record InVersions : Type 0 where
+  pub tree : ℕ
+  pub number : ℕ
+  pub pacticipant : ℕ
+  pub version : ℕ
+
+abbrev pub in_versions : InVersions
+in_versions = record { tree = 6; number = 0; pacticipant = 2; version = 3 }
 
 abbrev pub versions : Table
 versions = numbered_table (codes "versions")
     (numbers (codes "number") ∷ texts (codes "pacticipant") ∷ texts (codes "version") ∷ [])
-    ((2 ∷ 3 ∷ []) ∷ []) (to 2 (codes "pacticipants") (codes "name") ∷ []) []
+    ((in_versions.pacticipant ∷ in_versions.version ∷ []) ∷ [])
+    (to in_versions.pacticipant (codes "pacticipants") (codes "name") ∷ []) []
+
+pub record InBranches : Type 0 where
+  pub tree : ℕ
+  pub version_number : ℕ
+  pub branch : ℕ
+
+abbrev pub in_branches : InBranches
+in_branches = record { tree = 8; version_number = 1; branch = 2 }
 
 abbrev pub branches : Table
 branches = keyed (codes "branches") (numbers (codes "version_number") ∷ texts (codes "branch") ∷ [])
-    (1 ∷ 2 ∷ []) (to 1 (codes "versions") (codes "number") ∷ []) []
+    (in_branches.version_number ∷ in_branches.branch ∷ [])
+    (to in_branches.version_number (codes "versions") (codes "number") ∷ []) []
+
+pub record InEnvironments : Type 0 where
+  pub tree : ℕ
+  pub name : ℕ
+  pub gated : ℕ
+
+abbrev pub in_environments : InEnvironments
+in_environments = record { tree = 10; name = 1; gated = 2 }
 
 abbrev pub environments : Table
 environments = keyed (codes "environments") (texts (codes "name") ∷ numbers (codes "gated") ∷ [])
-    (1 ∷ []) [] (is_truth 2 ∷ [])
+    (in_environments.name ∷ []) [] (is_truth in_environments.gated ∷ [])
+
+pub record InGrants : Type 0 where
+  pub tree : ℕ
+  pub team : ℕ
+  pub environment : ℕ
+
+abbrev pub in_grants : InGrants
+in_grants = record { tree = 12; team = 1; environment = 2 }
 
 abbrev pub grants : Table
 grants = keyed (codes "grants") (texts (codes "team") ∷ texts (codes "environment") ∷ [])
-    (1 ∷ 2 ∷ []) (to 1 (codes "teams") (codes "name") ∷ to 2 (codes "environments") (codes "name") ∷ []) []
+    (in_grants.team ∷ in_grants.environment ∷ [])
+    (to in_grants.team (codes "teams") (codes "name")
+    ∷ to in_grants.environment (codes "environments") (codes "name") ∷ []) []
+
+pub record InContents : Type 0 where
+  pub tree : ℕ
+  pub number : ℕ
+  pub digest : ℕ
+  pub body : ℕ
+
+abbrev pub in_contents : InContents
+in_contents = record { tree = 14; number = 0; digest = 2; body = 3 }
 
 abbrev pub contents : Table
 contents = numbered_table (codes "contents") (numbers (codes "number") ∷ texts (codes "digest") ∷ texts (codes "body") ∷ [])
     [] [] []
 
+pub record InContracts : Type 0 where
+  pub tree : ℕ
+  pub version_number : ℕ
+  pub provider : ℕ
+  pub content : ℕ
+
+abbrev pub in_contracts : InContracts
+in_contracts = record { tree = 15; version_number = 1; provider = 2; content = 3 }
+
 abbrev pub contracts : Table
 contracts = keyed (codes "contracts")
     (numbers (codes "version_number") ∷ texts (codes "provider") ∷ numbers (codes "content") ∷ [])
-    (1 ∷ 2 ∷ [])
-    (to 1 (codes "versions") (codes "number") ∷ to 2 (codes "pacticipants") (codes "name")
-    ∷ to 3 (codes "contents") (codes "number") ∷ [])
+    (in_contracts.version_number ∷ in_contracts.provider ∷ [])
+    (to in_contracts.version_number (codes "versions") (codes "number")
+    ∷ to in_contracts.provider (codes "pacticipants") (codes "name")
+    ∷ to in_contracts.content (codes "contents") (codes "number") ∷ [])
     []
+
+pub record InResults : Type 0 where
+  pub tree : ℕ
+  pub number : ℕ
+  pub content : ℕ
+  pub provider : ℕ
+  pub provider_version : ℕ
+  pub pass : ℕ
+  pub run : ℕ
+
+abbrev pub in_results : InResults
+in_results = record { tree = 17; number = 0; content = 2; provider = 3; provider_version = 4; pass = 5; run = 6 }
 
 -- SQLite's UNIQUE takes no two NULLs for equal, so a run stands once with its provider where there is one
 abbrev pub results : Table
 results = numbered_table (codes "results")
     (numbers (codes "number") ∷ numbers (codes "content") ∷ texts (codes "provider")
     ∷ numbers (codes "provider_version") ∷ numbers (codes "pass") ∷ optional (texts (codes "run")) ∷ [])
-    ((3 ∷ 6 ∷ []) ∷ [])
-    (to 2 (codes "contents") (codes "number") ∷ to 3 (codes "pacticipants") (codes "name")
-    ∷ to 4 (codes "versions") (codes "number") ∷ [])
-    (is_truth 5 ∷ [])
+    ((in_results.provider ∷ in_results.run ∷ []) ∷ [])
+    (to in_results.content (codes "contents") (codes "number")
+    ∷ to in_results.provider (codes "pacticipants") (codes "name")
+    ∷ to in_results.provider_version (codes "versions") (codes "number") ∷ [])
+    (is_truth in_results.pass ∷ [])
+
+pub record InLatest : Type 0 where
+  pub tree : ℕ
+  pub content : ℕ
+  pub provider_version : ℕ
+  pub result : ℕ
+
+abbrev pub in_latest : InLatest
+in_latest = record { tree = 19; content = 1; provider_version = 2; result = 3 }
 
 abbrev pub latest : Table
 latest = keyed (codes "latest")
     (numbers (codes "content") ∷ numbers (codes "provider_version") ∷ numbers (codes "result") ∷ [])
-    (1 ∷ 2 ∷ [])
-    (to 1 (codes "contents") (codes "number") ∷ to 2 (codes "versions") (codes "number")
-    ∷ to 3 (codes "results") (codes "number") ∷ [])
+    (in_latest.content ∷ in_latest.provider_version ∷ [])
+    (to in_latest.content (codes "contents") (codes "number")
+    ∷ to in_latest.provider_version (codes "versions") (codes "number")
+    ∷ to in_latest.result (codes "results") (codes "number") ∷ [])
     []
+
+pub record InDeployed : Type 0 where
+  pub tree : ℕ
+  pub environment : ℕ
+  pub pacticipant : ℕ
+  pub instance : ℕ
+  pub version_number : ℕ
+
+abbrev pub in_deployed : InDeployed
+in_deployed = record { tree = 21; environment = 1; pacticipant = 2; instance = 3; version_number = 4 }
 
 abbrev pub deployed : Table
 deployed = keyed (codes "deployed")
     (texts (codes "environment") ∷ texts (codes "pacticipant") ∷ texts (codes "instance")
     ∷ numbers (codes "version_number") ∷ [])
-    (1 ∷ 2 ∷ 3 ∷ [])
-    (to 1 (codes "environments") (codes "name") ∷ to 2 (codes "pacticipants") (codes "name")
-    ∷ to 4 (codes "versions") (codes "number") ∷ [])
+    (in_deployed.environment ∷ in_deployed.pacticipant ∷ in_deployed.instance ∷ [])
+    (to in_deployed.environment (codes "environments") (codes "name")
+    ∷ to in_deployed.pacticipant (codes "pacticipants") (codes "name")
+    ∷ to in_deployed.version_number (codes "versions") (codes "number") ∷ [])
     []
+
+pub record InReleased : Type 0 where
+  pub tree : ℕ
+  pub environment : ℕ
+  pub version_number : ℕ
+
+abbrev pub in_released : InReleased
+in_released = record { tree = 23; environment = 1; version_number = 2 }
 
 abbrev pub released : Table
 released = keyed (codes "released") (texts (codes "environment") ∷ numbers (codes "version_number") ∷ [])
-    (1 ∷ 2 ∷ []) (to 1 (codes "environments") (codes "name") ∷ to 2 (codes "versions") (codes "number") ∷ []) []
+    (in_released.environment ∷ in_released.version_number ∷ [])
+    (to in_released.environment (codes "environments") (codes "name")
+    ∷ to in_released.version_number (codes "versions") (codes "number") ∷ []) []
+
+pub record InCheckedResults : Type 0 where
+  pub tree : ℕ
+  pub result : ℕ
+
+abbrev pub in_checked_results : InCheckedResults
+in_checked_results = record { tree = 25; result = 0 }
 
 abbrev pub checked_results : Table
 checked_results = numbered_table (codes "checked_results") (numbers (codes "result") ∷ [])
-    [] (to 0 (codes "results") (codes "number") ∷ []) []
+    [] (to in_checked_results.result (codes "results") (codes "number") ∷ []) []
+
+pub record InStrictEnvironments : Type 0 where
+  pub tree : ℕ
+  pub environment : ℕ
+
+abbrev pub in_strict_environments : InStrictEnvironments
+in_strict_environments = record { tree = 26; environment = 1 }
 
 abbrev pub strict_environments : Table
 strict_environments = keyed (codes "strict_environments") (texts (codes "environment") ∷ [])
-    (1 ∷ []) (to 1 (codes "environments") (codes "name") ∷ []) []
+    (in_strict_environments.environment ∷ [])
+    (to in_strict_environments.environment (codes "environments") (codes "name") ∷ []) []
 
 -- ---- the schema
 
@@ -198,16 +340,18 @@ index_on table tree name columns = (
 )
 
 abbrev pub contents_by_digest : Table × Index
-contents_by_digest = index_on contents 14 (codes "contents_by_digest") (2 ∷ [])
+contents_by_digest = index_on contents in_contents.tree (codes "contents_by_digest") (in_contents.digest ∷ [])
 
 abbrev pub contracts_by_content : Table × Index
-contracts_by_content = index_on contracts 15 (codes "contracts_by_content") (3 ∷ [])
+contracts_by_content = index_on contracts in_contracts.tree (codes "contracts_by_content") (in_contracts.content ∷ [])
 
 abbrev pub latest_by_provider_version : Table × Index
-latest_by_provider_version = index_on latest 19 (codes "latest_by_provider_version") (2 ∷ [])
+latest_by_provider_version = index_on latest in_latest.tree (codes "latest_by_provider_version")
+    (in_latest.provider_version ∷ [])
 
 abbrev pub versions_by_pacticipant : Table × Index
-versions_by_pacticipant = index_on versions 6 (codes "versions_by_pacticipant") (2 ∷ 0 ∷ [])
+versions_by_pacticipant = index_on versions in_versions.tree (codes "versions_by_pacticipant")
+    (in_versions.pacticipant ∷ in_versions.number ∷ [])
 
 -- of pacts and their verification
 abbrev pub contract_indexes : List (Table × Index)

@@ -4,7 +4,7 @@ ghost use Rattle.std.specs.List.{AllByRecursion};
 ghost use Rattle.sqlite_resolve.specs.Compile.{first};
 ghost use Rattle.table_access.specs.Calls.{CallsStore};
 ghost use Rattle.table_access.specs.Writes.{IsWriteText};
-ghost use Rattle.broker_tables.specs.Making.{MakesTexts};
+ghost use Rattle.broker_tables.specs.Making.{MakesTexts, CanMake, IsCalmOver};
 
 use sqlite::{Alter, Connection};
 use table_access::{StoreFault, change};
@@ -13,11 +13,13 @@ use table_access::{StoreFault, change};
 /// are there keep their rows.
 ///
 /// # Errors
-/// `StoreFault::Memory` if the database is out of memory; `StoreFault::Store` if it refused a text.
+/// `StoreFault::Memory` if the database is out of memory; `StoreFault::Store` if it refused a text: only if the store
+/// failed, where the tables, or the indexes of tables without rows, are those that come next.
 pub fn make_each<S: Alter>(conn: &mut Connection<S>, texts: &[&str]) -> Result<(), StoreFault>
     requires { AllByRecursion (λ text. IsWriteText (first text.now)) texts.now }
-    ensures { CallsStore S.Store conn.old conn.new result
+    ensures makes { CallsStore S.Store conn.old conn.new result
         (λ _ old new. MakesTexts (map (λ text. text.now) texts.now) old.now new.now) }
+    ensures calm { IsCalmOver S.Store conn.old conn.new result (CanMake (map (λ text. text.now) texts.now)) }
 {
     for text in texts {
         match change(conn, text, &[]) {

@@ -16,7 +16,7 @@ use Rattle.table_access.specs.{Columns.{text, text_cmp, whole_at}, Statements.{f
 use Rattle.table_access.proofs.{Values.{cast_null, cast_int}, Steps.{answered}, Newest.{newest_number}, Ordered.{selects_in_order}}
 use Rattle.table_access.proofs.{Keys.{ascending_on, by_text}, Maps.{looks_up_at}, Parts.{numbers_once, number_part, where_last}}
 use Rattle.table_access.proofs.SoundLemmas.{text_at, has_place, at_has, all_of}
-use Rattle.broker_tables.specs.{Schema.{broker_schema}, Numbers.{numbered}, Holds.{IsBroker, Holds, with_digest}, Rows.{rows_of}}
+use Rattle.broker_tables.specs.{Schema.{in_contents, broker_schema}, Numbers.{numbered}, Holds.{IsBroker, Holds, with_digest}, Rows.{rows_of}}
 use Rattle.broker_tables.proofs.{Inserted.{EndsOnly, Puts, inserted, insert_ends, next_counted}, Newest.{newest as newest_count}, Asked.{Asked, IsShown}}
 use Rattle.broker_tables.proofs.{Frames.{meant, frame_of, Frame, is_other, still_broker}, Placed.{contents, contents_there}, NextRow.{next_row}}
 use Rattle.broker_tables.proofs.ByNumber.{by_number}
@@ -25,20 +25,20 @@ use Rattle.content_store.specs.Contents.{ContentsBy, AreContentsBy, with_digest_
 use Rattle.content_store.proofs.TextNumbers.{same_is, none_before, with_new}
 
 module _ (db : Database) (broker : IsBroker db) where
-  pub numbered_rows : IsNumbered (db.trees 14)
+  pub numbered_rows : IsNumbered (db.trees in_contents.tree)
   numbered_rows = at_has _ db.schema.tables contents broker.kept.numbered (has_place _ 7 contents (contents_there db broker))
 
-  pub ids : (r : Row) → Has (db.trees 14) r → column r 0 ≡ Int (whole_at 0 r)
-  ids r has = int_is (rowid r) (at_has _ (db.trees 14) r numbered_rows.1 has)
+  pub ids : (r : Row) → Has (db.trees in_contents.tree) r → column r in_contents.number ≡ Int (whole_at in_contents.number r)
+  ids r has = int_is (rowid r) (at_has _ (db.trees in_contents.tree) r numbered_rows.1 has)
 
-  pub digests : (r : Row) → Has (db.trees 14) r → column r 2 ≡ Text (text 2 r)
+  pub digests : (r : Row) → Has (db.trees in_contents.tree) r → column r in_contents.digest ≡ Text (text in_contents.digest r)
   digests r has = text_at db broker.kept.sound contents (has_place _ 7 contents (contents_there db broker)) r has 1 _ refl refl refl refl refl
 
 -- ---- the text with a number
 
 pub stored : (z : ℤ)
     → Asked (codes "SELECT body FROM contents WHERE number = ?1")
-    (Int z ∷ []) (from_table 14 (op2 (Compare Eq Binary) (col 1 0) (col 0 0) ∷ []) (col 1 3 ∷ []) [])
+    (Int z ∷ []) (from_table in_contents.tree (op2 (Compare Eq Binary) (col 1 in_contents.number) (col 0 0) ∷ []) (col 1 in_contents.body ∷ []) [])
 unfolding understood everything
 stored z = record { names = _; means = record { is = refl; plain = (refl, refl); unlisted = refl }; runs = record { whole = refl; typed = refl; sumless = refl } }
 
@@ -47,15 +47,15 @@ stored z = record { names = _; means = record { is = refl; plain = (refl, refl);
 abbrev count_sql : List ℕ
 count_sql = codes "SELECT number FROM contents ORDER BY number DESC LIMIT 1"
 
-pub highest : Asked count_sql [] (up_to 1 (from_table 14 [] (col 1 0 ∷ []) newest))
+pub highest : Asked count_sql [] (up_to 1 (from_table in_contents.tree [] (col 1 in_contents.number ∷ []) newest))
 unfolding understood everything
 highest = record { names = _; means = record { is = refl; plain = (refl, refl); unlisted = refl }; runs = record { whole = refl; typed = refl; sumless = refl } }
 
 pub contents_counted : (digest : List ℕ → List ℕ) (old new : State) (rows : List Row) (texts : List (List ℕ)) (found : Option ℕ) → ContentsBy digest old.now texts → Shown count_sql [] old new rows
     → option_map (λ n. Int (pos n)) found ≡ option_map (λ row. column row 0) (slice_get rows 0) → unwrap_or found 0 ≡ length texts
 contents_counted digest old new rows texts found held h read =
-    newest_count (λ r. (text 2 r, text 3 r)) (old.now.trees 14) (map (with_digest_by digest) texts) found held.are
-    (newest_number count_sql old new 14 _ (meant old.now held.broker count_sql highest.means) (numbered_rows old.now held.broker) rows h found read)
+    newest_count (λ r. (text in_contents.digest r, text in_contents.body r)) (old.now.trees in_contents.tree) (map (with_digest_by digest) texts) found held.are
+    (newest_number count_sql old new in_contents.tree _ (meant old.now held.broker count_sql highest.means) (numbered_rows old.now held.broker) rows h found read)
     ∙ length-map texts (with_digest_by digest)
 
 -- ---- the text with a number, in the rows
@@ -64,8 +64,8 @@ abbrev numbers_from : ℕ → List (List ℕ) → List (ℤ × List ℕ)
 numbers_from m texts = map (λ e. (pos e.0, e.1)) (enumerate_from m texts)
 
 -- the row of a number has its text
-bodies : (digest : List ℕ → List ℕ) (rows : List Row) (texts : List (List ℕ)) → AreContentsBy digest texts rows → map {B = ℤ × List ℕ} (λ r. (whole_at 0 r, text 3 r)) rows ≡ numbers_from 1 texts
-bodies digest rows texts is = sym (map-map turn (λ r. (whole_at 0 r, (text 2 r, text 3 r))) rows) ∙ ap (map turn) is ∙ without 1 texts
+bodies : (digest : List ℕ → List ℕ) (rows : List Row) (texts : List (List ℕ)) → AreContentsBy digest texts rows → map {B = ℤ × List ℕ} (λ r. (whole_at in_contents.number r, text in_contents.body r)) rows ≡ numbers_from 1 texts
+bodies digest rows texts is = sym (map-map turn (λ r. (whole_at in_contents.number r, (text in_contents.digest r, text in_contents.body r))) rows) ∙ ap (map turn) is ∙ without 1 texts
   where
     turn : ℤ × (List ℕ × List ℕ) → ℤ × List ℕ
     turn e = (e.0, e.1.1)
@@ -74,30 +74,30 @@ bodies digest rows texts is = sym (map-map turn (λ r. (whole_at 0 r, (text 2 r,
     without m [] = refl
     without m (t ∷ ts) = ap (λ more. (pos m, t) ∷ more) (without (m + 1) ts)
 
-by_id : (db : Database) (broker : IsBroker db) (z : ℤ) → AllByRecursion (λ r. keeps (op2 (Compare Eq Binary) (col 1 0) (col 0 0) ∷ []) (Int z ∷ []) r ≡ eq_by_cmp int_cmp z (whole_at 0 r)) (db.trees 14)
-by_id db broker z = all_of _ (db.trees 14) (where_last int_cmp_total (db.trees 14) 0 (whole_at 0) (number_part (db.trees 14) (numbered_rows db broker)) (Int z ∷ []) 0 z refl)
+by_id : (db : Database) (broker : IsBroker db) (z : ℤ) → AllByRecursion (λ r. keeps (op2 (Compare Eq Binary) (col 1 in_contents.number) (col 0 0) ∷ []) (Int z ∷ []) r ≡ eq_by_cmp int_cmp z (whole_at in_contents.number r)) (db.trees in_contents.tree)
+by_id db broker z = all_of _ (db.trees in_contents.tree) (where_last int_cmp_total (db.trees in_contents.tree) in_contents.number (whole_at in_contents.number) (number_part (db.trees in_contents.tree) (numbered_rows db broker)) (Int z ∷ []) 0 z refl)
 
 pub body_found : (digest : List ℕ → List ℕ) (z : ℤ) (n : ℕ) → z ≡ pos n → (db : Database) (rows : List Row) (texts : List (List ℕ)) → ContentsBy digest db texts → IsShown (stored z) db rows
     → option_map (text 0) (slice_get rows 0) ≡ text_in texts n
 body_found digest z n is db rows texts held h =
-    looks_up_at int_cmp_total int_cmp-IsAntisymmetric (whole_at 0) (text 3) _ (text 0) (λ r. refl) z _ (db.trees 14) rows (by_id db held.broker z) (numbers_once (db.trees 14) (numbered_rows db held.broker))
-    (answered db _ 14 _ _ _ rows h)
-    ∙ ap (find int_cmp z) (bodies digest (db.trees 14) texts held.are) ∙ ap (λ k. find int_cmp k (numbers_from 1 texts)) is ∙ by_number texts n
+    looks_up_at int_cmp_total int_cmp-IsAntisymmetric (whole_at in_contents.number) (text in_contents.body) _ (text 0) (λ r. refl) z _ (db.trees in_contents.tree) rows (by_id db held.broker z) (numbers_once (db.trees in_contents.tree) (numbered_rows db held.broker))
+    (answered db _ in_contents.tree _ _ _ rows h)
+    ∙ ap (find int_cmp z) (bodies digest (db.trees in_contents.tree) texts held.are) ∙ ap (λ k. find int_cmp k (numbers_from 1 texts)) is ∙ by_number texts n
 
 -- ---- the number of a text
 
 abbrev of_digest : List Term
-of_digest = op2 (Compare Eq Binary) (col 1 2) (col 0 0) ∷ []
+of_digest = op2 (Compare Eq Binary) (col 1 in_contents.digest) (col 0 0) ∷ []
 
 abbrev rising : List (Term × Key)
-rising = (col 1 0, record { collation = Binary; descending = false }) ∷ []
+rising = (col 1 in_contents.number, record { collation = Binary; descending = false }) ∷ []
 
 abbrev pub project : List Term
-project = col 1 0 ∷ col 1 3 ∷ []
+project = col 1 in_contents.number ∷ col 1 in_contents.body ∷ []
 
 pub sharing : (dg : List ℕ)
     → Asked (codes "SELECT number, body FROM contents WHERE digest = ?1 ORDER BY number")
-    (Text dg ∷ []) (from_table 14 of_digest project rising)
+    (Text dg ∷ []) (from_table in_contents.tree of_digest project rising)
 unfolding understood everything
 sharing dg = record { names = _; means = record { is = refl; plain = (refl, refl); unlisted = refl }; runs = record { whole = refl; typed = refl; sumless = refl } }
 
@@ -111,20 +111,20 @@ sort_rising {X} cmp (x ∷ xs) up = ap (insert_sorted cmp x) (sort_rising cmp xs
     here (y ∷ ys) all = ap (λ o. cond (is_gt o) (y ∷ insert_sorted cmp x ys) (x ∷ y ∷ ys)) all.0
 
 -- the candidates, in the order of their numbers
-candidates : (dg : List ℕ) (db : Database) (rows : List Row) → IsBroker db → IsShown (sharing dg) db rows → rows ≡ map (shows project (Text dg ∷ [])) (filter (keeps of_digest (Text dg ∷ [])) (db.trees 14))
+candidates : (dg : List ℕ) (db : Database) (rows : List Row) → IsBroker db → IsShown (sharing dg) db rows → rows ≡ map (shows project (Text dg ∷ [])) (filter (keeps of_digest (Text dg ∷ [])) (db.trees in_contents.tree))
 candidates dg db rows broker h =
-    selects_in_order db (Text dg ∷ []) 14 of_digest project rising rows h
+    selects_in_order db (Text dg ∷ []) in_contents.tree of_digest project rising rows h
     (ascending_on _ _ kept (λ a b ha hb less. ap is_eq less) up)
     ∙ ap (map (shows project (Text dg ∷ []))) (sort_rising by_query kept up)
   where
     kept : List Row
-    kept = filter (keeps of_digest (Text dg ∷ [])) (db.trees 14)
+    kept = filter (keeps of_digest (Text dg ∷ [])) (db.trees in_contents.tree)
 
     by_query : Row → Row → Ordering
     by_query a b = sort_cmp rising ((Text dg ∷ []) ∷ a ∷ []) ((Text dg ∷ []) ∷ b ∷ [])
 
     up : IsAscending (λ a b. by_query a b ≡ Less) kept
-    up = ascending-filter (λ a b. by_query a b ≡ Less) (keeps of_digest (Text dg ∷ [])) (db.trees 14) (ascending_on _ _ (db.trees 14) (λ a b ha hb less. then-Equal (value_cmp (column a 0) (column b 0)) ∙ less) (numbered_rows db broker).0)
+    up = ascending-filter (λ a b. by_query a b ≡ Less) (keeps of_digest (Text dg ∷ [])) (db.trees in_contents.tree) (ascending_on _ _ (db.trees in_contents.tree) (λ a b ha hb less. then-Equal (value_cmp (column a in_contents.number) (column b in_contents.number)) ∙ less) (numbered_rows db broker).0)
 
 mapped_twice : {X Y Z : Type 0} (f : Y → Z) (g : X → Y) (o : Option X) → option_map f (option_map g o) ≡ option_map (λ x. f (g x)) o
 mapped_twice f g None = refl
@@ -135,7 +135,7 @@ module _ (digest : List ℕ → List ℕ) (body dg : List ℕ) (is : digest body
   Entry = ℤ × (List ℕ × List ℕ)
 
   abbrev entry : Row → Entry
-  entry r = (whole_at 0 r, (text 2 r, text 3 r))
+  entry r = (whole_at in_contents.number r, (text in_contents.digest r, text in_contents.body r))
 
   abbrev shown : Row → Row
   shown r = shows project (Text dg ∷ []) r
@@ -158,7 +158,7 @@ module _ (digest : List ℕ → List ℕ) (body dg : List ℕ) (is : digest body
   abbrev Finds : ℕ → List Row → List (List ℕ) → Type 0
   Finds m kept texts = (option_map (whole_at 0) (first has_text (map shown kept)) ≡ cond (is_among texts body) (Some (pos (place texts + m))) None)
 
-  first_from : (m : ℕ) (p : Row → Bool) (rows : List Row) (texts : List (List ℕ)) → AllByRecursion (λ r. p r ≡ eq_by_cmp text_cmp dg (text 2 r)) rows
+  first_from : (m : ℕ) (p : Row → Bool) (rows : List Row) (texts : List (List ℕ)) → AllByRecursion (λ r. p r ≡ eq_by_cmp text_cmp dg (text in_contents.digest r)) rows
       → map entry rows ≡ map {B = Entry} (λ e. (pos e.0, e.1)) (enumerate_from m (map (with_digest_by digest) texts)) → Finds m (filter p rows) texts
   first_from m p [] [] tests h = refl
   first_from m p [] (t ∷ texts) tests h = absurd (let e = h in cc)
@@ -168,7 +168,7 @@ module _ (digest : List ℕ → List ℕ) (body dg : List ℕ) (is : digest body
       one : entry r ≡ (pos m, (digest t, t))
       one = ap (head_of (entry r)) h
 
-      hits : same_text body (text 3 r) ≡ same_text body t
+      hits : same_text body (text in_contents.body r) ≡ same_text body t
       hits = ap (λ (e : Entry). same_text body e.1.1) one
 
       next : place texts + (m + 1) ≡ 1 + place texts + m
@@ -178,7 +178,7 @@ module _ (digest : List ℕ → List ℕ) (body dg : List ℕ) (is : digest body
       go true e true f later = rw (hits, f) (ap Some (ap (λ (x : Entry). x.0) one ∙ ap pos (let same : m ≡ 0 + m = omega arith in same)))
       go false e true f later =
           absurd (let same : digest t ≡ dg = ap digest (sym (same_is body t f)) ∙ is in
-          let tied : eq_by_cmp text_cmp dg (text 2 r) ≡ true = ap (eq_by_cmp text_cmp dg) (ap (λ (x : Entry). x.1.0) one ∙ same) ∙ (eq_by_cmp_equiv nat_list_cmp_total).refl dg in
+          let tied : eq_by_cmp text_cmp dg (text in_contents.digest r) ≡ true = ap (eq_by_cmp text_cmp dg) (ap (λ (x : Entry). x.1.0) one ∙ same) ∙ (eq_by_cmp_equiv nat_list_cmp_total).refl dg in
           let clash : true ≡ false = sym tied ∙ sym tests.0 ∙ e in cc)
       go true e false f later = rw (hits, f, ← next) later
       go false e false f later = rw (f, ← next) later
@@ -188,7 +188,8 @@ module _ (digest : List ℕ → List ℕ) (body dg : List ℕ) (is : digest body
   number_found db rows texts found held h read =
       named found (is_among texts body) (sym (mapped_twice id_in (λ n. Int (pos n)) found) ∙ ap (option_map id_in) read ∙ mapped_twice id_in (λ row. column row 0) (first has_text rows)
       ∙ ap (λ rs. option_map (whole_at 0) (first has_text rs)) (candidates dg db rows held.broker h)
-      ∙ first_from 1 (keeps of_digest (Text dg ∷ [])) (db.trees 14) texts (by_text (db.trees 14) 2 dg (digests db held.broker)) held.are)
+      ∙ first_from 1 (keeps of_digest (Text dg ∷ [])) (db.trees in_contents.tree) texts
+      (by_text (db.trees in_contents.tree) in_contents.digest dg (digests db held.broker)) held.are)
     where
       named : (x : Option ℕ) (b : Bool) → option_map pos x ≡ cond b (Some (pos (place texts + 1))) None → x ≡ cond b (Some (place texts + 1)) None
       named None true e = absurd cc
@@ -218,12 +219,12 @@ pub content_put : (digest : List ℕ → List ℕ) (number : ℕ) (dg body : Lis
     → Executes put_sql (Int (pos number) ∷ Text dg ∷ Text body ∷ []) old new (Ok count) → IsPut digest body texts number old.now new.now
 content_put digest number dg body by old new count texts held free is h =
     let made = Int (pos number) ∷ Null ∷ Text dg ∷ Text body ∷ [] in
-    let it = inserted put_sql (Int (pos number) ∷ Text dg ∷ Text body ∷ []) old new held.broker contents 7 (contents_there old.now held.broker) _ made (put_puts number dg body) (put_stored number dg body (old.now.trees 14)) count h in
-    let frame : Frame (codes "contents" ∷ []) old.now new.now = frame_of (codes "contents" ∷ []) 14 refl old new held.broker it.0 in
+    let it = inserted put_sql (Int (pos number) ∷ Text dg ∷ Text body ∷ []) old new held.broker contents 7 (contents_there old.now held.broker) _ made (put_puts number dg body) (put_stored number dg body (old.now.trees in_contents.tree)) count h in
+    let frame : Frame (codes "contents" ∷ []) old.now new.now = frame_of (codes "contents" ∷ []) in_contents.tree refl old new held.broker it.0 in
     let broker : IsBroker new.now = still_broker (codes "contents" ∷ []) old.now new.now frame held.broker in
-    let entry : Row → List ℕ × List ℕ = λ r. (text 2 r, text 3 r) in
-    let rows : AreContentsBy digest (texts ++ body ∷ []) (new.now.trees 14) =
-    next_row entry (map (with_digest_by digest) texts) (old.now.trees 14) (new.now.trees 14) made held.are (numbered_rows new.now broker) (ap pos (is ∙ ap (λ k. k + 1) (sym (length-map texts (with_digest_by digest))))) it.1
+    let entry : Row → List ℕ × List ℕ = λ r. (text in_contents.digest r, text in_contents.body r) in
+    let rows : AreContentsBy digest (texts ++ body ∷ []) (new.now.trees in_contents.tree) =
+    next_row entry (map (with_digest_by digest) texts) (old.now.trees in_contents.tree) (new.now.trees in_contents.tree) made held.are (numbered_rows new.now broker) (ap pos (is ∙ ap (λ k. k + 1) (sym (length-map texts (with_digest_by digest))))) it.1
     ∙ ap (λ d. numbered (map (with_digest_by digest) texts ++ (d, body) ∷ [])) (sym by) ∙ ap numbered (sym (map-append (with_digest_by digest) texts (body ∷ []))) in
     record {
       number_is = is ∙ ap (λ k. k + 1) (sym (none_before texts body free));
@@ -235,9 +236,9 @@ content_put digest number dg body by old new count texts held free is h =
 -- where the number is the next one, and low, it fails only as the store fails, or since one of its texts is too long
 pub content_ends : (number : ℕ) (dg body : List ℕ) (old new : State) (s : Broker) → Holds old.now s → number ≡ length s.contents + 1 → has_room s.contents ≡ true → EndsOnly (dg ∷ body ∷ []) put_sql (Int (pos number) ∷ Text dg ∷ Text body ∷ []) old new
 content_ends number dg body old new s held is room =
-    let rows = old.now.trees 14 in
+    let rows = old.now.trees in_contents.tree in
     let few : length s.contents < 1000000000 = ltb-true (length s.contents) 1000000000 room in
-    let next : is_taken rows (Int (pos (length (map with_digest s.contents) + 1)) ∷ Null ∷ Text dg ∷ Text body ∷ []) ≡ false = next_counted (λ r. (text 2 r, text 3 r)) rows (map with_digest s.contents) (Null ∷ Text dg ∷ Text body ∷ []) held.contents (numbered_rows old.now held.broker) in
+    let next : is_taken rows (Int (pos (length (map with_digest s.contents) + 1)) ∷ Null ∷ Text dg ∷ Text body ∷ []) ≡ false = next_counted (λ r. (text in_contents.digest r, text in_contents.body r)) rows (map with_digest s.contents) (Null ∷ Text dg ∷ Text body ∷ []) held.contents (numbered_rows old.now held.broker) in
     insert_ends put_sql (Int (pos number) ∷ Text dg ∷ Text body ∷ []) old new held.broker contents 7 (contents_there old.now held.broker) _ _ (put_puts number dg body) (put_stored number dg body rows) (record {
       pass = record { typed = refl; present = refl; checked = refl };
       fits = lt-ltb number (2 ^ 63) (omega (arith, is, few));

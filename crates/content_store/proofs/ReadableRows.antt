@@ -3,23 +3,23 @@ use Rattle.std.proofs.Common.{◌≡◌, refl, ℕ, ℤ, List, [], ◌∷◌, ar
 use Rattle.sqlite.specs.{Order.{Row, column}, declared.types.Value.TheVariants.{Text as SqlText}, Term.{col}, Effect.{Database}}
 use Rattle.sqlite_rules.specs.Lists.{Has}
 use Rattle.table_access.{specs.{Columns.{text, whole_at}, Reading.{IsTextAt, IsNumberRow}, Statements.{shows}}, proofs.SoundLemmas.{text_at, has_place}}
-use Rattle.broker_tables.{specs.Holds.{IsBroker}, proofs.{Asked.{EachReads, of_table, of_first}, ReadableRows.{content_low, body_utf8, number_cell}}}
-use Rattle.broker_tables.proofs.Placed.{contents, contents_there}
+use Rattle.broker_tables.{specs.{Schema.{in_contents}, Holds.{IsBroker}}, proofs.Asked.{EachReads, of_table, of_first}}
+use Rattle.broker_tables.proofs.{ReadableRows.{content_low, body_utf8, number_cell}, Placed.{contents, contents_there}}
 use Rattle.content_store.proofs.ContentRows.{ids, project, stored, highest, sharing}
 
-bodies : (db : Database) → IsBroker db → (r : Row) → Has (db.trees 14) r → column r 3 ≡ SqlText (text 3 r)
+bodies : (db : Database) → IsBroker db → (r : Row) → Has (db.trees in_contents.tree) r → column r in_contents.body ≡ SqlText (text in_contents.body r)
 bodies db broker r has = text_at db broker.kept.sound contents (has_place _ 7 contents (contents_there db broker)) r has 2 _ refl refl refl refl refl
 
 -- the text of a number
 pub stored_reads : (z : ℤ) (db : Database) → EachReads (stored z) db (IsTextAt 0)
-stored_reads z db s held readable = of_table (stored z) db _ (λ r has kept. (omega arith, (text 3 r, bodies db held.broker r has, body_utf8 db s held readable r has)))
+stored_reads z db s held readable = of_table (stored z) db _ (λ r has kept. (omega arith, (text in_contents.body r, bodies db held.broker r has, body_utf8 db s held readable r has)))
 
 pub highest_reads : (db : Database) → EachReads highest db IsNumberRow
-highest_reads db s held readable = of_first highest db _ (λ r has kept. number_cell (shows (col 1 0 ∷ []) [] r) 0 (whole_at 0 r) (omega arith) (ids db held.broker r has) (content_low db s held readable r has))
+highest_reads db s held readable = of_first highest db _ (λ r has kept. number_cell (shows (col 1 in_contents.number ∷ []) [] r) 0 (whole_at in_contents.number r) (omega arith) (ids db held.broker r has) (content_low db s held readable r has))
 
 -- a candidate has a number and a text
 pub sharing_reads : (digest : List ℕ) (db : Database) → EachReads (sharing digest) db (λ row. IsNumberRow row × IsTextAt 1 row)
 sharing_reads digest db s held readable = of_table (sharing digest) db _ (λ r has kept. (
-  number_cell (shows project [] r) 0 (whole_at 0 r) (omega arith) (ids db held.broker r has) (content_low db s held readable r has),
-  (omega arith, (text 3 r, bodies db held.broker r has, body_utf8 db s held readable r has)),
+  number_cell (shows project [] r) 0 (whole_at in_contents.number r) (omega arith) (ids db held.broker r has) (content_low db s held readable r has),
+  (omega arith, (text in_contents.body r, bodies db held.broker r has, body_utf8 db s held readable r has)),
 ))

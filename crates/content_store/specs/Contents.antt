@@ -17,7 +17,7 @@ use Rattle.broker_core.specs.Text.{Text, same_text}
 use Rattle.broker_core.specs.State.{State as Broker}
 use Rattle.broker_core.specs.Limit.{has_room}
 use Rattle.broker_core.specs.Change.{content_number, stored}
-use Rattle.broker_tables.specs.Schema.{broker_schema}
+use Rattle.broker_tables.specs.Schema.{broker_schema, in_contents}
 use Rattle.broker_tables.specs.Rows.{rows_of}
 use Rattle.broker_tables.specs.Numbers.{numbered}
 use Rattle.broker_tables.specs.Holds.{IsBroker}
@@ -36,7 +36,8 @@ with_digest_by digest body = (digest body, body)
 -- the texts in the order of their numbers, from 1 without gaps, each with its digest
 abbrev pub AreContentsBy : (Text → Text) → List Text → List Row → Type 0
 AreContentsBy digest texts rows =
-    map (λ r. (whole_at 0 r, (text 2 r, text 3 r))) rows ≡ numbered (map (with_digest_by digest) texts)
+    map (λ r. (whole_at in_contents.number r, (text in_contents.digest r, text in_contents.body r))) rows
+    ≡ numbered (map (with_digest_by digest) texts)
 
 -- The tables are the broker's, and the one of contents has these texts. All of them were stored by this digest.
 pub record ContentsBy (digest : Text → Text) (db : Database) (texts : List Text) : Type 0 where

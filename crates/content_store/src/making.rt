@@ -2,6 +2,7 @@
 ghost use Rattle.std.specs.Prelude.{◌≡◌, ◌∷◌, []};
 ghost use Rattle.table_access.specs.Calls.{CallsStore};
 ghost use Rattle.table_access.specs.Statements.{Makes, Indexes};
+ghost use Rattle.broker_tables.specs.Making.{HasNoRows, IsCalmOver};
 ghost use Rattle.broker_tables.specs.Schema.{registry_part, contents, schema_of, all_tables, contents_by_digest};
 
 use broker_tables::create::{CONTENTS, CONTENTS_BY_DIGEST};
@@ -14,9 +15,11 @@ use table_access::StoreFault;
 /// # Errors
 /// `StoreFault::Memory` if the database is out of memory; `StoreFault::Store` if it refused the table.
 pub fn make_tables<S: Alter>(conn: &mut Connection<S>) -> Result<(), StoreFault>
-    ensures { CallsStore S.Store conn.old conn.new result
+    ensures makes { CallsStore S.Store conn.old conn.new result
         (λ _ old new. old.now.schema ≡ schema_of registry_part →
         Makes (contents ∷ []) old.now new.now) }
+    ensures calm { IsCalmOver S.Store conn.old conn.new result
+        (λ db. db.schema ≡ schema_of registry_part) }
 {
     make_each(conn, &[CONTENTS])
 }
@@ -26,10 +29,12 @@ pub fn make_tables<S: Alter>(conn: &mut Connection<S>) -> Result<(), StoreFault>
 /// # Errors
 /// `StoreFault::Memory` if the database is out of memory; `StoreFault::Store` if it refused the index.
 pub fn make_index<S: Alter>(conn: &mut Connection<S>) -> Result<(), StoreFault>
-    ensures { CallsStore S.Store conn.old conn.new result
+    ensures makes { CallsStore S.Store conn.old conn.new result
         (λ _ old new. old.now.schema ≡ schema_of all_tables →
         Indexes old.now new.now
         contents_by_digest.0 contents_by_digest.1) }
+    ensures calm { IsCalmOver S.Store conn.old conn.new result
+        (λ db. (db.schema ≡ schema_of all_tables) × HasNoRows db) }
 {
     make_each(conn, &[CONTENTS_BY_DIGEST])
 }

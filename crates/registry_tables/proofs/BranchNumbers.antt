@@ -15,42 +15,43 @@ use Rattle.table_access.{specs.Statements.{from_both, up_to, keeps_both, pairs_k
 use Rattle.table_access.proofs.{Newest.{first_joined}, Parts.{numbers_once}, SoundLemmas.{any_of, at_has}}
 use Rattle.table_access.proofs.{Members.{contains_has, pair_has, has_pair, pairs_rise}, Values.{less_ints}}
 use Rattle.broker_core.{specs.{Listing.{Lists}, State.{State as Broker}, Text.{version}}, proofs.Lists.{contains_none, contains_cases, contains_here}}
-use Rattle.broker_tables.{specs.Holds.{Holds}, proofs.{Asked.{Asked, IsShown, EachReads, of_both, of_first_both}, Listed.{sorts, lists_join}}}
-use Rattle.broker_tables.proofs.{Orders.{marked_total, exact_marked}, ReadableRows.{number_cell, version_low}, References.{any_has}}
+use Rattle.broker_tables.{specs.{Schema.{in_versions, in_branches}, Holds.{Holds}}, proofs.Asked.{Asked, IsShown, EachReads, of_both, of_first_both}}
+use Rattle.broker_tables.proofs.{Listed.{sorts, lists_join}, Orders.{marked_total, exact_marked}, ReadableRows.{number_cell, version_low}, References.{any_has}}
 use Rattle.broker_tables.proofs.VersionRows.{versions_numbered, version_number, owners, row_number, find_version, whole_test, text_test, all_three}
 use Rattle.registry_tables.{specs.Registry.{IsBranchNumber, IsNewestBelow}, proofs.BranchRows.{key, is_on, numbers as branch_numbers, names, keys}}
 
 -- ON b.version_number = v.number WHERE v.pacticipant = ?1 AND b.branch = ?2
 abbrev terms : List Term
-terms = op2 (Compare Eq Binary) (col 2 1) (col 1 0) ∷ op2 (Compare Eq Binary) (col 1 2) (col 0 0) ∷ op2 (Compare Eq Binary) (col 2 2) (col 0 1) ∷ []
+terms = op2 (Compare Eq Binary) (col 2 in_branches.version_number) (col 1 in_versions.number)
+    ∷ op2 (Compare Eq Binary) (col 1 in_versions.pacticipant) (col 0 0) ∷ op2 (Compare Eq Binary) (col 2 in_branches.branch) (col 0 1) ∷ []
 
 -- .. AND v.number < ?3
 abbrev below_terms : List Term
-below_terms = op2 (Compare Eq Binary) (col 2 1) (col 1 0) ∷ op2 (Compare Eq Binary) (col 1 2) (col 0 0) ∷ op2 (Compare Eq Binary) (col 2 2) (col 0 1) ∷ op2 (Compare Lt Binary) (col 1 0) (col 0 2) ∷ []
+below_terms = op2 (Compare Eq Binary) (col 2 in_branches.version_number) (col 1 in_versions.number) ∷ op2 (Compare Eq Binary) (col 1 in_versions.pacticipant) (col 0 0) ∷ op2 (Compare Eq Binary) (col 2 in_branches.branch) (col 0 1) ∷ op2 (Compare Lt Binary) (col 1 in_versions.number) (col 0 2) ∷ []
 
 abbrev order : List (Term × Key)
-order = (col 1 0, record { collation = Binary; descending = true }) ∷ []
+order = (col 1 in_versions.number, record { collation = Binary; descending = true }) ∷ []
 
 pub numbers : (p b : List ℕ)
     → Asked (codes "SELECT v.number FROM versions v JOIN branches b ON b.version_number = v.number WHERE v.pacticipant = ?1 AND b.branch = ?2 ORDER BY v.number DESC")
-    (Text p ∷ Text b ∷ []) (from_both 6 8 terms (col 1 0 ∷ []) order)
+    (Text p ∷ Text b ∷ []) (from_both in_versions.tree in_branches.tree terms (col 1 in_versions.number ∷ []) order)
 unfolding understood everything
 numbers p b = record { names = _; means = record { is = refl; plain = (refl, refl); unlisted = refl }; runs = record { whole = refl; typed = refl; sumless = refl } }
 
 pub below : (p b : List ℕ) (k : ℕ)
     → Asked (codes "SELECT v.number FROM versions v JOIN branches b ON b.version_number = v.number WHERE v.pacticipant = ?1 AND b.branch = ?2 AND v.number < ?3 ORDER BY v.number DESC LIMIT 1")
-    (Text p ∷ Text b ∷ Int (pos k) ∷ []) (up_to 1 (from_both 6 8 below_terms (col 1 0 ∷ []) order))
+    (Text p ∷ Text b ∷ Int (pos k) ∷ []) (up_to 1 (from_both in_versions.tree in_branches.tree below_terms (col 1 in_versions.number ∷ []) order))
 unfolding understood everything
 below p b k = record { names = _; means = record { is = refl; plain = (refl, refl); unlisted = refl }; runs = record { whole = refl; typed = refl; sumless = refl } }
 
 -- where the versions are few enough, the numbers can be read
 pub numbers_reads : (p b : List ℕ) (db : Database) → EachReads (numbers p b) db IsNumberRow
 numbers_reads p b db s held readable =
-    of_both (numbers p b) db _ (λ v x hv hx kept. number_cell (eval_all (col 1 0 ∷ []) ([] ∷ v ∷ x ∷ [])) 0 (whole_at 0 v) (omega arith) (version_number db held.broker v hv) (version_low db s held readable v hv))
+    of_both (numbers p b) db _ (λ v x hv hx kept. number_cell (eval_all (col 1 in_versions.number ∷ []) ([] ∷ v ∷ x ∷ [])) 0 (whole_at in_versions.number v) (omega arith) (version_number db held.broker v hv) (version_low db s held readable v hv))
 
 pub below_reads : (p b : List ℕ) (k : ℕ) (db : Database) → EachReads (below p b k) db IsNumberRow
 below_reads p b k db s held readable =
-    of_first_both (below p b k) db _ (λ v x hv hx kept. number_cell (eval_all (col 1 0 ∷ []) ([] ∷ v ∷ x ∷ [])) 0 (whole_at 0 v) (omega arith) (version_number db held.broker v hv) (version_low db s held readable v hv))
+    of_first_both (below p b k) db _ (λ v x hv hx kept. number_cell (eval_all (col 1 in_versions.number ∷ []) ([] ∷ v ∷ x ∷ [])) 0 (whole_at in_versions.number v) (omega arith) (version_number db held.broker v hv) (version_low db s held readable v hv))
 
 -- a row shows this number
 abbrev IsNumber : Row → ℕ → Type 0
@@ -58,68 +59,74 @@ IsNumber row n = (column row 0 ≡ Int (pos n))
 
 -- the row of a version of the pacticipant, and one that puts this version on the branch
 abbrev IsPair : List ℕ → List ℕ → Row → Row → Type 0
-IsPair p b r x = (whole_at 1 x ≡ whole_at 0 r) × (text 2 r ≡ p) × (text 2 x ≡ b)
+IsPair p b r x = (whole_at in_branches.version_number x ≡ whole_at in_versions.number r) × (text in_versions.pacticipant r ≡ p)
+    × (text in_branches.branch x ≡ b)
 
 module _ (db : Database) (s : Broker) (held : Holds db s) (p b : List ℕ) where
-  numbered : (r : Row) → Has (db.trees 6) r → (n : ℕ) × (whole_at 0 r ≡ pos n)
+  numbered : (r : Row) → Has (db.trees in_versions.tree) r → (n : ℕ) × (whole_at in_versions.number r ≡ pos n)
   numbered r has = let it = row_number db held.broker s.versions held.versions r has in (it.0, it.2)
 
-  keeps : (more r x : Row) → Has (db.trees 6) r → Has (db.trees 8) x → (keeps_both terms (Text p ∷ Text b ∷ more) r x ≡ true) ↔ IsPair p b r x
+  keeps : (more r x : Row) → Has (db.trees in_versions.tree) r → Has (db.trees in_branches.tree) x
+      → (keeps_both terms (Text p ∷ Text b ∷ more) r x ≡ true) ↔ IsPair p b r x
   keeps more r x hr hx =
-      let all = all_three (is_true (binary (Compare Eq Binary) (column x 1) (column r 0))) (is_true (binary (Compare Eq Binary) (column r 2) (Text p))) (is_true (binary (Compare Eq Binary) (column x 2) (Text b))) in
-      let number = whole_test (column x 1) (column r 0) _ _ ((branch_numbers db held.broker).typed x hx) (version_number db held.broker r hr) in
-      let owner = text_test (column r 2) (Text p) _ p (owners db held.broker r hr) refl in
-      let branch = text_test (column x 2) (Text b) _ b ((names db held.broker).typed x hx) refl in
+      let all = all_three (is_true (binary (Compare Eq Binary) (column x in_branches.version_number) (column r in_versions.number))) (is_true (binary (Compare Eq Binary) (column r in_versions.pacticipant) (Text p))) (is_true (binary (Compare Eq Binary) (column x in_branches.branch) (Text b))) in
+      let number = whole_test (column x in_branches.version_number) (column r in_versions.number) _ _ ((branch_numbers db held.broker).typed x hx) (version_number db held.broker r hr) in
+      let owner = text_test (column r in_versions.pacticipant) (Text p) _ p (owners db held.broker r hr) refl in
+      let branch = text_test (column x in_branches.branch) (Text b) _ b ((names db held.broker).typed x hx) refl in
       (λ kept. let it = all.0 kept in (number.0 it.0, owner.0 it.1, branch.0 it.2), λ is. all.1 (number.1 is.0, owner.1 is.1, branch.1 is.2))
 
   -- a pair stands for a number on the branch
-  sound_pair : (r x : Row) → Has (db.trees 6) r → Has (db.trees 8) x → IsPair p b r x → (n : ℕ) → whole_at 0 r ≡ pos n → IsBranchNumber s p b n
+  sound_pair : (r x : Row) → Has (db.trees in_versions.tree) r → Has (db.trees in_branches.tree) x → IsPair p b r x → (n : ℕ)
+      → whole_at in_versions.number r ≡ pos n → IsBranchNumber s p b n
   sound_pair r x hr hx pair n is =
       let it = row_number db held.broker s.versions held.versions r hr in
-      let v = version (text 2 r) (text 3 r) in
+      let v = version (text in_versions.pacticipant r) (text in_versions.version r) in
       let same : it.0 ≡ n = (let ints : pos it.0 ≡ pos n = sym it.2 ∙ is in cc) in
-      let stands : is_on (db.trees 8) b (Some it.0) ≡ true =
-      any_of (λ r. eq_by_cmp (by_both int_cmp text_cmp) (pos it.0, b) (key r)) (db.trees 8) x hx
+      let stands : is_on (db.trees in_branches.tree) b (Some it.0) ≡ true =
+      any_of (λ r. eq_by_cmp (by_both int_cmp text_cmp) (pos it.0, b) (key r)) (db.trees in_branches.tree) x hx
       (ap (eq_by_cmp (by_both int_cmp text_cmp) (pos it.0, b)) (λ i. ((pair.0 ∙ it.2) i, pair.2 i)) ∙ (eq_by_cmp_equiv marked_total).refl (pos it.0, b)) in
-      (v, it.1 ∙ ap Some same, pair.1, sym (held.branches v b) ∙ ap (is_on (db.trees 8) b) it.1 ∙ stands)
+      (v, it.1 ∙ ap Some same, pair.1, sym (held.branches v b) ∙ ap (is_on (db.trees in_branches.tree) b) it.1 ∙ stands)
 
   -- and each such number has a pair
-  whole_pair : (n : ℕ) → IsBranchNumber s p b n → (q : Row × Row) × Has (db.trees 6) q.0 × Has (db.trees 8) q.1 × IsPair p b q.0 q.1 × (whole_at 0 q.0 ≡ pos n)
+  whole_pair : (n : ℕ) → IsBranchNumber s p b n → (q : Row × Row) × Has (db.trees in_versions.tree) q.0 × Has (db.trees in_branches.tree) q.1
+      × IsPair p b q.0 q.1 × (whole_at in_versions.number q.0 ≡ pos n)
   whole_pair n (v, is, owner, on) =
       let r = find_version db held.broker s.versions v n held.versions is in
-      let stands : is_on (db.trees 8) b (Some n) ≡ true = sym (ap (is_on (db.trees 8) b) is) ∙ held.branches v b ∙ on in
-      let x = any_has (λ r. eq_by_cmp (by_both int_cmp text_cmp) (pos n, b) (key r)) (db.trees 8) stands in
+      let stands : is_on (db.trees in_branches.tree) b (Some n) ≡ true = sym (ap (is_on (db.trees in_branches.tree) b) is) ∙ held.branches v b ∙ on in
+      let x = any_has (λ r. eq_by_cmp (by_both int_cmp text_cmp) (pos n, b) (key r)) (db.trees in_branches.tree) stands in
       let same : (pos n, b) ≡ key x.0 = exact_marked (pos n, b) (key x.0) ((Equal-is (by_both int_cmp text_cmp (pos n, b) (key x.0))).0 x.2) in
       ((r.0, x.0), r.1, x.1, (sym (ap (λ k. k.0) same) ∙ sym r.4, r.2 ∙ owner, sym (ap (λ k. k.1) same)), r.4)
 
   -- a query that keeps such pairs of some numbers lists these numbers
   module _ (terms : List Term) (params : Row) (Low : ℕ → Type 0)
-      (kept : (r x : Row) → Has (db.trees 6) r → Has (db.trees 8) x → (n : ℕ) → whole_at 0 r ≡ pos n → (keeps_both terms params r x ≡ true) ↔ (IsPair p b r x × Low n)) where
+      (kept : (r x : Row) → Has (db.trees in_versions.tree) r → Has (db.trees in_branches.tree) x → (n : ℕ) → whole_at in_versions.number r ≡ pos n → (keeps_both terms params r x ≡ true) ↔ (IsPair p b r x × Low n)) where
     abbrev env : Row × Row → List Row
     env q = params ∷ q.0 ∷ q.1 ∷ []
 
-    agrees : (r x : Row) → Has (db.trees 6) r → Has (db.trees 8) x → keeps_both terms params r x ≡ true → IsPair p b r x
+    agrees : (r x : Row) → Has (db.trees in_versions.tree) r → Has (db.trees in_branches.tree) x → keeps_both terms params r x ≡ true → IsPair p b r x
     agrees r x hr hx h = let n = numbered r hr in ((kept r x hr hx n.0 n.1).0 h).0
 
-    by_number : (a c : Row × Row) → Has (db.trees 6) a.0 → Has (db.trees 6) c.0 → sorts order env a c ≡ int_cmp (whole_at 0 c.0) (whole_at 0 a.0)
+    by_number : (a c : Row × Row) → Has (db.trees in_versions.tree) a.0 → Has (db.trees in_versions.tree) c.0
+        → sorts order env a c ≡ int_cmp (whole_at in_versions.number c.0) (whole_at in_versions.number a.0)
     by_number a c ha hc =
-        then-Equal (value_cmp (column c.0 0) (column a.0 0)) ∙ (λ i. value_cmp (version_number db held.broker c.0 hc i) (version_number db held.broker a.0 ha i)) ∙ value_cmp-Int (whole_at 0 c.0) (whole_at 0 a.0)
+        then-Equal (value_cmp (column c.0 in_versions.number) (column a.0 in_versions.number)) ∙ (λ i. value_cmp (version_number db held.broker c.0 hc i) (version_number db held.broker a.0 ha i)) ∙ value_cmp-Int (whole_at in_versions.number c.0) (whole_at in_versions.number a.0)
 
-    apart : IsAscending (λ a c. is_eq (sorts order env a c) ≡ false) (pairs_kept terms params (db.trees 6) (db.trees 8))
-    apart = pairs_rise (keeps_both terms params) (db.trees 8) (λ a c. is_eq (sorts order env a c) ≡ false) (db.trees 6)
-        (λ x hx. ascending_on _ _ (db.trees 8) (λ y z hy hz differ ky kz.
+    apart : IsAscending (λ a c. is_eq (sorts order env a c) ≡ false) (pairs_kept terms params (db.trees in_versions.tree) (db.trees in_branches.tree))
+    apart = pairs_rise (keeps_both terms params) (db.trees in_branches.tree) (λ a c. is_eq (sorts order env a c) ≡ false) (db.trees in_versions.tree)
+        (λ x hx. ascending_on _ _ (db.trees in_branches.tree) (λ y z hy hz differ ky kz.
         let one = agrees x y hx hy ky in
         let two = agrees x z hx hz kz in
         let same : key y ≡ key z = λ i. ((one.0 ∙ sym two.0) i, (one.2 ∙ sym two.2) i) in
         absurd (true≢false (sym (ap (eq_by_cmp (by_both int_cmp text_cmp) (key y)) (sym same) ∙ (eq_by_cmp_equiv marked_total).refl (key y)) ∙ differ))) (keys db held.broker))
-        (ascending_on _ _ (db.trees 6) (λ x w hx hw differ y z hy hz ky kz. ap is_eq (by_number (x, y) (w, z) hx hw) ∙ (eq_by_cmp_equiv int_cmp_total).symm (whole_at 0 w) (whole_at 0 x) ∙ differ)
-        (numbers_once (db.trees 6) (versions_numbered db held.broker)))
+        (ascending_on _ _ (db.trees in_versions.tree) (λ x w hx hw differ y z hy hz ky kz. ap is_eq (by_number (x, y) (w, z) hx hw) ∙ (eq_by_cmp_equiv int_cmp_total).symm (whole_at in_versions.number w) (whole_at in_versions.number x) ∙ differ)
+        (numbers_once (db.trees in_versions.tree) (versions_numbered db held.broker)))
 
-    rows_of_pair : (q : Row × Row) → Has (pairs_kept terms params (db.trees 6) (db.trees 8)) q → Has (db.trees 6) q.0 × Has (db.trees 8) q.1 × (keeps_both terms params q.0 q.1 ≡ true)
-    rows_of_pair = pair_has (keeps_both terms params) (db.trees 8) (db.trees 6)
+    rows_of_pair : (q : Row × Row) → Has (pairs_kept terms params (db.trees in_versions.tree) (db.trees in_branches.tree)) q → Has (db.trees in_versions.tree) q.0 × Has (db.trees in_branches.tree) q.1 × (keeps_both terms params q.0 q.1 ≡ true)
+    rows_of_pair = pair_has (keeps_both terms params) (db.trees in_branches.tree) (db.trees in_versions.tree)
 
-    listed : (rows : List Row) (items : List ℕ) → Answers db (record { lets = []; body = from_both 6 8 terms (col 1 0 ∷ []) order }) params rows → AreRead IsNumber rows items → Lists (flip_args nat_cmp) (λ n. IsBranchNumber s p b n × Low n) items
-    listed = lists_join db params terms (col 1 0 ∷ []) order IsNumber (flip_args nat_cmp) (λ n. IsBranchNumber s p b n × Low n) 6 8 apart
+    listed : (rows : List Row) (items : List ℕ) → Answers db (record { lets = []; body = from_both in_versions.tree in_branches.tree terms (col 1 in_versions.number ∷ []) order }) params rows → AreRead IsNumber rows items → Lists (flip_args nat_cmp) (λ n. IsBranchNumber s p b n × Low n) items
+    listed = lists_join db params terms (col 1 in_versions.number ∷ []) order IsNumber (flip_args nat_cmp)
+        (λ n. IsBranchNumber s p b n × Low n) in_versions.tree in_branches.tree apart
         (λ a c x y ha hc is_x is_y less.
         let low : pos y <ℤ pos x = lt_from_Less (pos y) (pos x)
         ((λ i. int_cmp (id_in (sym is_y i)) (id_in (sym is_x i))) ∙ sym (by_number a c (rows_of_pair a ha).0 (rows_of_pair c hc).0) ∙ less) in
@@ -130,7 +137,7 @@ module _ (db : Database) (s : Broker) (held : Holds db s) (p b : List ℕ) where
         (sound_pair q.0 q.1 it.0 it.1 both.0 n (ap id_in is), both.1))
         (λ n on.
         let it = whole_pair n on.0 in
-        (it.0, has_pair (keeps_both terms params) (db.trees 8) (db.trees 6) it.0.0 it.0.1 it.1 it.2 ((kept it.0.0 it.0.1 it.1 it.2 n it.4).1 (it.3, on.1)), λ y is. (let same : pos y ≡ pos n = sym (ap id_in is) ∙ it.4 in cc)))
+        (it.0, has_pair (keeps_both terms params) (db.trees in_branches.tree) (db.trees in_versions.tree) it.0.0 it.0.1 it.1 it.2 ((kept it.0.0 it.0.1 it.1 it.2 n it.4).1 (it.3, on.1)), λ y is. (let same : pos y ≡ pos n = sym (ap id_in is) ∙ it.4 in cc)))
 
 -- ---- all of them
 
@@ -188,19 +195,19 @@ pub below_found : (p b : List ℕ) (k : ℕ) (db : Database) (rows : List Row) (
     → option_map (λ n. Int (pos n)) found ≡ option_map (λ r. column r 0) (slice_get rows 0) → IsNewestBelow s p b k found
 below_found p b k db rows found s held h read =
     let params : Row = Text p ∷ Text b ∷ Int (pos k) ∷ [] in
-    let all = first_joined db params 6 8 below_terms (col 1 0 ∷ []) order 1 rows h in
+    let all = first_joined db params in_versions.tree in_branches.tree below_terms (col 1 in_versions.number ∷ []) order 1 rows h in
     let items = numbers_read all.0 (λ row has.
-    let it = pair_shown db params 6 8 below_terms (col 1 0 ∷ []) order all.0 all.1 row has in
+    let it = pair_shown db params in_versions.tree in_branches.tree below_terms (col 1 in_versions.number ∷ []) order all.0 all.1 row has in
     let n = numbered db s held p b it.0 it.2 in
     (n.0, ap (λ x. column x 0) it.4 ∙ version_number db held.broker it.0 it.2 ∙ ap Int n.1)) in
     newest s p b k found all.0 items.0 items.1 (read ∙ ap (λ l. option_map (λ r. column r 0) (slice_get l 0)) all.2)
     (listed db s held p b below_terms params (λ n. n < k) kept all.0 items.0 all.1 items.1)
   where
-    kept : (r x : Row) → Has (db.trees 6) r → Has (db.trees 8) x → (n : ℕ) → whole_at 0 r ≡ pos n → (keeps_both below_terms (Text p ∷ Text b ∷ Int (pos k) ∷ []) r x ≡ true) ↔ (IsPair p b r x × (n < k))
+    kept : (r x : Row) → Has (db.trees in_versions.tree) r → Has (db.trees in_branches.tree) x → (n : ℕ) → whole_at in_versions.number r ≡ pos n → (keeps_both below_terms (Text p ∷ Text b ∷ Int (pos k) ∷ []) r x ≡ true) ↔ (IsPair p b r x × (n < k))
     kept r x hr hx n is =
         let pair = keeps db s held p b (Int (pos k) ∷ []) r x hr hx in
-        let low = is_true (binary (Compare Lt Binary) (column r 0) (Int (pos k))) in
-        let split = last_test (is_true (binary (Compare Eq Binary) (column x 1) (column r 0))) (is_true (binary (Compare Eq Binary) (column r 2) (Text p))) (is_true (binary (Compare Eq Binary) (column x 2) (Text b))) low in
+        let low = is_true (binary (Compare Lt Binary) (column r in_versions.number) (Int (pos k))) in
+        let split = last_test (is_true (binary (Compare Eq Binary) (column x in_branches.version_number) (column r in_versions.number))) (is_true (binary (Compare Eq Binary) (column r in_versions.pacticipant) (Text p))) (is_true (binary (Compare Eq Binary) (column x in_branches.branch) (Text b))) low in
         let tested : low ≡ is_lt (int_cmp (pos n) (pos k)) = ap (λ v. is_true (binary (Compare Lt Binary) v (Int (pos k)))) (version_number db held.broker r hr ∙ ap Int is) ∙ less_ints (pos n) (pos k) in (
           λ h. let both = sym split ∙ h in (pair.0 (first_of_both _ low both), (low_test n k).0 (sym tested ∙ second_of_both _ low both)),
           λ both. split ∙ (λ i. pair.1 both.0 i && (tested ∙ (low_test n k).1 both.1) i),

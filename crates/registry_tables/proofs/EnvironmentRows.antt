@@ -14,30 +14,32 @@ use Rattle.table_access.specs.{Reading.{IsNumberRow}, Columns.{text, text_cmp, w
 use Rattle.table_access.proofs.{Values.{cast_null, cast_int}, Steps.{answered}, Maps.{looks_up_at, puts_at, none_has}, Keys.{apart_by, text_keys, by_text}}
 use Rattle.table_access.proofs.SoundLemmas.{text_at, whole_in, checks_hold, has_place}
 use Rattle.broker_core.specs.{declared.command.Marks.{Marks}, Text.{put_at, same_text}, State.{State as Broker}}
-use Rattle.broker_tables.specs.{Rows.{truth, truth_in, mark_of, value_at, stands_at, IsTruthAt}, Holds.{Holds, HoldsAfter, IsBroker, marks_in}}
-use Rattle.broker_tables.{specs.Refusals.{HaveNumbers}, proofs.{Asked.{Asked, IsShown, EachReads, of_table}, Frames.{frame_of, Frame, environments_change}}}
-use Rattle.broker_tables.proofs.{Orders.{exact_texts}, TruthLemmas.{is_low}, Growth.{none_stands}, References.{refers_environment}}
-use Rattle.broker_tables.proofs.Standing.{stands_found, stands_put, value_map}
+use Rattle.broker_tables.specs.{Schema.{in_environments, in_strict_environments}, Rows.{truth, truth_in, mark_of, value_at, stands_at, IsTruthAt}}
+use Rattle.broker_tables.{specs.{Holds.{Holds, HoldsAfter, IsBroker, marks_in}, Refusals.{HaveNumbers}}, proofs.Asked.{Asked, IsShown, EachReads, of_table}}
+use Rattle.broker_tables.proofs.{Frames.{frame_of, Frame, environments_change}, Orders.{exact_texts}, TruthLemmas.{is_low}, Growth.{none_stands}}
+use Rattle.broker_tables.proofs.{References.{refers_environment}, Standing.{stands_found, stands_put, value_map}}
 use Rattle.broker_tables.proofs.Placed.{environments, environments_there, strict_environments, strict_environments_there}
 use Rattle.broker_tables.proofs.RoomLemmas.{after_one, grows_added, number_for}
 use Rattle.broker_tables.proofs.Inserted.{EndsOnly, Puts, inserted, next_ends, new_text, free_one, environment_there}
 use Rattle.registry_tables.{specs.Registry.{marks}, proofs.MarkText.{gated_sql, gated_query}}
 
 module _ (db : Database) (broker : IsBroker db) where
-  names : (r : Row) → Has (db.trees 10) r → column r 1 ≡ Text (text 1 r)
+  names : (r : Row) → Has (db.trees in_environments.tree) r → column r in_environments.name ≡ Text (text in_environments.name r)
   names r has = text_at db broker.kept.sound environments (has_place _ 5 environments (environments_there db broker)) r has 0 _ refl refl refl refl refl
 
-  keys : IsAscending (λ a b. eq_by_cmp text_cmp (text 1 a) (text 1 b) ≡ false) (db.trees 10)
-  keys = text_keys (db.trees 10) 1 names (apart_by db broker.kept environments 5 (environments_there db broker) _ 5 (ap (λ (s : Schema). slice_get s.indexes 5) broker.schema) refl)
+  keys : IsAscending (λ a b. eq_by_cmp text_cmp (text in_environments.name a) (text in_environments.name b) ≡ false) (db.trees in_environments.tree)
+  keys = text_keys (db.trees in_environments.tree) in_environments.name names (apart_by db broker.kept environments 5 (environments_there db broker) _ 5 (ap (λ (s : Schema). slice_get s.indexes 5) broker.schema) refl)
 
-  wholes : (r : Row) → Has (db.trees 10) r → column r 2 ≡ Int (whole_at 2 r)
+  wholes : (r : Row) → Has (db.trees in_environments.tree) r → column r in_environments.gated ≡ Int (whole_at in_environments.gated r)
   wholes r has = whole_in db broker.kept.sound environments (has_place _ 5 environments (environments_there db broker)) r has 1 _ refl refl refl refl refl
 
-  strict_names : (r : Row) → Has (db.trees 26) r → column r 1 ≡ Text (text 1 r)
+  strict_names : (r : Row) → Has (db.trees in_strict_environments.tree) r
+      → column r in_strict_environments.environment ≡ Text (text in_strict_environments.environment r)
   strict_names r has = text_at db broker.kept.sound strict_environments (has_place _ 14 strict_environments (strict_environments_there db broker)) r has 0 _ refl refl refl refl refl
 
-  strict_keys : IsAscending (λ a b. eq_by_cmp text_cmp (text 1 a) (text 1 b) ≡ false) (db.trees 26)
-  strict_keys = text_keys (db.trees 26) 1 strict_names (apart_by db broker.kept strict_environments 14 (strict_environments_there db broker) _ 12 (ap (λ (s : Schema). slice_get s.indexes 12) broker.schema) refl)
+  strict_keys : IsAscending (λ a b. eq_by_cmp text_cmp (text in_strict_environments.environment a) (text in_strict_environments.environment b) ≡ false)
+      (db.trees in_strict_environments.tree)
+  strict_keys = text_keys (db.trees in_strict_environments.tree) in_strict_environments.environment strict_names (apart_by db broker.kept strict_environments 14 (strict_environments_there db broker) _ 12 (ap (λ (s : Schema). slice_get s.indexes 12) broker.schema) refl)
 
 -- ---- the mark gated
 
@@ -53,14 +55,14 @@ pub gated_found : (e : List ℕ) (db : Database) (rows : List Row) (s : Broker) 
     → option_map (λ n. Int (pos n)) found ≡ option_map (λ row. column row 0) (slice_get rows 0) → option_map (λ n. n == 1) found ≡ option_map (λ (m : Marks). m.gated) (s.environments e)
 gated_found e db rows s found held h read =
     sym (mapped_twice truth_in (λ n. Int (pos n)) found) ∙ ap (option_map truth_in) read ∙ mapped_twice truth_in (λ row. column row 0) (slice_get rows 0)
-    ∙ looks_up_at nat_list_cmp_total exact_texts (text 1) (truth 2) _ (truth 0) (λ r. refl) e _ (db.trees 10) rows (by_text (db.trees 10) 1 e (names db held.broker)) (keys db held.broker) (answered db _ 10 _ _ _ rows h)
-    ∙ sym (value_map text_cmp (text 1) (λ (m : Marks). m.gated) (marks_in (db.trees 26)) (db.trees 10) e) ∙ ap (option_map (λ (m : Marks). m.gated)) (held.environments e)
+    ∙ looks_up_at nat_list_cmp_total exact_texts (text in_environments.name) (truth in_environments.gated) _ (truth 0) (λ r. refl) e _ (db.trees in_environments.tree) rows (by_text (db.trees in_environments.tree) in_environments.name e (names db held.broker)) (keys db held.broker) (answered db _ in_environments.tree _ _ _ rows h)
+    ∙ sym (value_map text_cmp (text in_environments.name) (λ (m : Marks). m.gated) (marks_in (db.trees in_strict_environments.tree)) (db.trees in_environments.tree) e) ∙ ap (option_map (λ (m : Marks). m.gated)) (held.environments e)
 
 -- the mark that is shown is 0 or 1
 pub gated_reads : (e : List ℕ) (db : Database) → EachReads (gated e) db (IsTruthAt 0)
 gated_reads e db s held readable = of_table (gated e) db (IsTruthAt 0) (λ r has kept.
     let listed = has_place _ 5 environments (environments_there db held.broker) in
-    let mark = is_low r 2 (whole_at 2 r) (wholes db held.broker r has) (first_of_both _ true (checks_hold db held.broker.kept.sound environments listed r has)) in
+    let mark = is_low r in_environments.gated (whole_at in_environments.gated r) (wholes db held.broker r has) (first_of_both _ true (checks_hold db held.broker.kept.sound environments listed r has)) in
     (omega arith, (mark.0, wholes db held.broker r has ∙ ap Int mark.1, mark.2)))
 
 -- a number above 1 is no mark
@@ -83,14 +85,14 @@ mark_is_number row stands = (stands.0, (stands.1.0, stands.1.1, omega (arith, st
 -- ---- the mark strict
 
 -- the marks of a name, by what its row has and by whether it stands among the strict ones
-marks_at : (strict rows : List Row) (e : List ℕ) → value_at text_cmp (text 1) (marks_in strict) rows e ≡ option_map (λ g. marks g (stands_at text_cmp (text 1) strict e)) (value_at text_cmp (text 1) (truth 2) rows e)
+marks_at : (strict rows : List Row) (e : List ℕ) → value_at text_cmp (text in_environments.name) (marks_in strict) rows e ≡ option_map (λ g. marks g (stands_at text_cmp (text in_strict_environments.environment) strict e)) (value_at text_cmp (text in_environments.name) (truth in_environments.gated) rows e)
 marks_at strict [] e = refl
-marks_at strict (r ∷ rows) e = go (eq_by_cmp text_cmp e (text 1 r)) refl (marks_at strict rows e)
+marks_at strict (r ∷ rows) e = go (eq_by_cmp text_cmp e (text in_environments.name r)) refl (marks_at strict rows e)
   where
-    go : (b : Bool) → eq_by_cmp text_cmp e (text 1 r) ≡ b → value_at text_cmp (text 1) (marks_in strict) rows e ≡ option_map (λ g. marks g (stands_at text_cmp (text 1) strict e)) (value_at text_cmp (text 1) (truth 2) rows e)
-        → cond b (Some (marks_in strict r)) (value_at text_cmp (text 1) (marks_in strict) rows e)
-        ≡ option_map (λ g. marks g (stands_at text_cmp (text 1) strict e)) (cond b (Some (truth 2 r)) (value_at text_cmp (text 1) (truth 2) rows e))
-    go true same later = ap (λ k. Some (marks (truth 2 r) (stands_at text_cmp (text 1) strict k))) (sym (exact_texts e (text 1 r) ((Equal-is (text_cmp e (text 1 r))).0 same)))
+    go : (b : Bool) → eq_by_cmp text_cmp e (text in_environments.name r) ≡ b → value_at text_cmp (text in_environments.name) (marks_in strict) rows e ≡ option_map (λ g. marks g (stands_at text_cmp (text in_strict_environments.environment) strict e)) (value_at text_cmp (text in_environments.name) (truth in_environments.gated) rows e)
+        → cond b (Some (marks_in strict r)) (value_at text_cmp (text in_environments.name) (marks_in strict) rows e)
+        ≡ option_map (λ g. marks g (stands_at text_cmp (text in_strict_environments.environment) strict e)) (cond b (Some (truth in_environments.gated r)) (value_at text_cmp (text in_environments.name) (truth in_environments.gated) rows e))
+    go true same later = ap (λ k. Some (marks (truth in_environments.gated r) (stands_at text_cmp (text in_strict_environments.environment) strict k))) (sym (exact_texts e (text in_environments.name r) ((Equal-is (text_cmp e (text in_environments.name r))).0 same)))
     go false apart later = later
 
 -- so whether a name that has marks stands there is one of them
@@ -98,20 +100,23 @@ strict_is : (g : Option Bool) (stands : Bool) (m : Marks) → option_map (λ x. 
 strict_is None stands m is = absurd cc
 strict_is (Some x) stands m is = let same : marks x stands ≡ m = cc in ap (λ (k : Marks). k.strict) same
 
-strict_mark : (db : Database) (s : Broker) (e : List ℕ) (m : Marks) → Holds db s → s.environments e ≡ Some m → stands_at text_cmp (text 1) (db.trees 26) e ≡ m.strict
-strict_mark db s e m held is = strict_is _ _ m (sym (marks_at (db.trees 26) (db.trees 10) e) ∙ held.environments e ∙ is)
+strict_mark : (db : Database) (s : Broker) (e : List ℕ) (m : Marks) → Holds db s → s.environments e ≡ Some m → stands_at text_cmp (text in_strict_environments.environment) (db.trees in_strict_environments.tree) e ≡ m.strict
+strict_mark db s e m held is = strict_is _ _ m
+    (sym (marks_at (db.trees in_strict_environments.tree) (db.trees in_environments.tree) e) ∙ held.environments e ∙ is)
 
 pub strict : (e : List ℕ)
     → Asked (codes "SELECT environment FROM strict_environments WHERE environment = ?1")
-    (Text e ∷ []) (from_table 26 (op2 (Compare Eq Binary) (col 1 1) (col 0 0) ∷ []) (col 1 1 ∷ []) [])
+    (Text e ∷ []) (from_table in_strict_environments.tree (op2 (Compare Eq Binary) (col 1 in_strict_environments.environment) (col 0 0) ∷ [])
+    (col 1 in_strict_environments.environment ∷ []) [])
 unfolding understood everything
 strict e = record { names = _; means = record { is = refl; plain = (refl, refl); unlisted = refl }; runs = record { whole = refl; typed = refl; sumless = refl } }
 
 pub strict_found : (e : List ℕ) (db : Database) (rows : List Row) (s : Broker) (m : Marks) → Holds db s → s.environments e ≡ Some m → IsShown (strict e) db rows → is_some (option_map (text 0) (slice_get rows 0)) ≡ m.strict
 strict_found e db rows s m held is h =
-    ap is_some (looks_up_at nat_list_cmp_total exact_texts (text 1) (text 1) _ (text 0) (λ r. refl) e _ (db.trees 26) rows (by_text (db.trees 26) 1 e (strict_names db held.broker)) (strict_keys db held.broker)
-    (answered db _ 26 _ _ _ rows h))
-    ∙ stands_found text_cmp (text 1) (text 1) (db.trees 26) e ∙ strict_mark db s e m held is
+    ap is_some (looks_up_at nat_list_cmp_total exact_texts (text in_strict_environments.environment) (text in_strict_environments.environment) _ (text 0) (λ r. refl) e _ (db.trees in_strict_environments.tree) rows (by_text (db.trees in_strict_environments.tree) in_strict_environments.environment e (strict_names db held.broker)) (strict_keys db held.broker)
+    (answered db _ in_strict_environments.tree _ _ _ rows h))
+    ∙ stands_found text_cmp (text in_strict_environments.environment) (text in_strict_environments.environment) (db.trees in_strict_environments.tree) e
+    ∙ strict_mark db s e m held is
 
 -- ---- a new environment
 
@@ -133,16 +138,17 @@ mark_is true = refl
 mark_is false = refl
 
 -- an environment that isn't there isn't strict
-not_strict : (db : Database) (s : Broker) (e : List ℕ) → Holds db s → s.environments e ≡ None → stands_at text_cmp (text 1) (db.trees 26) e ≡ false
+not_strict : (db : Database) (s : Broker) (e : List ℕ) → Holds db s → s.environments e ≡ None
+    → stands_at text_cmp (text in_strict_environments.environment) (db.trees in_strict_environments.tree) e ≡ false
 not_strict db s e held free =
-    none_stands text_cmp (text 1) (text 1) e (db.trees 26) (λ r has.
+    none_stands text_cmp (text in_strict_environments.environment) (text in_strict_environments.environment) e (db.trees in_strict_environments.tree) (λ r has.
     let listed = has_place _ 14 strict_environments (strict_environments_there db held.broker) in
-    let named = refers_environment db held.broker strict_environments listed 1 (inl refl) r has (strict_names db held.broker r has) in
-    ap (eq_by_cmp text_cmp e) (sym named.2) ∙ none_has nat_list_cmp_total exact_texts (text 1) (marks_in (db.trees 26)) e (db.trees 10) named.0 (held.environments e ∙ free) named.1)
+    let named = refers_environment db held.broker strict_environments listed in_strict_environments.environment (inl refl) r has (strict_names db held.broker r has) in
+    ap (eq_by_cmp text_cmp e) (sym named.2) ∙ none_has nat_list_cmp_total exact_texts (text in_environments.name) (marks_in (db.trees in_strict_environments.tree)) e (db.trees in_environments.tree) named.0 (held.environments e ∙ free) named.1)
 
 module _ (e : List ℕ) (gated : Bool) (old new : State) (s : Broker) (held : Holds old.now s) (free : s.environments e ≡ None) where
   abbrev rows : List Row
-  rows = old.now.trees 10
+  rows = old.now.trees in_environments.tree
 
   abbrev made : Row
   made = Int (next_rowid rows) ∷ Text e ∷ Int (pos (mark_of gated)) ∷ []
@@ -152,31 +158,33 @@ module _ (e : List ℕ) (gated : Bool) (old new : State) (s : Broker) (held : Ho
       ap (λ v. with_rowid Chosen rows (cast Integer Null ∷ Text e ∷ v ∷ [])) (cast_int (pos (mark_of gated))) ∙ ap (λ v. with_rowid Chosen rows (v ∷ Text e ∷ Int (pos (mark_of gated)) ∷ [])) cast_null
 
   module _ (count : ℕ) (h : Executes put_sql (Text e ∷ Int (pos (mark_of gated)) ∷ []) old new (Ok count)) where
-    abbrev it : ChangesOnly 10 old new × IsAdded rows (new.now.trees 10) made
+    abbrev it : ChangesOnly in_environments.tree old new × IsAdded rows (new.now.trees in_environments.tree) made
     it = inserted put_sql (Text e ∷ Int (pos (mark_of gated)) ∷ []) old new held.broker environments 5 (environments_there old.now held.broker) _ made (put_puts e (mark_of gated)) stored count h
 
     frame : Frame (codes "environments" ∷ []) old.now new.now
-    frame = frame_of (codes "environments" ∷ []) 10 refl old new held.broker it.0
+    frame = frame_of (codes "environments" ∷ []) in_environments.tree refl old new held.broker it.0
 
     -- the strict environments are the same
-    pub strict_stays : new.now.trees 26 ≡ old.now.trees 26
+    pub strict_stays : new.now.trees in_strict_environments.tree ≡ old.now.trees in_strict_environments.tree
     strict_stays = frame.others.1.1.1.1.1.1.1.1.1.1.1.1.1.1.0 refl
 
     pub environment_put : HoldsAfter 1 old new (record s { environments = put_at same_text s.environments e (Some (marks gated false)) })
     environment_put =
-        let row : marks_in (old.now.trees 26) made ≡ marks gated false = (λ i. marks (mark_is gated i) (not_strict old.now s e held free i)) in
+        let row : marks_in (old.now.trees in_strict_environments.tree) made ≡ marks gated false = (λ i. marks (mark_is gated i) (not_strict old.now s e held free i)) in
         after_one 1 (omega arith) (codes "environments") old new _ frame (λ counted. grows_added _ _ made it.1 refl)
-        (environments_change old.now new.now s _ held (frame_of (codes "environments" ∷ codes "strict_environments" ∷ []) 10 refl old new held.broker it.0) (λ q.
-        ap (λ rows. value_at text_cmp (text 1) (marks_in rows) (new.now.trees 10) q) strict_stays
-        ∙ puts_at nat_list_cmp_total exact_texts (text 1) (marks_in (old.now.trees 26)) rows (new.now.trees 10) made it.1 (held.environments e ∙ free) q
+        (environments_change old.now new.now s _ held (frame_of (codes "environments" ∷ codes "strict_environments" ∷ []) in_environments.tree refl old new held.broker it.0) (λ q.
+        ap (λ rows. value_at text_cmp (text in_environments.name) (marks_in rows) (new.now.trees in_environments.tree) q) strict_stays
+        ∙ puts_at nat_list_cmp_total exact_texts (text in_environments.name) (marks_in (old.now.trees in_strict_environments.tree)) rows
+        (new.now.trees in_environments.tree) made it.1 (held.environments e ∙ free) q
         ∙ (λ i. cond (sym (texts_ties q e) i) (Some (row i)) (held.environments q i))))
 
   -- it fails only as the store fails, or since the name is too long
   pub environment_ends : HaveNumbers (codes "environments" ∷ []) old.now → EndsOnly (e ∷ []) put_sql (Text e ∷ Int (pos (mark_of gated)) ∷ []) old new
   environment_ends numbers =
       next_ends put_sql (Text e ∷ Int (pos (mark_of gated)) ∷ []) old new held.broker environments 5 (environments_there old.now held.broker) _ _ (put_puts e (mark_of gated)) stored (number_for _ numbers.0) (mark_passes _ e gated) (
-        free_one rows made nat_list_cmp_total 1 (text 1) (new_text rows made 1 (names old.now held.broker) refl)
-            (sym (stands_found text_cmp (text 1) (marks_in (old.now.trees 26)) rows e) ∙ ap is_some (held.environments e ∙ free)),
+        free_one rows made nat_list_cmp_total in_environments.name (text in_environments.name)
+            (new_text rows made in_environments.name (names old.now held.broker) refl)
+            (sym (stands_found text_cmp (text in_environments.name) (marks_in (old.now.trees in_strict_environments.tree)) rows e) ∙ ap is_some (held.environments e ∙ free)),
         tt,
       ) tt (e ∷ []) (λ are. (are.0, (tt, tt))) (omega arith) (omega arith)
 
@@ -197,7 +205,7 @@ one_more true (Some x) was m there = let is = there refl in let same : marks x w
 
 module _ (e : List ℕ) (old new : State) (s : Broker) (m : Marks) (held : Holds old.now s) (is : s.environments e ≡ Some m) where
   abbrev strict_rows : List Row
-  strict_rows = old.now.trees 26
+  strict_rows = old.now.trees in_strict_environments.tree
 
   abbrev strict_made : Row
   strict_made = Int (next_rowid strict_rows) ∷ Text e ∷ []
@@ -208,14 +216,16 @@ module _ (e : List ℕ) (old new : State) (s : Broker) (m : Marks) (held : Holds
   pub strict_put : (count : ℕ) → Executes make_sql (Text e ∷ []) old new (Ok count) → HoldsAfter 1 old new (record s { environments = put_at same_text s.environments e (Some (marks m.gated true)) })
   strict_put count h =
       let it = inserted make_sql (Text e ∷ []) old new held.broker strict_environments 14 (strict_environments_there old.now held.broker) _ strict_made (make_puts e) strict_stored count h in
-      let one : Frame (codes "strict_environments" ∷ []) old.now new.now = frame_of (codes "strict_environments" ∷ []) 26 refl old new held.broker it.0 in
-      let same : new.now.trees 10 ≡ old.now.trees 10 = one.others.1.1.1.1.1.0 refl in
+      let one : Frame (codes "strict_environments" ∷ []) old.now new.now = frame_of (codes "strict_environments" ∷ []) in_strict_environments.tree refl old new held.broker it.0 in
+      let same : new.now.trees in_environments.tree ≡ old.now.trees in_environments.tree = one.others.1.1.1.1.1.0 refl in
       after_one 1 (omega arith) (codes "strict_environments") old new _ one (λ counted. grows_added _ _ strict_made it.1 refl)
-      (environments_change old.now new.now s _ held (frame_of (codes "environments" ∷ codes "strict_environments" ∷ []) 26 refl old new held.broker it.0) (λ q.
-      let was = sym (marks_at strict_rows (old.now.trees 10) q) in
-      let gated = value_at text_cmp (text 1) (truth 2) (old.now.trees 10) q in
-      ap (λ rows. value_at text_cmp (text 1) (marks_in (new.now.trees 26)) rows q) same ∙ marks_at (new.now.trees 26) (old.now.trees 10) q
-      ∙ ap (λ b. option_map (λ g. marks g b) gated) (stands_put text_cmp (text 1) strict_rows (new.now.trees 26) strict_made it.1 q)
+      (environments_change old.now new.now s _ held (frame_of (codes "environments" ∷ codes "strict_environments" ∷ []) in_strict_environments.tree refl old new held.broker it.0) (λ q.
+      let was = sym (marks_at strict_rows (old.now.trees in_environments.tree) q) in
+      let gated = value_at text_cmp (text in_environments.name) (truth in_environments.gated) (old.now.trees in_environments.tree) q in
+      ap (λ rows. value_at text_cmp (text in_environments.name) (marks_in (new.now.trees in_strict_environments.tree)) rows q) same
+      ∙ marks_at (new.now.trees in_strict_environments.tree) (old.now.trees in_environments.tree) q
+      ∙ ap (λ b. option_map (λ g. marks g b) gated)
+      (stands_put text_cmp (text in_strict_environments.environment) strict_rows (new.now.trees in_strict_environments.tree) strict_made it.1 q)
       ∙ one_more (eq_by_cmp text_cmp q e) gated _ m (λ t. was ∙ held.environments q ∙ ap s.environments (exact_texts q e ((Equal-is (text_cmp q e)).0 t)) ∙ is)
       ∙ (λ i. cond (sym (texts_ties q e) i) (Some (marks m.gated true)) ((was ∙ held.environments q) i))))
 
@@ -223,11 +233,11 @@ module _ (e : List ℕ) (old new : State) (s : Broker) (m : Marks) (held : Holds
   pub strict_ends : HaveNumbers (codes "strict_environments" ∷ []) old.now → m.strict ≡ false → EndsOnly (e ∷ []) make_sql (Text e ∷ []) old new
   strict_ends numbers off =
       next_ends make_sql (Text e ∷ []) old new held.broker strict_environments 14 (strict_environments_there old.now held.broker) _ _ (make_puts e) strict_stored (number_for _ numbers.0) (record { typed = refl; present = refl; checked = refl }) (
-        free_one strict_rows strict_made nat_list_cmp_total 1 (text 1) (new_text strict_rows strict_made 1 (strict_names old.now held.broker) refl)
+        free_one strict_rows strict_made nat_list_cmp_total in_strict_environments.environment (text in_strict_environments.environment) (new_text strict_rows strict_made in_strict_environments.environment (strict_names old.now held.broker) refl)
             (strict_mark old.now s e m held is ∙ off),
         tt,
       )
-      (environment_there old.now s held strict_made 1 e (ap is_some is) refl, tt) (e ∷ []) (λ are. are) (omega arith) (omega arith)
+      (environment_there old.now s held strict_made in_strict_environments.environment e (ap is_some is) refl, tt) (e ∷ []) (λ are. are) (omega arith) (omega arith)
 
 -- ---- both marks
 

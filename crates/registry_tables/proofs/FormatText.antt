@@ -14,7 +14,7 @@ use Rattle.sqlite_resolve.specs.{Program.{Building, Shown, query, query_to}, Com
 use Rattle.sqlite.{specs.Listing.{understood, reads_listing, misses_table, if_select, listing_schema}, proofs.Callers.{command_of, IsPlain}}
 use Rattle.sqlite_tied.specs.Compute.{everything}
 use Rattle.table_access.{specs.Statements.{from_table}, proofs.Steps.{Means}}
-use Rattle.broker_tables.specs.Schema.{meta}
+use Rattle.broker_tables.specs.Schema.{meta, in_meta}
 use Rattle.sqlite_ast.specs.declared.Origin.TheVariants as origin
 use Rattle.sqlite_schema.specs.declared.command.Command.TheVariants as command
 use Rattle.sqlite_resolve.specs.Program as program
@@ -50,7 +50,7 @@ abbrev pub like_meta : Table → Column → Column → Column → Table
 like_meta t a b c = record t { columns = like a b c; key = meta.key }
 
 abbrev pub format_query : ℕ → Query
-format_query tree = from_table tree [] (col 1 2 ∷ []) []
+format_query tree = from_table tree [] (col 1 in_meta.format ∷ []) []
 
 abbrev pub format_command : ℕ → Command
 format_command tree = command.Select (record { lets = []; body = format_query tree }) (codes "format" ∷ [])
@@ -64,7 +64,7 @@ read_if accepted tree = if accepted then Ok (compiled_of tree) else Err Mismatch
 
 module _ (s : Schema) (at : ℕ) (t : Table) (a b c : Column) (there : table_named s (codes "meta") ≡ Some at) (is : slice_get s.tables at ≡ Some (like_meta t a b c)) where
   abbrev draft : Draft
-  draft = record { from = chain (Inner t.tree ∷ []); filter = []; group = None; project = col 1 2 ∷ []; distinct = false; collations = []; order = []; limit = lit (Int (negsuc 0)); offset = lit (Int (pos 0)) }
+  draft = record { from = chain (Inner t.tree ∷ []); filter = []; group = None; project = col 1 in_meta.format ∷ []; distinct = false; collations = []; order = []; limit = lit (Int (negsuc 0)); offset = lit (Int (pos 0)) }
 
   abbrev shows : Shown
   shows = (draft, codes "format" ∷ [], Some b.collation ∷ [])

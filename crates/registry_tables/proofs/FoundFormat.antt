@@ -8,7 +8,7 @@ use Rattle.sqlite_schema.specs.{declared.schema.Column.{Column}, Names.{table_na
 use Rattle.sqlite_catalog.proofs.ListFacts.{filter_all}
 use Rattle.sqlite_resolve.specs.declared.compiled.Compiled.{Compiled}
 use Rattle.table_access.{specs.{Reading.{IsNumberRow}, Statements.{keeps, shows}}, proofs.Steps.{Means, selects, shown_unchanged}}
-use Rattle.broker_tables.specs.Schema.{meta, numbers, texts}
+use Rattle.broker_tables.specs.Schema.{meta, numbers, texts, in_meta}
 use Rattle.registry_tables.specs.Format.{IsLike, AreLike, IsMetaTable, Finds, HasNoFormat, table_of}
 use Rattle.registry_tables.proofs.FormatText.{format_sql, like, like_meta, format_command, format_means}
 
@@ -46,13 +46,13 @@ means s t there is it read =
 -- ---- its answer
 
 abbrev Shows : List Row → List Row → Type 0
-Shows rows out = IsPermutation (map (shows (col 1 2 ∷ []) []) (filter (keeps [] []) rows)) out
+Shows rows out = IsPermutation (map (shows (col 1 in_meta.format ∷ []) []) (filter (keeps [] []) rows)) out
 
 as_many : (rows out : List Row) → Shows rows out → length out ≡ length rows
-as_many rows out same = length_permutation _ out same ∙ length-map (filter (keeps [] []) rows) (shows (col 1 2 ∷ []) []) ∙ ap length (filter_all (keeps [] []) rows (λ r has. refl))
+as_many rows out same = length_permutation _ out same ∙ length-map (filter (keeps [] []) rows) (shows (col 1 in_meta.format ∷ []) []) ∙ ap length (filter_all (keeps [] []) rows (λ r has. refl))
 
 -- where one row is shown, it shows the format in the one row of the table
-one_shown : (rows out : List Row) → Shows rows out → length out ≡ 1 → (r : Row) × (rows ≡ r ∷ []) × (out ≡ (column r 2 ∷ []) ∷ [])
+one_shown : (rows out : List Row) → Shows rows out → length out ≡ 1 → (r : Row) × (rows ≡ r ∷ []) × (out ≡ (column r in_meta.format ∷ []) ∷ [])
 one_shown [] out same one = let many = as_many [] out same in absurd (omega arith)
 one_shown (r ∷ []) out same one = (r, refl, one_permutation _ out same)
 one_shown (r ∷ q ∷ rows) out same one = let many = as_many (r ∷ q ∷ rows) out same in absurd (omega arith)
@@ -64,7 +64,7 @@ found_in db t there is rows same None none = λ u at meant one.
     none (as_many (db.trees t.tree) rows same ∙ subst (λ (v : Table). length (db.trees v.tree) ≡ 1) mine one)
 found_in db t there is rows same (Some n) one =
     let it = one_shown (db.trees t.tree) rows same (sym (length-map rows (λ (x : Row). column x 0)) ∙ ap length one) in
-    (t, there, is, ap (map (λ (x : Row). column x 2)) it.1 ∙ sym (ap (map (λ (x : Row). column x 0)) it.2) ∙ one)
+    (t, there, is, ap (map (λ (x : Row). column x in_meta.format)) it.1 ∙ sym (ap (map (λ (x : Row). column x 0)) it.2) ∙ one)
 
 head_same : (x y : Row) → ◌≡◌ {A = List Row} (x ∷ []) (y ∷ []) → x ≡ y
 head_same x y h = cc
@@ -75,7 +75,7 @@ module _ (old new : State) (t : Table) (there : table_of meta.name old.now.schem
   shown_means = means old.now.schema t there is h.0 h.1.is
 
   pub format_found : (found : Option ℕ) → MatchOption found (length rows ≢ 1) (λ n. map (λ row. column row 0) rows ≡ Int (pos n) ∷ []) → Finds old.now found
-  format_found found it = found_in old.now t there is rows (selects format_sql [] old new t.tree [] (col 1 2 ∷ []) [] (codes "format" ∷ []) shown_means rows h) found it
+  format_found found it = found_in old.now t there is rows (selects format_sql [] old new t.tree [] (col 1 in_meta.format ∷ []) [] (codes "format" ∷ []) shown_means rows h) found it
 
   -- and the database is as it was
   pub format_read : new.now ≡ old.now
@@ -83,5 +83,5 @@ module _ (old new : State) (t : Table) (there : table_of meta.name old.now.schem
 
   pub no_format : (row : Row) → rows ≡ row ∷ [] → ¬ (IsNumberRow row) → HasNoFormat old.now
   no_format row one not =
-      let it = one_shown (old.now.trees t.tree) rows (selects format_sql [] old new t.tree [] (col 1 2 ∷ []) [] (codes "format" ∷ []) shown_means rows h) (ap length one) in
-      (t, there, is, (it.0, it.1, λ n number low. not (subst IsNumberRow (head_same (column it.0 2 ∷ []) row (sym it.2 ∙ one)) (omega arith, (n, number, low)))))
+      let it = one_shown (old.now.trees t.tree) rows (selects format_sql [] old new t.tree [] (col 1 in_meta.format ∷ []) [] (codes "format" ∷ []) shown_means rows h) (ap length one) in
+      (t, there, is, (it.0, it.1, λ n number low. not (subst IsNumberRow (head_same (column it.0 in_meta.format ∷ []) row (sym it.2 ∙ one)) (omega arith, (n, number, low)))))

@@ -13,3 +13,4 @@ pub mod FoundFormat
 pub mod BranchNumbers
 pub mod FormatRow
 mod MarkText
+mod MetaFails

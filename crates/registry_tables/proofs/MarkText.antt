@@ -13,7 +13,7 @@ use Rattle.sqlite_tied.specs.Compute.{everything}
 use Rattle.sqlite_keyed.proofs.RuleLemmas.{first_of_both}
 use Rattle.table_access.{specs.Statements.{from_table, keeps, shows}, proofs.Answered.{Runs, shown_of, first_has}}
 use Rattle.table_access.proofs.{Members.{has_map, has_filter, has_contains, contains_has}, Steps.{Means, selects}, Values.{same_texts}}
-use Rattle.broker_tables.{specs.{Schema.{broker_schema, environments, texts, numbers}, Rows.{mark_of, IsTruthAt}}, proofs.Orders.{exact_texts}}
+use Rattle.broker_tables.{specs.{Schema.{in_environments, broker_schema, environments, texts, numbers}, Rows.{mark_of, IsTruthAt}}, proofs.Orders.{exact_texts}}
 use Rattle.registry_tables.specs.Marks.{IsColumnLike, HasColumns, HasBrokerTables, IsMarkIn, HasNoMark, IsEnvironmentRow}
 use Rattle.sqlite.specs.Kind.TheVariants as kind
 
@@ -23,7 +23,7 @@ abbrev pub gated_sql : List ℕ
 gated_sql = codes "SELECT gated FROM environments WHERE name = ?1"
 
 abbrev pub gated_query : Query
-gated_query = from_table 10 (op2 (Compare Eq Binary) (col 1 1) (col 0 0) ∷ []) (col 1 2 ∷ []) []
+gated_query = from_table in_environments.tree (op2 (Compare Eq Binary) (col 1 in_environments.name) (col 0 0) ∷ []) (col 1 in_environments.gated ∷ []) []
 
 abbrev pub gated_command : Command
 gated_command = Select (record { lets = []; body = gated_query }) (codes "gated" ∷ [])
@@ -97,7 +97,7 @@ mark_asks s h = let it = is_declared s h in subst Asks (sym it.3) (asks_declared
 -- ---- the rows
 
 abbrev by_name : List Term
-by_name = op2 (Compare Eq Binary) (col 1 1) (col 0 0) ∷ []
+by_name = op2 (Compare Eq Binary) (col 1 in_environments.name) (col 0 0) ∷ []
 
 -- in SQL only a text is equal to a text, and only the same
 equal_text : (v : Value) (k : List ℕ) → is_true (binary (Compare Eq Binary) v (Text k)) ≡ true → v ≡ Text k
@@ -108,10 +108,10 @@ equal_text (Real x) k h = absurd cc
 equal_text (Text t) k h = ap Text (exact_texts t k ((Equal-is (slice_cmp nat_cmp t k)).0 (sym (same_texts t k) ∙ h)))
 equal_text (Blob b) k h = absurd cc
 
-kept_name : (r : Row) (e : List ℕ) → keeps by_name (Text e ∷ []) r ≡ true → column r 1 ≡ Text e
-kept_name r e h = equal_text (column r 1) e (first_of_both _ true h)
+kept_name : (r : Row) (e : List ℕ) → keeps by_name (Text e ∷ []) r ≡ true → column r in_environments.name ≡ Text e
+kept_name r e h = equal_text (column r in_environments.name) e (first_of_both _ true h)
 
-name_kept : (r : Row) (e : List ℕ) → column r 1 ≡ Text e → keeps by_name (Text e ∷ []) r ≡ true
+name_kept : (r : Row) (e : List ℕ) → column r in_environments.name ≡ Text e → keeps by_name (Text e ∷ []) r ≡ true
 name_kept r e is = subst (λ v. (is_true (binary (Compare Eq Binary) v (Text e)) && true) ≡ true) (sym is) (ap (λ b. b && true) (same_texts e e ∙ (eq_by_cmp_equiv nat_list_cmp_total).refl e))
 
 module _ (e : List ℕ) (old new : State) (h : HasBrokerTables old.now.schema) (rows : List Row) (shown : Shown gated_sql (Text e ∷ []) old new rows) where
@@ -119,16 +119,16 @@ module _ (e : List ℕ) (old new : State) (h : HasBrokerTables old.now.schema) (
   means = (mark_asks old.now.schema h).0
 
   -- a row that is shown has the mark of a row of the environment
-  shown_mark : (row : Row) → slice_get rows 0 ≡ Some row → (r : Row) × IsEnvironmentRow e old.now r × (row ≡ column r 2 ∷ [])
+  shown_mark : (row : Row) → slice_get rows 0 ≡ Some row → (r : Row) × IsEnvironmentRow e old.now r × (row ≡ column r in_environments.gated ∷ [])
   shown_mark row head =
-      let it = shown_of gated_sql (Text e ∷ []) old new 10 by_name _ _ _ means rows row shown (first_has rows row head) in
+      let it = shown_of gated_sql (Text e ∷ []) old new in_environments.tree by_name _ _ _ means rows row shown (first_has rows row head) in
       (it.0, (it.1, kept_name it.0 e it.2), it.3)
 
   none_shown : slice_get rows 0 ≡ None → (r : Row) → ¬ IsEnvironmentRow e old.now r
   none_shown none r is =
       let kept : keeps by_name (Text e ∷ []) r ≡ true = name_kept r e is.1 in
-      let has = has_map (shows (col 1 2 ∷ []) (Text e ∷ [])) _ r (has_filter (keeps by_name (Text e ∷ [])) (old.now.trees 10) r is.0 kept) in
-      let there = contains_has rows _ (Contains-permutation _ rows _ (selects gated_sql (Text e ∷ []) old new 10 by_name _ _ _ means rows shown) (has_contains _ _ has)) in
+      let has = has_map (shows (col 1 in_environments.gated ∷ []) (Text e ∷ [])) _ r (has_filter (keeps by_name (Text e ∷ [])) (old.now.trees in_environments.tree) r is.0 kept) in
+      let there = contains_has rows _ (Contains-permutation _ rows _ (selects gated_sql (Text e ∷ []) old new in_environments.tree by_name _ _ _ means rows shown) (has_contains _ _ has)) in
       nothing rows none _ there
     where
       nothing : (xs : List Row) → slice_get xs 0 ≡ None → (x : Row) → Has xs x → ⊥

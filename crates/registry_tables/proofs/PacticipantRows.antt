@@ -10,32 +10,32 @@ use Rattle.sqlite_tied.specs.Compute.{everything}
 use Rattle.table_access.{specs.{Columns.{text, text_cmp}, Statements.{from_table}, Reading.{IsTextAt}}, proofs.{Values.{cast_null}, Steps.{answered}}}
 use Rattle.table_access.proofs.{Maps.{looks_up_at, puts_at}, Keys.{apart_by, text_keys, by_text}, SoundLemmas.{text_at, has_place}}
 use Rattle.broker_core.specs.{Text.{put_at, same_text}, State.{State as Broker}}
-use Rattle.broker_tables.specs.{Holds.{Holds, HoldsAfter, IsBroker}, Refusals.{HaveNumbers}}
+use Rattle.broker_tables.specs.{Schema.{in_pacticipants}, Holds.{Holds, HoldsAfter, IsBroker}, Refusals.{HaveNumbers}}
 use Rattle.broker_tables.proofs.{Asked.{Asked, IsShown, FirstShown, FirstReads, text_reads}, Frames.{frame_of, pacticipants_change}, Orders.{exact_texts}}
 use Rattle.broker_tables.proofs.{Placed.{pacticipants, pacticipants_there}, Standing.{stands_found}, RoomLemmas.{after_one, grows_added, number_for}}
 use Rattle.broker_tables.proofs.Inserted.{EndsOnly, Puts, inserted, next_ends, new_text, free_one, team_there}
 use Rattle.registry_tables.specs.Registry.{AddsPacticipant}
 
 module _ (db : Database) (broker : IsBroker db) where
-  names : (r : Row) → Has (db.trees 4) r → column r 1 ≡ Text (text 1 r)
+  names : (r : Row) → Has (db.trees in_pacticipants.tree) r → column r in_pacticipants.name ≡ Text (text in_pacticipants.name r)
   names r has = text_at db broker.kept.sound pacticipants (has_place _ 2 pacticipants (pacticipants_there db broker)) r has 0 _ refl refl refl refl refl
 
-  owners : (r : Row) → Has (db.trees 4) r → column r 2 ≡ Text (text 2 r)
+  owners : (r : Row) → Has (db.trees in_pacticipants.tree) r → column r in_pacticipants.team ≡ Text (text in_pacticipants.team r)
   owners r has = text_at db broker.kept.sound pacticipants (has_place _ 2 pacticipants (pacticipants_there db broker)) r has 1 _ refl refl refl refl refl
 
-  keys : IsAscending (λ a b. eq_by_cmp text_cmp (text 1 a) (text 1 b) ≡ false) (db.trees 4)
-  keys = text_keys (db.trees 4) 1 names (apart_by db broker.kept pacticipants 2 (pacticipants_there db broker) _ 2 (ap (λ (s : Schema). slice_get s.indexes 2) broker.schema) refl)
+  keys : IsAscending (λ a b. eq_by_cmp text_cmp (text in_pacticipants.name a) (text in_pacticipants.name b) ≡ false) (db.trees in_pacticipants.tree)
+  keys = text_keys (db.trees in_pacticipants.tree) in_pacticipants.name names (apart_by db broker.kept pacticipants 2 (pacticipants_there db broker) _ 2 (ap (λ (s : Schema). slice_get s.indexes 2) broker.schema) refl)
 
 pub owner : (p : List ℕ)
     → Asked (codes "SELECT team FROM pacticipants WHERE name = ?1")
-    (Text p ∷ []) (from_table 4 (op2 (Compare Eq Binary) (col 1 1) (col 0 0) ∷ []) (col 1 2 ∷ []) [])
+    (Text p ∷ []) (from_table in_pacticipants.tree (op2 (Compare Eq Binary) (col 1 in_pacticipants.name) (col 0 0) ∷ []) (col 1 in_pacticipants.team ∷ []) [])
 unfolding understood everything
 owner p = record { names = _; means = record { is = refl; plain = (refl, refl); unlisted = refl }; runs = record { whole = refl; typed = refl; sumless = refl } }
 
 pub owner_found : (p : List ℕ) (db : Database) (rows : List Row) (s : Broker) → Holds db s → IsShown (owner p) db rows → option_map (text 0) (slice_get rows 0) ≡ s.pacticipants p
 owner_found p db rows s held h =
-    looks_up_at nat_list_cmp_total exact_texts (text 1) (text 2) _ (text 0) (λ r. refl) p _ (db.trees 4) rows (by_text (db.trees 4) 1 p (names db held.broker)) (keys db held.broker)
-    (answered db _ 4 _ _ _ rows h) ∙ held.pacticipants p
+    looks_up_at nat_list_cmp_total exact_texts (text in_pacticipants.name) (text in_pacticipants.team) _ (text 0) (λ r. refl) p _ (db.trees in_pacticipants.tree) rows (by_text (db.trees in_pacticipants.tree) in_pacticipants.name p (names db held.broker)) (keys db held.broker)
+    (answered db _ in_pacticipants.tree _ _ _ rows h) ∙ held.pacticipants p
 
 -- where the owner is a text in UTF-8, it can be read
 pub owner_reads : (p : List ℕ) (db : Database) → FirstReads (owner p) db (IsTextAt 0)
@@ -55,22 +55,22 @@ add_puts p team = record { terms = lit Null ∷ col 0 0 ∷ col 0 1 ∷ []; widt
 
 module _ (p team : List ℕ) (old new : State) (s : Broker) (held : Holds old.now s) where
   abbrev made : Row
-  made = Int (next_rowid (old.now.trees 4)) ∷ Text p ∷ Text team ∷ []
+  made = Int (next_rowid (old.now.trees in_pacticipants.tree)) ∷ Text p ∷ Text team ∷ []
 
-  stored : with_rowid Chosen (old.now.trees 4) (cast_row pacticipants (Null ∷ Text p ∷ Text team ∷ [])) ≡ made
-  stored = ap (λ v. with_rowid Chosen (old.now.trees 4) (v ∷ Text p ∷ Text team ∷ [])) cast_null
+  stored : with_rowid Chosen (old.now.trees in_pacticipants.tree) (cast_row pacticipants (Null ∷ Text p ∷ Text team ∷ [])) ≡ made
+  stored = ap (λ v. with_rowid Chosen (old.now.trees in_pacticipants.tree) (v ∷ Text p ∷ Text team ∷ [])) cast_null
 
   pub pacticipant_added : (count : ℕ) → s.pacticipants p ≡ None → Executes add_sql (Text p ∷ Text team ∷ []) old new (Ok count) → HoldsAfter 2 old new (record s { pacticipants = put_at same_text s.pacticipants p (Some team) })
   pacticipant_added count free h =
       let it = inserted add_sql (Text p ∷ Text team ∷ []) old new held.broker pacticipants 2 (pacticipants_there old.now held.broker) _ made (add_puts p team) stored count h in
-      let frame = frame_of (codes "pacticipants" ∷ []) 4 refl old new held.broker it.0 in
+      let frame = frame_of (codes "pacticipants" ∷ []) in_pacticipants.tree refl old new held.broker it.0 in
       after_one 2 (omega arith) (codes "pacticipants") old new _ frame (λ counted. grows_added _ _ made it.1 refl)
       (pacticipants_change old.now new.now s _ held frame (λ q.
-      puts_at nat_list_cmp_total exact_texts (text 1) (text 2) (old.now.trees 4) (new.now.trees 4) made it.1 (held.pacticipants p ∙ free) q ∙ (λ i. cond (sym (texts_ties q p) i) (Some team) (held.pacticipants q i))))
+      puts_at nat_list_cmp_total exact_texts (text in_pacticipants.name) (text in_pacticipants.team) (old.now.trees in_pacticipants.tree) (new.now.trees in_pacticipants.tree) made it.1 (held.pacticipants p ∙ free) q ∙ (λ i. cond (sym (texts_ties q p) i) (Some team) (held.pacticipants q i))))
 
   -- it fails only as the store fails, or since one of its names is too long
   pub pacticipant_ends : HaveNumbers (codes "pacticipants" ∷ []) old.now → (t : Broker) → AddsPacticipant p team s t → EndsOnly (p ∷ team ∷ []) add_sql (Text p ∷ Text team ∷ []) old new
   pacticipant_ends numbers t next =
       next_ends add_sql (Text p ∷ Text team ∷ []) old new held.broker pacticipants 2 (pacticipants_there old.now held.broker) _ _ (add_puts p team) stored (number_for _ numbers.0) (record { typed = refl; present = refl; checked = refl })
-      (free_one (old.now.trees 4) made nat_list_cmp_total 1 (text 1) (new_text (old.now.trees 4) made 1 (names old.now held.broker) refl) (sym (stands_found text_cmp (text 1) (text 2) (old.now.trees 4) p) ∙ ap is_some (held.pacticipants p ∙ next.0)), tt)
-      (team_there old.now s held made 2 team next.1 refl, tt) (p ∷ team ∷ []) (λ are. are) (omega arith) (omega arith)
+      (free_one (old.now.trees in_pacticipants.tree) made nat_list_cmp_total in_pacticipants.name (text in_pacticipants.name) (new_text (old.now.trees in_pacticipants.tree) made in_pacticipants.name (names old.now held.broker) refl) (sym (stands_found text_cmp (text in_pacticipants.name) (text in_pacticipants.team) (old.now.trees in_pacticipants.tree) p) ∙ ap is_some (held.pacticipants p ∙ next.0)), tt)
+      (team_there old.now s held made in_pacticipants.team team next.1 refl, tt) (p ∷ team ∷ []) (λ are. are) (omega arith) (omega arith)

@@ -10,37 +10,37 @@ use Rattle.sqlite_tied.specs.Compute.{everything}
 use Rattle.table_access.{specs.{Columns.{text, text_cmp}, Statements.{from_table}, Reading.{IsTextAt}}, proofs.{Values.{cast_null}, Steps.{answered}}}
 use Rattle.table_access.proofs.{Maps.{looks_up_at, puts_at, other_way, no_other_way}, Keys.{apart_by, text_keys, by_text}, SoundLemmas.{text_at, has_place}}
 use Rattle.broker_core.specs.{Text.{put_at, same_text}, State.{State as Broker}, Laws.{TeamsDiffer}}
-use Rattle.broker_tables.specs.{Rows.{value_at}, Holds.{Holds, HoldsAfter, IsBroker}, Refusals.{HaveNumbers}}
+use Rattle.broker_tables.specs.{Schema.{in_teams}, Rows.{value_at}, Holds.{Holds, HoldsAfter, IsBroker}, Refusals.{HaveNumbers}}
 use Rattle.broker_tables.proofs.{Asked.{Asked, IsShown, FirstShown, FirstReads, text_reads}, Frames.{frame_of, teams_change}, Orders.{exact_texts}}
 use Rattle.broker_tables.proofs.{Placed.{teams, teams_there}, Standing.{stands_found}, RoomLemmas.{after_one, grows_added, number_for}}
 use Rattle.broker_tables.proofs.Inserted.{EndsOnly, Puts, inserted, next_ends, new_text, free_one}
 use Rattle.registry_tables.specs.Registry.{AddsTeam}
 
 module _ (db : Database) (broker : IsBroker db) where
-  names : (r : Row) → Has (db.trees 1) r → column r 1 ≡ Text (text 1 r)
+  names : (r : Row) → Has (db.trees in_teams.tree) r → column r in_teams.name ≡ Text (text in_teams.name r)
   names r has = text_at db broker.kept.sound teams (has_place _ 1 teams (teams_there db broker)) r has 0 _ refl refl refl refl refl
 
-  digests : (r : Row) → Has (db.trees 1) r → column r 2 ≡ Text (text 2 r)
+  digests : (r : Row) → Has (db.trees in_teams.tree) r → column r in_teams.token_digest ≡ Text (text in_teams.token_digest r)
   digests r has = text_at db broker.kept.sound teams (has_place _ 1 teams (teams_there db broker)) r has 1 _ refl refl refl refl refl
 
-  team_keys : IsAscending (λ a b. eq_by_cmp text_cmp (text 1 a) (text 1 b) ≡ false) (db.trees 1)
-  team_keys = text_keys (db.trees 1) 1 names (apart_by db broker.kept teams 1 (teams_there db broker) _ 0 (ap (λ (s : Schema). slice_get s.indexes 0) broker.schema) refl)
+  team_keys : IsAscending (λ a b. eq_by_cmp text_cmp (text in_teams.name a) (text in_teams.name b) ≡ false) (db.trees in_teams.tree)
+  team_keys = text_keys (db.trees in_teams.tree) in_teams.name names (apart_by db broker.kept teams 1 (teams_there db broker) _ 0 (ap (λ (s : Schema). slice_get s.indexes 0) broker.schema) refl)
 
-  digest_keys : IsAscending (λ a b. eq_by_cmp text_cmp (text 2 a) (text 2 b) ≡ false) (db.trees 1)
-  digest_keys = text_keys (db.trees 1) 2 digests (apart_by db broker.kept teams 1 (teams_there db broker) _ 1 (ap (λ (s : Schema). slice_get s.indexes 1) broker.schema) refl)
+  digest_keys : IsAscending (λ a b. eq_by_cmp text_cmp (text in_teams.token_digest a) (text in_teams.token_digest b) ≡ false) (db.trees in_teams.tree)
+  digest_keys = text_keys (db.trees in_teams.tree) in_teams.token_digest digests (apart_by db broker.kept teams 1 (teams_there db broker) _ 1 (ap (λ (s : Schema). slice_get s.indexes 1) broker.schema) refl)
 
 -- ---- the digest of a team
 
 pub token : (team : List ℕ)
     → Asked (codes "SELECT token_digest FROM teams WHERE name = ?1")
-    (Text team ∷ []) (from_table 1 (op2 (Compare Eq Binary) (col 1 1) (col 0 0) ∷ []) (col 1 2 ∷ []) [])
+    (Text team ∷ []) (from_table in_teams.tree (op2 (Compare Eq Binary) (col 1 in_teams.name) (col 0 0) ∷ []) (col 1 in_teams.token_digest ∷ []) [])
 unfolding understood everything
 token team = record { names = _; means = record { is = refl; plain = (refl, refl); unlisted = refl }; runs = record { whole = refl; typed = refl; sumless = refl } }
 
 pub token_found : (team : List ℕ) (db : Database) (rows : List Row) (s : Broker) → Holds db s → IsShown (token team) db rows → option_map (text 0) (slice_get rows 0) ≡ s.teams team
 token_found team db rows s held h =
-    looks_up_at nat_list_cmp_total exact_texts (text 1) (text 2) _ (text 0) (λ r. refl) team _ (db.trees 1) rows (by_text (db.trees 1) 1 team (names db held.broker)) (team_keys db held.broker)
-    (answered db _ 1 _ _ _ rows h) ∙ held.teams team
+    looks_up_at nat_list_cmp_total exact_texts (text in_teams.name) (text in_teams.token_digest) _ (text 0) (λ r. refl) team _ (db.trees in_teams.tree) rows (by_text (db.trees in_teams.tree) in_teams.name team (names db held.broker)) (team_keys db held.broker)
+    (answered db _ in_teams.tree _ _ _ rows h) ∙ held.teams team
 
 -- where the digest is a text in UTF-8, it can be read
 pub token_reads : (team : List ℕ) (db : Database) → FirstReads (token team) db (IsTextAt 0)
@@ -55,25 +55,25 @@ token_missing team db s held none rows h row head = let clash : Some (text 0 row
 
 pub holder : (digest : List ℕ)
     → Asked (codes "SELECT name FROM teams WHERE token_digest = ?1")
-    (Text digest ∷ []) (from_table 1 (op2 (Compare Eq Binary) (col 1 2) (col 0 0) ∷ []) (col 1 1 ∷ []) [])
+    (Text digest ∷ []) (from_table in_teams.tree (op2 (Compare Eq Binary) (col 1 in_teams.token_digest) (col 0 0) ∷ []) (col 1 in_teams.name ∷ []) [])
 unfolding understood everything
 holder digest = record { names = _; means = record { is = refl; plain = (refl, refl); unlisted = refl }; runs = record { whole = refl; typed = refl; sumless = refl } }
 
-found_by_digest : (digest : List ℕ) (db : Database) (rows : List Row) (s : Broker) → Holds db s → IsShown (holder digest) db rows → option_map (text 0) (slice_get rows 0) ≡ value_at text_cmp (text 2) (text 1) (db.trees 1) digest
+found_by_digest : (digest : List ℕ) (db : Database) (rows : List Row) (s : Broker) → Holds db s → IsShown (holder digest) db rows → option_map (text 0) (slice_get rows 0) ≡ value_at text_cmp (text in_teams.token_digest) (text in_teams.name) (db.trees in_teams.tree) digest
 found_by_digest digest db rows s held h =
-    looks_up_at nat_list_cmp_total exact_texts (text 2) (text 1) _ (text 0) (λ r. refl) digest _ (db.trees 1) rows (by_text (db.trees 1) 2 digest (digests db held.broker)) (digest_keys db held.broker)
-    (answered db _ 1 _ _ _ rows h)
+    looks_up_at nat_list_cmp_total exact_texts (text in_teams.token_digest) (text in_teams.name) _ (text 0) (λ r. refl) digest _ (db.trees in_teams.tree) rows (by_text (db.trees in_teams.tree) in_teams.token_digest digest (digests db held.broker)) (digest_keys db held.broker)
+    (answered db _ in_teams.tree _ _ _ rows h)
 
 -- that team has it, or no team has it
 abbrev pub IsTeamOf : Broker → List ℕ → Option (List ℕ) → Type 0
 IsTeamOf s digest found = MatchOption found ((t : List ℕ) → ¬ (s.teams t ≡ Some digest)) (λ name. s.teams name ≡ Some digest)
 
 pub holder_found : (digest : List ℕ) (db : Database) (rows : List Row) (s : Broker) → Holds db s → IsShown (holder digest) db rows → IsTeamOf s digest (option_map (text 0) (slice_get rows 0))
-holder_found digest db rows s held h = subst (IsTeamOf s digest) (sym (found_by_digest digest db rows s held h)) (go (value_at text_cmp (text 2) (text 1) (db.trees 1) digest) refl)
+holder_found digest db rows s held h = subst (IsTeamOf s digest) (sym (found_by_digest digest db rows s held h)) (go (value_at text_cmp (text in_teams.token_digest) (text in_teams.name) (db.trees in_teams.tree) digest) refl)
   where
-    go : (o : Option (List ℕ)) → value_at text_cmp (text 2) (text 1) (db.trees 1) digest ≡ o → IsTeamOf s digest o
-    go None e = λ t has. no_other_way nat_list_cmp_total exact_texts nat_list_cmp_total exact_texts (text 1) (text 2) (db.trees 1) t digest e (held.teams t ∙ has)
-    go (Some name) e = sym (held.teams name) ∙ other_way nat_list_cmp_total exact_texts nat_list_cmp_total exact_texts (text 1) (text 2) (db.trees 1) name digest (team_keys db held.broker) e
+    go : (o : Option (List ℕ)) → value_at text_cmp (text in_teams.token_digest) (text in_teams.name) (db.trees in_teams.tree) digest ≡ o → IsTeamOf s digest o
+    go None e = λ t has. no_other_way nat_list_cmp_total exact_texts nat_list_cmp_total exact_texts (text in_teams.name) (text in_teams.token_digest) (db.trees in_teams.tree) t digest e (held.teams t ∙ has)
+    go (Some name) e = sym (held.teams name) ∙ other_way nat_list_cmp_total exact_texts nat_list_cmp_total exact_texts (text in_teams.name) (text in_teams.token_digest) (db.trees in_teams.tree) name digest (team_keys db held.broker) e
 
 -- where the team's name is a text in UTF-8, it can be read
 pub holder_reads : (digest : List ℕ) (db : Database) → FirstReads (holder digest) db (IsTextAt 0)
@@ -92,8 +92,9 @@ by_view view s digest (Some name) h = h
 pub teams_differ : (db : Database) (s : Broker) → Holds db s → TeamsDiffer s
 teams_differ db s held digest a b has_a has_b = let both : Some a ≡ Some b = sym (team_with a has_a) ∙ team_with b has_b in cc
   where
-    team_with : (team : List ℕ) → s.teams team ≡ Some digest → value_at text_cmp (text 2) (text 1) (db.trees 1) digest ≡ Some team
-    team_with team has = other_way nat_list_cmp_total exact_texts nat_list_cmp_total exact_texts (text 2) (text 1) (db.trees 1) digest team (digest_keys db held.broker) (held.teams team ∙ has)
+    team_with : (team : List ℕ) → s.teams team ≡ Some digest
+        → value_at text_cmp (text in_teams.token_digest) (text in_teams.name) (db.trees in_teams.tree) digest ≡ Some team
+    team_with team has = other_way nat_list_cmp_total exact_texts nat_list_cmp_total exact_texts (text in_teams.token_digest) (text in_teams.name) (db.trees in_teams.tree) digest team (digest_keys db held.broker) (held.teams team ∙ has)
 
 -- ---- a new team
 
@@ -106,28 +107,28 @@ add_puts team digest = record { terms = lit Null ∷ col 0 0 ∷ col 0 1 ∷ [];
 
 module _ (team digest : List ℕ) (old new : State) (s : Broker) (held : Holds old.now s) where
   abbrev made : Row
-  made = Int (next_rowid (old.now.trees 1)) ∷ Text team ∷ Text digest ∷ []
+  made = Int (next_rowid (old.now.trees in_teams.tree)) ∷ Text team ∷ Text digest ∷ []
 
-  stored : with_rowid Chosen (old.now.trees 1) (cast_row teams (Null ∷ Text team ∷ Text digest ∷ [])) ≡ made
-  stored = ap (λ v. with_rowid Chosen (old.now.trees 1) (v ∷ Text team ∷ Text digest ∷ [])) cast_null
+  stored : with_rowid Chosen (old.now.trees in_teams.tree) (cast_row teams (Null ∷ Text team ∷ Text digest ∷ [])) ≡ made
+  stored = ap (λ v. with_rowid Chosen (old.now.trees in_teams.tree) (v ∷ Text team ∷ Text digest ∷ [])) cast_null
 
   pub team_added : (count : ℕ) → s.teams team ≡ None → Executes add_sql (Text team ∷ Text digest ∷ []) old new (Ok count) → HoldsAfter 2 old new (record s { teams = put_at same_text s.teams team (Some digest) })
   team_added count free h =
       let it = inserted add_sql (Text team ∷ Text digest ∷ []) old new held.broker teams 1 (teams_there old.now held.broker) _ made (add_puts team digest) stored count h in
-      let frame = frame_of (codes "teams" ∷ []) 1 refl old new held.broker it.0 in
+      let frame = frame_of (codes "teams" ∷ []) in_teams.tree refl old new held.broker it.0 in
       after_one 2 (omega arith) (codes "teams") old new _ frame (λ counted. grows_added _ _ made it.1 refl)
       (teams_change old.now new.now s _ held frame (λ t.
-      puts_at nat_list_cmp_total exact_texts (text 1) (text 2) (old.now.trees 1) (new.now.trees 1) made it.1 (held.teams team ∙ free) t ∙ (λ i. cond (sym (texts_ties t team) i) (Some digest) (held.teams t i))))
+      puts_at nat_list_cmp_total exact_texts (text in_teams.name) (text in_teams.token_digest) (old.now.trees in_teams.tree) (new.now.trees in_teams.tree) made it.1 (held.teams team ∙ free) t ∙ (λ i. cond (sym (texts_ties t team) i) (Some digest) (held.teams t i))))
 
-  unknown : ((other : List ℕ) → ¬ (s.teams other ≡ Some digest)) → (found : Option (List ℕ)) → value_at text_cmp (text 2) (text 1) (old.now.trees 1) digest ≡ found → is_some found ≡ false
+  unknown : ((other : List ℕ) → ¬ (s.teams other ≡ Some digest)) → (found : Option (List ℕ)) → value_at text_cmp (text in_teams.token_digest) (text in_teams.name) (old.now.trees in_teams.tree) digest ≡ found → is_some found ≡ false
   unknown none None is = refl
-  unknown none (Some other) is = absurd (none other (sym (held.teams other) ∙ other_way nat_list_cmp_total exact_texts nat_list_cmp_total exact_texts (text 1) (text 2) (old.now.trees 1) other digest (team_keys old.now held.broker) is))
+  unknown none (Some other) is = absurd (none other (sym (held.teams other) ∙ other_way nat_list_cmp_total exact_texts nat_list_cmp_total exact_texts (text in_teams.name) (text in_teams.token_digest) (old.now.trees in_teams.tree) other digest (team_keys old.now held.broker) is))
 
   -- it fails only as the store fails, or since one of its texts is too long
   pub team_ends : HaveNumbers (codes "teams" ∷ []) old.now → (t : Broker) → AddsTeam team digest s t → EndsOnly (team ∷ digest ∷ []) add_sql (Text team ∷ Text digest ∷ []) old new
   team_ends numbers t next =
-      let free_name = sym (stands_found text_cmp (text 1) (text 2) (old.now.trees 1) team) ∙ ap is_some (held.teams team ∙ next.0) in
-      let free_digest = sym (stands_found text_cmp (text 2) (text 1) (old.now.trees 1) digest) ∙ unknown next.1 _ refl in
+      let free_name = sym (stands_found text_cmp (text in_teams.name) (text in_teams.token_digest) (old.now.trees in_teams.tree) team) ∙ ap is_some (held.teams team ∙ next.0) in
+      let free_digest = sym (stands_found text_cmp (text in_teams.token_digest) (text in_teams.name) (old.now.trees in_teams.tree) digest) ∙ unknown next.1 _ refl in
       next_ends add_sql (Text team ∷ Text digest ∷ []) old new held.broker teams 1 (teams_there old.now held.broker) _ _ (add_puts team digest) stored (number_for _ numbers.0) (record { typed = refl; present = refl; checked = refl })
-      (free_one (old.now.trees 1) made nat_list_cmp_total 1 (text 1) (new_text (old.now.trees 1) made 1 (names old.now held.broker) refl) free_name, (free_one (old.now.trees 1) made nat_list_cmp_total 2 (text 2) (new_text (old.now.trees 1) made 2 (digests old.now held.broker) refl) free_digest, tt)) tt
+      (free_one (old.now.trees in_teams.tree) made nat_list_cmp_total in_teams.name (text in_teams.name) (new_text (old.now.trees in_teams.tree) made in_teams.name (names old.now held.broker) refl) free_name, (free_one (old.now.trees in_teams.tree) made nat_list_cmp_total in_teams.token_digest (text in_teams.token_digest) (new_text (old.now.trees in_teams.tree) made in_teams.token_digest (digests old.now held.broker) refl) free_digest, tt)) tt
       (team ∷ digest ∷ []) (λ are. are) (omega arith) (omega arith)

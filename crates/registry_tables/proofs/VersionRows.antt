@@ -10,10 +10,10 @@ use Rattle.table_access.specs.{Columns.{text, pair_cmp, whole_at}, Statements.{f
 use Rattle.table_access.proofs.{Values.{cast_null, cast_int}, Steps.{answered}, Maps.{looks_up_at}, Newest.{newest_number}, Keys.{by_pair}}
 use Rattle.table_access.proofs.ReadLemmas.{number_found}
 use Rattle.broker_core.specs.{declared.command.Version.{Version}, Text.{version}, State.{State as Broker}, Request.{is_known}, Limit.{has_room}}
-use Rattle.broker_tables.{specs.{Numbers.{number_of}, Holds.{Holds, HoldsAfter, IsBroker}}, proofs.Asked.{Asked, IsShown, EachReads, of_first, number_reads}}
-use Rattle.broker_tables.proofs.{ReadableRows.{number_cell, version_low}, Frames.{meant, frame_of, Frame}, Growth.{versions_grow}}
-use Rattle.broker_tables.proofs.{Newest.{newest as newest_count}, NextRow.{next_row}, RoomLemmas.{after_one}}
-use Rattle.broker_tables.proofs.VersionRows.{owners, names, version_keys, versions_numbered, version_number}
+use Rattle.broker_tables.specs.{Schema.{in_versions, in_branches}, Numbers.{number_of}, Holds.{Holds, HoldsAfter, IsBroker}}
+use Rattle.broker_tables.proofs.{Asked.{Asked, IsShown, EachReads, of_first, number_reads}, ReadableRows.{number_cell, version_low}}
+use Rattle.broker_tables.proofs.{Frames.{meant, frame_of, Frame}, Growth.{versions_grow}, Newest.{newest as newest_count}, NextRow.{next_row}}
+use Rattle.broker_tables.proofs.{RoomLemmas.{after_one}, VersionRows.{owners, names, version_keys, versions_numbered, version_number}}
 use Rattle.broker_tables.proofs.{NumberLemmas.{version_row, known_numbered, newly_numbered, none_numbered}, Orders.{pairs_total, exact_pair}}
 use Rattle.broker_tables.proofs.{Placed.{versions, versions_there}, Standing.{stands_found}}
 use Rattle.broker_tables.proofs.Inserted.{EndsOnly, Puts, inserted, insert_ends, new_text, free_two, pacticipant_there, next_counted}
@@ -23,7 +23,7 @@ use Rattle.registry_tables.{specs.Registry.{AddsVersion}, proofs.BranchRows.{is_
 
 pub known : (p name : List ℕ)
     → Asked (codes "SELECT number FROM versions WHERE pacticipant = ?1 AND version = ?2")
-    (Text p ∷ Text name ∷ []) (from_table 6 (by_two 2 3) (col 1 0 ∷ []) [])
+    (Text p ∷ Text name ∷ []) (from_table in_versions.tree (by_two in_versions.pacticipant in_versions.version) (col 1 in_versions.number ∷ []) [])
 unfolding understood everything
 known p name = record { names = _; means = record { is = refl; plain = (refl, refl); unlisted = refl }; runs = record { whole = refl; typed = refl; sumless = refl } }
 
@@ -35,10 +35,11 @@ pos_same (Some k) (Some n) e = let same : k ≡ n = cc in ap Some same
 
 row_found : (p name : List ℕ) (db : Database) (rows : List Row) (s : Broker) → Holds db s → IsShown (known p name) db rows → option_map (whole_at 0) (slice_get rows 0) ≡ option_map pos (number_of s.versions (version p name))
 row_found p name db rows s held h =
-    looks_up_at pairs_total exact_pair (λ r. (text 2 r, text 3 r)) (whole_at 0) _ (whole_at 0) (λ r. refl) (p, name) _ (db.trees 6) rows
-    (by_pair (db.trees 6) 2 3 p name (owners db held.broker) (names db held.broker)) (version_keys db held.broker)
-    (answered db _ 6 _ _ _ rows h)
-    ∙ version_row (db.trees 6) s.versions p name held.versions
+    looks_up_at pairs_total exact_pair (λ r. (text in_versions.pacticipant r, text in_versions.version r)) (whole_at in_versions.number) _ (whole_at 0) (λ r. refl) (p, name) _ (db.trees in_versions.tree) rows
+    (by_pair (db.trees in_versions.tree) in_versions.pacticipant in_versions.version p name (owners db held.broker) (names db held.broker))
+    (version_keys db held.broker)
+    (answered db _ in_versions.tree _ _ _ rows h)
+    ∙ version_row (db.trees in_versions.tree) s.versions p name held.versions
 
 pub known_found : (p name : List ℕ) (db : Database) (rows : List Row) (s : Broker) (found : Option ℕ) → Holds db s → IsShown (known p name) db rows
     → option_map (λ n. Int (pos n)) found ≡ option_map (λ row. column row 0) (slice_get rows 0) → (found ≡ number_of s.versions (version p name)) × (is_some found ≡ is_known s (version p name))
@@ -55,18 +56,18 @@ known_reads p name db s held readable = number_reads (known p name) db (λ r has
 abbrev count_sql : List ℕ
 count_sql = codes "SELECT number FROM versions ORDER BY number DESC LIMIT 1"
 
-pub highest : Asked count_sql [] (up_to 1 (from_table 6 [] (col 1 0 ∷ []) newest))
+pub highest : Asked count_sql [] (up_to 1 (from_table in_versions.tree [] (col 1 in_versions.number ∷ []) newest))
 unfolding understood everything
 highest = record { names = _; means = record { is = refl; plain = (refl, refl); unlisted = refl }; runs = record { whole = refl; typed = refl; sumless = refl } }
 
 pub versions_counted : (old new : State) (rows : List Row) (s : Broker) (found : Option ℕ) → Holds old.now s → Shown count_sql [] old new rows → option_map (λ n. Int (pos n)) found ≡ option_map (λ row. column row 0) (slice_get rows 0)
     → unwrap_or found 0 ≡ length s.versions
 versions_counted old new rows s found held h read =
-    newest_count (λ r. version (text 2 r) (text 3 r)) (old.now.trees 6) s.versions found held.versions
-    (newest_number count_sql old new 6 _ (meant old.now held.broker count_sql highest.means) (versions_numbered old.now held.broker) rows h found read)
+    newest_count (λ r. version (text in_versions.pacticipant r) (text in_versions.version r)) (old.now.trees in_versions.tree) s.versions found held.versions
+    (newest_number count_sql old new in_versions.tree _ (meant old.now held.broker count_sql highest.means) (versions_numbered old.now held.broker) rows h found read)
 
 pub highest_reads : (db : Database) → EachReads highest db IsNumberRow
-highest_reads db s held readable = of_first highest db _ (λ r has kept. number_cell (shows (col 1 0 ∷ []) [] r) 0 (whole_at 0 r) (omega arith) (version_number db held.broker r has) (version_low db s held readable r has))
+highest_reads db s held readable = of_first highest db _ (λ r has kept. number_cell (shows (col 1 in_versions.number ∷ []) [] r) 0 (whole_at in_versions.number r) (omega arith) (version_number db held.broker r has) (version_low db s held readable r has))
 
 -- ---- a new version
 
@@ -81,36 +82,36 @@ module _ (number : ℕ) (p name : List ℕ) (old new : State) (s : Broker) (held
   abbrev made : Row
   made = Int (pos number) ∷ Null ∷ Text p ∷ Text name ∷ []
 
-  stored : with_rowid Chosen (old.now.trees 6) (cast_row versions made) ≡ made
-  stored = ap (λ v. with_rowid Chosen (old.now.trees 6) (v ∷ cast_all versions.columns (Null ∷ Text p ∷ Text name ∷ []))) (cast_int (pos number)) ∙ ap (λ v. Int (pos number) ∷ v ∷ Text p ∷ Text name ∷ []) cast_null
+  stored : with_rowid Chosen (old.now.trees in_versions.tree) (cast_row versions made) ≡ made
+  stored = ap (λ v. with_rowid Chosen (old.now.trees in_versions.tree) (v ∷ cast_all versions.columns (Null ∷ Text p ∷ Text name ∷ []))) (cast_int (pos number)) ∙ ap (λ v. Int (pos number) ∷ v ∷ Text p ∷ Text name ∷ []) cast_null
 
   pub version_put : (count : ℕ) → Executes put_sql (Int (pos number) ∷ Text p ∷ Text name ∷ []) old new (Ok count) → HoldsAfter 2 old new (record s { versions = s.versions ++ version p name ∷ [] })
   version_put count h =
       let it = inserted put_sql (Int (pos number) ∷ Text p ∷ Text name ∷ []) old new held.broker versions 3 (versions_there old.now held.broker) _ made (put_puts number p name) stored count h in
-      let frame : Frame (codes "versions" ∷ []) old.now new.now = frame_of (codes "versions" ∷ []) 6 refl old new held.broker it.0 in
+      let frame : Frame (codes "versions" ∷ []) old.now new.now = frame_of (codes "versions" ∷ []) in_versions.tree refl old new held.broker it.0 in
       let now_broker : IsBroker new.now = record { schema = frame.schema ∙ held.broker.schema; kept = frame.kept held.broker.kept } in
       after_one 2 (omega arith) (codes "versions") old new _ frame (λ no. absurd cc)
       (versions_grow old.now new.now s (version p name) held unknown frame
-      (next_row (λ r. version (text 2 r) (text 3 r)) s.versions (old.now.trees 6) (new.now.trees 6) made held.versions (versions_numbered new.now now_broker) (ap pos is) it.1))
+      (next_row (λ r. version (text in_versions.pacticipant r) (text in_versions.version r)) s.versions (old.now.trees in_versions.tree) (new.now.trees in_versions.tree) made held.versions (versions_numbered new.now now_broker) (ap pos is) it.1))
 
   -- it fails only as the store fails, or since one of its names is too long
   pub version_ends : IsTrue (is_some (s.pacticipants p)) → has_room s.versions ≡ true → EndsOnly (p ∷ name ∷ []) put_sql (Int (pos number) ∷ Text p ∷ Text name ∷ []) old new
   version_ends there room =
       let few : length s.versions < 1000000000 = ltb-true (length s.versions) 1000000000 room in
-      let free = sym (stands_found pair_cmp (λ r. (text 2 r, text 3 r)) (whole_at 0) (old.now.trees 6) (p, name)) ∙ ap is_some (version_row (old.now.trees 6) s.versions p name held.versions ∙ ap (option_map pos) (none_numbered s.versions (version p name) unknown)) in
+      let free = sym (stands_found pair_cmp (λ r. (text in_versions.pacticipant r, text in_versions.version r)) (whole_at in_versions.number) (old.now.trees in_versions.tree) (p, name)) ∙ ap is_some (version_row (old.now.trees in_versions.tree) s.versions p name held.versions ∙ ap (option_map pos) (none_numbered s.versions (version p name) unknown)) in
       insert_ends put_sql (Int (pos number) ∷ Text p ∷ Text name ∷ []) old new held.broker versions 3 (versions_there old.now held.broker) _ made (put_puts number p name) stored (record {
         pass = record { typed = refl; present = refl; checked = refl };
         fits = lt-ltb number (2 ^ 63) (omega (arith, is, few));
         keyed = refl;
-        fresh = subst (λ n. is_taken (old.now.trees 6) (Int (pos n) ∷ Null ∷ Text p ∷ Text name ∷ []) ≡ false) (sym is) (next_counted (λ x. version (text 2 x) (text 3 x)) (old.now.trees 6) s.versions (Null ∷ Text p ∷ Text name ∷ []) held.versions (versions_numbered old.now held.broker));
-        free = (free_two (old.now.trees 6) made nat_list_cmp_total 2 (text 2) (new_text (old.now.trees 6) made 2 (owners old.now held.broker) refl) pairs_total nat_list_cmp_total 3 (text 3) (new_text (old.now.trees 6) made 3 (names old.now held.broker) refl) free, tt);
-        parents = (pacticipant_there old.now s held made 2 p there refl, tt);
+        fresh = subst (λ n. is_taken (old.now.trees in_versions.tree) (Int (pos n) ∷ Null ∷ Text p ∷ Text name ∷ []) ≡ false) (sym is) (next_counted (λ x. version (text in_versions.pacticipant x) (text in_versions.version x)) (old.now.trees in_versions.tree) s.versions (Null ∷ Text p ∷ Text name ∷ []) held.versions (versions_numbered old.now held.broker));
+        free = (free_two (old.now.trees in_versions.tree) made nat_list_cmp_total in_versions.pacticipant (text in_versions.pacticipant) (new_text (old.now.trees in_versions.tree) made in_versions.pacticipant (owners old.now held.broker) refl) pairs_total nat_list_cmp_total in_versions.version (text in_versions.version) (new_text (old.now.trees in_versions.tree) made in_versions.version (names old.now held.broker) refl) free, tt);
+        parents = (pacticipant_there old.now s held made in_versions.pacticipant p there refl, tt);
       }) (p ∷ name ∷ []) (λ are. record { wide = omega arith; narrow = omega arith; short = (tt, (tt, are)) })
 
 -- a version that isn't there is on no branch
 pub no_branch : (db : Database) (s : Broker) (v : Version) → Holds db s → is_known s v ≡ false → (branch : List ℕ) → s.branches (v, branch) ≡ false
 no_branch db s v held free branch =
-    sym (held.branches v branch) ∙ ap (is_on (db.trees 8) branch) (none_numbered s.versions v free)
+    sym (held.branches v branch) ∙ ap (is_on (db.trees in_branches.tree) branch) (none_numbered s.versions v free)
 
 -- what add_version promises, of the state after it
 pub version_added : (s : Broker) (v : Version) (number : ℕ) (old new : State) → is_known s v ≡ false → ((branch : List ℕ) → s.branches (v, branch) ≡ false) → number ≡ length s.versions + 1 → HoldsAfter 2 old new (record s { versions = s.versions ++ v ∷ [] })

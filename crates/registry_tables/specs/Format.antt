@@ -9,19 +9,26 @@ use Rattle.sqlite.specs.Effect.{Database}
 use Rattle.sqlite.specs.State.{State, HasCleanDisk}
 use Rattle.sqlite_schema.specs.Names.{table_named}
 use Rattle.sqlite_schema.specs.declared.schema.Column.{Column}
+use Rattle.sqlite_schema.specs.declared.schema.Kind.{Kind}
 use Rattle.table_access.specs.declared.StoreFault.{StoreFault}
 use Rattle.table_access.specs.declared.StoreFault.TheVariants.{Store}
 use Rattle.table_access.specs.Calls.{HasFailed}
-use Rattle.broker_tables.specs.Schema.{meta}
-use Rattle.broker_tables.specs.Former.{former_format, former_tables}
+use Rattle.broker_tables.specs.Schema.{meta, in_meta}
+use Rattle.broker_core.specs.State.{State as Broker}
+use Rattle.broker_tables.specs.Holds.{format}
+use Rattle.broker_tables.specs.Former.{HoldsUnmarked, former_format, former_tables, added_tables}
 
--- a column has the name and the kind of this one: with STRICT, NOT NULL, a default and a collation, or without
+-- a column has this name and this kind: with STRICT, NOT NULL, a default and a collation, or without
+abbrev pub IsColumn : List ℕ × Kind → Column → Type 0
+IsColumn wanted c = (c.name ≡ wanted.0) × (c.kind ≡ wanted.1)
+
+-- a column has the name and the kind of this one
 abbrev pub IsLike : Column → Column → Type 0
-IsLike wanted c = (c.name ≡ wanted.name) × (c.kind ≡ wanted.kind)
+IsLike wanted = IsColumn (wanted.name, wanted.kind)
 
 -- each column does, in their order
 abbrev pub AreLike : List Column → List Column → Type 0
-AreLike = AllZip IsLike
+AreLike wanted = AllZip IsColumn (map (λ c. (c.name, c.kind)) wanted)
 
 -- the table that SQLite finds by this name, wherever it is among the tables: letters are compared without their case
 abbrev pub table_of : List ℕ → Schema → Option Table
@@ -37,7 +44,7 @@ IsMetaTable table = AreLike meta.columns table.columns × (table.key ≡ meta.ke
 -- that a broker left, which has it first.
 abbrev pub IsOfFormat : ℕ → Database → Type 0
 IsOfFormat n db = (table : Table) × (table_of meta.name db.schema ≡ Some table) × IsMetaTable table
-    × (map (λ row. column row 2) (db.trees table.tree) ≡ Int (pos n) ∷ [])
+    × (map (λ row. column row in_meta.format) (db.trees table.tree) ≡ Int (pos n) ∷ [])
 
 -- no table is found by meta's name, or one that isn't like it, or that hasn't one row
 abbrev pub IsForeign : Database → Type 0
@@ -52,7 +59,7 @@ Finds db found = MatchOption found (IsForeign db) (λ n. IsOfFormat n db)
 abbrev pub HasNoFormat : Database → Type 0
 HasNoFormat db = (table : Table) × (table_of meta.name db.schema ≡ Some table) × IsMetaTable table
     × ((row : Row) × (db.trees table.tree ≡ row ∷ [])
-    × ((n : ℕ) → column row 2 ≡ Int (pos n) → ¬ (n < 2 ^ 32)))
+    × ((n : ℕ) → column row in_meta.format ≡ Int (pos n) → ¬ (n < 2 ^ 32)))
 
 -- The table is like meta, and the first table with its tree is another one, of which a query has the columns. Each tree
 -- of a store is one object of its list, so that no two tables have one; but no clause of a connection says that.
@@ -98,3 +105,8 @@ abbrev pub FindsFormer : Database → Option ℕ → Type 0
 FindsFormer db found = MatchOption found
     (IsForeign db ⊎ (IsOfFormat former_format db × (¬ (HasFormerTables db.schema))))
     (λ n. IsOfFormat n db × (n ≡ former_format → HasFormerTables db.schema))
+
+-- the state of a database that has the tables of format 1, and after them these, is held in format 2
+abbrev pub BecomesFormat2 : List Table → Database → Database → Type 0
+BecomesFormat2 more old new =
+    (s : Broker) → HoldsUnmarked former_format more old s → HoldsUnmarked format added_tables new s

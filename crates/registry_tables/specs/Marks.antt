@@ -14,7 +14,7 @@ use Rattle.table_access.specs.declared.StoreFault.{StoreFault}
 use Rattle.table_access.specs.declared.StoreFault.TheVariants.{Store}
 use Rattle.table_access.specs.Calls.{HasFailed}
 use Rattle.broker_core.specs.Text.{Text}
-use Rattle.broker_tables.specs.Schema.{broker_schema}
+use Rattle.broker_tables.specs.Schema.{broker_schema, in_environments}
 use Rattle.broker_tables.specs.Rows.{rows_of, mark_of}
 use Rattle.registry_tables.specs.Format.{IsLike}
 
@@ -42,17 +42,18 @@ CanBeAsked c = (c.step_limit ≡ None) × HasBrokerTables c.now.schema
 -- a row of the table environments with this name
 abbrev pub IsEnvironmentRow : Text → Database → Row → Type 0
 IsEnvironmentRow environment db row =
-    Has (rows_of db (codes "environments")) row × (column row 1 ≡ value.Text environment)
+    Has (rows_of db (codes "environments")) row × (column row in_environments.name ≡ value.Text environment)
 
 -- the mark in such a row, as it is there: 1 is gated, 0 isn't; none if there is no such row
 abbrev pub IsMarkIn : Text → Database → Option Bool → Type 0
 IsMarkIn environment db gated = MatchOption gated ((row : Row) → ¬ IsEnvironmentRow environment db row)
-    (λ g. (row : Row) × IsEnvironmentRow environment db row × (column row 2 ≡ value.Int (pos (mark_of g))))
+    (λ g. (row : Row) × IsEnvironmentRow environment db row
+    × (column row in_environments.gated ≡ value.Int (pos (mark_of g))))
 
 -- the mark in such a row is neither 0 nor 1
 abbrev pub HasNoMark : Text → Database → Type 0
 HasNoMark environment db = (row : Row) × IsEnvironmentRow environment db row
-    × ((n : ℕ) → column row 2 ≡ value.Int (pos n) → 1 < n)
+    × ((n : ℕ) → column row in_environments.gated ≡ value.Int (pos n) → 1 < n)
 
 -- the store failed, which ended the transaction; or Store, since the mark is neither
 abbrev pub FailsAsMark : Text → State → State → StoreFault → Type 0

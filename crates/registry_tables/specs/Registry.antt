@@ -92,6 +92,10 @@ AddsBranch number branch s t =
     × (t ≡ record s { branches = put_at (same_pair same_version same_text) s.branches (v, branch) true })
 
 -- in a database with the tables of the registry, of which meta has no row: meta has this one, and all other rows stay
+-- for private clauses: the tables of the registry are there, and meta has no row
+abbrev pub HasEmptyRegistry : Database → Type 0
+HasEmptyRegistry db = (db.schema ≡ schema_of registry_part) × IsKept db × (rows_of db (codes "meta") ≡ [])
+
 abbrev pub PutsMeta : ℕ → Text → Database → Database → Type 0
 PutsMeta n digest old new =
     old.schema ≡ schema_of registry_part → IsKept old → rows_of old (codes "meta") ≡ []

@@ -1,5 +1,6 @@
 //! The format of the tables of a broker.
 ghost use Rattle.std.specs.Prelude.{◌≡◌, ◌≢◌, ◌↔◌, ◌∷◌, [], IsTrue, IfOk, IfErr, MatchOption, IsSomeAnd, Some, None, pos, map, length};
+ghost use Rattle.std.specs.List.{AllZip};
 ghost use Rattle.sqlite.specs.Held.{state};
 ghost use Rattle.sqlite.specs.Order.{Row as SqlRow, column};
 ghost use Rattle.sqlite.specs.State.{IsLive};
@@ -7,11 +8,39 @@ ghost use Rattle.sqlite.specs.declared.types.Value.TheVariants.{Int};
 ghost use Rattle.table_access.specs.Calls.{CallsStore};
 ghost use Rattle.table_access.specs.Reading.{IsNumberRow};
 ghost use Rattle.broker_tables.specs.Schema.{meta};
-ghost use Rattle.registry_tables.specs.Format.{AreLike, IsMetaTable, Finds, FailsToFind, FailsOnlyFor, table_of};
+ghost use Rattle.registry_tables.specs.Form.{columns_of};
+ghost use Rattle.registry_tables.specs.Format.{IsColumn, IsMetaTable, Finds, FailsToFind, FailsOnlyFor, table_of};
 
 use sqlite::{Alter, Connection, Row};
 use sqlite_schema::schema::{Column, Kind, Schema, Table};
 use table_access::{StoreFault, number_in, select};
+
+/// What tells that a table is one of the broker's: its name, the names and kinds of its columns, and its keys. A place
+/// counts the columns from 1, and place 0 is the row's number.
+#[derive(Clone, Copy)]
+pub(crate) struct Form {
+    pub(crate) name: &'static [u8],
+    pub(crate) columns: &'static [(&'static [u8], Kind)],
+    /// The column that is the row's number.
+    pub(crate) key: Option<usize>,
+    /// The places of the PRIMARY KEY.
+    pub(crate) primary: &'static [usize],
+    /// The places of each UNIQUE.
+    pub(crate) uniques: &'static [&'static [usize]],
+}
+
+/// The table of the format.
+pub(crate) const META: Form = Form {
+    name: b"meta",
+    columns: &[
+        (b"one", Kind::Integer),
+        (b"format", Kind::Integer),
+        (b"office_digest", Kind::Text),
+    ],
+    key: Some(0),
+    primary: &[0],
+    uniques: &[],
+};
 
 /// The table that SQLite finds by this name.
 pub(crate) fn table_named<'a>(schema: &'a Schema, name: &[u8]) -> Option<&'a Table>
@@ -26,22 +55,23 @@ pub(crate) fn table_named<'a>(schema: &'a Schema, name: &[u8]) -> Option<&'a Tab
 
 /// Whether a column has this name, and values of this kind, however it is declared.
 pub(crate) fn is_column(column: &Column, name: &[u8], kind: Kind) -> bool
-    ensures { IsTrue result ↔ ((column.now.name ≡ name.now) × (column.now.kind ≡ kind)) }
+    ensures { IsTrue result ↔ IsColumn (name.now, kind) column.now }
 {
     column.name.as_slice() == name && column.kind == kind
 }
 
-/// Whether these are the columns of `meta`.
-pub(crate) fn are_columns(columns: &[Column]) -> bool
-    ensures { IsTrue result ↔ AreLike meta.columns columns.now }
+/// Whether the columns have these names and kinds, in this order.
+pub(crate) fn are_columns(columns: &[Column], wanted: &[(&[u8], Kind)]) -> bool
+    ensures { IsTrue result ↔ AllZip IsColumn (columns_of wanted.now) columns.now }
 {
-    match columns {
-        [one, format, office] => {
-            is_column(one, b"one", Kind::Integer)
-                && is_column(format, b"format", Kind::Integer)
-                && is_column(office, b"office_digest", Kind::Text)
-        }
-        _ => false,
+    match wanted {
+        [] => columns.is_empty(),
+        [(name, kind), wanted @ ..] => match columns {
+            [] => false,
+            [column, columns @ ..] => {
+                is_column(column, name, *kind) && are_columns(columns, wanted)
+            }
+        },
     }
 }
 
@@ -49,7 +79,7 @@ pub(crate) fn are_columns(columns: &[Column]) -> bool
 fn is_meta(table: &Table) -> bool
     ensures { IsTrue result ↔ IsMetaTable table.now }
 {
-    are_columns(table.columns.as_slice()) && table.key == Some(0)
+    are_columns(table.columns.as_slice(), META.columns) && table.key == META.key
 }
 
 /// Whether the table of that name is `meta`, wherever it is.
@@ -57,7 +87,7 @@ fn is_marked<S: Alter>(conn: &Connection<S>) -> bool
     ensures marked { IsTrue result ↔ IsSomeAnd (table_of meta.name (state S.Store conn.now).now.schema) IsMetaTable }
     ensures live { IsLive (state S.Store conn.now) }
 {
-    match table_named(conn.schema(), b"meta") {
+    match table_named(conn.schema(), META.name) {
         Some(table) => is_meta(table),
         None => false,
     }

@@ -2,9 +2,10 @@
 ghost use Rattle.std.specs.Prelude.{◌≡◌, ◌++◌, ◌∷◌, []};
 ghost use Rattle.table_access.specs.Calls.{CallsStore};
 ghost use Rattle.table_access.specs.Statements.{Creates, Makes, Indexes, indexed_by};
-ghost use Rattle.broker_tables.specs.Making.{IsBlank, HasTables};
+ghost use Rattle.broker_tables.specs.Making.{IsBlank, HasTables, HasNoRows, IsCalmOver};
+ghost use Rattle.broker_tables.specs.Refusals.{AreShort};
 ghost use Rattle.broker_tables.specs.Schema.{registry_part, contract_part, deploy_part, schema_of, contents, checked_results, strict_environments, all_tables, contents_by_digest, contract_indexes, versions_by_pacticipant};
-ghost use Rattle.registry_tables.specs.Registry.{PutsMeta};
+ghost use Rattle.registry_tables.specs.Registry.{HasEmptyRegistry, PutsMeta};
 
 use broker_tables::create::{
     BRANCHES, ENVIRONMENTS, GRANTS, META, PACTICIPANTS, STRICT_ENVIRONMENTS, TEAMS, VERSIONS,
@@ -25,9 +26,10 @@ pub fn make_tables<S: Alter>(
     format: u32,
     digest: &str,
 ) -> Result<(), StoreFault>
-    ensures { CallsStore S.Store conn.old conn.new result
+    ensures makes { CallsStore S.Store conn.old conn.new result
         (λ _ old new. IsBlank old.now →
         HasTables registry_part format digest.now new.now) }
+    ensures calm { IsCalmOver S.Store conn.old conn.new result (λ db. IsBlank db × AreShort (digest.now ∷ [])) }
 {
     done!(make_registry(conn));
     put_meta(conn, format, digest)
@@ -35,9 +37,11 @@ pub fn make_tables<S: Alter>(
 
 /// Makes the tables of the registry, without rows.
 fn make_registry<S: Alter>(conn: &mut Connection<S>) -> Result<(), StoreFault>
-    ensures { CallsStore S.Store conn.old conn.new result
+    ensures makes { CallsStore S.Store conn.old conn.new result
         (λ _ old new. old.now.schema ≡ schema_of [] →
         Makes registry_part old.now new.now) }
+    ensures calm { IsCalmOver S.Store conn.old conn.new result
+        (λ db. db.schema ≡ schema_of []) }
 {
     make_each(
         conn,
@@ -58,10 +62,13 @@ fn make_registry<S: Alter>(conn: &mut Connection<S>) -> Result<(), StoreFault>
 /// # Errors
 /// `StoreFault::Memory` if the database is out of memory; `StoreFault::Store` if it refused the table.
 pub fn make_strict_environments<S: Alter>(conn: &mut Connection<S>) -> Result<(), StoreFault>
-    ensures { CallsStore S.Store conn.old conn.new result
+    ensures makes { CallsStore S.Store conn.old conn.new result
         (λ _ old new. old.now.schema
         ≡ schema_of (registry_part ++ contents ∷ contract_part ++ deploy_part ++ checked_results ∷ []) →
         Creates old.now new.now strict_environments) }
+    ensures calm { IsCalmOver S.Store conn.old conn.new result
+        (λ db. db.schema
+        ≡ schema_of (registry_part ++ contents ∷ contract_part ++ deploy_part ++ checked_results ∷ [])) }
 {
     make_each(conn, &[STRICT_ENVIRONMENTS])
 }
@@ -72,18 +79,22 @@ pub fn make_strict_environments<S: Alter>(conn: &mut Connection<S>) -> Result<()
 /// # Errors
 /// `StoreFault::Memory` if the database is out of memory; `StoreFault::Store` if it refused the index.
 pub fn make_index<S: Alter>(conn: &mut Connection<S>) -> Result<(), StoreFault>
-    ensures { CallsStore S.Store conn.old conn.new result
+    ensures makes { CallsStore S.Store conn.old conn.new result
         (λ _ old new. old.now.schema
         ≡ indexed_by (schema_of all_tables) (contents_by_digest ∷ contract_indexes) →
         Indexes old.now new.now
         versions_by_pacticipant.0 versions_by_pacticipant.1) }
+    ensures calm { IsCalmOver S.Store conn.old conn.new result
+        (λ db. (db.schema ≡ indexed_by (schema_of all_tables) (contents_by_digest ∷ contract_indexes)) × HasNoRows db) }
 {
     make_each(conn, &[VERSIONS_BY_PACTICIPANT])
 }
 
 /// Puts in the one row of meta.
 fn put_meta<S: Alter>(conn: &mut Connection<S>, format: u32, digest: &str) -> Result<(), StoreFault>
-    ensures { CallsStore S.Store conn.old conn.new result (λ _ old new. PutsMeta format digest.now old.now new.now) }
+    ensures puts { CallsStore S.Store conn.old conn.new result (λ _ old new. PutsMeta format digest.now old.now new.now) }
+    ensures calm { IsCalmOver S.Store conn.old conn.new result
+        (λ db. HasEmptyRegistry db × AreShort (digest.now ∷ [])) }
 {
     change(
         conn,

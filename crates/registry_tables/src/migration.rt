@@ -2,11 +2,9 @@
 ghost use Rattle.std.specs.Prelude.{◌≡◌, ◌∷◌, []};
 ghost use Rattle.sqlite.specs.Held.{state};
 ghost use Rattle.table_access.specs.Calls.{CallsStore};
-ghost use Rattle.broker_core.specs.State.{State as Broker};
 ghost use Rattle.broker_tables.specs.Schema.{checked_results};
-ghost use Rattle.broker_tables.specs.Holds.{format};
-ghost use Rattle.broker_tables.specs.Former.{HoldsUnmarked, former_format, added_tables};
-ghost use Rattle.registry_tables.specs.Format.{FindsFormer, FailsToFind, FailsOnlyFor};
+ghost use Rattle.broker_tables.specs.Former.{added_tables};
+ghost use Rattle.registry_tables.specs.Format.{FindsFormer, FailsToFind, FailsOnlyFor, BecomesFormat2};
 
 use crate::format::format_of;
 use crate::former::has_former_tables;
@@ -42,9 +40,7 @@ pub fn format_to_migrate<S: Alter>(conn: &mut Connection<S>) -> Result<Option<u3
 /// `StoreFault::Memory` if the database is out of memory; `StoreFault::Store` if it refused the table or the format.
 pub fn to_format_2<S: Alter>(conn: &mut Connection<S>) -> Result<(), StoreFault>
     ensures { CallsStore S.Store conn.old conn.new result
-        (λ _ old new. (s : Broker) →
-        HoldsUnmarked former_format (checked_results ∷ []) old.now s →
-        HoldsUnmarked format added_tables new.now s) }
+        (λ _ old new. BecomesFormat2 (checked_results ∷ []) old.now new.now) }
 {
     done!(make_strict_environments(conn));
     set_format(conn)
@@ -53,8 +49,7 @@ pub fn to_format_2<S: Alter>(conn: &mut Connection<S>) -> Result<(), StoreFault>
 /// Sets the format to 2.
 fn set_format<S: Alter>(conn: &mut Connection<S>) -> Result<(), StoreFault>
     ensures { CallsStore S.Store conn.old conn.new result
-        (λ _ old new. (s : Broker) → HoldsUnmarked former_format added_tables old.now s →
-        HoldsUnmarked format added_tables new.now s) }
+        (λ _ old new. BecomesFormat2 added_tables old.now new.now) }
 {
     change(conn, "UPDATE meta SET format = 2", &[])
 }

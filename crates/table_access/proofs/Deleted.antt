@@ -95,9 +95,9 @@ module _ (name : List ℕ) (tree : ℕ) (columns : List Column) (key : Option �
       ]
     ]
 
-    does : (text : List ℕ) (stop : Option Error) → Does old.step_limit (mode_of old) params old.now text None (Delete at query) (Err stop) → ⊥
-    does text stop h = rows_done stop (subst (λ o. AtPlace (λ table. OnRows (record task { table = table }) (mode_of old) None (Delete at query) old.now.trees) o (Err stop)) found h)
+    does : (stop : Option Error) → Does old.step_limit (mode_of old) params old.now sql None (Delete at query) (Err stop) → ⊥
+    does stop h = rows_done stop (subst (λ o. AtPlace (λ table. OnRows (record task { table = table }) (mode_of old) None (Delete at query) old.now.trees) o (Err stop)) found h)
 
     -- it fails only as the store fails, and no row is too big
     pub delete_fails : (e : Error) → Executes sql params old new (Err e) → Fails old new ⊥ e
-    delete_fails e h = elim (change_fails sql params old new (Delete at query) (λ e. ⊥) means runs.whole refl refl (λ e is same. in_place old (Delete at query) refl e is) (λ text e writes. does text (Some e)) e h) [ inl fails ↦ caused_by old new e (λ big. does big.0 None big.1) fails | inr never ↦ absurd never ]
+    delete_fails e h = elim (change_fails sql params old new (Delete at query) (λ e. ⊥) means runs.whole refl refl (λ e is same. in_place old (Delete at query) refl e is) (λ e writes. does (Some e)) e h) [ inl fails ↦ caused_by old new e (does None) fails | inr never ↦ absurd never ]

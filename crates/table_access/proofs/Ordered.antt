@@ -9,7 +9,6 @@ use Rattle.sqlite_sql.{specs.Query.{sort_cmp, output_cmp}, proofs.QueryLemmas.{o
 use Rattle.sqlite_value.specs.declared.keys.Key.{Key}
 use Rattle.sqlite.specs.{declared.types.Value.TheVariants.{Null}, Order.{Row}, Term.{Term, eval_all}, Tree.{IsAscending}}
 use Rattle.sqlite.specs.{Query.{Query, IsAnswer, output, Output}, Program.{overlay}, Effect.{Database, Answers}}
-use Rattle.sqlite_rules.specs.Lists.{Has}
 use Rattle.table_access.{specs.Statements.{from_table, from_both, keeps, keeps_both, pairs_kept, shows}, proofs.SoundLemmas.{all_of}}
 use Rattle.table_access.proofs.Steps.{bare, kept_rows, outputs}
 

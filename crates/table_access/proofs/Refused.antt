@@ -1,22 +1,19 @@
 -- Why a statement that changes rows is refused while the store works; an INSERT of one row: a rule of its table, or a row
 -- that it refers to isn't there.
-use Rattle.std.specs.Prelude.{⊤, IsSome, is_some}
-use Rattle.std.proofs.Common.{◌≡◌, ◌⊎◌, inl, inr, ℕ, zero, suc, List, [], ◌∷◌, length, slice_get, Bool, true, false, not, ◌&&◌, ◌||◌, Some, None, Option, Ok, Err, Result, refl, sym, ap, subst, subst₂, ◌∙◌, append-nil, length-append, ◌/◌, arith}
+use Rattle.std.specs.Prelude.{IsSome, is_some}
+use Rattle.std.proofs.Common.{◌≡◌, ◌⊎◌, inl, inr, ℕ, List, [], length, slice_get, Bool, true, false, not, ◌&&◌, ◌||◌, Some, None, Option, Ok, Err, Result, refl, sym, ap, subst, subst₂, ◌∙◌, append-nil, ◌/◌}
 use Rattle.std.proofs.lemmas.Bool.{cases_Bool}
-use Rattle.sqlite.specs.{Order.{Row}, Tree.{Trees}, Schema.{Schema}, Table.{Table}, Command.{Command}, Command.TheVariants.{Insert, InsertOr, Delete}}
+use Rattle.sqlite.specs.{Order.{Row}, Table.{Table}, Command.{Command}, Command.TheVariants.{Insert, InsertOr, Delete, CreateTable, CreateIndex}}
 use Rattle.sqlite.specs.{Source.TheVariants.{Values}, Term.{Term}, Rowids.TheVariants.{Chosen}, Edit.{Edit, edit_of}, declared.error.Error.{Error}}
-use Rattle.sqlite.specs.{Effect.{value_rows, edit_error, is_query}, Rows.{Written, Task, Edited, Inserts, Sourced, stamped}}
-use Rattle.sqlite.specs.{Does.{OnRows, AtPlace, WritesRows, Does, due}, Listing.{understood}}
-use Rattle.sqlite.specs.State.{State, Executes, ExecutesIn, IsNotRun, IsMisplaced, Fails, HasCause, IsUnchanged, MayChange, shows_rows, is_pragma, text_of, mode_of}
-use Rattle.sqlite.{specs.{Calls.{IsWrite}, Clock.{timed}}, proofs.Callers.{IsPlain, command_of}}
-use Rattle.sqlite_schema.specs.{declared.schema.Keys.{Keys}, declared.schema.Column.{Column}, declared.schema.Reference.{Reference}, Rules.{Refers}}
+use Rattle.sqlite.specs.{Effect.{value_rows, is_query}, Rows.{Written, Task, Edited, Inserts, Sourced, stamped}, Does.{OnRows, AtPlace, WritesRows, Does, due}}
+use Rattle.sqlite.specs.Listing.{understood}
+use Rattle.sqlite.specs.State.{State, Executes, ExecutesIn, IsNotRun, IsMisplaced, Fails, IsUnchanged, MayChange, shows_rows, is_pragma, text_of, mode_of}
+use Rattle.sqlite.{specs.{Calls.{IsWrite}, Clock.{timed}}, proofs.Callers.{IsPlain, command_of, statement_of}}
+use Rattle.sqlite_schema.specs.{declared.schema.Column.{Column}, declared.schema.Reference.{Reference}, Rules.{Refers}}
 use Rattle.sqlite_value.specs.declared.keys.Order.{Order}
-use Rattle.sqlite_rules.specs.{Edit.{IsRefused}, Action.{Leads}, declared.error.Refusal.{Refusal}}
 use Rattle.sqlite_typing.specs.Types.{accepts_terms}
 use Rattle.sqlite_resolve.specs.declared.compiled.Compiled.{Compiled}
-use Rattle.sqlite_trees.specs.declared.error.StoreError.{StoreError}
-use Rattle.sqlite_trees.specs.declared.error.StoreError.TheVariants.{OutOfMemory, Io, Corrupt, Full, Broken, Unstorable}
-use Rattle.table_access.{specs.Statements.{plain_table}, proofs.{Answered.{is_whole, is_statement}, CallLemmas.{caused_more}, Steps.{Means, no_works}}}
+use Rattle.table_access.{specs.Statements.{plain_table}, proofs.{Answered.{is_whole, is_statement}, CallLemmas.{caused_more}, Steps.{Means}}}
 
 -- ---- a statement that changes rows
 
@@ -28,25 +25,27 @@ caused_by old new e more fails = (fails.0, fails.1, caused_more old new fails.0 
 none_shown : (a b : Bool) → a ≡ false → b ≡ false → (a || (not false && (b || false))) ≡ true → ⊥
 none_shown a b quiet plain h = let e : false ≡ true = subst₂ (λ x y. (x || (not false && (y || false))) ≡ true) quiet plain h in cc
 
--- a command on the rows of a table
-abbrev is_on_rows : Command → Bool
-is_on_rows (Insert at from) = true
-is_on_rows (InsertOr at way from clauses) = true
-is_on_rows (Delete at q) = true
-is_on_rows _ = false
+-- a command on the rows of a table, or one that makes a table or an index
+abbrev pub is_anywhere : Command → Bool
+is_anywhere (Insert at from) = true
+is_anywhere (InsertOr at way from clauses) = true
+is_anywhere (Delete at q) = true
+is_anywhere CreateTable = true
+is_anywhere (CreateIndex at) = true
+is_anywhere _ = false
 
 -- such a one is never out of place
-pub in_place : (old : State) (command : Command) → is_on_rows command ≡ true → (e : Error) → ¬ IsMisplaced old command e
-in_place old command rows e (inl (is, inl begins)) = let clash = sym rows ∙ ap is_on_rows begins.0 in cc
-in_place old command rows e (inl (is, inr (inl commits, outside))) = let clash = sym rows ∙ ap is_on_rows commits in cc
-in_place old command rows e (inl (is, inr (inr rolls, outside))) = let clash = sym rows ∙ ap is_on_rows rolls in cc
-in_place old command rows e (inr (is, name, inl releases, none)) = let clash = sym rows ∙ ap is_on_rows releases in cc
-in_place old command rows e (inr (is, name, inr back, none)) = let clash = sym rows ∙ ap is_on_rows back in cc
+pub in_place : (old : State) (command : Command) → is_anywhere command ≡ true → (e : Error) → ¬ IsMisplaced old command e
+in_place old command rows e (inl (is, inl begins)) = let clash = sym rows ∙ ap is_anywhere begins.0 in cc
+in_place old command rows e (inl (is, inr (inl commits, outside))) = let clash = sym rows ∙ ap is_anywhere commits in cc
+in_place old command rows e (inl (is, inr (inr rolls, outside))) = let clash = sym rows ∙ ap is_anywhere rolls in cc
+in_place old command rows e (inr (is, name, inl releases, none)) = let clash = sym rows ∙ ap is_anywhere releases in cc
+in_place old command rows e (inr (is, name, inr back, none)) = let clash = sym rows ∙ ap is_anywhere back in cc
 
 module _ (sql : List ℕ) (params : Row) (old new : State) (command : Command) (Unfit : Error → Type 0) where
-  -- what it does with these parameters, whatever its text
+  -- what it does with these parameters
   abbrev pub Ends : Option Error → Type 0
-  Ends stop = (text : List ℕ) × Does old.step_limit (mode_of old) params old.now text None command (Err stop)
+  Ends stop = Does old.step_limit (mode_of old) params old.now (statement_of sql (understood old.now.schema sql)) None command (Err stop)
 
   -- without RETURNING only a command that writes changes something
   changes : (c : Compiled) → c.command ≡ command → c.returning ≡ None → MayChange c → IsWrite command
@@ -56,24 +55,27 @@ module _ (sql : List ℕ) (params : Row) (old new : State) (command : Command) (
   -- A statement that is whole fails as the store fails, where a value was too big among it, or as its command does, or
   -- since it is out of place.
   pub change_fails : Means old.now.schema sql command → is_whole sql (length params) (understood old.now.schema sql) ≡ true → is_query command ≡ false → is_pragma command ≡ false → ((e : Error) → IsMisplaced old command e → IsUnchanged old new → Unfit e)
-      → ((text : List ℕ) (e : Error) → IsWrite command → Does old.step_limit (mode_of old) params old.now text None command (Err (Some e)) → Unfit e) → (e : Error) → Executes sql params old new (Err e) → Fails old new (Ends None) e ⊎ Unfit e
+      → ((e : Error) → IsWrite command → Ends (Some e) → Unfit e) → (e : Error) → Executes sql params old new (Err e) → Fails old new (Ends None) e ⊎ Unfit e
   unfolding ExecutesIn IsNotRun
   change_fails means whole quiet plain placed unfit e (inl (inl h)) = absurd (is_statement sql params old means.plain whole e h.0)
   change_fails means whole quiet plain placed unfit e (inl (inr h)) = inl (caused_by old new e (λ none. absurd none) h)
   change_fails means whole quiet plain placed unfit e (inr h) =
       let bare = subst IsPlain h.1.is means.plain in
       let known : h.0.command ≡ command = ap command_of (sym h.1.is) ∙ means.is in
-      let same : (stop : Option Error) → Does old.step_limit (mode_of old) (timed params h.0.formats h.1.now) old.now (text_of sql h.0) h.0.returning h.0.command (Err stop) → Does old.step_limit (mode_of old) params old.now (text_of sql h.0) None command (Err stop) =
-      λ stop does. subst₂ (λ k r. Does old.step_limit (mode_of old) params old.now (text_of sql h.0) r k (Err stop)) known bare.0
-      (subst (λ ps. Does old.step_limit (mode_of old) ps old.now (text_of sql h.0) h.0.returning h.0.command (Err stop)) (ap (λ formats. timed params formats h.1.now) bare.1 ∙ append-nil params) does) in
+      let said : text_of sql h.0 ≡ statement_of sql (understood old.now.schema sql) = sym (ap (statement_of sql) h.1.is) in
+      let now : timed params h.0.formats h.1.now ≡ params = ap (λ formats. timed params formats h.1.now) bare.1 ∙ append-nil params in
+      let same : (stop : Option Error) → Does old.step_limit (mode_of old) (timed params h.0.formats h.1.now) old.now (text_of sql h.0) h.0.returning
+      h.0.command (Err stop) → Ends stop =
+      λ stop does. subst₂ (λ k r. Does old.step_limit (mode_of old) params old.now (statement_of sql (understood old.now.schema sql)) r k (Err stop))
+      known bare.0 (subst₂ (λ ps t. Does old.step_limit (mode_of old) ps old.now t h.0.returning h.0.command (Err stop)) now said does) in
       elim (cases_Bool (shows_rows false h.0)) [
         | inl shows ↦ absurd (none_shown (is_query command) (is_pragma command) quiet plain (subst₂ (λ k r. (is_query k || (not false && (is_pragma k || is_some r))) ≡ true) known bare.0 shows))
         | inr runs ↦ elim (rw runs at h.2) [
           | inl is ↦ elim is.0 [
             | inl misplaced ↦ inr (placed e (subst (λ k. IsMisplaced old k e) known misplaced) is.1)
-            | inr does ↦ inr (unfit (text_of sql h.0) e (changes h.0 known bare.0 does.0) (same (Some e) does.1))
+            | inr does ↦ inr (unfit e (changes h.0 known bare.0 does.0) (same (Some e) does.1))
           ]
-          | inr fails ↦ inl (caused_by old new e (λ big. (text_of sql h.0, same None big)) fails)
+          | inr fails ↦ inl (caused_by old new e (same None) fails)
         ]
       ]
 
@@ -132,7 +134,7 @@ module _ (name : List ℕ) (tree : ℕ) (columns : List Column) (key : Option �
 
     -- an INSERT of one row fails as the store fails, or since the row is unfit
     pub insert_fails : (e : Error) → Executes sql params old new (Err e) → Fails old new (IsUnfit None) e ⊎ IsUnfit (Some e)
-    insert_fails e h = elim (change_fails sql params old new (Insert at (Values terms width)) (λ e. IsUnfit (Some e)) means whole refl refl (λ e is same. absurd (in_place old (Insert at (Values terms width)) refl e is)) (λ text e writes. unfit text (Some e)) e h) [ inl fails ↦ inl (caused_by old new e (λ big. unfit big.0 None big.1) fails) | inr is ↦ inr is ]
+    insert_fails e h = elim (change_fails sql params old new (Insert at (Values terms width)) (λ e. IsUnfit (Some e)) means whole refl refl (λ e is same. absurd (in_place old (Insert at (Values terms width)) refl e is)) (λ e writes. unfit (Some e)) e h) [ inl fails ↦ inl (caused_by old new e (unfit None) fails) | inr is ↦ inr is ]
       where
-        unfit : (text : List ℕ) (stop : Option Error) → Does old.step_limit (mode_of old) params old.now text None (Insert at (Values terms width)) (Err stop) → IsUnfit stop
-        unfit text stop h = row_refused stop (subst (λ o. AtPlace (λ table. OnRows (record task { table = table }) (mode_of old) None (Insert at (Values terms width)) old.now.trees) o (Err stop)) found h)
+        unfit : (stop : Option Error) → Does old.step_limit (mode_of old) params old.now sql None (Insert at (Values terms width)) (Err stop) → IsUnfit stop
+        unfit stop h = row_refused stop (subst (λ o. AtPlace (λ table. OnRows (record task { table = table }) (mode_of old) None (Insert at (Values terms width)) old.now.trees) o (Err stop)) found h)

@@ -25,8 +25,8 @@ module _ (old new : State) where
   pub begin_refused : (e : Error) → Executes (codes "BEGIN") [] old new (Err e) → FailsToBegin old new (fault_of e)
   begin_refused e h = (
     (e, refl, h),
-    elim (change_fails (codes "BEGIN") [] old new Begin IsWithin (begin_is old.now.schema).0 (begin_is old.now.schema).1 refl refl begin_placed (λ text e writes does. absurd writes) e h) [
-      | inl fails ↦ inl (has_failed e (caused_by old new e (λ big. let never = big.1 in cc) fails))
+    elim (change_fails (codes "BEGIN") [] old new Begin IsWithin (begin_is old.now.schema).0 (begin_is old.now.schema).1 refl refl begin_placed (λ e writes does. absurd writes) e h) [
+      | inl fails ↦ inl (has_failed e (caused_by old new e (λ big. let never = big in cc) fails))
       | inr within ↦ inr within
     ],
   )
@@ -40,8 +40,8 @@ module _ (old new : State) where
   pub commit_refused : (e : Error) → Executes (codes "COMMIT") [] old new (Err e) → FailsToCommit old new (fault_of e)
   commit_refused e h = (
     (e, refl, h),
-    elim (change_fails (codes "COMMIT") [] old new Commit (λ e. old.in_transaction ≡ false) (commit_is old.now.schema).0 (commit_is old.now.schema).1 refl refl (λ e is same. commit_placed e is) (λ text e writes does. absurd writes) e h) [
-      | inl fails ↦ inl (has_failed e (caused_by old new e (λ big. let never = big.1 in cc) fails))
+    elim (change_fails (codes "COMMIT") [] old new Commit (λ e. old.in_transaction ≡ false) (commit_is old.now.schema).0 (commit_is old.now.schema).1 refl refl (λ e is same. commit_placed e is) (λ e writes does. absurd writes) e h) [
+      | inl fails ↦ inl (has_failed e (caused_by old new e (λ big. let never = big in cc) fails))
       | inr outside ↦ inr outside
     ],
   )
@@ -54,8 +54,8 @@ module _ (old new : State) where
 
   pub rollback_refused : (e : Error) → Executes (codes "ROLLBACK") [] old new (Err e) → IsTrue old.in_transaction → FailsToRollBack old new (fault_of e)
   rollback_refused e h inside =
-      elim (change_fails (codes "ROLLBACK") [] old new Rollback (λ e. old.in_transaction ≡ false) (rollback_is old.now.schema).0 (rollback_is old.now.schema).1 refl refl (λ e is same. rollback_placed e is) (λ text e writes does. absurd writes) e h) [
-        | inl fails ↦ ((e, refl, h), (inside, fails.3), has_failed e (caused_by old new e (λ big. let never = big.1 in cc) fails))
+      elim (change_fails (codes "ROLLBACK") [] old new Rollback (λ e. old.in_transaction ≡ false) (rollback_is old.now.schema).0 (rollback_is old.now.schema).1 refl refl (λ e is same. rollback_placed e is) (λ e writes does. absurd writes) e h) [
+        | inl fails ↦ ((e, refl, h), (inside, fails.3), has_failed e (caused_by old new e (λ big. let never = big in cc) fails))
         | inr outside ↦ absurd (let clash = outside in cc)
       ]
 

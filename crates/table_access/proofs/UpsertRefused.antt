@@ -286,9 +286,9 @@ module _ (name : List ℕ) (tree : ℕ) (columns : List Column) (key : Option �
         ]
       ]
 
-      does : (text : List ℕ) (stop : Option Error) → Does old.step_limit (mode_of old) params old.now text None command (Err stop) → Stops stop
-      does text stop h = rows_done stop (subst (λ o. AtPlace (λ table. OnRows (record task { table = table }) (mode_of old) None command old.now.trees) o (Err stop)) takes.found h)
+      does : (stop : Option Error) → Does old.step_limit (mode_of old) params old.now sql None command (Err stop) → Stops stop
+      does stop h = rows_done stop (subst (λ o. AtPlace (λ table. OnRows (record task { table = table }) (mode_of old) None command old.now.trees) o (Err stop)) takes.found h)
 
       -- it fails only as the store fails, or since the row is too big
       pub upsert_fails : (e : Error) → Executes sql params old new (Err e) → Fails old new TooBig e
-      upsert_fails e h = elim (change_fails sql params old new command (λ e. ⊥) takes.means takes.whole refl refl (λ e is same. in_place old command refl e is) (λ text e writes h. let it = does text (Some e) h in let clash : Some e ≡ None = it.0 in cc) e h) [ inl fails ↦ caused_by old new e (λ big. (does big.0 None big.1).1) fails | inr never ↦ absurd never ]
+      upsert_fails e h = elim (change_fails sql params old new command (λ e. ⊥) takes.means takes.whole refl refl (λ e is same. in_place old command refl e is) (λ e writes h. let it = does (Some e) h in let clash : Some e ≡ None = it.0 in cc) e h) [ inl fails ↦ caused_by old new e (λ big. (does None big).1) fails | inr never ↦ absurd never ]

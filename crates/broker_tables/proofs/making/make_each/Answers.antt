@@ -1,7 +1,8 @@
-use Rattle.std.proofs.Common.{Ok, sym, subst}
-use Rattle.sqlite.specs.Held.{state}
-use Rattle.table_access.proofs.CallLemmas.{idle, memory_ok, statement_seq}
+use Rattle.std.proofs.{Common.{Ok, sym, subst, map, arith, ◌+◌, ◌∙◌, ℕ, List, Bor}, lemmas.List.{take-map}}
+use Rattle.sqlite.specs.{Held.{state}, State.{HasCleanDisk}}
+use Rattle.table_access.proofs.CallLemmas.{idle, memory_ok, statement_seq, ended_since}
 use Rattle.broker_tables.{specs.Making.{MakesTexts}, proofs.{Written.{no_texts, text_more, texts_more}, Definitions.{tables_defined, indexes_defined}}}
+use Rattle.broker_tables.proofs.MakingFails.{text_fails}
 use Rattle.broker_tables.proofs.making.make_each.Goals as goal
 
 pub loop-text-init : goal.loop-text-init
@@ -18,3 +19,16 @@ loop-text-preserved g c =
     subst (λ texts. MakesTexts texts old.now new.now) (sym (texts_more c.args.texts.now c.loop-text.text-index _ c.loop-text-test.true))
     (text_more tables_defined indexes_defined _ _ old.now mid new ran.0 made ran.1))
     c.loop-text.invariant c.in-Ok.ensures.leaves
+
+pub returns-in-Err-clause-calm : goal.returns-in-Err-clause-calm
+returns-in-Err-clause-calm g c clean inside unlimited can =
+    let old = state g.S.Store c.args.conn.now in
+    let mid = state g.S.Store c.loop-text.conn in
+    let new = state g.S.Store c.change.new.conn in
+    let so_far = c.loop-text.invariant in
+    let mid_clean : HasCleanDisk mid = omega (arith, c.change.ensures.leaves.call.survives.clean, clean) in
+    let texts = c.args.texts.now in
+    ended_since old mid new c.in-Err.fault (so_far.call.goes_on mid_clean inside) so_far.call.survives.counts
+    (text_fails (map (λ (text : Bor (List ℕ)). text.now) texts) _ (c.loop-text.text-index + 1) _ old.now mid new c.in-Err.fault
+    (take-map (λ (text : Bor (List ℕ)). text.now) (c.loop-text.text-index + 1) texts ∙ texts_more texts c.loop-text.text-index _ c.loop-text-test.true)
+    can (so_far.call.ok mid_clean) (c.in-Err.ensures.cause clean))

@@ -4,4 +4,4 @@ use Rattle.registry_tables.proofs.migration.to_format_2.Goals as goal
 
 pub returns : goal.returns
 returns g c =
-    statement_seq _ _ _ c.in-Ok.value c.set_format.result _ _ _ (λ made _ sets s held. sets s (strict_made former_format _ _ s held (made held.schema))) c.in-Ok.ensures c.set_format.ensures
+    statement_seq _ _ _ c.in-Ok.value c.set_format.result _ _ _ (λ made _ sets s held. sets s (strict_made former_format _ _ s held (made held.schema))) c.in-Ok.ensures.makes c.set_format.ensures
