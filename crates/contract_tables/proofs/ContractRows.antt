@@ -17,7 +17,8 @@ use Rattle.table_access.proofs.Parts.{Part, text_part, whole_part, is_param, whe
 use Rattle.table_access.proofs.{SoundLemmas.{at_has, text_at, whole_in, has_place}, ReadLemmas.{number_found}}
 use Rattle.broker_core.specs.{Text.{Text as Words, version, put_at, same_text, same_version, same_pair}, declared.command.Version.{Version}, Listing.{Lists}}
 use Rattle.broker_core.specs.{Machine.{version_cmp}, State.{State as Broker}}
-use Rattle.broker_tables.specs.{Rows.{value_at}, Numbers.{number_of}, Holds.{Holds, HoldsAfter, IsBroker}, Refusals.{HaveNumbers}}
+use Rattle.broker_tables.specs.{Schema.{in_versions, in_contracts}, Rows.{value_at}, Numbers.{number_of}, Holds.{Holds, HoldsAfter, IsBroker}}
+use Rattle.broker_tables.specs.Refusals.{HaveNumbers}
 use Rattle.broker_tables.proofs.VersionRows.{whole_test, text_test, version_number, versions_numbered, owners, names, row_number, find_version, one_row, by_number, same_version as one_version}
 use Rattle.broker_tables.proofs.{Frames.{frame_of, contracts_change}, Orders.{marked_total, exact_marked, exact_texts, exact_pair}, Ties.{both_eq, two_tests}}
 use Rattle.broker_tables.proofs.{Standing.{stands_found}, RoomLemmas.{after_one, grows_added, number_for}, NumberLemmas.{number_ties, version_unknown}}
@@ -28,39 +29,40 @@ use Rattle.contract_tables.proofs.ReferredRows.{leads, number_there, has_content
 use Rattle.contract_tables.proofs.ItemLists.{and_tests, last_test, last_text, first_less, list_rows, list_pairs}
 
 abbrev pub key : Row → ℤ × List ℕ
-key r = (whole_at 1 r, text 2 r)
+key r = (whole_at in_contracts.version_number r, text in_contracts.provider r)
 
 -- the content of the contract of a version's number with a provider
 abbrev pub content_at : List Row → ℕ → List ℕ → Option ℤ
-content_at rows n p = value_at (by_both int_cmp text_cmp) key (whole_at 3) rows (pos n, p)
+content_at rows n p = value_at (by_both int_cmp text_cmp) key (whole_at in_contracts.content) rows (pos n, p)
 
 module _ (db : Database) (broker : IsBroker db) where
-  pub contracts_numbered : IsNumbered (db.trees 15)
+  pub contracts_numbered : IsNumbered (db.trees in_contracts.tree)
   contracts_numbered = at_has _ db.schema.tables contracts broker.kept.numbered (has_place _ 8 contracts (contracts_there db broker))
 
-  pub numbers : Part int_cmp Int (db.trees 15) 1 (whole_at 1)
-  numbers = whole_part (db.trees 15) 1 (λ r has. whole_in db broker.kept.sound contracts (has_place _ 8 contracts (contracts_there db broker)) r has 0 _ refl refl refl refl refl)
+  pub numbers : Part int_cmp Int (db.trees in_contracts.tree) in_contracts.version_number (whole_at in_contracts.version_number)
+  numbers = whole_part (db.trees in_contracts.tree) in_contracts.version_number (λ r has. whole_in db broker.kept.sound contracts (has_place _ 8 contracts (contracts_there db broker)) r has 0 _ refl refl refl refl refl)
 
-  pub providers : Part text_cmp Text (db.trees 15) 2 (text 2)
-  providers = text_part (db.trees 15) 2 (λ r has. text_at db broker.kept.sound contracts (has_place _ 8 contracts (contracts_there db broker)) r has 1 _ refl refl refl refl refl)
+  pub providers : Part text_cmp Text (db.trees in_contracts.tree) in_contracts.provider (text in_contracts.provider)
+  providers = text_part (db.trees in_contracts.tree) in_contracts.provider (λ r has. text_at db broker.kept.sound contracts (has_place _ 8 contracts (contracts_there db broker)) r has 1 _ refl refl refl refl refl)
 
-  pub contents : (r : Row) → Has (db.trees 15) r → column r 3 ≡ Int (whole_at 3 r)
+  pub contents : (r : Row) → Has (db.trees in_contracts.tree) r → column r in_contracts.content ≡ Int (whole_at in_contracts.content r)
   contents r has = whole_in db broker.kept.sound contracts (has_place _ 8 contracts (contracts_there db broker)) r has 2 _ refl refl refl refl refl
 
-  pub keys : IsAscending (λ a b. eq_by_cmp (by_both int_cmp text_cmp) (key a) (key b) ≡ false) (db.trees 15)
-  keys = once (by_both int_cmp text_cmp) (db.trees 15) (1 ∷ 2 ∷ []) key
-      (λ a b ha hb. agree_and int_cmp_total (db.trees 15) 1 (whole_at 1) numbers text_cmp (text 2) (2 ∷ []) a b ha hb (agree_last nat_list_cmp_total (db.trees 15) 2 (text 2) providers a b ha hb))
+  pub keys : IsAscending (λ a b. eq_by_cmp (by_both int_cmp text_cmp) (key a) (key b) ≡ false) (db.trees in_contracts.tree)
+  keys = once (by_both int_cmp text_cmp) (db.trees in_contracts.tree) (in_contracts.version_number ∷ in_contracts.provider ∷ []) key
+      (λ a b ha hb. agree_and int_cmp_total (db.trees in_contracts.tree) in_contracts.version_number (whole_at in_contracts.version_number) numbers text_cmp (text in_contracts.provider) (in_contracts.provider ∷ []) a b ha hb (agree_last nat_list_cmp_total (db.trees in_contracts.tree) in_contracts.provider (text in_contracts.provider) providers a b ha hb))
       (apart_by db broker.kept contracts 8 (contracts_there db broker) _ 7 (ap (λ (s : Schema). slice_get s.indexes 7) broker.schema) refl)
 
-  by_key : (n : ℕ) (p : List ℕ) → (r : Row) → Has (db.trees 15) r → keeps (by_two 1 2) (Int (pos n) ∷ Text p ∷ []) r ≡ eq_by_cmp (by_both int_cmp text_cmp) (pos n, p) (key r)
+  by_key : (n : ℕ) (p : List ℕ) → (r : Row) → Has (db.trees in_contracts.tree) r → keeps (by_two in_contracts.version_number in_contracts.provider) (Int (pos n) ∷ Text p ∷ []) r ≡ eq_by_cmp (by_both int_cmp text_cmp) (pos n, p) (key r)
   by_key n p r has =
-      where_and int_cmp_total (db.trees 15) 1 (whole_at 1) numbers text_cmp (text 2) p (is_param 2 1 ∷ []) (Int (pos n) ∷ Text p ∷ []) 0 (pos n) refl r has
-      (where_last nat_list_cmp_total (db.trees 15) 2 (text 2) providers (Int (pos n) ∷ Text p ∷ []) 1 p refl r has)
+      where_and int_cmp_total (db.trees in_contracts.tree) in_contracts.version_number (whole_at in_contracts.version_number) numbers text_cmp
+      (text in_contracts.provider) p (is_param 2 1 ∷ []) (Int (pos n) ∷ Text p ∷ []) 0 (pos n) refl r has
+      (where_last nat_list_cmp_total (db.trees in_contracts.tree) in_contracts.provider (text in_contracts.provider) providers (Int (pos n) ∷ Text p ∷ []) 1 p refl r has)
 
 -- ---- the content of a contract
 
 pub content : (n : ℕ) (p : List ℕ) → Asked (codes "SELECT content FROM contracts WHERE version_number = ?1 AND provider = ?2")
-    (Int (pos n) ∷ Text p ∷ []) (from_table 15 (by_two 1 2) (col 1 3 ∷ []) [])
+    (Int (pos n) ∷ Text p ∷ []) (from_table in_contracts.tree (by_two in_contracts.version_number in_contracts.provider) (col 1 in_contracts.content ∷ []) [])
 unfolding understood everything
 content n p = record { names = _; means = record { is = refl; plain = (refl, refl); unlisted = refl }; runs = record { whole = refl; typed = refl; sumless = refl } }
 
@@ -81,34 +83,36 @@ pub named : (a b : Option ℕ) → option_map pos a ≡ option_map pos b → a �
 named a b e = sym (whole_pos a) ∙ ap (option_map whole) e ∙ whole_pos b
 
 -- what the state has is what the row has
-pub held_content : (db : Database) (s : Broker) (v : Version) (n : ℕ) (p : List ℕ) → Holds db s → number_of s.versions v ≡ Some n → content_at (db.trees 15) n p ≡ option_map pos (s.contracts (v, p))
-held_content db s v n p held is = sym (ap (option_and_then (λ k. content_at (db.trees 15) k p)) is) ∙ held.contracts v p
+pub held_content : (db : Database) (s : Broker) (v : Version) (n : ℕ) (p : List ℕ) → Holds db s → number_of s.versions v ≡ Some n → content_at (db.trees in_contracts.tree) n p ≡ option_map pos (s.contracts (v, p))
+held_content db s v n p held is = sym (ap (option_and_then (λ k. content_at (db.trees in_contracts.tree) k p)) is) ∙ held.contracts v p
 
 pub content_found : (n : ℕ) (p : List ℕ) (db : Database) (s : Broker) (v : Version) → Holds db s → number_of s.versions v ≡ Some n → (rows : List Row) → IsShown (content n p) db rows
     → (found : Option ℕ) → option_map (λ n. Int (pos n)) found ≡ option_map (λ r. column r 0) (slice_get rows 0) → found ≡ s.contracts (v, p)
 content_found n p db s v held is rows h found read = named found (s.contracts (v, p)) (
     number_found found rows read
-    ∙ looks_up_at marked_total exact_marked key (whole_at 3) _ (whole_at 0) (λ r. refl) (pos n, p) _ (db.trees 15) rows
-    (all_where (by_both int_cmp text_cmp) (db.trees 15) key (pos n, p) (by_two 1 2) (Int (pos n) ∷ Text p ∷ []) (by_key db held.broker n p)) (keys db held.broker)
-    (answered db _ 15 _ _ _ rows h)
+    ∙ looks_up_at marked_total exact_marked key (whole_at in_contracts.content) _ (whole_at 0) (λ r. refl) (pos n, p) _ (db.trees in_contracts.tree) rows
+    (all_where (by_both int_cmp text_cmp) (db.trees in_contracts.tree) key (pos n, p) (by_two in_contracts.version_number in_contracts.provider) (Int (pos n) ∷ Text p ∷ []) (by_key db held.broker n p)) (keys db held.broker)
+    (answered db _ in_contracts.tree _ _ _ rows h)
     ∙ held_content db s v n p held is
     )
 
 module _ (db : Database) (s : Broker) (held : Holds db s) (v : Version) (n : ℕ) (is : number_of s.versions v ≡ Some n) where
   -- a row of the version tells its contract
-  pub row_content : (r : Row) (p : List ℕ) (content : ℕ) → Has (db.trees 15) r → whole_at 1 r ≡ pos n → text 2 r ≡ p → whole_at 3 r ≡ pos content
+  pub row_content : (r : Row) (p : List ℕ) (content : ℕ) → Has (db.trees in_contracts.tree) r → whole_at in_contracts.version_number r ≡ pos n
+      → text in_contracts.provider r ≡ p → whole_at in_contracts.content r ≡ pos content
       → s.contracts (v, p) ≡ Some content
   row_content r p content has number provider told = named (s.contracts (v, p)) (Some content) (
-      sym (held_content db s v n p held is) ∙ ap (value_at (by_both int_cmp text_cmp) key (whole_at 3) (db.trees 15)) (λ i. (sym number i, sym provider i))
-      ∙ has_find marked_total exact_marked key (whole_at 3) (db.trees 15) r (keys db held.broker) has ∙ ap Some told
+      sym (held_content db s v n p held is)
+      ∙ ap (value_at (by_both int_cmp text_cmp) key (whole_at in_contracts.content) (db.trees in_contracts.tree)) (λ i. (sym number i, sym provider i))
+      ∙ has_find marked_total exact_marked key (whole_at in_contracts.content) (db.trees in_contracts.tree) r (keys db held.broker) has ∙ ap Some told
       )
 
   -- and its contract is told by a row of it
   pub content_row : (p : List ℕ) (content : ℕ) → s.contracts (v, p) ≡ Some content
-      → (r : Row) × Has (db.trees 15) r × (whole_at 1 r ≡ pos n) × (text 2 r ≡ p) × (whole_at 3 r ≡ pos content)
+      → (r : Row) × Has (db.trees in_contracts.tree) r × (whole_at in_contracts.version_number r ≡ pos n) × (text in_contracts.provider r ≡ p) × (whole_at in_contracts.content r ≡ pos content)
   content_row p content there =
       let all = held_content db s v n p held is ∙ ap (option_map pos) there in
-      let it = find_has marked_total exact_marked key (whole_at 3) (pos n, p) (pos content) (db.trees 15) all in
+      let it = find_has marked_total exact_marked key (whole_at in_contracts.content) (pos n, p) (pos content) (db.trees in_contracts.tree) all in
       (it.0, it.1, sym (ap (λ k. k.0) it.2), sym (ap (λ k. k.1) it.2), it.3)
 
 -- ---- the contracts of a version
@@ -117,10 +121,10 @@ abbrev pub terms : List Term
 terms = is_param 1 0 ∷ []
 
 abbrev pub project : List Term
-project = col 1 3 ∷ col 1 2 ∷ []
+project = col 1 in_contracts.content ∷ col 1 in_contracts.provider ∷ []
 
 pub own : (n : ℕ) → Asked (codes "SELECT content, provider FROM contracts WHERE version_number = ?1 ORDER BY provider")
-    (Int (pos n) ∷ []) (from_table 15 terms project ((col 1 2, ascending Binary) ∷ []))
+    (Int (pos n) ∷ []) (from_table in_contracts.tree terms project ((col 1 in_contracts.provider, ascending Binary) ∷ []))
 unfolding understood everything
 own n = record { names = _; means = record { is = refl; plain = (refl, refl); unlisted = refl }; runs = record { whole = refl; typed = refl; sumless = refl } }
 
@@ -130,12 +134,12 @@ module _ (db : Database) (s : Broker) (held : Holds db s) (v : Version) (n : ℕ
 
   pub contracts_listed : (rows : List Row) (items : List Contract) → IsShown (own n) db rows → AreRead IsContractRow rows items → Lists contract_cmp Is items
   contracts_listed = list_rows db IsContractRow contract_cmp Is exact_texts (λ c. c.provider)
-      (λ x y. first_less (text_cmp x.provider y.provider) (nat_cmp x.content y.content)) (own n) (λ r. whole_at 1 r ≡ pos n) (contracts_numbered db held.broker)
-      (λ r has. last_test (whole_test (column r 1) (Int (pos n)) (whole_at 1 r) (pos n) ((numbers db held.broker).typed r has) refl)) (record {
-        key = text 2;
-        sorted = λ a b one two. last_text (column a 2) (column b 2) (text 2 a) (text 2 b)
+      (λ x y. first_less (text_cmp x.provider y.provider) (nat_cmp x.content y.content)) (own n) (λ r. whole_at in_contracts.version_number r ≡ pos n) (contracts_numbered db held.broker)
+      (λ r has. last_test (whole_test (column r in_contracts.version_number) (Int (pos n)) (whole_at in_contracts.version_number r) (pos n) ((numbers db held.broker).typed r has) refl)) (record {
+        key = text in_contracts.provider;
+        sorted = λ a b one two. last_text (column a in_contracts.provider) (column b in_contracts.provider) (text in_contracts.provider a) (text in_contracts.provider b)
             ((providers db held.broker).typed a one.0) ((providers db held.broker).typed b two.0);
-        one = λ a b one two same. one_row marked_total key (db.trees 15) (keys db held.broker) a b one.0 two.0 (λ i. ((one.1 ∙ sym two.1) i, same i));
+        one = λ a b one two same. one_row marked_total key (db.trees in_contracts.tree) (keys db held.broker) a b one.0 two.0 (λ i. ((one.1 ∙ sym two.1) i, same i));
         read = λ r x read. ap text_in read.1;
         sound = λ r x it read. row_content db s held v n is r x.provider x.content it.0 it.1 (ap text_in read.1) (ap id_in read.0);
         complete = λ x there.
@@ -146,27 +150,31 @@ module _ (db : Database) (s : Broker) (held : Holds db s) (v : Version) (n : ℕ
 -- ---- the consumers that have a contract of a content with a provider
 
 abbrev pub users_terms : List Term
-users_terms = op2 (Compare Eq Binary) (col 2 0) (col 1 1) ∷ op2 (Compare Eq Binary) (col 1 3) (col 0 0) ∷ op2 (Compare Eq Binary) (col 1 2) (col 0 1) ∷ []
+users_terms = op2 (Compare Eq Binary) (col 2 0) (col 1 in_contracts.version_number) ∷ op2 (Compare Eq Binary) (col 1 in_contracts.content) (col 0 0)
+    ∷ op2 (Compare Eq Binary) (col 1 in_contracts.provider) (col 0 1) ∷ []
 
 abbrev pub users_project : List Term
-users_project = col 2 2 ∷ col 2 3 ∷ []
+users_project = col 2 in_versions.pacticipant ∷ col 2 in_versions.version ∷ []
 
 pub users : (n : ℕ) (p : Words)
     → Asked (codes "SELECT v.pacticipant, v.version FROM contracts c JOIN versions v ON v.number = c.version_number WHERE c.content = ?1 AND c.provider = ?2 ORDER BY v.pacticipant, v.version")
-    (Int (pos n) ∷ Text p ∷ []) (from_both 15 6 users_terms users_project ((col 2 2, ascending Binary) ∷ (col 2 3, ascending Binary) ∷ []))
+    (Int (pos n) ∷ Text p ∷ []) (from_both in_contracts.tree in_versions.tree users_terms users_project
+    ((col 2 in_versions.pacticipant, ascending Binary) ∷ (col 2 in_versions.version, ascending Binary) ∷ []))
 unfolding understood everything
 users n p = record { names = _; means = record { is = refl; plain = (refl, refl); unlisted = refl }; runs = record { whole = refl; typed = refl; sumless = refl } }
 
 module _ (db : Database) (s : Broker) (held : Holds db s) (content : ℕ) (p : Words) where
   abbrev IsKept : Row → Row → Type 0
-  IsKept c v = (whole_at 0 v ≡ whole_at 1 c) × ((whole_at 3 c ≡ pos content) × (text 2 c ≡ p))
+  IsKept c v = (whole_at 0 v ≡ whole_at in_contracts.version_number c) × ((whole_at in_contracts.content c ≡ pos content) × (text in_contracts.provider c ≡ p))
 
   -- what ON and WHERE test
-  joined : (c v : Row) → Has (db.trees 15) c → Has (db.trees 6) v → (keeps_both users_terms (Int (pos content) ∷ Text p ∷ []) c v ≡ true) ↔ IsKept c v
+  joined : (c v : Row) → Has (db.trees in_contracts.tree) c → Has (db.trees in_versions.tree) v
+      → (keeps_both users_terms (Int (pos content) ∷ Text p ∷ []) c v ≡ true) ↔ IsKept c v
   joined c v hc hv =
-      and_tests (whole_test (column v 0) (column c 1) (whole_at 0 v) (whole_at 1 c) (version_number db held.broker v hv) ((numbers db held.broker).typed c hc))
-      (and_tests (whole_test (column c 3) (Int (pos content)) (whole_at 3 c) (pos content) (contents db held.broker c hc) refl)
-      (last_test (text_test (column c 2) (Text p) (text 2 c) p ((providers db held.broker).typed c hc) refl)))
+      and_tests (whole_test (column v 0) (column c in_contracts.version_number) (whole_at 0 v) (whole_at in_contracts.version_number c)
+      (version_number db held.broker v hv) ((numbers db held.broker).typed c hc))
+      (and_tests (whole_test (column c in_contracts.content) (Int (pos content)) (whole_at in_contracts.content c) (pos content) (contents db held.broker c hc) refl)
+      (last_test (text_test (column c in_contracts.provider) (Text p) (text in_contracts.provider c) p ((providers db held.broker).typed c hc) refl)))
 
   abbrev IsUser : Version → Type 0
   IsUser w = (s.contracts (w, p) ≡ Some content)
@@ -174,23 +182,24 @@ module _ (db : Database) (s : Broker) (held : Holds db s) (content : ℕ) (p : W
   pub users_listed : (rows : List Row) (items : List Version) → IsShown (users content p) db rows → AreRead IsConsumerRow rows items → Lists version_cmp IsUser items
   users_listed = list_pairs db IsConsumerRow version_cmp IsUser exact_pair (λ w. (w.pacticipant, w.name))
       (λ x y less. less) (users content p) IsKept (contracts_numbered db held.broker) (versions_numbered db held.broker) joined (record {
-        key = λ q. (text 2 q.1, text 3 q.1);
+        key = λ q. (text in_versions.pacticipant q.1, text in_versions.version q.1);
         sorted = λ a b one two.
-            let last = last_text (column a.1 3) (column b.1 3) (text 3 a.1) (text 3 b.1) (names db held.broker a.1 one.1) (names db held.broker b.1 two.1) in
-            let first = (λ i. value_cmp (owners db held.broker a.1 one.1 i) (owners db held.broker b.1 two.1 i)) ∙ value_cmp-Text (text 2 a.1) (text 2 b.1) in
+            let last = last_text (column a.1 in_versions.version) (column b.1 in_versions.version) (text in_versions.version a.1) (text in_versions.version b.1)
+            (names db held.broker a.1 one.1) (names db held.broker b.1 two.1) in
+            let first = (λ i. value_cmp (owners db held.broker a.1 one.1 i) (owners db held.broker b.1 two.1 i)) ∙ value_cmp-Text (text in_versions.pacticipant a.1) (text in_versions.pacticipant b.1) in
             λ i. ordering_then (first i) (last i);
         one = λ a b one two same.
             let same_row : a.1 ≡ b.1 = one_version db held.broker a.1 b.1 one.1 two.1 (ap (λ k. k.0) same) (ap (λ k. k.1) same) in
-            let number : whole_at 1 a.0 ≡ whole_at 1 b.0 = sym one.2.0 ∙ ap (whole_at 0) same_row ∙ two.2.0 in
+            let number : whole_at in_contracts.version_number a.0 ≡ whole_at in_contracts.version_number b.0 = sym one.2.0 ∙ ap (whole_at 0) same_row ∙ two.2.0 in
             let keyed : key a.0 ≡ key b.0 = λ i. (number i, (one.2.1.1 ∙ sym two.2.1.1) i) in
-            λ i. (one_row marked_total key (db.trees 15) (keys db held.broker) a.0 b.0 one.0 two.0 keyed i, same_row i);
+            λ i. (one_row marked_total key (db.trees in_contracts.tree) (keys db held.broker) a.0 b.0 one.0 two.0 keyed i, same_row i);
         read = λ q x read i. (text_in (read.0 i), text_in (read.1 i));
         sound = λ q x it read.
             let at = row_number db held.broker s.versions held.versions q.1 it.1 in
             let is : number_of s.versions x ≡ Some at.0 = (λ i. number_of s.versions (version (text_in (sym read.0 i)) (text_in (sym read.1 i)))) ∙ at.1 in
             row_content db s held x at.0 is q.0 p content it.0 (sym it.2.0 ∙ at.2) it.2.1.1 it.2.1.0;
         complete = λ x there.
-            let at = by_number (number_of s.versions x) (λ k. content_at (db.trees 15) k p) (pos content) (held.contracts x p ∙ ap (option_map pos) there) in
+            let at = by_number (number_of s.versions x) (λ k. content_at (db.trees in_contracts.tree) k p) (pos content) (held.contracts x p ∙ ap (option_map pos) there) in
             let c = content_row db s held x at.0 at.1 p content there in
             let v = find_version db held.broker s.versions x at.0 held.versions at.1 in (
               (c.0, v.0),
@@ -213,7 +222,7 @@ module _ (n : ℕ) (p : List ℕ) (content : ℕ) (old new : State) (s : Broker)
   params = Int (pos n) ∷ Text p ∷ Int (pos content) ∷ []
 
   abbrev rows : List Row
-  rows = old.now.trees 15
+  rows = old.now.trees in_contracts.tree
 
   abbrev made : Row
   made = Int (next_rowid rows) ∷ params
@@ -228,9 +237,9 @@ module _ (n : ℕ) (p : List ℕ) (content : ℕ) (old new : State) (s : Broker)
   pub contract_added : (count : ℕ) → Executes add_sql params old new (Ok count) → HoldsAfter 2 old new (record s { contracts = put_at (same_pair same_version same_text) s.contracts (v, p) (Some content) })
   contract_added count h =
       let it = inserted add_sql params old new held.broker contracts 8 (contracts_there old.now held.broker) _ made (add_puts n p content) stored count h in
-      let put = puts_at marked_total exact_marked key (whole_at 3) rows (new.now.trees 15) made it.1 none in
-      let frame = frame_of (codes "contracts" ∷ []) 15 refl old new held.broker it.0 in
-      after_one 2 (omega arith) (codes "contracts") old new _ frame (λ counted. grows_added rows (new.now.trees 15) made it.1 refl)
+      let put = puts_at marked_total exact_marked key (whole_at in_contracts.content) rows (new.now.trees in_contracts.tree) made it.1 none in
+      let frame = frame_of (codes "contracts" ∷ []) in_contracts.tree refl old new held.broker it.0 in
+      after_one 2 (omega arith) (codes "contracts") old new _ frame (λ counted. grows_added rows (new.now.trees in_contracts.tree) made it.1 refl)
       (contracts_change old.now new.now s _ held frame (λ w q.
       each w q (number_of s.versions w) refl (λ k. put (pos k, q)) ∙ sym (map_cond pos (same_version w v && same_text q p) content (s.contracts (w, q)))))
     where
@@ -238,24 +247,25 @@ module _ (n : ℕ) (p : List ℕ) (content : ℕ) (old new : State) (s : Broker)
       after b was = cond b (Some (pos content)) was
 
       each : (w : Version) (q : List ℕ) (o : Option ℕ) → number_of s.versions w ≡ o
-          → ((k : ℕ) → content_at (new.now.trees 15) k q ≡ after (eq_by_cmp (by_both int_cmp text_cmp) (pos k, q) (pos n, p)) (content_at rows k q))
-          → option_and_then (λ k. content_at (new.now.trees 15) k q) (number_of s.versions w)
+          → ((k : ℕ) → content_at (new.now.trees in_contracts.tree) k q ≡ after (eq_by_cmp (by_both int_cmp text_cmp) (pos k, q) (pos n, p)) (content_at rows k q))
+          → option_and_then (λ k. content_at (new.now.trees in_contracts.tree) k q) (number_of s.versions w)
           ≡ after (same_version w v && same_text q p) (option_map pos (s.contracts (w, q)))
       each w q None e put =
           let apart = and_left (same_version w v) (same_text q p) (version_unknown s.versions w v n e is) in
-          let was = sym (ap (option_and_then (λ k. content_at (old.now.trees 15) k q)) e) ∙ held.contracts w q in
-          ap (option_and_then (λ k. content_at (new.now.trees 15) k q)) e ∙ (λ i. after (sym apart i) (was i))
+          let was = sym (ap (option_and_then (λ k. content_at (old.now.trees in_contracts.tree) k q)) e) ∙ held.contracts w q in
+          ap (option_and_then (λ k. content_at (new.now.trees in_contracts.tree) k q)) e ∙ (λ i. after (sym apart i) (was i))
       each w q (Some k) e put =
           let same = two_tests _ _ _ _ (number_ties s.versions w v k n e is) (texts_ties q p) ∙ both_eq (int_cmp (pos k) (pos n)) (text_cmp q p) in
-          ap (option_and_then (λ m. content_at (new.now.trees 15) m q)) e ∙ put k ∙ (λ i. after (sym same i) (held_content old.now s w k q held e i))
+          ap (option_and_then (λ m. content_at (new.now.trees in_contracts.tree) m q)) e ∙ put k
+          ∙ (λ i. after (sym same i) (held_content old.now s w k q held e i))
 
   -- it fails only as the store fails, or since the name is too long
   pub contract_ends : HaveNumbers (codes "contracts" ∷ []) old.now → IsTrue (is_some (s.pacticipants p)) → 1 ≤ content → content ≤ length s.contents → EndsOnly (p ∷ []) add_sql params old new
   contract_ends room known low high =
       next_ends add_sql params old new held.broker contracts 8 (contracts_there old.now held.broker) _ _ (add_puts n p content) stored (number_for rows room.0) (record { typed = refl; present = refl; checked = refl }) (
-        free_two rows made int_cmp_total 1 (whole_at 1) (new_whole rows made 1 (numbers old.now held.broker).typed refl) marked_total nat_list_cmp_total 2 (text 2) (new_text rows made 2 (providers old.now held.broker).typed refl)
-            (sym (stands_found (by_both int_cmp text_cmp) key (whole_at 3) rows (pos n, p)) ∙ ap is_some none),
+        free_two rows made int_cmp_total in_contracts.version_number (whole_at in_contracts.version_number) (new_whole rows made in_contracts.version_number (numbers old.now held.broker).typed refl) marked_total nat_list_cmp_total in_contracts.provider (text in_contracts.provider) (new_text rows made in_contracts.provider (providers old.now held.broker).typed refl)
+            (sym (stands_found (by_both int_cmp text_cmp) key (whole_at in_contracts.content) rows (pos n, p)) ∙ ap is_some none),
         tt,
       )
-      (version_there old.now s held made 1 v n is refl, (pacticipant_there old.now s held made 2 p known refl, (number_there _ old.now made 3 content refl (leads 3).0 (has_content old.now s held content low high), tt)))
+      (version_there old.now s held made in_contracts.version_number v n is refl, (pacticipant_there old.now s held made in_contracts.provider p known refl, (number_there _ old.now made in_contracts.content content refl (leads in_contracts.content).0 (has_content old.now s held content low high), tt)))
       (p ∷ []) (λ are. (tt, (are.0, (tt, tt)))) (omega arith) (omega arith)

@@ -1,11 +1,13 @@
 -- The rows that a JOIN shows, in whatever order: one of each pair that it keeps.
-use Rattle.std.{specs.{List.{flat_map}, List.Sorted.{IsPermutation}}, proofs.Common.{◌≡◌, ℕ, List, [], ◌∷◌, map, filter, sym, subst, ◌∙◌}}
+use Rattle.std.{specs.{List.{flat_map}, List.Sorted.{IsPermutation}, Prelude.{Contains}}, proofs.Common.{◌≡◌, ℕ, List, [], ◌∷◌, map, filter, sym, subst, ◌∙◌}}
 use Rattle.std.proofs.lemmas.List.Sorted.{Contains-permutation, IsPermutation-sym}
 use Rattle.sqlite.specs.{Order.{Row}, Term.{Term, eval_all}, Effect.{Database, Answers}}
 use Rattle.sqlite_keyed.proofs.ListLemmas.{map-map, map-flat_map, flat_map_same_on}
 use Rattle.sqlite_rules.specs.Lists.{Has}
 use Rattle.sqlite_value.specs.declared.keys.Key.{Key}
-use Rattle.table_access.{specs.Statements.{from_both, keeps_both, pairs_kept}, proofs.{Joins.{joined}, Members.{contains_has, has_contains, has_map, map_has}}}
+use Rattle.table_access.{specs.{Reading.{AreRead}, Statements.{from_both, keeps_both, pairs_kept}}, proofs.Joins.{joined}}
+use Rattle.table_access.proofs.Members.{contains_has, has_contains, has_map, map_has}
+use Rattle.broker_tables.proofs.Listed.{read_has, has_read}
 
 module _ (db : Database) (params : Row) (t u : ℕ) (terms project : List Term) (order : List (Term × Key)) (rows : List Row) (h : Answers db (record { lets = []; body = from_both t u terms project order }) params rows) where
   abbrev kept : List (Row × Row)
@@ -28,3 +30,19 @@ module _ (db : Database) (params : Row) (t u : ℕ) (terms project : List Term) 
   -- and each pair that is kept has a row
   pub pair_shown : (q : Row × Row) → Has kept q → Has rows (shown_of q)
   pair_shown q has = contains_has rows (shown_of q) (Contains-permutation (map shown_of kept) rows (shown_of q) moved (has_contains (map shown_of kept) (shown_of q) (has_map shown_of kept q has)))
+
+-- what is read of them
+module _ {Y : Type 0} (db : Database) (params : Row) (terms project : List Term) (reads : Row → Y → Type 0) (rows : List Row) (items : List Y)
+    (read : AreRead reads rows items) (t u : ℕ) (h : Answers db (record { lets = []; body = from_both t u terms project [] }) params rows) where
+  -- each item is read of a pair that ON and WHERE keep
+  pub pair_of : (x : Y) → Contains items x
+      → (q : Row × Row) × Has (pairs_kept terms params (db.trees t) (db.trees u)) q × reads (eval_all project (params ∷ q.0 ∷ q.1 ∷ [])) x
+  pair_of x c =
+      let row = read_has reads rows items x read c in
+      let q = row_shown db params t u terms project [] rows h row.0 row.1 in
+      (q.0, q.1, subst (λ y. reads y x) q.2 row.2)
+
+  -- and of each pair that they keep an item is read
+  pub item_of_pair : (q : Row × Row) → Has (pairs_kept terms params (db.trees t) (db.trees u)) q
+      → (y : Y) × Contains items y × reads (eval_all project (params ∷ q.0 ∷ q.1 ∷ [])) y
+  item_of_pair q has = has_read reads rows items (eval_all project (params ∷ q.0 ∷ q.1 ∷ [])) read (pair_shown db params t u terms project [] rows h q has)

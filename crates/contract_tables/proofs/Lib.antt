@@ -10,4 +10,5 @@ pub mod Rising
 pub mod VersionResults
 pub mod QueryLemmas
 pub mod JoinRows
+pub mod ToldResults
 pub mod ReadableRows

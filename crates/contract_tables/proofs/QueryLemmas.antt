@@ -8,13 +8,6 @@ use Rattle.broker_core.specs.State.{State as Broker}
 use Rattle.broker_tables.specs.{Holds.{IsRead}, Calm.{CalmQueriesBetween, CalmQueriesInPlaceBetween}}
 use Rattle.broker_tables.proofs.QueryLemmas.{both_read, in_calm, query_seq, query_ok, query_stop}
 
--- a query after another, about the same state
-pub query_then : {A B : Type 0} (old mid new : State) (a : A) (r : Result B StoreFault) (P : A → Broker → Type 0) (Q R : B → Broker → Type 0) → ((s : Broker) → P a s → (b : B) → Q b s → R b s)
-    → CallsTablesBetween old mid (Ok a) (IsRead old mid P) → CallsTablesBetween mid new r (IsRead mid new Q) → CallsTablesBetween old new r (IsRead old new R)
-query_then old mid new a r P Q R more one two =
-    seq old mid new a r (IsRead old mid P) (IsRead mid new Q) (IsRead old new R)
-    (λ first b second. both_read old mid new a b b P Q R (λ s f g. more s f b g) first second) one two
-
 -- an answer that is computed after a query, or no room for it
 pub computed : {A B : Type 0} (old new : State) (a : A) (r : Result B StoreFault) (P : A → Broker → Type 0) (L : B → Type 0) (R : B → Broker → Type 0) → ((s : Broker) → P a s → (b : B) → L b → R b s)
     → IfOk r L → CallsTablesBetween old new (Ok a) (IsRead old new P) → CallsTablesBetween old new r (IsRead old new R)
@@ -36,3 +29,12 @@ calm_computed old new a (Err e) P L R more is room one = query_stop old new a e 
 pub calm_known : {A : Type 0} (now : State) (a : A) (P : A → Broker → Type 0) → ((s : Broker) → P a s) → CalmQueriesInPlaceBetween now now (Ok a) P
 calm_known now a P told =
     in_calm now now (Ok a) P (record { call = idle now (Ok a) (IsRead now now P) (λ s held. (told s, refl)); memory = memory_ok now now a }) (λ clean s here. tt)
+
+-- a reading, from which the answer is made
+pub read_made : {A B : Type 0} (old new : State) (a : A) (b : B) (P : A → Broker → Type 0) (Q : B → Broker → Type 0) → ((s : Broker) → P a s → Q b s) → CalmQueriesBetween old new (Ok a) P → CalmQueriesBetween old new (Ok b) Q
+read_made old new a b P Q given = query_ok old new a b P Q (λ h s held. let f = h s held in (given s f.0, f.1))
+
+-- a reading, and another
+pub both_told : {A O : Type 0} (old mid new : State) (a : A) (o : O) (P : A → Broker → Type 0) (Q : O → Broker → Type 0) → CalmQueriesBetween old mid (Ok a) P
+    → CalmQueriesBetween mid new (Ok o) Q → CalmQueriesBetween old new (Ok o) (λ q s. P a s × Q q s)
+both_told old mid new a o P Q one two = calm_then old mid new a (Ok o) P Q (λ q s. P a s × Q q s) (λ s first q second. (first, second)) one two

@@ -10,14 +10,15 @@ use Rattle.sqlite_keyed.proofs.RuleLemmas.{first_of_both, second_of_both}
 use Rattle.table_access.{specs.{Columns.{text, whole_at}, Sound.{whole}, Reading.{IsNumberRow}, Statements.{shows}}, proofs.Answered.{first_has}}
 use Rattle.table_access.proofs.SoundLemmas.{whole_in, at_has, has_place}
 use Rattle.broker_core.specs.{State.{State as Broker}, declared.command.Version.{Version}}
-use Rattle.broker_tables.specs.{Holds.{Holds}, Readable.{IsReadable}, Numbers.{number_of}}
+use Rattle.broker_tables.specs.{Schema.{in_versions, in_contracts, in_results, in_latest}, Holds.{Holds}, Readable.{IsReadable}, Numbers.{number_of}}
 use Rattle.broker_tables.proofs.ReadableRows.{IsLow, number_cell, name_cell, truth_cell, result_low, to_version_low, to_content_low, to_result_low, version_named, to_pacticipant_named, pass_low}
 use Rattle.broker_tables.proofs.{Placed.{contracts, contracts_there, results, results_there, latest, latest_there}, NoVersion.{no_row}}
 use Rattle.broker_tables.proofs.{VersionRows.{owners, names}, Asked.{IsShown, EachReads, NoneFor, of_table, of_both, of_first, number_reads}}
-use Rattle.contract_tables.specs.{Listings.{ReadsAsMarked, ReadsAsNames, ReadsAsNumbers}, VersionResults.{ReadsAsPass}, Verified.{ReadsAsResult}}
+use Rattle.contract_tables.specs.{Listings.{ReadsAsMarked, ReadsAsNames}, VersionResults.{ReadsAsPass, ReadsAsLatest}, Verified.{ReadsAsResult}}
 use Rattle.contract_tables.proofs.ContractRows.{numbers, contents, providers, content, project, own, users_project, users}
 use Rattle.contract_tables.proofs.ResultRows.{contents as latest_contents, versions, numbers as latest_numbers}
-use Rattle.contract_tables.proofs.VerifiedList.{project as verified_project, content_project, verifiers, verified, newest, told_as}
+use Rattle.contract_tables.proofs.VerifiedList.{project as verified_project, verifiers, newest, told_as}
+use Rattle.contract_tables.proofs.ToldResults.{told_passes, told_project, told_marks, told_marks_project}
 use Rattle.contract_tables.proofs.VersionResults.{passes_project, passes, marks_project, marks, one_project, join}
 use Rattle.contract_tables.proofs.ResultLookups.{numbered_rows, count, pass, run_project, run}
 
@@ -34,29 +35,30 @@ module _ (db : Database) (s : Broker) (held : Holds db s) (readable : IsReadable
   abbrev IsLowAt : ℕ → ℕ → Type 0
   IsLowAt tree place = (r : Row) → Has (db.trees tree) r → (column r place ≡ Int (whole_at place r)) × IsLow (whole_at place r)
 
-  contract_content : IsLowAt 15 3
+  contract_content : IsLowAt in_contracts.tree in_contracts.content
   contract_content r has = let it = contents db held.broker r has in (it, to_content_low db s held readable contracts there.0 3 r has it (inr (inr (inl refl))))
 
-  result_number : IsLowAt 17 0
-  result_number r has = (int_is (column r 0) (at_has _ (db.trees 17) r (numbered_rows db held.broker).1 has), result_low db s held readable r has)
+  result_number : IsLowAt in_results.tree 0
+  result_number r has = (int_is (column r 0) (at_has _ (db.trees in_results.tree) r (numbered_rows db held.broker).1 has), result_low db s held readable r has)
 
-  result_content : IsLowAt 17 2
+  result_content : IsLowAt in_results.tree in_results.content
   result_content r has =
-      let it : column r 2 ≡ Int (whole_at 2 r) = whole_in db held.broker.kept.sound results there.1 r has 1 _ refl refl refl refl refl in
+      let it : column r in_results.content ≡ Int (whole_at in_results.content r) = whole_in db held.broker.kept.sound results there.1 r has 1 _ refl refl refl refl refl in
       (it, to_content_low db s held readable results there.1 2 r has it (inl refl))
 
-  result_version : IsLowAt 17 4
+  result_version : IsLowAt in_results.tree in_results.provider_version
   result_version r has =
-      let it : column r 4 ≡ Int (whole_at 4 r) = whole_in db held.broker.kept.sound results there.1 r has 3 _ refl refl refl refl refl in
-      (it, to_version_low db s held readable results there.1 4 r has it (inr (inr (inl refl))))
+      let it : column r in_results.provider_version ≡ Int (whole_at in_results.provider_version r) = whole_in db held.broker.kept.sound results there.1 r has 3 _ refl refl refl refl refl in
+      (it, to_version_low db s held readable results there.1 in_results.provider_version r has it (inr (inr (inl refl))))
 
-  result_pass : (r : Row) → Has (db.trees 17) r → (column r 5 ≡ Int (whole_at 5 r)) × ((n : ℕ) × (whole_at 5 r ≡ pos n) × (n ≤ 1))
+  result_pass : (r : Row) → Has (db.trees in_results.tree) r
+      → (column r in_results.pass ≡ Int (whole_at in_results.pass r)) × ((n : ℕ) × (whole_at in_results.pass r ≡ pos n) × (n ≤ 1))
   result_pass r has = (whole_in db held.broker.kept.sound results there.1 r has 4 _ refl refl refl refl refl, pass_low db s held readable r has)
 
-  latest_content : IsLowAt 19 1
+  latest_content : IsLowAt in_latest.tree in_latest.content
   latest_content r has = let it = latest_contents db held.broker r has in (it, to_content_low db s held readable latest there.2 1 r has it (inl refl))
 
-  latest_result : IsLowAt 19 3
+  latest_result : IsLowAt in_latest.tree in_latest.result
   latest_result r has = let it = latest_numbers db held.broker r has in (it, to_result_low db s held readable latest there.2 3 r has it (inr (inr (inl refl))))
 
 -- ---- contracts
@@ -69,16 +71,16 @@ own_reads n db s held readable = of_table (own n) db _ (λ r has kept.
     let it = contract_content db s held readable r has in
     let provider = (providers db held.broker).typed r has in
     let shown : Row = shows project [] r in (
-      number_cell shown 0 (whole_at 3 r) (omega arith) it.0 it.1,
-      name_cell shown 1 (text 2 r) (omega arith) provider (to_pacticipant_named db s held readable contracts (has_place _ 8 contracts (contracts_there db held.broker)) 2 (inr (inl refl)) r has provider),
+      number_cell shown 0 (whole_at in_contracts.content r) (omega arith) it.0 it.1,
+      name_cell shown 1 (text in_contracts.provider r) (omega arith) provider (to_pacticipant_named db s held readable contracts (has_place _ 8 contracts (contracts_there db held.broker)) in_contracts.provider (inr (inl refl)) r has provider),
     ))
 
 pub users_reads : (n : ℕ) (p : List ℕ) (db : Database) → EachReads (users n p) db ReadsAsNames
 users_reads n p db s held readable = of_both (users n p) db _ (λ c v hc hv kept.
     let named = version_named db s held readable v hv in
     let shown : Row = eval_all users_project ([] ∷ c ∷ v ∷ []) in (
-      name_cell shown 0 (text 2 v) (omega arith) (owners db held.broker v hv) named.0,
-      name_cell shown 1 (text 3 v) (omega arith) (names db held.broker v hv) named.1,
+      name_cell shown 0 (text in_versions.pacticipant v) (omega arith) (owners db held.broker v hv) named.0,
+      name_cell shown 1 (text in_versions.version v) (omega arith) (names db held.broker v hv) named.1,
     ))
 
 -- ---- the latest results
@@ -90,30 +92,40 @@ pub join_reads : (c n : ℕ) (db : Database) → EachReads (join c n) db ReadsAs
 join_reads c n db s held readable = of_both (join c n) db _ (λ l r hl hr kept.
     let number = result_number db s held readable r hr in
     let truth = result_pass db s held readable r hr in
-    let shown : Row = eval_all one_project ([] ∷ l ∷ r ∷ []) in (number_cell shown 0 (whole_at 0 r) (omega arith) number.0 number.1, truth_cell shown 1 (whole_at 5 r) (omega arith) truth.0 truth.1))
+    let shown : Row = eval_all one_project ([] ∷ l ∷ r ∷ []) in (number_cell shown 0 (whole_at 0 r) (omega arith) number.0 number.1, truth_cell shown 1 (whole_at in_results.pass r) (omega arith) truth.0 truth.1))
 
 pub verifiers_reads : (c : ℕ) (p : List ℕ) (db : Database) → EachReads (verifiers c p) db ReadsAsMarked
 verifiers_reads c p db s held readable = of_both (verifiers c p) db _ (λ l v hl hv kept.
     let number = latest_result db s held readable l hl in
     let shown : Row = eval_all verified_project ([] ∷ l ∷ v ∷ []) in
-    (number_cell shown 0 (whole_at 3 l) (omega arith) number.0 number.1, name_cell shown 1 (text 3 v) (omega arith) (names db held.broker v hv) (version_named db s held readable v hv).1))
+    (number_cell shown 0 (whole_at in_latest.result l) (omega arith) number.0 number.1, name_cell shown 1 (text in_versions.version v) (omega arith) (names db held.broker v hv) (version_named db s held readable v hv).1))
 
-pub verified_reads : (n : ℕ) (db : Database) → EachReads (verified n) db ReadsAsNumbers
-verified_reads n db s held readable = of_table (verified n) db _ (λ r has kept.
-    let content = latest_content db s held readable r has in
-    let number = latest_result db s held readable r has in
-    let shown : Row = shows content_project [] r in (number_cell shown 0 (whole_at 1 r) (omega arith) content.0 content.1, number_cell shown 1 (whole_at 3 r) (omega arith) number.0 number.1))
-
-pub passes_reads : (n : ℕ) (db : Database) → EachReads (passes n) db ReadsAsPass
+pub passes_reads : (n : ℕ) (db : Database) → EachReads (passes n) db ReadsAsLatest
 passes_reads n db s held readable = of_both (passes n) db _ (λ l r hl hr kept.
     let content = latest_content db s held readable l hl in
+    let number = result_number db s held readable r hr in
     let truth = result_pass db s held readable r hr in
-    let shown : Row = eval_all passes_project ([] ∷ l ∷ r ∷ []) in (number_cell shown 0 (whole_at 1 l) (omega arith) content.0 content.1, truth_cell shown 1 (whole_at 5 r) (omega arith) truth.0 truth.1))
+    let shown : Row = eval_all passes_project ([] ∷ l ∷ r ∷ []) in (
+      number_cell shown 0 (whole_at in_latest.content l) (omega arith) content.0 content.1,
+      number_cell shown 1 (whole_at 0 r) (omega arith) number.0 number.1,
+      truth_cell shown 2 (whole_at in_results.pass r) (omega arith) truth.0 truth.1,
+    ))
 
 pub marks_reads : (n : ℕ) (db : Database) → EachReads (marks n) db IsNumberRow
 marks_reads n db s held readable = of_both (marks n) db _ (λ l r hl hr kept.
     let content = latest_content db s held readable l hl in
-    number_cell (eval_all marks_project ([] ∷ l ∷ r ∷ [])) 0 (whole_at 1 l) (omega arith) content.0 content.1)
+    number_cell (eval_all marks_project ([] ∷ l ∷ r ∷ [])) 0 (whole_at in_latest.content l) (omega arith) content.0 content.1)
+
+pub told_reads : (c : ℕ) (db : Database) → EachReads (told_passes c) db ReadsAsPass
+told_reads c db s held readable = of_both (told_passes c) db _ (λ l r hl hr kept.
+    let number = latest_result db s held readable l hl in
+    let truth = result_pass db s held readable r hr in
+    let shown : Row = eval_all told_project ([] ∷ l ∷ r ∷ []) in (number_cell shown 0 (whole_at in_latest.result l) (omega arith) number.0 number.1, truth_cell shown 1 (whole_at in_results.pass r) (omega arith) truth.0 truth.1))
+
+pub told_marks_reads : (c : ℕ) (db : Database) → EachReads (told_marks c) db IsNumberRow
+told_marks_reads c db s held readable = of_both (told_marks c) db _ (λ l r hl hr kept.
+    let number = latest_result db s held readable l hl in
+    number_cell (eval_all told_marks_project ([] ∷ l ∷ r ∷ [])) 0 (whole_at in_latest.result l) (omega arith) number.0 number.1)
 
 -- ---- results
 
@@ -143,19 +155,20 @@ run_reads p u db s held readable = of_table (run p u) db _ (λ r has kept.
     let truth = result_pass db s held readable r has in
     let shown : Row = shows run_project [] r in (
       number_cell shown 0 (whole_at 0 r) (omega arith) number.0 number.1,
-      number_cell shown 1 (whole_at 2 r) (omega arith) of_content.0 of_content.1,
-      number_cell shown 2 (whole_at 4 r) (omega arith) of_version.0 of_version.1,
-      truth_cell shown 3 (whole_at 5 r) (omega arith) truth.0 truth.1,
+      number_cell shown 1 (whole_at in_results.content r) (omega arith) of_content.0 of_content.1,
+      number_cell shown 2 (whole_at in_results.provider_version r) (omega arith) of_version.0 of_version.1,
+      truth_cell shown 3 (whole_at in_results.pass r) (omega arith) truth.0 truth.1,
     ))
 
 -- ---- no row is shown for a number that no version has
 
 module _ (db : Database) (s : Broker) (held : Holds db s) (n : ℕ) (none : (v : Version) → ¬ (number_of s.versions v ≡ Some n)) where
-  of_version : (r : Row) → Has (db.trees 15) r → is_true (binary (Compare Eq Binary) (column r 1) (Int (pos n))) ≡ true → ⊥
-  of_version r has = no_row db s held n none contracts (has_place _ 8 contracts (contracts_there db held.broker)) 1 (inl refl) r has ((numbers db held.broker).typed r has)
+  of_version : (r : Row) → Has (db.trees in_contracts.tree) r → is_true (binary (Compare Eq Binary) (column r in_contracts.version_number) (Int (pos n))) ≡ true
+      → ⊥
+  of_version r has = no_row db s held n none contracts (has_place _ 8 contracts (contracts_there db held.broker)) in_contracts.version_number (inl refl) r has ((numbers db held.broker).typed r has)
 
-  of_latest : (r : Row) → Has (db.trees 19) r → is_true (binary (Compare Eq Binary) (column r 2) (Int (pos n))) ≡ true → ⊥
-  of_latest r has = no_row db s held n none latest (has_place _ 10 latest (latest_there db held.broker)) 2 (inr (inl refl)) r has (versions db held.broker r has)
+  of_latest : (r : Row) → Has (db.trees in_latest.tree) r → is_true (binary (Compare Eq Binary) (column r in_latest.provider_version) (Int (pos n))) ≡ true → ⊥
+  of_latest r has = no_row db s held n none latest (has_place _ 10 latest (latest_there db held.broker)) in_latest.provider_version (inr (inl refl)) r has (versions db held.broker r has)
 
 pub content_none : (n : ℕ) (p : List ℕ) (db : Database) → NoneFor (content n p) db n
 content_none n p db s held none = of_table (content n p) db _ (λ r has kept. of_version db s held n none r has (first_of_both _ _ kept))
@@ -165,9 +178,6 @@ own_none n db s held none = of_table (own n) db _ (λ r has kept. of_version db 
 
 pub newest_none : (c n : ℕ) (db : Database) → NoneFor (newest c n) db n
 newest_none c n db s held none = of_table (newest c n) db _ (λ r has kept. of_latest db s held n none r has (first_of_both _ _ (second_of_both _ _ kept)))
-
-pub verified_none : (n : ℕ) (db : Database) → NoneFor (verified n) db n
-verified_none n db s held none = of_table (verified n) db _ (λ r has kept. of_latest db s held n none r has (first_of_both _ _ kept))
 
 pub join_none : (c n : ℕ) (db : Database) → NoneFor (join c n) db n
 join_none c n db s held none =

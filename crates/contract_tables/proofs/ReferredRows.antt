@@ -10,16 +10,16 @@ use Rattle.sqlite_rules.proofs.{ListLemmas.{some_from}, TableLemmas.{int_is}}
 use Rattle.sqlite_tied.specs.Compute.{everything}
 use Rattle.table_access.{specs.Columns.{text, text_cmp, whole_at}, proofs.{Values.{same_ints}, Maps.{find_has}, SoundLemmas.{at_has, has_place}}}
 use Rattle.broker_core.specs.{State.{State as Broker}, declared.command.Version.{Version}}
-use Rattle.broker_tables.specs.{Schema.{broker_schema, to}, Holds.{Holds, with_digest}, Numbers.{number_of}}
-use Rattle.broker_tables.proofs.{Placed.{contents, contents_there, versions, versions_there}, References.{refers_pacticipant}, Standing.{stands_found}}
-use Rattle.broker_tables.proofs.{VersionRows.{find_version, version_number, owners}, ByNumber.{by_number}}
+use Rattle.broker_tables.specs.{Schema.{in_pacticipants, in_versions, in_contents, in_results, broker_schema, to}, Holds.{Holds, with_digest}}
+use Rattle.broker_tables.{specs.Numbers.{number_of}, proofs.{Placed.{contents, contents_there, versions, versions_there}, References.{refers_pacticipant}}}
+use Rattle.broker_tables.proofs.{Standing.{stands_found}, VersionRows.{find_version, version_number, owners}, ByNumber.{by_number}}
 use Rattle.contract_tables.specs.Verified.{HasRowWith}
 
 -- a reference to the numbers of a table leads to the table at this tree
 abbrev IsTo : ℕ → List ℕ → ℕ → Type 0
 IsTo p parent tree = (o : Order) × (parent_key broker_schema.tables (to p parent (codes "number")) ≡ Some (tree, 0 ∷ [], o)) × ((first_key o).collation ≡ Binary)
 
-pub leads : (p : ℕ) → IsTo p (codes "contents") 14 × IsTo p (codes "versions") 6 × IsTo p (codes "results") 17
+pub leads : (p : ℕ) → IsTo p (codes "contents") in_contents.tree × IsTo p (codes "versions") in_versions.tree × IsTo p (codes "results") in_results.tree
 unfolding everything
 leads p = ((_, refl, refl), (_, refl, refl), (_, refl, refl))
 
@@ -32,24 +32,26 @@ number_there {tree} parent db made p n refer (o, keyed, binary) (r, has, id) =
 
 module _ (db : Database) (s : Broker) (held : Holds db s) where
   -- a content of the state
-  pub has_content : (n : ℕ) → 1 ≤ n → n ≤ length s.contents → HasRowWith 14 n db
+  pub has_content : (n : ℕ) → 1 ≤ n → n ≤ length s.contents → HasRowWith in_contents.tree n db
   has_content n low high =
       let bodies = map with_digest s.contents in
       let within : n - 1 < length bodies = let few = length-map s.contents with_digest in omega (arith, low, high, few) in
       let some = cond-false (n == 0) None (slice_get bodies (n - 1)) (ne_eqb n 0 (λ none. omega (arith, low, none))) in
       let listed = ap (find int_cmp (pos n)) held.contents ∙ by_number bodies n ∙ some ∙ slice_get-get_or bodies (n - 1) ([], []) within in
-      let it = find_has int_cmp_total int_cmp-IsAntisymmetric (whole_at 0) (λ r. (text 2 r, text 3 r)) (pos n) _ (db.trees 14) listed in
+      let it = find_has int_cmp_total int_cmp-IsAntisymmetric (whole_at 0) (λ r. (text in_contents.digest r, text in_contents.body r)) (pos n) _ (db.trees in_contents.tree) listed in
       let rows = at_has _ db.schema.tables contents held.broker.kept.numbered (has_place _ 7 contents (contents_there db held.broker)) in
-      (it.0, it.1, int_is (rowid it.0) (at_has _ (db.trees 14) it.0 rows.1 it.1) ∙ ap Int (sym it.2))
+      (it.0, it.1, int_is (rowid it.0) (at_has _ (db.trees in_contents.tree) it.0 rows.1 it.1) ∙ ap Int (sym it.2))
 
   -- and a version
-  pub has_version : (v : Version) (n : ℕ) → number_of s.versions v ≡ Some n → HasRowWith 6 n db
+  pub has_version : (v : Version) (n : ℕ) → number_of s.versions v ≡ Some n → HasRowWith in_versions.tree n db
   has_version v n is = let it = find_version db held.broker s.versions v n held.versions is in (it.0, it.1, version_number db held.broker it.0 it.1 ∙ ap Int it.4)
 
   -- and the pacticipant of which it is one
   pub has_owner : (v : Version) (n : ℕ) → number_of s.versions v ≡ Some n → IsTrue (is_some (s.pacticipants v.pacticipant))
   has_owner v n is =
       let it = find_version db held.broker s.versions v n held.versions is in
-      let row = refers_pacticipant db held.broker versions (has_place _ 3 versions (versions_there db held.broker)) 2 (inl refl) it.0 it.1 (owners db held.broker it.0 it.1) in
-      ap is_some (sym (held.pacticipants v.pacticipant)) ∙ stands_found text_cmp (text 1) (text 2) (db.trees 4) v.pacticipant
-      ∙ some_from (λ r. eq_by_cmp text_cmp v.pacticipant (text 1 r)) (db.trees 4) row.0 row.1 (ap (eq_by_cmp text_cmp v.pacticipant) (row.2 ∙ it.2) ∙ (eq_by_cmp_equiv nat_list_cmp_total).refl v.pacticipant)
+      let row = refers_pacticipant db held.broker versions (has_place _ 3 versions (versions_there db held.broker)) in_versions.pacticipant (inl refl) it.0 it.1 (owners db held.broker it.0 it.1) in
+      ap is_some (sym (held.pacticipants v.pacticipant))
+      ∙ stands_found text_cmp (text in_pacticipants.name) (text in_pacticipants.team) (db.trees in_pacticipants.tree) v.pacticipant
+      ∙ some_from (λ r. eq_by_cmp text_cmp v.pacticipant (text in_pacticipants.name r)) (db.trees in_pacticipants.tree) row.0 row.1
+      (ap (eq_by_cmp text_cmp v.pacticipant) (row.2 ∙ it.2) ∙ (eq_by_cmp_equiv nat_list_cmp_total).refl v.pacticipant)

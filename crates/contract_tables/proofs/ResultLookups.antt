@@ -20,7 +20,7 @@ use Rattle.table_access.proofs.{Steps.{answered}, Newest.{newest_number}, Maps.{
 use Rattle.table_access.proofs.{Parts.{number_part, is_param, where_last, all_where, numbers_once}, Values.{same_texts}, Keys.{apart_by}, Members.{filter_has}}
 use Rattle.table_access.proofs.SoundLemmas.{at_has, text_at, has_place, all_of}
 use Rattle.broker_core.specs.{Text.{same_text}, Change.{is_text, result_of_run}, State.{State as Broker, Verification}}
-use Rattle.broker_tables.specs.{Rows.{truth, truth_in, value_at, stands_at, text_or_null}, Numbers.{number_of}}
+use Rattle.broker_tables.specs.{Schema.{in_results, in_checked_results}, Rows.{truth, truth_in, value_at, stands_at, text_or_null}, Numbers.{number_of}}
 use Rattle.broker_tables.{specs.Holds.{Holds, IsBroker, ResultRow, result_in, result_of}, proofs.{Frames.{meant}, Standing.{stands_found, value_map}}}
 use Rattle.broker_tables.proofs.{Placed.{results, results_there, checked_results, checked_results_there}, ByNumber.{by_number}, Newest.{newest_result}}
 use Rattle.broker_tables.proofs.{Asked.{Asked, IsShown}, Inserted.{IsFree}, Orders.{exact_texts}, Ties.{two_tests}}
@@ -28,10 +28,10 @@ use Rattle.contract_tables.specs.Verified.{Cells, cells, cells_of, ByNumbers, by
 use Rattle.contract_tables.proofs.ContractRows.{map_twice, whole_pos}
 
 module _ (db : Database) (broker : IsBroker db) where
-  pub numbered_rows : IsNumbered (db.trees 17)
+  pub numbered_rows : IsNumbered (db.trees in_results.tree)
   numbered_rows = at_has _ db.schema.tables results broker.kept.numbered (has_place _ 9 results (results_there db broker))
 
-  pub marked_rows : IsNumbered (db.trees 25)
+  pub marked_rows : IsNumbered (db.trees in_checked_results.tree)
   marked_rows = at_has _ db.schema.tables checked_results broker.kept.numbered (has_place _ 13 checked_results (checked_results_there db broker))
 
 -- WHERE the number is the parameter
@@ -39,7 +39,7 @@ of_number : (rows : List Row) → IsNumbered rows → (n : ℕ) → AllByRecursi
 of_number rows rising n = all_where int_cmp rows (whole_at 0) (pos n) (is_param 0 0 ∷ []) (Int (pos n) ∷ []) (where_last int_cmp_total rows 0 (whole_at 0) (number_part rows rising) (Int (pos n) ∷ []) 0 (pos n) refl)
 
 -- the row of a number is that of the result with this number
-pub result_at : (db : Database) (s : Broker) (n : ℕ) → Holds db s → value_at int_cmp (whole_at 0) (result_in (db.trees 25)) (db.trees 17) (pos n) ≡ option_map (result_of s.versions) (result_with s n)
+pub result_at : (db : Database) (s : Broker) (n : ℕ) → Holds db s → value_at int_cmp (whole_at 0) (result_in (db.trees in_checked_results.tree)) (db.trees in_results.tree) (pos n) ≡ option_map (result_of s.versions) (result_with s n)
 result_at db s n held = ap (find int_cmp (pos n)) held.results ∙ by_number (map (result_of s.versions) s.results) n ∙ mapped (n == 0)
   where
     mapped : (b : Bool) → cond b None (slice_get (map (result_of s.versions) s.results) (n - 1)) ≡ option_map (result_of s.versions) (cond b None (slice_get s.results (n - 1)))
@@ -51,58 +51,58 @@ result_at db s n held = ap (find int_cmp (pos n)) held.results ∙ by_number (ma
 abbrev pub count_sql : List ℕ
 count_sql = codes "SELECT number FROM results ORDER BY number DESC LIMIT 1"
 
-pub count : Asked count_sql [] (up_to 1 (from_table 17 [] (col 1 0 ∷ []) newest))
+pub count : Asked count_sql [] (up_to 1 (from_table in_results.tree [] (col 1 0 ∷ []) newest))
 unfolding understood everything
 count = record { names = _; means = record { is = refl; plain = (refl, refl); unlisted = refl }; runs = record { whole = refl; typed = refl; sumless = refl } }
 
 pub results_counted : (old new : State) (rows : List Row) (s : Broker) (found : Option ℕ) → Holds old.now s → Shown count_sql [] old new rows → option_map (λ n. Int (pos n)) found ≡ option_map (λ row. column row 0) (slice_get rows 0)
     → unwrap_or found 0 ≡ length s.results
 results_counted old new rows s found held h read =
-    newest_result s.versions s.results (old.now.trees 17) (old.now.trees 25) found held.results
-    (newest_number count_sql old new 17 _ (meant old.now held.broker count_sql count.means) (numbered_rows old.now held.broker) rows h found read)
+    newest_result s.versions s.results (old.now.trees in_results.tree) (old.now.trees in_checked_results.tree) found held.results
+    (newest_number count_sql old new in_results.tree _ (meant old.now held.broker count_sql count.means) (numbered_rows old.now held.broker) rows h found read)
 
 -- ---- whether it is a pass
 
 pub pass : (n : ℕ) → Asked (codes "SELECT pass FROM results WHERE number = ?1")
-    (Int (pos n) ∷ []) (from_table 17 (is_param 0 0 ∷ []) (col 1 5 ∷ []) [])
+    (Int (pos n) ∷ []) (from_table in_results.tree (is_param 0 0 ∷ []) (col 1 in_results.pass ∷ []) [])
 unfolding understood everything
 pass n = record { names = _; means = record { is = refl; plain = (refl, refl); unlisted = refl }; runs = record { whole = refl; typed = refl; sumless = refl } }
 
 pub pass_found : (n : ℕ) (db : Database) (rows : List Row) (s : Broker) (found : Option ℕ) → Holds db s → IsShown (pass n) db rows
     → option_map (λ n. Int (pos n)) found ≡ option_map (λ row. column row 0) (slice_get rows 0) → option_map (λ n. n == 1) found ≡ option_map (λ (r : Verification). r.pass) (result_with s n)
 pass_found n db rows s found held h read =
-    let all = db.trees 17 in
+    let all = db.trees in_results.tree in
     let rising = numbered_rows db held.broker in
-    let looked = looks_up_at int_cmp_total int_cmp-IsAntisymmetric (whole_at 0) (truth 5) _ (truth 0) (λ r. refl) (pos n) _ all rows (of_number all rising n) (numbers_once all rising)
-    (answered db _ 17 _ _ _ rows h) in
+    let looked = looks_up_at int_cmp_total int_cmp-IsAntisymmetric (whole_at 0) (truth in_results.pass) _ (truth 0) (λ r. refl) (pos n) _ all rows (of_number all rising n) (numbers_once all rising)
+    (answered db _ in_results.tree _ _ _ rows h) in
     sym (map_twice (λ n. Int (pos n)) truth_in found) ∙ ap (option_map truth_in) read ∙ map_twice (λ row. column row 0) truth_in (slice_get rows 0)
-    ∙ looked ∙ sym (value_map int_cmp (whole_at 0) (λ (r : ResultRow). r.pass) (result_in (db.trees 25)) all (pos n))
+    ∙ looked ∙ sym (value_map int_cmp (whole_at 0) (λ (r : ResultRow). r.pass) (result_in (db.trees in_checked_results.tree)) all (pos n))
     ∙ ap (option_map (λ (r : ResultRow). r.pass)) (result_at db s n held) ∙ map_twice (result_of s.versions) (λ (r : ResultRow). r.pass) (result_with s n)
 
 -- ---- whether the broker checked it
 
 pub checked : (n : ℕ) → Asked (codes "SELECT result FROM checked_results WHERE result = ?1")
-    (Int (pos n) ∷ []) (from_table 25 (is_param 0 0 ∷ []) (col 1 0 ∷ []) [])
+    (Int (pos n) ∷ []) (from_table in_checked_results.tree (is_param 0 0 ∷ []) (col 1 0 ∷ []) [])
 unfolding understood everything
 checked n = record { names = _; means = record { is = refl; plain = (refl, refl); unlisted = refl }; runs = record { whole = refl; typed = refl; sumless = refl } }
 
 pub checked_found : (n : ℕ) (db : Database) (rows : List Row) (s : Broker) (r : Verification) → Holds db s → result_with s n ≡ Some r → IsShown (checked n) db rows
     → is_some (option_map (whole_at 0) (slice_get rows 0)) ≡ r.checked
 checked_found n db rows s r held is h =
-    let marks = db.trees 25 in
+    let marks = db.trees in_checked_results.tree in
     let rising = marked_rows db held.broker in
-    let row = find_has int_cmp_total int_cmp-IsAntisymmetric (whole_at 0) (result_in marks) (pos n) (result_of s.versions r) (db.trees 17) (result_at db s n held ∙ ap (option_map (result_of s.versions)) is) in
+    let row = find_has int_cmp_total int_cmp-IsAntisymmetric (whole_at 0) (result_in marks) (pos n) (result_of s.versions r) (db.trees in_results.tree) (result_at db s n held ∙ ap (option_map (result_of s.versions)) is) in
     ap is_some (looks_up_at int_cmp_total int_cmp-IsAntisymmetric (whole_at 0) (whole_at 0) _ (whole_at 0) (λ r. refl) (pos n) _ marks rows (of_number marks rising n) (numbers_once marks rising)
-    (answered db _ 25 _ _ _ rows h))
+    (answered db _ in_checked_results.tree _ _ _ rows h))
     ∙ stands_found int_cmp (whole_at 0) (whole_at 0) marks (pos n) ∙ ap (stands_at int_cmp (whole_at 0) marks) row.2 ∙ ap (λ (x : ResultRow). x.checked) row.3
 
 -- ---- the result of a run
 
 abbrev pub run_project : List Term
-run_project = col 1 0 ∷ col 1 2 ∷ col 1 4 ∷ col 1 5 ∷ []
+run_project = col 1 0 ∷ col 1 in_results.content ∷ col 1 in_results.provider_version ∷ col 1 in_results.pass ∷ []
 
 pub run : (p u : List ℕ) → Asked (codes "SELECT number, content, provider_version, pass FROM results WHERE provider = ?1 AND run = ?2")
-    (Text p ∷ Text u ∷ []) (from_table 17 (by_two 3 6) run_project [])
+    (Text p ∷ Text u ∷ []) (from_table in_results.tree (by_two in_results.provider in_results.run) run_project [])
 unfolding understood everything
 run p u = record { names = _; means = record { is = refl; plain = (refl, refl); unlisted = refl }; runs = record { whole = refl; typed = refl; sumless = refl } }
 
@@ -153,39 +153,42 @@ module _ (db : Database) (broker : IsBroker db) (p u : List ℕ) where
   params = Text p ∷ Text u ∷ []
 
   abbrev kept : List Row
-  kept = filter (keeps (by_two 3 6) params) (db.trees 17)
+  kept = filter (keeps (by_two in_results.provider in_results.run) params) (db.trees in_results.tree)
 
-  providers : (r : Row) → Has (db.trees 17) r → column r 3 ≡ Text (text 3 r)
+  providers : (r : Row) → Has (db.trees in_results.tree) r → column r in_results.provider ≡ Text (text in_results.provider r)
   providers r has = text_at db broker.kept.sound results (has_place _ 9 results (results_there db broker)) r has 2 _ refl refl refl refl refl
 
-  texts : (r : Row) → keeps (by_two 3 6) params r ≡ true → (column r 3 ≡ Text p) × (column r 6 ≡ Text u)
-  texts r test = (is_that_text (column r 3) p (first_of_both _ _ test), is_that_text (column r 6) u (first_of_both _ true (second_of_both _ _ test)))
+  texts : (r : Row) → keeps (by_two in_results.provider in_results.run) params r ≡ true
+      → (column r in_results.provider ≡ Text p) × (column r in_results.run ≡ Text u)
+  texts r test = (is_that_text (column r in_results.provider) p (first_of_both _ _ test), is_that_text (column r in_results.run) u (first_of_both _ true (second_of_both _ _ test)))
 
   -- rows of one run of one provider have one key
-  alike : (a b : Row) → keeps (by_two 3 6) params a ≡ true → keeps (by_two 3 6) params b ≡ true → agree plain (3 ∷ 6 ∷ []) a (3 ∷ 6 ∷ []) b ≡ true
+  alike : (a b : Row) → keeps (by_two in_results.provider in_results.run) params a ≡ true → keeps (by_two in_results.provider in_results.run) params b ≡ true
+      → agree plain (in_results.provider ∷ in_results.run ∷ []) a (in_results.provider ∷ in_results.run ∷ []) b ≡ true
   unfolding first_key
   alike a b ka kb =
       let one = texts a ka in
       let two = texts b kb in
-      and_from _ _ (tied (column a 3) (column b 3) p one.0 two.0) (and_from _ _ (tied (column a 6) (column b 6) u one.1 two.1) refl)
+      and_from _ _ (tied (column a in_results.provider) (column b in_results.provider) p one.0 two.0) (and_from _ _ (tied (column a in_results.run) (column b in_results.run) u one.1 two.1) refl)
 
-  at_most_one : (rows : List Row) → ((r : Row) → Has rows r → keeps (by_two 3 6) params r ≡ true) → IsAscending (λ a b. agree plain (3 ∷ 6 ∷ []) a (3 ∷ 6 ∷ []) b ≡ false) rows → length rows ≤ 1
+  at_most_one : (rows : List Row) → ((r : Row) → Has rows r → keeps (by_two in_results.provider in_results.run) params r ≡ true) → IsAscending (λ a b. agree plain (in_results.provider ∷ in_results.run ∷ []) a (in_results.provider ∷ in_results.run ∷ []) b ≡ false) rows → length rows ≤ 1
   at_most_one [] all apart = omega arith
   at_most_one (a ∷ []) all apart = omega arith
   at_most_one (a ∷ b ∷ rows) all apart = absurd (let hit = alike a b (all a (inl refl)) (all b (inr (inl refl))) in let miss = apart.0.0 in cc)
 
   few : length kept ≤ 1
-  few = at_most_one kept (λ r has. (filter_has (keeps (by_two 3 6) params) (db.trees 17) r has).1) (ascending-filter _ (keeps (by_two 3 6) params) (db.trees 17)
+  few = at_most_one kept (λ r has. (filter_has (keeps (by_two in_results.provider in_results.run) params) (db.trees in_results.tree) r has).1)
+      (ascending-filter _ (keeps (by_two in_results.provider in_results.run) params) (db.trees in_results.tree)
       (apart_by db broker.kept results 9 (results_there db broker) _ 8 (ap (λ (s : Schema). slice_get s.indexes 8) broker.schema) refl))
 
   abbrev entry : Row → ℤ × ResultRow
-  entry r = (whole_at 0 r, result_in (db.trees 25) r)
+  entry r = (whole_at 0 r, result_in (db.trees in_checked_results.tree) r)
 
   abbrev passes : ℤ × ResultRow → Bool
   passes e = same_text e.1.provider p && is_text u e.1.run
 
-  row_test : (r : Row) → Has (db.trees 17) r → keeps (by_two 3 6) params r ≡ passes (entry r)
-  row_test r has = two_tests _ _ _ _ (text_test (column r 3) p ∙ ap (λ v. is_text p (text_or_null v)) (providers r has)) (and-true _ ∙ text_test (column r 6) u)
+  row_test : (r : Row) → Has (db.trees in_results.tree) r → keeps (by_two in_results.provider in_results.run) params r ≡ passes (entry r)
+  row_test r has = two_tests _ _ _ _ (text_test (column r in_results.provider) p ∙ ap (λ v. is_text p (text_or_null v)) (providers r has)) (and-true _ ∙ text_test (column r in_results.run) u)
 
   module _ (s : Broker) (held : Holds db s) where
     abbrev as_row : ℕ × Verification → ℤ × ResultRow
@@ -195,13 +198,16 @@ module _ (db : Database) (broker : IsBroker db) (p u : List ℕ) where
     kept_is : option_map entry (slice_get kept 0) ≡ option_map as_row (result_of_run s p (Some u))
     kept_is =
         let listed : map entry kept ≡ map as_row (filter (λ e. passes (as_row e)) (enumerate_from 1 s.results)) =
-        ap (map entry) (filter_same _ (λ r. passes (entry r)) (db.trees 17) (all_of _ (db.trees 17) row_test)) ∙ sym (filter-map passes entry (db.trees 17))
+        ap (map entry) (filter_same _ (λ r. passes (entry r)) (db.trees in_results.tree) (all_of _ (db.trees in_results.tree) row_test))
+        ∙ sym (filter-map passes entry (db.trees in_results.tree))
         ∙ ap (filter passes) (held.results ∙ numbered_map (result_of s.versions) 1 s.results) ∙ filter-map passes as_row (enumerate_from 1 s.results) in
         one_of entry as_row kept _ few listed
 
     -- no row is kept where no result has the run
-    none_kept : result_of_run s p (Some u) ≡ None → (r : Row) → Has (db.trees 17) r → keeps (by_two 3 6) params r ≡ false
-    none_kept none r has = false_from_ne_true _ (λ hit. gone kept (kept_is ∙ ap (option_map as_row) none) (has_kept (keeps (by_two 3 6) params) (db.trees 17) r has hit))
+    none_kept : result_of_run s p (Some u) ≡ None → (r : Row) → Has (db.trees in_results.tree) r
+        → keeps (by_two in_results.provider in_results.run) params r ≡ false
+    none_kept none r has = false_from_ne_true _ (λ hit. gone kept (kept_is ∙ ap (option_map as_row) none)
+        (has_kept (keeps (by_two in_results.provider in_results.run) params) (db.trees in_results.tree) r has hit))
       where
         gone : (rs : List Row) → option_map entry (slice_get rs 0) ≡ None → Has rs r → ⊥
         gone [] e h = h
@@ -216,10 +222,10 @@ null_apart (Text t) = refl
 null_apart (Blob b) = refl
 
 -- so no row has the key of a result of this run
-pub run_free : (db : Database) (s : Broker) → Holds db s → (p : List ℕ) (run : Option (List ℕ)) → result_of_run s p run ≡ None → (made : Row) → column made 3 ≡ Text p → column made 6 ≡ run_value run → IsFree (db.trees 17) made (3 ∷ 6 ∷ [])
+pub run_free : (db : Database) (s : Broker) → Holds db s → (p : List ℕ) (run : Option (List ℕ)) → result_of_run s p run ≡ None → (made : Row) → column made in_results.provider ≡ Text p → column made in_results.run ≡ run_value run → IsFree (db.trees in_results.tree) made (in_results.provider ∷ in_results.run ∷ [])
 unfolding first_key
-run_free db s held p None none made owner is r has = and_right _ _ (and_left _ true (ap (equal Binary (column r 6)) is ∙ null_apart (column r 6)))
-run_free db s held p (Some u) none made owner is r has = (λ i. equal Binary (column r 3) (owner i) && (equal Binary (column r 6) (is i) && true)) ∙ none_kept db held.broker p u s held none r has
+run_free db s held p None none made owner is r has = and_right _ _ (and_left _ true (ap (equal Binary (column r in_results.run)) is ∙ null_apart (column r in_results.run)))
+run_free db s held p (Some u) none made owner is r has = (λ i. equal Binary (column r in_results.provider) (owner i) && (equal Binary (column r in_results.run) (is i) && true)) ∙ none_kept db held.broker p u s held none r has
 
 -- ---- the answer
 
@@ -247,4 +253,4 @@ run_found number content version pass p u db rows s found held h read =
     shown r = shows run_project (Text p ∷ Text u ∷ []) r
 
     out : rows ≡ map shown all
-    out = few_permuted (map shown all) rows (subst (λ n. n ≤ 1) (sym (length-map all shown)) (few db held.broker p u)) (answered db _ 17 _ _ _ rows h)
+    out = few_permuted (map shown all) rows (subst (λ n. n ≤ 1) (sym (length-map all shown)) (few db held.broker p u)) (answered db _ in_results.tree _ _ _ rows h)

@@ -14,8 +14,8 @@ use Rattle.sqlite_tied.specs.Compute.{everything}
 use Rattle.table_access.{specs.{Columns.{whole_at, by_both}, Sound.{IsNumbered}}, proofs.{Values.{cast_null, cast_int}, Changes.{upserts_at}, Keys.{apart_by}}}
 use Rattle.table_access.proofs.{Parts.{Part, whole_part, agree_last, agree_and, once}, SoundLemmas.{whole_in, has_place, at_has}, Storable.{IsShortRow}}
 use Rattle.broker_core.specs.State.{State as Broker}
-use Rattle.broker_tables.specs.{Rows.{stands_at}, Holds.{IsBroker, Holds, result_in, result_of}, Refusals.{AreShort}}
-use Rattle.broker_tables.proofs.Orders.{numbers_total, exact_numbers}
+use Rattle.broker_tables.specs.{Schema.{in_results, in_latest, in_checked_results}, Rows.{stands_at}, Holds.{IsBroker, Holds, result_in, result_of}}
+use Rattle.broker_tables.{specs.Refusals.{AreShort}, proofs.Orders.{numbers_total, exact_numbers}}
 use Rattle.broker_tables.proofs.Placed.{results, results_there, checked_results, checked_results_there, latest, latest_there}
 use Rattle.broker_tables.proofs.Inserted.{EndsOnly, Puts, inserted, insert_ends, next_counted, new_whole, pacticipant_there, version_there}
 use Rattle.broker_tables.proofs.Upserted.{PutsOver, upserted, upsert_grows, upsert_ends}
@@ -75,13 +75,13 @@ module _ (number content : ℕ) (provider : List ℕ) (version : ℕ) (pass : Bo
   abbrev made : Row
   made = result_row number content provider version pass run
 
-  stored : with_rowid Chosen (old.now.trees 17) (cast_row results made) ≡ made
+  stored : with_rowid Chosen (old.now.trees in_results.tree) (cast_row results made) ≡ made
   stored =
       let mark = if pass then pos 1 else pos 0 in
-      λ i. with_rowid Chosen (old.now.trees 17) (cast_int (pos number) i ∷ cast_null i ∷ cast_int (pos content) i ∷ Text provider ∷ cast_int (pos version) i ∷ cast_int mark i ∷ cast_run run i ∷ [])
+      λ i. with_rowid Chosen (old.now.trees in_results.tree) (cast_int (pos number) i ∷ cast_null i ∷ cast_int (pos content) i ∷ Text provider ∷ cast_int (pos version) i ∷ cast_int mark i ∷ cast_run run i ∷ [])
 
   module _ (sql : List ℕ) (params : Row) (puts : Puts 9 sql params made) where
-    pub result_put : IsBroker old.now → (count : ℕ) → Executes sql params old new (Ok count) → PutsRow 17 made old new
+    pub result_put : IsBroker old.now → (count : ℕ) → Executes sql params old new (Ok count) → PutsRow in_results.tree made old new
     result_put broker count h = inserted sql params old new broker results 9 (results_there old.now broker) made made puts stored count h
 
     -- where it may be recorded, it fails only as the store fails, or since one of its names is too long
@@ -91,13 +91,13 @@ module _ (number content : ℕ) (provider : List ℕ) (version : ℕ) (pass : Bo
           pass = passes number content provider version pass run;
           fits = lt-ltb number (2 ^ 63) (omega (arith, few));
           keyed = refl;
-          fresh = subst (λ n. is_taken (old.now.trees 17) (result_row n content provider version pass run) ≡ false) (sym is)
-              (subst (λ n. is_taken (old.now.trees 17) (result_row (n + 1) content provider version pass run) ≡ false) (length-map s.results (result_of s.versions))
-              (next_counted (result_in (old.now.trees 25)) (old.now.trees 17) (map (result_of s.versions) s.results) [] held.results (numbered_rows old.now held.broker)));
+          fresh = subst (λ n. is_taken (old.now.trees in_results.tree) (result_row n content provider version pass run) ≡ false) (sym is)
+              (subst (λ n. is_taken (old.now.trees in_results.tree) (result_row (n + 1) content provider version pass run) ≡ false) (length-map s.results (result_of s.versions))
+              (next_counted (result_in (old.now.trees in_checked_results.tree)) (old.now.trees in_results.tree) (map (result_of s.versions) s.results) [] held.results (numbered_rows old.now held.broker)));
           free = (run_free old.now s held provider run unused made refl refl, tt);
           parents = (
-            number_there _ old.now made 2 content refl (leads 2).0 (has_content old.now s held content low high),
-            (pacticipant_there old.now s held made 3 provider (subst (λ p. IsTrue (is_some (s.pacticipants p))) owner (has_owner old.now s held v version numbered)) refl, (version_there old.now s held made 4 v version numbered refl, tt)),
+            number_there _ old.now made in_results.content content refl (leads in_results.content).0 (has_content old.now s held content low high),
+            (pacticipant_there old.now s held made in_results.provider provider (subst (λ p. IsTrue (is_some (s.pacticipants p))) owner (has_owner old.now s held v version numbered)) refl, (version_there old.now s held made in_results.provider_version v version numbered refl, tt)),
           );
         }) (texts_of provider run) (short number content provider version pass run)
 
@@ -123,10 +123,10 @@ module _ (number : ℕ) (old new : State) (broker : IsBroker old.now) where
   abbrev mark_made : Row
   mark_made = Int (pos number) ∷ Null ∷ []
 
-  mark_stored : with_rowid Chosen (old.now.trees 25) (cast_row checked_results mark_made) ≡ mark_made
-  mark_stored = λ i. with_rowid Chosen (old.now.trees 25) (cast_int (pos number) i ∷ cast_null i ∷ [])
+  mark_stored : with_rowid Chosen (old.now.trees in_checked_results.tree) (cast_row checked_results mark_made) ≡ mark_made
+  mark_stored = λ i. with_rowid Chosen (old.now.trees in_checked_results.tree) (cast_int (pos number) i ∷ cast_null i ∷ [])
 
-  pub marked : (count : ℕ) → Executes mark_sql (Int (pos number) ∷ []) old new (Ok count) → PutsRow 25 mark_made old new
+  pub marked : (count : ℕ) → Executes mark_sql (Int (pos number) ∷ []) old new (Ok count) → PutsRow in_checked_results.tree mark_made old new
   marked count h = inserted mark_sql (Int (pos number) ∷ []) old new broker checked_results 13 (checked_results_there old.now broker) mark_made mark_made (mark_puts number) mark_stored count h
 
   -- of a result that is there and isn't marked it fails only as the store fails
@@ -136,7 +136,7 @@ module _ (number : ℕ) (old new : State) (broker : IsBroker old.now) where
         pass = record { typed = refl; present = refl; checked = refl };
         fits = lt-ltb number (2 ^ 63) (omega (arith, few));
         keyed = refl;
-        fresh = not_taken (old.now.trees 25) (marked_rows old.now broker) number off;
+        fresh = not_taken (old.now.trees in_checked_results.tree) (marked_rows old.now broker) number off;
         free = tt;
         parents = (number_there _ old.now mark_made 0 number refl (leads 0).2 there, tt);
       }) [] (λ are. record { wide = omega arith; narrow = omega arith; short = (tt, (tt, tt)) })
@@ -144,35 +144,36 @@ module _ (number : ℕ) (old new : State) (broker : IsBroker old.now) where
 -- ---- the latest one for its content and its version
 
 abbrev pub key : Row → ℤ × ℤ
-key r = (whole_at 1 r, whole_at 2 r)
+key r = (whole_at in_latest.content r, whole_at in_latest.provider_version r)
 
 module _ (db : Database) (broker : IsBroker db) where
-  pub latest_numbered : IsNumbered (db.trees 19)
+  pub latest_numbered : IsNumbered (db.trees in_latest.tree)
   latest_numbered = at_has _ db.schema.tables latest broker.kept.numbered (has_place _ 10 latest (latest_there db broker))
 
-  pub contents : (r : Row) → Has (db.trees 19) r → column r 1 ≡ Int (whole_at 1 r)
+  pub contents : (r : Row) → Has (db.trees in_latest.tree) r → column r in_latest.content ≡ Int (whole_at in_latest.content r)
   contents r has = whole_in db broker.kept.sound latest (has_place _ 10 latest (latest_there db broker)) r has 0 _ refl refl refl refl refl
 
-  pub versions : (r : Row) → Has (db.trees 19) r → column r 2 ≡ Int (whole_at 2 r)
+  pub versions : (r : Row) → Has (db.trees in_latest.tree) r → column r in_latest.provider_version ≡ Int (whole_at in_latest.provider_version r)
   versions r has = whole_in db broker.kept.sound latest (has_place _ 10 latest (latest_there db broker)) r has 1 _ refl refl refl refl refl
 
-  pub numbers : (r : Row) → Has (db.trees 19) r → column r 3 ≡ Int (whole_at 3 r)
+  pub numbers : (r : Row) → Has (db.trees in_latest.tree) r → column r in_latest.result ≡ Int (whole_at in_latest.result r)
   numbers r has = whole_in db broker.kept.sound latest (has_place _ 10 latest (latest_there db broker)) r has 2 _ refl refl refl refl refl
 
 -- rows whose key is two numbers
-agree_keys : (rows : List Row) → Part int_cmp Int rows 1 (whole_at 1) → Part int_cmp Int rows 2 (whole_at 2) → (a b : Row) → Has rows a → Has rows b
-    → agree plain (1 ∷ 2 ∷ []) a (1 ∷ 2 ∷ []) b ≡ eq_by_cmp (by_both int_cmp int_cmp) (key a) (key b)
-agree_keys rows one two a b ha hb = agree_and int_cmp_total rows 1 (whole_at 1) one int_cmp (whole_at 2) (2 ∷ []) a b ha hb (agree_last int_cmp_total rows 2 (whole_at 2) two a b ha hb)
+agree_keys : (rows : List Row) → Part int_cmp Int rows in_latest.content (whole_at in_latest.content)
+    → Part int_cmp Int rows in_latest.provider_version (whole_at in_latest.provider_version) → (a b : Row) → Has rows a → Has rows b
+    → agree plain (in_latest.content ∷ in_latest.provider_version ∷ []) a (in_latest.content ∷ in_latest.provider_version ∷ []) b ≡ eq_by_cmp (by_both int_cmp int_cmp) (key a) (key b)
+agree_keys rows one two a b ha hb = agree_and int_cmp_total rows in_latest.content (whole_at in_latest.content) one int_cmp (whole_at in_latest.provider_version) (in_latest.provider_version ∷ []) a b ha hb (agree_last int_cmp_total rows in_latest.provider_version (whole_at in_latest.provider_version) two a b ha hb)
 
 module _ (db : Database) (broker : IsBroker db) where
-  pub keys : IsAscending (λ a b. eq_by_cmp (by_both int_cmp int_cmp) (key a) (key b) ≡ false) (db.trees 19)
-  keys = once (by_both int_cmp int_cmp) (db.trees 19) (1 ∷ 2 ∷ []) key (agree_keys (db.trees 19) (whole_part (db.trees 19) 1 (contents db broker)) (whole_part (db.trees 19) 2 (versions db broker)))
+  pub keys : IsAscending (λ a b. eq_by_cmp (by_both int_cmp int_cmp) (key a) (key b) ≡ false) (db.trees in_latest.tree)
+  keys = once (by_both int_cmp int_cmp) (db.trees in_latest.tree) (in_latest.content ∷ in_latest.provider_version ∷ []) key (agree_keys (db.trees in_latest.tree) (whole_part (db.trees in_latest.tree) in_latest.content (contents db broker)) (whole_part (db.trees in_latest.tree) in_latest.provider_version (versions db broker)))
       (apart_by db broker.kept latest 10 (latest_there db broker) _ 9 (ap (λ (s : Schema). slice_get s.indexes 9) broker.schema) refl)
 
 abbrev pub point_sql : List ℕ
 point_sql = codes "INSERT INTO latest (content, provider_version, result) VALUES (?1, ?2, ?3) ON CONFLICT (content, provider_version) DO UPDATE SET result = excluded.result"
 
-point_puts : (c v n : ℕ) → PutsOver 10 latest point_sql (Int (pos c) ∷ Int (pos v) ∷ Int (pos n) ∷ []) (1 ∷ 2 ∷ []) 3 (col 1 0 ∷ col 1 1 ∷ col 1 2 ∷ col 0 7 ∷ []) (Int (pos c) ∷ Int (pos v) ∷ Int (pos n) ∷ [])
+point_puts : (c v n : ℕ) → PutsOver 10 latest point_sql (Int (pos c) ∷ Int (pos v) ∷ Int (pos n) ∷ []) (in_latest.content ∷ in_latest.provider_version ∷ []) 3 (col 1 0 ∷ col 1 in_latest.content ∷ col 1 in_latest.provider_version ∷ col 0 7 ∷ []) (Int (pos c) ∷ Int (pos v) ∷ Int (pos n) ∷ [])
 unfolding understood everything
 point_puts c v n = record {
   terms = lit Null ∷ col 0 0 ∷ col 0 1 ∷ col 0 2 ∷ [];
@@ -199,7 +200,7 @@ module _ (c v n : ℕ) (old new : State) (broker : IsBroker old.now) where
   params = Int (pos c) ∷ Int (pos v) ∷ Int (pos n) ∷ []
 
   abbrev rows : List Row
-  rows = old.now.trees 19
+  rows = old.now.trees in_latest.tree
 
   abbrev it : Row
   it = Int (next_rowid rows) ∷ params
@@ -207,13 +208,14 @@ module _ (c v n : ℕ) (old new : State) (broker : IsBroker old.now) where
   point_stored : cast_all latest.columns params ≡ params
   point_stored = λ i. cast_int (pos c) i ∷ cast_int (pos v) i ∷ cast_int (pos n) i ∷ []
 
-  meets : (r : Row) → Has rows r → conflicts (Some (1 ∷ 2 ∷ [])) old.now.schema.indexes latest it r ≡ eq_by_cmp (by_both int_cmp int_cmp) (pos c, pos v) (key r)
+  meets : (r : Row) → Has rows r → conflicts (Some (in_latest.content ∷ in_latest.provider_version ∷ [])) old.now.schema.indexes latest it r ≡ eq_by_cmp (by_both int_cmp int_cmp) (pos c, pos v) (key r)
   meets r has =
-      ap (λ (s : Schema). conflicts (Some (1 ∷ 2 ∷ [])) s.indexes latest it r) broker.schema ∙ or_false (agree plain (1 ∷ 2 ∷ []) r (1 ∷ 2 ∷ []) it)
+      ap (λ (s : Schema). conflicts (Some (in_latest.content ∷ in_latest.provider_version ∷ [])) s.indexes latest it r) broker.schema
+      ∙ or_false (agree plain (in_latest.content ∷ in_latest.provider_version ∷ []) r (in_latest.content ∷ in_latest.provider_version ∷ []) it)
       ∙ agree_keys (it ∷ rows) (new_whole rows it 1 (contents old.now broker) refl) (new_whole rows it 2 (versions old.now broker) refl) r it (inr has) (inl refl)
       ∙ (eq_by_cmp_equiv numbers_total).symm (key r) (pos c, pos v)
 
-  point_set : (r : Row) → Has rows r → conflicts (Some (1 ∷ 2 ∷ [])) old.now.schema.indexes latest it r ≡ true → column r 0 ∷ column r 1 ∷ column r 2 ∷ Int (pos n) ∷ [] ≡ rowid r ∷ params
+  point_set : (r : Row) → Has rows r → conflicts (Some (in_latest.content ∷ in_latest.provider_version ∷ [])) old.now.schema.indexes latest it r ≡ true → column r 0 ∷ column r in_latest.content ∷ column r in_latest.provider_version ∷ Int (pos n) ∷ [] ≡ rowid r ∷ params
   point_set r has met =
       let same = exact_numbers (pos c, pos v) (key r) ((Equal-is (by_both int_cmp int_cmp (pos c, pos v) (key r))).0 (sym (meets r has) ∙ met)) in
       λ i. rowid r ∷ (contents old.now broker r has ∙ ap (λ k. Int k.0) (sym same)) i ∷ (versions old.now broker r has ∙ ap (λ k. Int k.1) (sym same)) i ∷ Int (pos n) ∷ []
@@ -223,7 +225,7 @@ module _ (c v n : ℕ) (old new : State) (broker : IsBroker old.now) where
       let done = upserted (point_puts c v n) point_stored old new broker (latest_there old.now broker) point_set count h in
       let numbered = latest_numbered old.now broker in (
         done.0,
-        λ d w. upserts_at numbers_total exact_numbers key (whole_at 3) (Some (1 ∷ 2 ∷ [])) old.now.schema.indexes latest rows (new.now.trees 19) it it (λ r. rowid r ∷ params) (pos c, pos v) (pos n) (keys old.now broker) numbered.0
+        λ d w. upserts_at numbers_total exact_numbers key (whole_at in_latest.result) (Some (in_latest.content ∷ in_latest.provider_version ∷ [])) old.now.schema.indexes latest rows (new.now.trees in_latest.tree) it it (λ r. rowid r ∷ params) (pos c, pos v) (pos n) (keys old.now broker) numbered.0
             meets (refl, refl) (λ r has hit. (refl, refl)) done.1 (pos d, pos w),
         upsert_grows (point_puts c v n) point_stored old new broker (latest_there old.now broker) point_set done.1,
       )
@@ -232,5 +234,5 @@ module _ (c v n : ℕ) (old new : State) (broker : IsBroker old.now) where
   pub point_ends : AllowsPoint c v n old.now → EndsOnly [] point_sql params old new
   point_ends (content, version, result, room) =
       upsert_ends (point_puts c v n) point_stored old new broker (latest_there old.now broker) point_set room.0 (λ id. record { typed = refl; present = refl; checked = refl }) (λ id.
-      (number_there _ old.now (id ∷ params) 1 c refl (leads 1).0 content, (number_there _ old.now (id ∷ params) 2 v refl (leads 2).1 version, (number_there _ old.now (id ∷ params) 3 n refl (leads 3).2 result, tt))))
+      (number_there _ old.now (id ∷ params) in_latest.content c refl (leads in_latest.content).0 content, (number_there _ old.now (id ∷ params) in_latest.provider_version v refl (leads in_latest.provider_version).1 version, (number_there _ old.now (id ∷ params) in_latest.result n refl (leads in_latest.result).2 result, tt))))
       [] (λ are. (tt, (tt, (tt, tt)))) (omega arith) (omega arith)

@@ -7,6 +7,7 @@ use Rattle.sqlite_rules.{specs.Lists.{Has}, proofs.TableLemmas.{int_is}}
 use Rattle.table_access.{specs.{Columns.{whole_at, by_both}, Sound.{IsNumbered}, Statements.{IsAdded}}, proofs.SoundLemmas.{at_has, all_of, has_place}}
 use Rattle.table_access.proofs.Members.{has_right}
 use Rattle.broker_core.specs.{State.{State as Broker, Verification, latest_result}, Text.{same_version}, declared.command.Version.{Version}}
+use Rattle.broker_tables.specs.Schema.{in_results, in_latest, in_checked_results}
 use Rattle.broker_tables.specs.Holds.{Holds, HoldsAfter, IsBroker, AreResults, AreLatest, ResultRow, result_in, result_of}
 use Rattle.broker_tables.specs.{Rows.{stands_at, truth_in, text_or_null}, Numbers.{numbered, number_of}, Refusals.{HaveNumbers}}
 use Rattle.broker_tables.proofs.{Frames.{Frame, frame_of, frame_then, still_broker, results_change}, Standing.{stands_put}, Growth.{none_stands}}
@@ -38,11 +39,11 @@ module _ (s : Broker) where
       ap (eq_by_cmp int_cmp (pos next)) it.1 ∙ sym (nat_ties next it.0) ∙ ne_eqb next it.0 (λ same. omega (arith, it.2, count, same))
 
   -- so none of that number is marked as checked
-  unmarked : (db : Database) → Holds db s → stands_at int_cmp (whole_at 0) (db.trees 25) (pos next) ≡ false
-  unmarked db held = none_stands int_cmp (whole_at 0) (whole_at 0) (pos next) (db.trees 25) (λ r has.
-      let number = int_is (rowid r) (at_has _ (db.trees 25) r (marked_rows db held.broker).1 has) in
+  unmarked : (db : Database) → Holds db s → stands_at int_cmp (whole_at 0) (db.trees in_checked_results.tree) (pos next) ≡ false
+  unmarked db held = none_stands int_cmp (whole_at 0) (whole_at 0) (pos next) (db.trees in_checked_results.tree) (λ r has.
+      let number = int_is (rowid r) (at_has _ (db.trees in_checked_results.tree) r (marked_rows db held.broker).1 has) in
       let x = refers_result db held.broker checked_results (has_place _ 13 checked_results (checked_results_there db held.broker)) 0 (inl refl) r has number in
-      ap (eq_by_cmp int_cmp (pos next)) (sym x.2) ∙ old_apart (db.trees 25) (db.trees 17) held.results x.0 x.1)
+      ap (eq_by_cmp int_cmp (pos next)) (sym x.2) ∙ old_apart (db.trees in_checked_results.tree) (db.trees in_results.tree) held.results x.0 x.1)
 
 -- what the second statement makes of the marks
 abbrev pub MarksGrow : Bool → ℕ → List Row → List Row → Type 0
@@ -93,78 +94,78 @@ module _ (s : Broker) (r : Verification) (n : ℕ) (is : number_of s.versions r.
   made = result_row (next s) r.content r.version.pacticipant n r.pass r.run
 
   -- the rows of the results after the first and the second statement
-  pub results_grow : (db : Database) → Holds db s → (rows marks : List Row) → IsNumbered rows → IsAdded (db.trees 17) rows made → MarksGrow r.checked (next s) (db.trees 25) marks
+  pub results_grow : (db : Database) → Holds db s → (rows marks : List Row) → IsNumbered rows → IsAdded (db.trees in_results.tree) rows made → MarksGrow r.checked (next s) (db.trees in_checked_results.tree) marks
       → AreResults s.versions (s.results ++ r ∷ []) rows marks
   results_grow db held rows marks rising added grow =
-      let kept : (x : Row) → Has (db.trees 17) x
-      → stands_at int_cmp (whole_at 0) marks (whole_at 0 x) ≡ stands_at int_cmp (whole_at 0) (db.trees 25) (whole_at 0 x) = λ x has.
-      let apart = (eq_by_cmp_equiv int_cmp_total).symm (whole_at 0 x) (pos (next s)) ∙ old_apart s (db.trees 25) (db.trees 17) held.results x has in
-      grow (whole_at 0 x) ∙ ap (λ b. b || stands_at int_cmp (whole_at 0) (db.trees 25) (whole_at 0 x)) (and_right r.checked _ apart) in
-      let are : map {B = ℤ × ResultRow} (λ x. (whole_at 0 x, result_in marks x)) (db.trees 17) ≡ numbered (rows_held s) =
-      same_map (λ x. (whole_at 0 x, result_in marks x)) (λ x. (whole_at 0 x, result_in (db.trees 25) x)) (db.trees 17)
-      (λ x has i. (whole_at 0 x, record (result_in (db.trees 25) x) { checked = kept x has i })) ∙ held.results in
+      let kept : (x : Row) → Has (db.trees in_results.tree) x
+      → stands_at int_cmp (whole_at 0) marks (whole_at 0 x) ≡ stands_at int_cmp (whole_at 0) (db.trees in_checked_results.tree) (whole_at 0 x) = λ x has.
+      let apart = (eq_by_cmp_equiv int_cmp_total).symm (whole_at 0 x) (pos (next s)) ∙ old_apart s (db.trees in_checked_results.tree) (db.trees in_results.tree) held.results x has in
+      grow (whole_at 0 x) ∙ ap (λ b. b || stands_at int_cmp (whole_at 0) (db.trees in_checked_results.tree) (whole_at 0 x)) (and_right r.checked _ apart) in
+      let are : map {B = ℤ × ResultRow} (λ x. (whole_at 0 x, result_in marks x)) (db.trees in_results.tree) ≡ numbered (rows_held s) =
+      same_map (λ x. (whole_at 0 x, result_in marks x)) (λ x. (whole_at 0 x, result_in (db.trees in_checked_results.tree) x)) (db.trees in_results.tree)
+      (λ x has i. (whole_at 0 x, record (result_in (db.trees in_checked_results.tree) x) { checked = kept x has i })) ∙ held.results in
       let mark : stands_at int_cmp (whole_at 0) marks (pos (next s)) ≡ r.checked =
       grow (pos (next s)) ∙ (λ i. (r.checked && (eq_by_cmp_equiv int_cmp_total).refl (pos (next s)) i) || unmarked s db held i) ∙ or-false (r.checked && true) ∙ and-true r.checked in
       let last : result_in marks made ≡ result_of s.versions r =
       λ i. record { content = pos r.content; provider = r.version.pacticipant; version = option_map pos (sym is i); pass = truth_is r.pass i; checked = mark i; run = run_is r.run i } in
-      next_row (result_in marks) (rows_held s) (db.trees 17) rows made are rising (ap (λ k. pos (k + 1)) (sym (length-map s.results (result_of s.versions)))) added
+      next_row (result_in marks) (rows_held s) (db.trees in_results.tree) rows made are rising (ap (λ k. pos (k + 1)) (sym (length-map s.results (result_of s.versions)))) added
       ∙ ap (λ x. numbered (rows_held s ++ x ∷ [])) last ∙ ap numbered (sym (map-append (result_of s.versions) s.results (r ∷ [])))
 
   -- the three together
-  recorded : (old one two new : State) → Holds old.now s → PutsRow 17 made old one → (IsBroker one.now → Marks r.checked (next s) one two)
+  recorded : (old one two new : State) → Holds old.now s → PutsRow in_results.tree made old one → (IsBroker one.now → Marks r.checked (next s) one two)
       → (IsBroker two.now → Points r.content n (next s) two new) → HoldsAfter 2 old new (record s { results = s.results ++ r ∷ [] })
   recorded old one two new held put mark point =
-      let first = frame_of (codes "results" ∷ []) 17 refl old one held.broker put.0 in
+      let first = frame_of (codes "results" ∷ []) in_results.tree refl old one held.broker put.0 in
       let broker = still_broker (codes "results" ∷ []) old.now one.now first held.broker in
       let marks = mark broker in
-      let second = frame_of (codes "checked_results" ∷ []) 25 refl one two broker marks.0 in
+      let second = frame_of (codes "checked_results" ∷ []) in_checked_results.tree refl one two broker marks.0 in
       let broker_two = still_broker (codes "checked_results" ∷ []) one.now two.now second broker in
       let points = point broker_two in
-      let third = frame_of (codes "latest" ∷ []) 19 refl two new broker_two points.0 in
-      let results_one : new.now.trees 17 ≡ one.now.trees 17 = third.others.1.1.1.1.1.1.1.1.1.0 refl ∙ second.others.1.1.1.1.1.1.1.1.1.0 refl in
-      let marks_two : new.now.trees 25 ≡ two.now.trees 25 = third.others.1.1.1.1.1.1.1.1.1.1.1.1.1.0 refl in
-      let marks_one : one.now.trees 25 ≡ old.now.trees 25 = first.others.1.1.1.1.1.1.1.1.1.1.1.1.1.0 refl in
-      let latest_two : two.now.trees 19 ≡ old.now.trees 19 = second.others.1.1.1.1.1.1.1.1.1.1.0 refl ∙ first.others.1.1.1.1.1.1.1.1.1.1.0 refl in
+      let third = frame_of (codes "latest" ∷ []) in_latest.tree refl two new broker_two points.0 in
+      let results_one : new.now.trees in_results.tree ≡ one.now.trees in_results.tree = third.others.1.1.1.1.1.1.1.1.1.0 refl ∙ second.others.1.1.1.1.1.1.1.1.1.0 refl in
+      let marks_two : new.now.trees in_checked_results.tree ≡ two.now.trees in_checked_results.tree = third.others.1.1.1.1.1.1.1.1.1.1.1.1.1.0 refl in
+      let marks_one : one.now.trees in_checked_results.tree ≡ old.now.trees in_checked_results.tree = first.others.1.1.1.1.1.1.1.1.1.1.1.1.1.0 refl in
+      let latest_two : two.now.trees in_latest.tree ≡ old.now.trees in_latest.tree = second.others.1.1.1.1.1.1.1.1.1.1.0 refl ∙ first.others.1.1.1.1.1.1.1.1.1.1.0 refl in
       let last_two = frame_then (codes "checked_results" ∷ []) (codes "latest" ∷ []) one.now two.now new.now second third in
       let all = frame_then (codes "results" ∷ []) (codes "checked_results" ∷ codes "latest" ∷ []) old.now one.now new.now first last_two in
-      let grow = subst (λ rows. MarksGrow r.checked (next s) rows (two.now.trees 25)) marks_one marks.1 in
-      let are = results_grow old.now held (one.now.trees 17) (two.now.trees 25) (numbered_rows one.now broker) put.1 grow in
-      let point_was = subst (λ rows. Pointed r.content n (next s) rows (new.now.trees 19)) latest_two points.1 in
-      let grows = subst (λ rows. Grows rows (new.now.trees 19)) latest_two points.2 in (
+      let grow = subst (λ rows. MarksGrow r.checked (next s) rows (two.now.trees in_checked_results.tree)) marks_one marks.1 in
+      let are = results_grow old.now held (one.now.trees in_results.tree) (two.now.trees in_checked_results.tree) (numbered_rows one.now broker) put.1 grow in
+      let point_was = subst (λ rows. Pointed r.content n (next s) rows (new.now.trees in_latest.tree)) latest_two points.1 in
+      let grows = subst (λ rows. Grows rows (new.now.trees in_latest.tree)) latest_two points.2 in (
         results_change old.now new.now s (s.results ++ r ∷ []) held all
             (subst₂ (AreResults s.versions (s.results ++ r ∷ [])) (sym results_one) (sym marks_two) are)
-            (latest_grows s r n (old.now.trees 19) (new.now.trees 19) held.latest is point_was),
+            (latest_grows s r n (old.now.trees in_latest.tree) (new.now.trees in_latest.tree) held.latest is point_was),
         takes_more 1 2 (omega arith) old.now new.now (takes_rows _ old.now new.now all ((λ no. absurd cc), ((λ no. absurd cc), ((λ counted. grows), tt)))),
       )
 
 -- ---- as the calls tell it
 
 -- the mark of a result that was checked
-pub is_marked : (checked : Bool) (number : ℕ) (old new : State) → checked ≡ true → PutsRow 25 (Int (pos number) ∷ Null ∷ []) old new → Marks checked number old new
+pub is_marked : (checked : Bool) (number : ℕ) (old new : State) → checked ≡ true → PutsRow in_checked_results.tree (Int (pos number) ∷ Null ∷ []) old new → Marks checked number old new
 is_marked checked number old new is put = (
   put.0,
   λ k.
-      stands_put int_cmp (whole_at 0) (old.now.trees 25) (new.now.trees 25) (Int (pos number) ∷ Null ∷ []) put.1 k
-      ∙ sym (ap (λ b. (b && eq_by_cmp int_cmp k (pos number)) || stands_at int_cmp (whole_at 0) (old.now.trees 25) k) is),
+      stands_put int_cmp (whole_at 0) (old.now.trees in_checked_results.tree) (new.now.trees in_checked_results.tree) (Int (pos number) ∷ Null ∷ []) put.1 k
+      ∙ sym (ap (λ b. (b && eq_by_cmp int_cmp k (pos number)) || stands_at int_cmp (whole_at 0) (old.now.trees in_checked_results.tree) k) is),
 )
 
 -- no mark, where it wasn't
 pub not_marked : (checked : Bool) (number : ℕ) (c : State) → checked ≡ false → Marks checked number c c
 not_marked checked number c is = (
   record { schema = refl; kept = λ kept. kept; others = all_of _ c.now.schema.tables (λ t has other. refl); inside = λ inside. (inside, refl); marks = refl },
-  λ k. sym (ap (λ b. (b && eq_by_cmp int_cmp k (pos number)) || stands_at int_cmp (whole_at 0) (c.now.trees 25) k) is),
+  λ k. sym (ap (λ b. (b && eq_by_cmp int_cmp k (pos number)) || stands_at int_cmp (whole_at 0) (c.now.trees in_checked_results.tree) k) is),
 )
 
 pub marked_broker : (checked : Bool) (number : ℕ) (old new : State) → IsBroker old.now → Marks checked number old new → IsBroker new.now
-marked_broker checked number old new broker marks = still_broker (codes "checked_results" ∷ []) old.now new.now (frame_of (codes "checked_results" ∷ []) 25 refl old new broker marks.0) broker
+marked_broker checked number old new broker marks = still_broker (codes "checked_results" ∷ []) old.now new.now (frame_of (codes "checked_results" ∷ []) in_checked_results.tree refl old new broker marks.0) broker
 
-pub put_broker : (row : Row) (old new : State) → IsBroker old.now → PutsRow 17 row old new → IsBroker new.now
-put_broker row old new broker put = still_broker (codes "results" ∷ []) old.now new.now (frame_of (codes "results" ∷ []) 17 refl old new broker put.0) broker
+pub put_broker : (row : Row) (old new : State) → IsBroker old.now → PutsRow in_results.tree row old new → IsBroker new.now
+put_broker row old new broker put = still_broker (codes "results" ∷ []) old.now new.now (frame_of (codes "results" ∷ []) in_results.tree refl old new broker put.0) broker
 
 pub now_recorded : (number content : ℕ) (provider : List ℕ) (version : ℕ) (pass checked : Bool) (run : Option (List ℕ)) (old one two new : State) (s : Broker) (v : Version) → Holds old.now s → number_of s.versions v ≡ Some version → v.pacticipant ≡ provider → number ≡ length s.results + 1
-    → PutsRow 17 (result_row number content provider version pass run) old one → (IsBroker one.now → Marks checked number one two) → (IsBroker two.now → Points content version number two new) → HoldsAfter 2 old new (record s { results = s.results ++ result_for content v pass checked run ∷ [] })
+    → PutsRow in_results.tree (result_row number content provider version pass run) old one → (IsBroker one.now → Marks checked number one two) → (IsBroker two.now → Points content version number two new) → HoldsAfter 2 old new (record s { results = s.results ++ result_for content v pass checked run ∷ [] })
 now_recorded number content provider version pass checked run old one two new s v held numbered owner is put mark point =
-    subst₂ (λ k p. PutsRow 17 (result_row k content p version pass run) old one → (IsBroker one.now → Marks checked k one two)
+    subst₂ (λ k p. PutsRow in_results.tree (result_row k content p version pass run) old one → (IsBroker one.now → Marks checked k one two)
     → (IsBroker two.now → Points content version k two new) → HoldsAfter 2 old new (record s { results = s.results ++ result_for content v pass checked run ∷ [] }))
     (sym is) owner (recorded s (result_for content v pass checked run) version numbered old one two new held) put mark point
 
@@ -174,11 +175,11 @@ still_there : {tree n : ℕ} (old new : Database) → new.trees tree ≡ old.tre
 still_there old new same (r, has, id) = (r, subst (λ rows. Has rows r) (sym same) has, id)
 
 module _ (number content : ℕ) (provider : List ℕ) (version : ℕ) (pass : Bool) (run : Option (List ℕ)) (old one : State) (s : Broker) (held : Holds old.now s) (allowed : AllowsResult number content provider version run s)
-    (put : PutsRow 17 (result_row number content provider version pass run) old one) where
+    (put : PutsRow in_results.tree (result_row number content provider version pass run) old one) where
   first : Frame (codes "results" ∷ []) old.now one.now
-  first = frame_of (codes "results" ∷ []) 17 refl old one held.broker put.0
+  first = frame_of (codes "results" ∷ []) in_results.tree refl old one held.broker put.0
 
-  has_result : HasRowWith 17 number one.now
+  has_result : HasRowWith in_results.tree number one.now
   has_result = (result_row number content provider version pass run, subst (λ rows. Has rows (result_row number content provider version pass run)) (sym put.1.is) (has_right put.1.front _ _ (inl refl)), refl)
 
   pub may_mark : AllowsMark number one.now
@@ -186,7 +187,7 @@ module _ (number content : ℕ) (provider : List ℕ) (version : ℕ) (pass : Bo
 
   pub may_point : (checked : Bool) (two : State) → HaveNumbers (codes "latest" ∷ []) old.now → Marks checked number one two → AllowsPoint content version number two.now
   may_point checked two room marks =
-      let second : Frame (codes "checked_results" ∷ []) one.now two.now = frame_of (codes "checked_results" ∷ []) 25 refl one two (put_broker _ old one held.broker put) marks.0 in
+      let second : Frame (codes "checked_results" ∷ []) one.now two.now = frame_of (codes "checked_results" ∷ []) in_checked_results.tree refl one two (put_broker _ old one held.broker put) marks.0 in
       let both = frame_then (codes "results" ∷ []) (codes "checked_results" ∷ []) old.now one.now two.now first second in (
         still_there old.now two.now (both.others.1.1.1.1.1.1.1.0 refl) (has_content old.now s held content allowed.4 allowed.5),
         still_there old.now two.now (both.others.1.1.1.0 refl) (has_version old.now s held allowed.0 version allowed.1),

@@ -32,10 +32,10 @@ module _ {X : Type 0} (key : X → ℕ) where
       ]
 
   -- whether a key is found is whether some element has it
-  pub searched : (k : ℕ) (xs : List X) (r : Result ℕ ℕ) → IsSearchInRange r (length xs) → IsBinarySearchResult (λ y. nat_cmp (key y) k) xs r → rises xs → is_ok r ≡ list_any (λ y. key y == k) xs
+  pub searched : (k : ℕ) (xs : List X) (r : Result ℕ ℕ) → IsSearchInRange r (length xs) → IsBinarySearchResult (λ y. nat_cmp (key y) k) xs r → IsSortedBy (λ x y. is_lt (nat_cmp (key x) (key y))) xs → is_ok r ≡ list_any (λ y. key y == k) xs
   searched k [] (Ok i) low at up = absurd (omega (arith, low))
   searched k (x ∷ xs) (Ok i) low at up =
       sym (any_of (λ y. key y == k) (x ∷ xs) (get_or (x ∷ xs) i x) (has_get (x ∷ xs) i x low) (eq-eqb (key (get_or (x ∷ xs) i x)) k (found_at k (x ∷ xs) i x at)))
   searched k xs (Err i) low parts up = sym (false_from_ne_true _ (λ found.
       let it = any_has (λ y. key y == k) xs found in
-      missing k xs i parts (sorted xs up) it.0 (has_contains xs it.0 it.1) (eqb-true (key it.0) k it.2)))
+      missing k xs i parts up it.0 (has_contains xs it.0 it.1) (eqb-true (key it.0) k it.2)))

@@ -1,5 +1,5 @@
 -- The latest results, joined with those of their results and with the marks: all of one version, and that for one content.
-use Rattle.std.specs.{Prelude.{Contains, option_map, ◌↔◌}, List.Sorted.{IsStrictlySortedBy}, Ordering.{eq_by_cmp, int_cmp, nat_cmp}}
+use Rattle.std.specs.{Prelude.{Contains, option_map, IsSorted, ◌↔◌}, List.Sorted.{IsStrictlySortedBy}, Ordering.{eq_by_cmp, int_cmp, nat_cmp}}
 use Rattle.std.specs.{Cmp.{int_cmp_total, Equal-is, eq_by_cmp_equiv, both_ways}, FinMap.{int_cmp-IsAntisymmetric}}
 use Rattle.std.proofs.Common.{◌≡◌, ◌==◌, inl, ℕ, pos, codes, List, [], ◌∷◌, map, Bool, true, refl, sym, ap, subst, ◌∙◌, slice_get, Some, None, Option}
 use Rattle.std.proofs.lemmas.Bool.{eq-eqb, eqb-true}
@@ -13,82 +13,100 @@ use Rattle.table_access.{specs.{Columns.{whole_at}, Sound.{IsNumbered, whole}, S
 use Rattle.table_access.proofs.{Members.{has_pair, any_has, contains_has, has_contains}, Parts.{numbers_once}, SoundLemmas.{any_of, at_has}}
 use Rattle.broker_core.specs.{declared.command.Version.{Version}, Listing.{Lists}, State.{State as Broker, Verification, latest_result, latest, said_by}}
 use Rattle.broker_core.specs.declared.need.Latest.{Latest}
-use Rattle.broker_tables.specs.{Rows.{truth}, Numbers.{number_of}, Holds.{Holds, ResultRow, result_in, result_of}}
-use Rattle.broker_tables.proofs.{Asked.{Asked, IsShown, EachShown, of_both}, Listed.{lists_read}, Orders.{numbers_total}, VersionRows.{whole_test, one_row}}
-use Rattle.contract_tables.specs.VersionResults.{pass_cmp, latest_cmp, IsPassRow, is_among, marked}
-use Rattle.contract_tables.specs.{Verified.{PassCells, pass_cells, pass_of, Passed, passed_of, passed_as}, declared.version_results.ContentPass.{ContentPass}}
-use Rattle.contract_tables.specs.declared.version_results.LatestResult.{LatestResult}
+use Rattle.broker_tables.specs.{Schema.{in_results, in_latest, in_checked_results}, Rows.{truth}, Numbers.{number_of}}
+use Rattle.broker_tables.{specs.Holds.{Holds, ResultRow, result_in, result_of}, proofs.{Asked.{Asked, IsShown, EachShown, of_both}, Listed.{lists_read}}}
+use Rattle.broker_tables.proofs.{Orders.{numbers_total}, VersionRows.{whole_test, one_row}}
+use Rattle.contract_tables.specs.VersionResults.{pass_cmp, latest_cmp, IsPassOf, IsLatestOf, said_of, IsPassRow, is_among, marked}
+use Rattle.contract_tables.specs.Verified.{result_with, PassCells, pass_cells, pass_of, Passed, passed_of, passed_as}
+use Rattle.contract_tables.specs.{declared.version_results.ContentPass.{ContentPass}, declared.version_results.LatestResult.{LatestResult}}
 use Rattle.contract_tables.proofs.{ItemLists.{and_tests, last_test, last_number, less_nat, list_pairs}, JoinRows.{pair_shown}, LastRow.{latest_with}}
-use Rattle.contract_tables.proofs.{ContractRows.{map_twice}, VerifiedList.{told_as, row_tells, tells_row}}
+use Rattle.contract_tables.proofs.{Rising.{sorted as in_order}, ContractRows.{map_twice}, VerifiedList.{told_as, row_tells, tells_row}}
 use Rattle.contract_tables.proofs.{ResultLookups.{numbered_rows, marked_rows, result_at}, ResultRows.{key, keys, contents, versions, numbers, latest_numbered}}
 
 -- ---- the two statements
 
 -- ON the row's number is the result, WHERE the version is the parameter
 abbrev pub terms : List Term
-terms = op2 (Compare Eq Binary) (col 2 0) (col 1 3) ∷ op2 (Compare Eq Binary) (col 1 2) (col 0 0) ∷ []
+terms = op2 (Compare Eq Binary) (col 2 0) (col 1 in_latest.result) ∷ op2 (Compare Eq Binary) (col 1 in_latest.provider_version) (col 0 0) ∷ []
 
 abbrev pub order : List (Term × Key)
-order = (col 1 1, ascending Binary) ∷ []
+order = (col 1 in_latest.content, ascending Binary) ∷ []
 
 abbrev pub passes_project : List Term
-passes_project = col 1 1 ∷ col 2 5 ∷ []
+passes_project = col 1 in_latest.content ∷ col 2 0 ∷ col 2 in_results.pass ∷ []
 
 pub passes : (n : ℕ)
-    → Asked (codes "SELECT l.content, r.pass FROM latest l JOIN results r ON r.number = l.result WHERE l.provider_version = ?1 ORDER BY l.content")
-    (Int (pos n) ∷ []) (from_both 19 17 terms passes_project order)
+    → Asked (codes "SELECT l.content, r.number, r.pass FROM latest l JOIN results r ON r.number = l.result WHERE l.provider_version = ?1 ORDER BY l.content")
+    (Int (pos n) ∷ []) (from_both in_latest.tree in_results.tree terms passes_project order)
 unfolding understood everything
 passes n = record { names = _; means = record { is = refl; plain = (refl, refl); unlisted = refl }; runs = record { whole = refl; typed = refl; sumless = refl } }
 
 abbrev pub marks_project : List Term
-marks_project = col 1 1 ∷ []
+marks_project = col 1 in_latest.content ∷ []
 
 pub marks : (n : ℕ)
     → Asked (codes "SELECT l.content FROM latest l JOIN checked_results c ON c.result = l.result WHERE l.provider_version = ?1 ORDER BY l.content")
-    (Int (pos n) ∷ []) (from_both 19 25 terms marks_project order)
+    (Int (pos n) ∷ []) (from_both in_latest.tree in_checked_results.tree terms marks_project order)
 unfolding understood everything
 marks n = record { names = _; means = record { is = refl; plain = (refl, refl); unlisted = refl }; runs = record { whole = refl; typed = refl; sumless = refl } }
 
 -- ---- the rows that they join
 
+-- a result by its number
+module _ (db : Database) (s : Broker) (held : Holds db s) (n : ℕ) (r : Verification) (is : result_with s n ≡ Some r) where
+  -- its row, with its mark
+  pub result_row : (row : Row) × Has (db.trees in_results.tree) row × (whole_at 0 row ≡ pos n) × (result_in (db.trees in_checked_results.tree) row ≡ result_of s.versions r)
+  result_row =
+      let value = result_at db s n held ∙ ap (option_map (result_of s.versions)) is in
+      let row = find_has int_cmp_total int_cmp-IsAntisymmetric (whole_at 0) (result_in (db.trees in_checked_results.tree)) (pos n) (result_of s.versions r) (db.trees in_results.tree) value in
+      (row.0, row.1, sym row.2, row.3)
+
+  -- each row with its number is that one
+  pub row_result : (row : Row) → Has (db.trees in_results.tree) row → whole_at 0 row ≡ pos n
+      → result_in (db.trees in_checked_results.tree) row ≡ result_of s.versions r
+  row_result row has number =
+      let it = result_row in
+      let once = numbers_once (db.trees in_results.tree) (numbered_rows db held.broker) in
+      let same : row ≡ it.0 = one_row int_cmp_total (whole_at 0) (db.trees in_results.tree) once row it.0 has it.1 (number ∙ sym it.2) in
+      ap (result_in (db.trees in_checked_results.tree)) same ∙ it.3
+
+  -- a mark with its number says that it was checked
+  pub mark_says : (mark : Row) → Has (db.trees in_checked_results.tree) mark → whole_at 0 mark ≡ pos n → r.checked ≡ true
+  mark_says mark has number =
+      let row = result_row in
+      let tied = ap (eq_by_cmp int_cmp (whole_at 0 row.0)) (number ∙ sym row.2) ∙ (eq_by_cmp_equiv int_cmp_total).refl (whole_at 0 row.0) in
+      sym (ap (λ (y : ResultRow). y.checked) row.3)
+      ∙ any_of (λ q. eq_by_cmp int_cmp (whole_at 0 row.0) (whole_at 0 q)) (db.trees in_checked_results.tree) mark has tied
+
+  -- and there is one, if it was
+  pub says_mark : r.checked ≡ true → (mark : Row) × Has (db.trees in_checked_results.tree) mark × (whole_at 0 mark ≡ pos n)
+  says_mark so =
+      let row = result_row in
+      let mark = any_has (λ q. eq_by_cmp int_cmp (whole_at 0 row.0) (whole_at 0 q)) (db.trees in_checked_results.tree) (ap (λ (y : ResultRow). y.checked) row.3 ∙ so) in
+      let same : whole_at 0 row.0 ≡ whole_at 0 mark.0 = int_cmp-IsAntisymmetric _ _ ((Equal-is (int_cmp (whole_at 0 row.0) (whole_at 0 mark.0))).0 mark.2) in
+      (mark.0, mark.1, sym same ∙ row.2)
+
 module _ (db : Database) (s : Broker) (held : Holds db s) (v : Version) (n : ℕ) (is : number_of s.versions v ≡ Some n) where
   abbrev params : Row
   params = Int (pos n) ∷ []
 
-  -- the row of the latest result for a content, with its mark
-  pub result_row : (content : ℕ) (e : ℕ × Verification) → latest_result s content v ≡ Some e
-      → (r : Row) × Has (db.trees 17) r × (whole_at 0 r ≡ pos e.0) × (result_in (db.trees 25) r ≡ result_of s.versions e.1)
-  result_row content e found =
-      let value = result_at db s e.0 held ∙ ap (option_map (result_of s.versions)) (latest_with s content v e found) in
-      let r = find_has int_cmp_total int_cmp-IsAntisymmetric (whole_at 0) (result_in (db.trees 25)) (pos e.0) (result_of s.versions e.1) (db.trees 17) value in
-      (r.0, r.1, sym r.2, r.3)
-
-  -- each row with its number is that one
-  pub row_result : (content : ℕ) (e : ℕ × Verification) (r : Row) → latest_result s content v ≡ Some e → Has (db.trees 17) r → whole_at 0 r ≡ pos e.0
-      → result_in (db.trees 25) r ≡ result_of s.versions e.1
-  row_result content e r found has number =
-      let it = result_row content e found in
-      let once = numbers_once (db.trees 17) (numbered_rows db held.broker) in
-      let same : r ≡ it.0 = one_row int_cmp_total (whole_at 0) (db.trees 17) once r it.0 has it.1 (number ∙ sym it.2) in
-      ap (result_in (db.trees 25)) same ∙ it.3
-
   -- the version's rows, joined with those of a table by the numbers of results
   module _ (u : ℕ) (rising : IsNumbered (db.trees u)) where
     abbrev IsJoined : Row → Row → Type 0
-    IsJoined l r = (whole_at 0 r ≡ whole_at 3 l) × (whole_at 2 l ≡ pos n)
+    IsJoined l r = (whole_at 0 r ≡ whole_at in_latest.result l) × (whole_at in_latest.provider_version l ≡ pos n)
 
     pub numbered : (r : Row) → Has (db.trees u) r → column r 0 ≡ Int (whole_at 0 r)
     numbered r has = int_is (rowid r) (at_has _ (db.trees u) r rising.1 has)
 
     -- what ON and WHERE test
-    joined : (l r : Row) → Has (db.trees 19) l → Has (db.trees u) r → (keeps_both terms params l r ≡ true) ↔ IsJoined l r
+    joined : (l r : Row) → Has (db.trees in_latest.tree) l → Has (db.trees u) r → (keeps_both terms params l r ≡ true) ↔ IsJoined l r
     joined l r hl hr =
-        and_tests (whole_test (column r 0) (column l 3) (whole_at 0 r) (whole_at 3 l) (numbered r hr) (numbers db held.broker l hl))
-        (last_test (whole_test (column l 2) (Int (pos n)) (whole_at 2 l) (pos n) (versions db held.broker l hl) refl))
+        and_tests (whole_test (column r 0) (column l in_latest.result) (whole_at 0 r) (whole_at in_latest.result l) (numbered r hr) (numbers db held.broker l hl))
+        (last_test (whole_test (column l in_latest.provider_version) (Int (pos n)) (whole_at in_latest.provider_version l) (pos n) (versions db held.broker l hl) refl))
 
     -- one item a content, each read of the row that tells its latest result and of a row with that result's number
-    list_results : {sql : List ℕ} {project : List Term} {Y : Type 0} (asked : Asked sql params (from_both 19 u terms project order)) (reads : Row → Y → Type 0)
-        (Q : Y → Type 0) (content : Y → ℕ) → ((l r : Row) (x : Y) → reads (eval_all project (params ∷ l ∷ r ∷ [])) x → column l 1 ≡ Int (pos (content x)))
+    list_results : {sql : List ℕ} {project : List Term} {Y : Type 0} (asked : Asked sql params (from_both in_latest.tree u terms project order)) (reads : Row → Y → Type 0)
+        (Q : Y → Type 0) (content : Y → ℕ) → ((l r : Row) (x : Y) → reads (eval_all project (params ∷ l ∷ r ∷ [])) x → column l in_latest.content ≡ Int (pos (content x)))
         → ((l r : Row) (x : Y) (e : ℕ × Verification) → latest_result s (content x) v ≡ Some e → Has (db.trees u) r → whole_at 0 r ≡ pos e.0
         → reads (eval_all project (params ∷ l ∷ r ∷ [])) x → Q x)
         → ((x : Y) → Q x → (e : ℕ × Verification) × (latest_result s (content x) v ≡ Some e) × (r : Row) × Has (db.trees u) r × (whole_at 0 r ≡ pos e.0)
@@ -97,13 +115,13 @@ module _ (db : Database) (s : Broker) (held : Holds db s) (v : Version) (n : ℕ
     list_results asked reads Q content read tells told =
         list_pairs db reads (λ x y. nat_cmp (content x) (content y)) Q int_cmp-IsAntisymmetric (λ x. pos (content x)) (λ x y. less_nat (content x) (content y))
         asked IsJoined (latest_numbered db held.broker) rising joined (record {
-          key = λ q. whole_at 1 q.0;
-          sorted = λ a b one two. last_number (column a.0 1) (column b.0 1) (whole_at 1 a.0) (whole_at 1 b.0)
+          key = λ q. whole_at in_latest.content q.0;
+          sorted = λ a b one two. last_number (column a.0 in_latest.content) (column b.0 in_latest.content) (whole_at in_latest.content a.0) (whole_at in_latest.content b.0)
               (contents db held.broker a.0 one.0) (contents db held.broker b.0 two.0);
           one = λ a b one two same.
               let keyed : key a.0 ≡ key b.0 = λ i. (same i, (one.2.1 ∙ sym two.2.1) i) in
-              let first : a.0 ≡ b.0 = one_row numbers_total key (db.trees 19) (keys db held.broker) a.0 b.0 one.0 two.0 keyed in
-              let number : whole_at 0 a.1 ≡ whole_at 0 b.1 = one.2.0 ∙ ap (whole_at 3) first ∙ sym two.2.0 in
+              let first : a.0 ≡ b.0 = one_row numbers_total key (db.trees in_latest.tree) (keys db held.broker) a.0 b.0 one.0 two.0 keyed in
+              let number : whole_at 0 a.1 ≡ whole_at 0 b.1 = one.2.0 ∙ ap (whole_at in_latest.result) first ∙ sym two.2.0 in
               let second : a.1 ≡ b.1 = one_row int_cmp_total (whole_at 0) (db.trees u) (numbers_once (db.trees u) rising) a.1 b.1 one.1 two.1 number in
               λ i. (first i, second i);
           read = λ q x shown. ap id_in (read q.0 q.1 x shown);
@@ -116,19 +134,19 @@ module _ (db : Database) (s : Broker) (held : Holds db s) (v : Version) (n : ℕ
               ((l.0, it.2), (l.1, it.3, (it.4 ∙ sym l.4, l.3)), λ y shown. it.5 l.0 y shown (ap whole (sym (ap id_in (read l.0 it.2 y shown)) ∙ l.2)));
         })
 
-  abbrev pub IsPass : ContentPass → Type 0
-  IsPass x = option_map (λ e. e.1.pass) (latest_result s x.content v) ≡ Some x.pass
-
-  pub passes_listed : (rows : List Row) (items : List ContentPass) → IsShown (passes n) db rows → AreRead IsPassRow rows items → Lists pass_cmp IsPass items
-  passes_listed = list_results 17 (numbered_rows db held.broker) (passes n) IsPassRow IsPass (λ x. x.content) (λ l r x read. read.0)
+  pub passes_listed : (rows : List Row) (items : List ContentPass) → IsShown (passes n) db rows → AreRead IsPassRow rows items → Lists pass_cmp (IsPassOf s v) items
+  passes_listed = list_results in_results.tree (numbered_rows db held.broker) (passes n) IsPassRow (IsPassOf s v) (λ x. x.content) (λ l r x read. read.0)
       (λ l r x e found has number read.
-      let row = row_result x.content e r found has number in
-      ap (option_map (λ (e : ℕ × Verification). e.1.pass)) found ∙ ap Some (sym (ap (λ (y : ResultRow). y.pass) row) ∙ read.1))
+      let row = row_result db s held e.0 e.1 (latest_with s x.content v e found) r has number in
+      let same : e.0 ≡ x.result = ap whole (sym number ∙ ap id_in read.1) in
+      let pass : e.1.pass ≡ x.pass = sym (ap (λ (y : ResultRow). y.pass) row) ∙ read.2 in
+      ap (option_map passed_of) found ∙ (λ i. Some (passed_as (same i) (pass i))))
       (λ x there.
-      let e = told_as (λ e. e.1.pass) (latest_result s x.content v) x.pass there in
-      let r = result_row x.content e.0 e.1 in
-      let pass = ap (λ (z : ResultRow). z.pass) r.3 ∙ e.2 in
-      (e.0, e.1, r.0, r.1, r.2, λ l y read content i. record { content = content i; pass = (sym read.1 ∙ pass) i }))
+      let e = told_as passed_of (latest_result s x.content v) (passed_as x.result x.pass) there in
+      let r = result_row db s held e.0.0 e.0.1 (latest_with s x.content v e.0 e.1) in
+      let number : pos e.0.0 ≡ pos x.result = ap (λ (p : Passed). pos p.0) e.2 in
+      let pass = ap (λ (z : ResultRow). z.pass) r.3 ∙ ap (λ (p : Passed). p.1) e.2 in
+      (e.0, e.1, r.0, r.1, r.2, λ l y read content i. record { content = content i; result = whole ((sym (ap id_in read.1) ∙ r.2 ∙ number) i); pass = (sym read.2 ∙ pass) i }))
 
   abbrev pub IsChecked : ℕ → Type 0
   IsChecked content = option_map (λ e. e.1.checked) (latest_result s content v) ≡ Some true
@@ -137,18 +155,13 @@ module _ (db : Database) (s : Broker) (held : Holds db s) (v : Version) (n : ℕ
   is_content row number = column row 0 ≡ Int (pos number)
 
   pub marks_listed : (rows : List Row) (items : List ℕ) → IsShown (marks n) db rows → AreRead is_content rows items → Lists nat_cmp IsChecked items
-  marks_listed = list_results 25 (marked_rows db held.broker) (marks n) is_content IsChecked (λ content. content) (λ l r content read. read)
+  marks_listed = list_results in_checked_results.tree (marked_rows db held.broker) (marks n) is_content IsChecked (λ content. content) (λ l r content read. read)
       (λ l r content e found has number read.
-      let row = result_row content e found in
-      let tied = ap (eq_by_cmp int_cmp (whole_at 0 row.0)) (number ∙ sym row.2) ∙ (eq_by_cmp_equiv int_cmp_total).refl (whole_at 0 row.0) in
-      let stands = any_of (λ r. eq_by_cmp int_cmp (whole_at 0 row.0) (whole_at 0 r)) (db.trees 25) r has tied in
-      ap (option_map (λ (e : ℕ × Verification). e.1.checked)) found ∙ ap Some (sym (ap (λ (y : ResultRow). y.checked) row.3) ∙ stands))
+      ap (option_map (λ (e : ℕ × Verification). e.1.checked)) found ∙ ap Some (mark_says db s held e.0 e.1 (latest_with s content v e found) r has number))
       (λ content there.
       let e = told_as (λ e. e.1.checked) (latest_result s content v) true there in
-      let row = result_row content e.0 e.1 in
-      let m = any_has (λ r. eq_by_cmp int_cmp (whole_at 0 row.0) (whole_at 0 r)) (db.trees 25) (ap (λ (y : ResultRow). y.checked) row.3 ∙ e.2) in
-      let same : whole_at 0 row.0 ≡ whole_at 0 m.0 = int_cmp-IsAntisymmetric _ _ ((Equal-is (int_cmp (whole_at 0 row.0) (whole_at 0 m.0))).0 m.2) in
-      (e.0, e.1, m.0, m.1, sym same ∙ row.2, λ l y read same. same))
+      let mark = says_mark db s held e.0.0 e.0.1 (latest_with s content v e.0 e.1) e.2 in
+      (e.0, e.1, mark.0, mark.1, mark.2, λ l y read same. same))
 
 -- ---- both together
 
@@ -170,49 +183,59 @@ module _ (s : Broker) (v : Version) (checked : List ℕ) (marked_are : Lists nat
       let there = (marked_are.exactly content).1 (ap (option_map (λ (e : ℕ × Verification). e.1.checked)) found ∙ ap Some mark) in
       any_of (λ c. c == content) checked content (contains_has checked content there) (eq-eqb content content refl))
 
-  pub latest_listed : (given : List ContentPass) (found : List LatestResult) → Lists pass_cmp (λ x. option_map (λ e. e.1.pass) (latest_result s x.content v) ≡ Some x.pass) given → (IsStrictlySortedBy nat_cmp checked → found ≡ map (marked checked) given)
-      → Lists latest_cmp (λ x. latest s x.content v ≡ Some x.latest) found
+  pub latest_listed : (given : List ContentPass) (found : List LatestResult) → Lists pass_cmp (IsPassOf s v) given → (IsSorted nat_cmp checked → found ≡ map (marked checked) given)
+      → Lists latest_cmp (IsLatestOf s v) found
   latest_listed given found listed made =
-      lists_read pass_cmp (λ x. option_map (λ e. e.1.pass) (latest_result s x.content v) ≡ Some x.pass) (λ x y. y ≡ marked checked x) latest_cmp (λ x. latest s x.content v ≡ Some x.latest)
+      lists_read pass_cmp (IsPassOf s v) (λ x y. y ≡ marked checked x) latest_cmp (IsLatestOf s v)
       (λ a b x y ha hb is_x is_y less. (λ i. nat_cmp (is_x i).content (is_y i).content) ∙ less)
       (λ p x has is_x.
-      let e = told_as (λ e. e.1.pass) (latest_result s p.content v) p.pass has in
-      subst (λ y. latest s y.content v ≡ Some y.latest) (sym is_x) (ap (option_map (λ (e : ℕ × Verification). said_by e.1)) e.1 ∙ (λ i. Some (record { pass = e.2 i; checked = sym (among p.content e.0 e.1) i }))))
+      let e = told_as passed_of (latest_result s p.content v) (passed_as p.result p.pass) has in
+      subst (IsLatestOf s v) (sym is_x) (ap (option_map said_of) e.1
+      ∙ (λ i. Some ((e.2 i).0, record { pass = (e.2 i).1; checked = sym (among p.content e.0 e.1) i }))))
       (λ x there.
-      let e = told_as (λ e. said_by e.1) (latest_result s x.content v) x.latest there in (
-        record { content = x.content; pass = x.latest.pass },
-        ap (option_map (λ (e : ℕ × Verification). e.1.pass)) e.1 ∙ ap (λ (l : Latest). Some l.pass) e.2,
-        λ y is_y. is_y ∙ (λ i. record { content = x.content; latest = record { pass = x.latest.pass; checked = (among x.content e.0 e.1 ∙ ap (λ (l : Latest). l.checked) e.2) i } }),
+      let e = told_as said_of (latest_result s x.content v) (x.result, x.latest) there in (
+        record { content = x.content; result = x.result; pass = x.latest.pass },
+        ap (option_map passed_of) e.1 ∙ ap (λ (l : ℕ × Latest). Some (passed_as l.0 l.1.pass)) e.2,
+        λ y is_y. is_y ∙ (λ i. record {
+          content = x.content;
+          result = x.result;
+          latest = record { pass = x.latest.pass; checked = (among x.content e.0 e.1 ∙ ap (λ (l : ℕ × Latest). l.1.checked) e.2) i };
+        }),
       ))
-      given found listed (subst (AreRead (λ x y. y ≡ marked checked x) given) (sym (made marked_are.sorted)) (read_self (marked checked) given))
+      given found listed (subst (AreRead (λ x y. y ≡ marked checked x) given) (sym (made (in_order (λ c. c) checked marked_are.sorted))) (read_self (marked checked) given))
 
 -- ---- one of them
 
-module _ (s : Broker) (v : Version) (results : List LatestResult) (listed : Lists latest_cmp (λ x. latest s x.content v ≡ Some x.latest) results) where
+module _ (s : Broker) (v : Version) (results : List LatestResult) (listed : Lists latest_cmp (IsLatestOf s v) results) where
   -- the one at a place, for its content
   pub said_at : (content : ℕ) (x : LatestResult) → Contains results x → x.content ≡ content → Some x.latest ≡ latest s content v
-  said_at content x there same = sym (ap (λ c. latest s c v) (sym same) ∙ (listed.exactly x).0 there)
+  said_at content x there same =
+      let e = told_as said_of (latest_result s x.content v) (x.result, x.latest) ((listed.exactly x).0 there) in
+      sym (ap (λ c. latest s c v) (sym same) ∙ ap (option_map (λ (e : ℕ × Verification). said_by e.1)) e.1 ∙ ap (λ (l : ℕ × Latest). Some l.1) e.2)
 
   -- where none is for the content, there is none
   pub none_said : (content : ℕ) → ((x : LatestResult) → Contains results x → x.content ≡ content → ⊥) → None ≡ latest s content v
-  none_said content apart = go (latest s content v) refl
+  none_said content apart = go (latest_result s content v) refl
     where
-      go : (o : Option Latest) → latest s content v ≡ o → None ≡ o
+      go : (o : Option (ℕ × Verification)) → latest_result s content v ≡ o → None ≡ option_map (λ e. said_by e.1) o
       go None is = refl
-      go (Some l) is = let x : LatestResult = record { content = content; latest = l } in absurd (apart x ((listed.exactly x).1 is) refl)
+      go (Some e) is =
+          let x : LatestResult = record { content = content; result = e.0; latest = said_by e.1 } in
+          absurd (apart x ((listed.exactly x).1 (ap (option_map said_of) is)) refl)
 
 -- ---- the latest result for one content
 
 -- ON the row's number is the result, WHERE the content and the version are the parameters
 abbrev pub one_terms : List Term
-one_terms = op2 (Compare Eq Binary) (col 2 0) (col 1 3) ∷ op2 (Compare Eq Binary) (col 1 1) (col 0 0) ∷ op2 (Compare Eq Binary) (col 1 2) (col 0 1) ∷ []
+one_terms = op2 (Compare Eq Binary) (col 2 0) (col 1 in_latest.result) ∷ op2 (Compare Eq Binary) (col 1 in_latest.content) (col 0 0)
+    ∷ op2 (Compare Eq Binary) (col 1 in_latest.provider_version) (col 0 1) ∷ []
 
 abbrev pub one_project : List Term
-one_project = col 2 0 ∷ col 2 5 ∷ []
+one_project = col 2 0 ∷ col 2 in_results.pass ∷ []
 
 pub join : (c n : ℕ)
     → Asked (codes "SELECT r.number, r.pass FROM latest l JOIN results r ON r.number = l.result WHERE l.content = ?1 AND l.provider_version = ?2")
-    (Int (pos c) ∷ Int (pos n) ∷ []) (from_both 19 17 one_terms one_project [])
+    (Int (pos c) ∷ Int (pos n) ∷ []) (from_both in_latest.tree in_results.tree one_terms one_project [])
 unfolding understood everything
 join c n = record { names = _; means = record { is = refl; plain = (refl, refl); unlisted = refl }; runs = record { whole = refl; typed = refl; sumless = refl } }
 
@@ -221,13 +244,13 @@ module _ (db : Database) (s : Broker) (held : Holds db s) (v : Version) (content
   one_params = Int (pos content) ∷ Int (pos n) ∷ []
 
   -- what ON and WHERE test
-  one_joined : (l r : Row) → Has (db.trees 19) l → Has (db.trees 17) r
-      → (keeps_both one_terms one_params l r ≡ true) ↔ ((whole_at 0 r ≡ whole_at 3 l) × ((whole_at 1 l ≡ pos content) × (whole_at 2 l ≡ pos n)))
+  one_joined : (l r : Row) → Has (db.trees in_latest.tree) l → Has (db.trees in_results.tree) r
+      → (keeps_both one_terms one_params l r ≡ true) ↔ ((whole_at 0 r ≡ whole_at in_latest.result l) × ((whole_at in_latest.content l ≡ pos content) × (whole_at in_latest.provider_version l ≡ pos n)))
   one_joined l r hl hr =
-      let id = numbered db s held v n is 17 (numbered_rows db held.broker) r hr in
-      and_tests (whole_test (column r 0) (column l 3) (whole_at 0 r) (whole_at 3 l) id (numbers db held.broker l hl))
-      (and_tests (whole_test (column l 1) (Int (pos content)) (whole_at 1 l) (pos content) (contents db held.broker l hl) refl)
-      (last_test (whole_test (column l 2) (Int (pos n)) (whole_at 2 l) (pos n) (versions db held.broker l hl) refl)))
+      let id = numbered db s held v n is in_results.tree (numbered_rows db held.broker) r hr in
+      and_tests (whole_test (column r 0) (column l in_latest.result) (whole_at 0 r) (whole_at in_latest.result l) id (numbers db held.broker l hl))
+      (and_tests (whole_test (column l in_latest.content) (Int (pos content)) (whole_at in_latest.content l) (pos content) (contents db held.broker l hl) refl)
+      (last_test (whole_test (column l in_latest.provider_version) (Int (pos n)) (whole_at in_latest.provider_version l) (pos n) (versions db held.broker l hl) refl)))
 
   -- a row that is shown tells the latest result
   abbrev Tells : Row → Type 0
@@ -237,16 +260,16 @@ module _ (db : Database) (s : Broker) (held : Holds db s) (v : Version) (content
   told = of_both (join content n) db Tells (λ l r hl hr kept.
       let it = (one_joined l r hl hr).0 kept in
       let e = row_tells db s held v n is l content hl it.1.0 it.1.1 in
-      let stored = row_result db s held v n is content e.0 r e.1 hr (it.0 ∙ e.2) in
+      let stored = row_result db s held e.0.0 e.0.1 (latest_with s content v e.0 e.1) r hr (it.0 ∙ e.2) in
       ap (option_map passed_of) e.1 ∙ (λ i. Some (passed_as (whole (sym (it.0 ∙ e.2) i)) (ap (λ (r : ResultRow). r.pass) (sym stored) i))))
 
   -- and the latest result is shown
   shows_one : (rows : List Row) (e : ℕ × Verification) → IsShown (join content n) db rows → latest_result s content v ≡ Some e → (row : Row) × Has rows row
   shows_one rows e h found =
       let l = tells_row db s held v n is content e found in
-      let r = result_row db s held v n is content e found in
-      let kept = has_pair (keeps_both one_terms one_params) (db.trees 17) (db.trees 19) l.0 r.0 l.1 r.1 ((one_joined l.0 r.0 l.1 r.1).1 (r.2 ∙ sym l.4, (l.2, l.3))) in
-      (eval_all one_project (one_params ∷ l.0 ∷ r.0 ∷ []), pair_shown db one_params 19 17 one_terms one_project [] rows h (l.0, r.0) kept)
+      let r = result_row db s held e.0 e.1 (latest_with s content v e found) in
+      let kept = has_pair (keeps_both one_terms one_params) (db.trees in_results.tree) (db.trees in_latest.tree) l.0 r.0 l.1 r.1 ((one_joined l.0 r.0 l.1 r.1).1 (r.2 ∙ sym l.4, (l.2, l.3))) in
+      (eval_all one_project (one_params ∷ l.0 ∷ r.0 ∷ []), pair_shown db one_params in_latest.tree in_results.tree one_terms one_project [] rows h (l.0, r.0) kept)
 
 -- the first row tells the latest result, and there is none where there is no row
 pub join_found : {X : Type 0} (number : X → ℕ) (pass : X → Bool) (content n : ℕ) (db : Database) (rows : List Row) (found : Option X) (s : Broker) (v : Version) → Holds db s → number_of s.versions v ≡ Some n

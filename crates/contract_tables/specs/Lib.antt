@@ -1,3 +1,4 @@
 pub mod Verified
 pub mod Listings
 pub mod VersionResults
+pub mod ToldVersions

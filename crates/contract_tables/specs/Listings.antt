@@ -11,22 +11,12 @@ use Rattle.broker_core.specs.declared.command.Version.{Version}
 use Rattle.broker_core.specs.Text.{text_cmp}
 use Rattle.broker_tables.specs.Names.{IsNameAt}
 use Rattle.contract_tables.specs.declared.listings.Contract.{Contract}
-use Rattle.contract_tables.specs.declared.listings.VerifiedVersion.{VerifiedVersion}
-use Rattle.contract_tables.specs.declared.listings.VerifiedContent.{VerifiedContent}
 
 -- ---- the orders
 
 -- contracts in the order of their providers
 abbrev pub contract_cmp : Contract → Contract → Ordering
 contract_cmp x y = ordering_then (text_cmp x.provider y.provider) (nat_cmp x.content y.content)
-
--- versions that have a result in the order of their names
-abbrev pub verified_cmp : VerifiedVersion → VerifiedVersion → Ordering
-verified_cmp x y = ordering_then (text_cmp x.name y.name) (nat_cmp x.result y.result)
-
--- contents that have a result in the order of their numbers
-abbrev pub content_cmp : VerifiedContent → VerifiedContent → Ordering
-content_cmp x y = ordering_then (nat_cmp x.content y.content) (nat_cmp x.result y.result)
 
 -- ---- the rows
 
@@ -37,14 +27,6 @@ IsContractRow row x = (column row 0 ≡ Int (pos x.content)) × (column row 1 �
 -- the columns are the pacticipant and the version's name
 abbrev pub IsConsumerRow : Row → Version → Type 0
 IsConsumerRow row x = (column row 0 ≡ Text x.pacticipant) × (column row 1 ≡ Text x.name)
-
--- the columns are the result and the version's name
-abbrev pub IsVerifiedRow : Row → VerifiedVersion → Type 0
-IsVerifiedRow row x = (column row 0 ≡ Int (pos x.result)) × (column row 1 ≡ Text x.name)
-
--- the columns are the content and the result
-abbrev pub IsContentRow : Row → VerifiedContent → Type 0
-IsContentRow row x = (column row 0 ≡ Int (pos x.content)) × (column row 1 ≡ Int (pos x.result))
 
 -- the row reads as a number and a name, as two names, as two numbers
 abbrev pub ReadsAsMarked : Row → Type 0

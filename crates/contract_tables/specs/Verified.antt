@@ -17,6 +17,7 @@ use Rattle.broker_core.specs.Text.{Text, put_at, same_pair, same_text, same_vers
 use Rattle.broker_core.specs.State.{State as Broker, Verification}
 use Rattle.broker_core.specs.Change.{result_of_run}
 use Rattle.table_access.specs.Reading.{IsNumberAt}
+use Rattle.broker_tables.specs.Schema.{in_versions, in_contents, in_results, in_latest, in_checked_results}
 use Rattle.broker_tables.specs.Rows.{value_at, stands_at, truth, IsTruthAt, mark_of}
 use Rattle.broker_tables.specs.Numbers.{number_of}
 use Rattle.broker_tables.specs.Holds.{IsBroker}
@@ -147,26 +148,26 @@ PutsRow tree row old new = ChangesOnly tree old new × IsAdded (old.now.trees tr
 -- the number of the latest result for a content and the number of a version
 abbrev pub latest_at : List Row → ℕ → ℕ → Option ℤ
 latest_at rows content version =
-    value_at (by_both int_cmp int_cmp) (λ r. (whole_at 1 r, whole_at 2 r))
-    (whole_at 3) rows (pos content, pos version)
+    value_at (by_both int_cmp int_cmp) (λ r. (whole_at in_latest.content r, whole_at in_latest.provider_version r))
+    (whole_at in_latest.result) rows (pos content, pos version)
 
 -- the result is now the one for this content and the number of this version, all others keep theirs, at most one number
 -- of the table was taken, and no other table changes
 abbrev pub Points : ℕ → ℕ → ℕ → State → State → Type 0
 Points content version result old new =
-    ChangesOnly 19 old new
-    × ((c v : ℕ) → latest_at (new.now.trees 19) c v
+    ChangesOnly in_latest.tree old new
+    × ((c v : ℕ) → latest_at (new.now.trees in_latest.tree) c v
     ≡ cond (eq_by_cmp (by_both int_cmp int_cmp) (pos c, pos v) (pos content, pos version))
-    (Some (pos result)) (latest_at (old.now.trees 19) c v))
-    × ((n : ℕ) → LeaveNumbers (n + 1) (old.now.trees 19) → LeaveNumbers n (new.now.trees 19))
+    (Some (pos result)) (latest_at (old.now.trees in_latest.tree) c v))
+    × ((n : ℕ) → LeaveNumbers (n + 1) (old.now.trees in_latest.tree) → LeaveNumbers n (new.now.trees in_latest.tree))
 
 -- where the result was checked, its number is among those of checked results; all others stand as they did, and
 -- no other table changes
 abbrev pub Marks : Bool → ℕ → State → State → Type 0
 Marks checked number old new =
-    ChangesOnly 25 old new
-    × ((k : ℤ) → stands_at int_cmp (whole_at 0) (new.now.trees 25) k
-    ≡ ((checked && eq_by_cmp int_cmp k (pos number)) || stands_at int_cmp (whole_at 0) (old.now.trees 25) k))
+    ChangesOnly in_checked_results.tree old new
+    × ((k : ℤ) → stands_at int_cmp (whole_at 0) (new.now.trees in_checked_results.tree) k
+    ≡ ((checked && eq_by_cmp int_cmp k (pos number)) || stands_at int_cmp (whole_at 0) (old.now.trees in_checked_results.tree) k))
 
 -- such a statement fails in a database of the broker that allows it only as the store fails
 abbrev pub IsCalmOn : {A : Type 0} → State → State → Result A StoreFault → (Database → Type 0) → Type 0
@@ -180,9 +181,9 @@ HasRowWith tree number db = (row : Row) × Has (db.trees tree) row × (column ro
 -- the result is there, and its number isn't among those of checked results
 abbrev pub AllowsMark : ℕ → Database → Type 0
 AllowsMark number db =
-    HasRowWith 17 number db × (stands_at int_cmp (whole_at 0) (db.trees 25) (pos number) ≡ false)
+    HasRowWith in_results.tree number db × (stands_at int_cmp (whole_at 0) (db.trees in_checked_results.tree) (pos number) ≡ false)
 
 -- the content, the version and the result are there, and there is a number for the row
 abbrev pub AllowsPoint : ℕ → ℕ → ℕ → Database → Type 0
-AllowsPoint content version result db = HasRowWith 14 content db × HasRowWith 6 version db × HasRowWith 17 result db
+AllowsPoint content version result db = HasRowWith in_contents.tree content db × HasRowWith in_versions.tree version db × HasRowWith in_results.tree result db
     × HaveNumbers (codes "latest" ∷ []) db

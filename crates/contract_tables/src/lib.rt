@@ -23,15 +23,14 @@ mod lookups;
 mod making;
 mod migration;
 mod results;
+mod told_versions;
 mod version_results;
 
 pub use contracts::{add_contract, contract_of};
-pub use listings::{
-    Contract, VerifiedContent, VerifiedVersion, consumers_of, contracts_of, verified_contents,
-    verified_versions,
-};
+pub use listings::{Contract, consumers_of, contracts_of};
 pub use lookups::{ResultRow, latest_number, latest_of, result_count, result_of_run, result_said};
 pub use making::{make_checked_results, make_indexes, make_tables};
 pub use migration::to_format_2;
 pub use results::record_result;
+pub use told_versions::verified_versions;
 pub use version_results::{LatestResult, latest_among, latest_results};

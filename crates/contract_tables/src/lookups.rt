@@ -105,13 +105,13 @@ pub fn result_said<S: Alter>(
 
 /// A result by its number, and whether it is a pass.
 #[derive(Clone, Copy)]
-struct NumberedPass {
-    number: u32,
-    pass: bool,
+pub(crate) struct NumberedPass {
+    pub number: u32,
+    pub pass: bool,
 }
 
 /// The number and the truth value in a row. `StoreFault::Store` if one of them isn't there.
-fn read_pass(row: &Row) -> Result<NumberedPass, StoreFault>
+pub(crate) fn read_pass(row: &Row) -> Result<NumberedPass, StoreFault>
     ensures ok { IfOk result (λ r. pass_of r.number r.pass ≡ pass_cells row.now) }
     ensures reads { IfOk result (λ _. IsTruthAt 1 row.now) }
     ensures cause { IfErr result (λ f. (f ≡ StoreFault.Store) × (¬ ReadsAsPass row.now)) }

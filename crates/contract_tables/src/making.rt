@@ -2,6 +2,7 @@
 ghost use Rattle.std.specs.Prelude.{◌≡◌, ◌++◌, ◌∷◌, []};
 ghost use Rattle.table_access.specs.Calls.{CallsStore};
 ghost use Rattle.table_access.specs.Statements.{Creates, Makes, MakesIndexes, indexed_by};
+ghost use Rattle.broker_tables.specs.Making.{HasNoRows, IsCalmOver};
 ghost use Rattle.broker_tables.specs.Schema.{registry_part, contents, contract_part, deploy_part, checked_results, schema_of, all_tables, contents_by_digest, contract_indexes};
 
 use broker_tables::create::{
@@ -17,9 +18,11 @@ use table_access::StoreFault;
 /// # Errors
 /// `StoreFault::Memory` if the database is out of memory; `StoreFault::Store` if it refused a table.
 pub fn make_tables<S: Alter>(conn: &mut Connection<S>) -> Result<(), StoreFault>
-    ensures { CallsStore S.Store conn.old conn.new result
+    ensures makes { CallsStore S.Store conn.old conn.new result
         (λ _ old new. old.now.schema ≡ schema_of (registry_part ++ contents ∷ []) →
         Makes contract_part old.now new.now) }
+    ensures calm { IsCalmOver S.Store conn.old conn.new result
+        (λ db. db.schema ≡ schema_of (registry_part ++ contents ∷ [])) }
 {
     make_each(conn, &[CONTRACTS, RESULTS, LATEST])
 }
@@ -30,10 +33,12 @@ pub fn make_tables<S: Alter>(conn: &mut Connection<S>) -> Result<(), StoreFault>
 /// # Errors
 /// `StoreFault::Memory` if the database is out of memory; `StoreFault::Store` if it refused the table.
 pub fn make_checked_results<S: Alter>(conn: &mut Connection<S>) -> Result<(), StoreFault>
-    ensures { CallsStore S.Store conn.old conn.new result
+    ensures makes { CallsStore S.Store conn.old conn.new result
         (λ _ old new. old.now.schema
         ≡ schema_of (registry_part ++ contents ∷ contract_part ++ deploy_part) →
         Creates old.now new.now checked_results) }
+    ensures calm { IsCalmOver S.Store conn.old conn.new result
+        (λ db. db.schema ≡ schema_of (registry_part ++ contents ∷ contract_part ++ deploy_part)) }
 {
     make_each(conn, &[CHECKED_RESULTS])
 }
@@ -44,9 +49,11 @@ pub fn make_checked_results<S: Alter>(conn: &mut Connection<S>) -> Result<(), St
 /// # Errors
 /// `StoreFault::Memory` if the database is out of memory; `StoreFault::Store` if it refused an index.
 pub fn make_indexes<S: Alter>(conn: &mut Connection<S>) -> Result<(), StoreFault>
-    ensures { CallsStore S.Store conn.old conn.new result
+    ensures makes { CallsStore S.Store conn.old conn.new result
         (λ _ old new. old.now.schema ≡ indexed_by (schema_of all_tables) (contents_by_digest ∷ []) →
         MakesIndexes contract_indexes old.now new.now) }
+    ensures calm { IsCalmOver S.Store conn.old conn.new result
+        (λ db. (db.schema ≡ indexed_by (schema_of all_tables) (contents_by_digest ∷ [])) × HasNoRows db) }
 {
     make_each(conn, &[CONTRACTS_BY_CONTENT, LATEST_BY_PROVIDER_VERSION])
 }

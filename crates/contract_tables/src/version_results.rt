@@ -1,6 +1,5 @@
 //! The latest results of one version of a provider, for every content at once.
-ghost use Rattle.std.specs.Prelude.{◌≡◌, Some, IfOk, map, option_map, pos, true, []};
-ghost use Rattle.std.specs.List.Sorted.{IsStrictlySortedBy};
+ghost use Rattle.std.specs.Prelude.{◌≡◌, Some, IfOk, IsSorted, map, option_map, pos, true, []};
 ghost use Rattle.std.specs.Ordering.{nat_cmp};
 ghost use Rattle.sqlite.specs.Order.{column};
 ghost use Rattle.sqlite.specs.declared.types.Value.TheVariants.{Int};
@@ -10,29 +9,31 @@ ghost use Rattle.broker_core.specs.Listing.{Lists};
 ghost use Rattle.broker_core.specs.State.{State as Broker, latest_result, latest};
 ghost use Rattle.broker_tables.specs.Numbers.{number_of as number_known};
 ghost use Rattle.broker_tables.specs.Calm.{CalmQueries, IfNoVersion};
-ghost use Rattle.contract_tables.specs.VersionResults.{pass_cmp, latest_cmp, IsPassRow, FailsAsPass, is_among, marked};
+ghost use Rattle.contract_tables.specs.VersionResults.{pass_cmp, latest_cmp, IsPassOf, IsLatestOf, IsPassRow, FailsAsLatest, is_among, marked};
 
 use broker_core::need::Latest;
 use broker_tables::truth_at;
 use sqlite::{Alter, Connection, Row, params};
 use std::alloc::{AllocError, Global};
-use table_access::{ReadRow, StoreFault, list_of, number_in};
+use table_access::{ReadRow, StoreFault, list_of, number_at, number_in};
 
-/// A content for which a version has a result, and what the latest of them says.
+/// A content for which a version has a result: its number, that of the latest result, and what that says.
 #[derive(Clone, Copy, Debug)]
 pub struct LatestResult {
     pub content: u32,
+    pub result: u32,
     pub latest: Latest,
 }
 
-/// A content for which a version has a result, and whether the latest of them is a pass.
+/// A content for which a version has a result, the latest of them, and whether that is a pass.
 #[derive(Clone, Copy)]
 struct ContentPass {
     content: u32,
+    result: u32,
     pass: bool,
 }
 
-/// A content and a truth value.
+/// A content, a result and a truth value.
 struct PassRow;
 
 impl ReadRow for PassRow {
@@ -40,17 +41,22 @@ impl ReadRow for PassRow {
 
     ghost reads_as = { IsPassRow };
 
-    ghost fails_as = { FailsAsPass };
+    ghost fails_as = { FailsAsLatest };
 
     fn read(_alloc: Global, row: &Row) -> Result<ContentPass, StoreFault> {
         let content = number_in(row)?;
-        let pass = truth_at(row, 1)?;
-        Ok(ContentPass { content, pass })
+        let result = number_at(row, 1)?;
+        let pass = truth_at(row, 2)?;
+        Ok(ContentPass {
+            content,
+            result,
+            pass,
+        })
     }
 }
 
 /// A number.
-struct NumberRow;
+pub(crate) struct NumberRow;
 
 impl ReadRow for NumberRow {
     type Item = u32;
@@ -65,7 +71,7 @@ impl ReadRow for NumberRow {
 }
 
 /// The contents for which the version of this number has a result, each once, in the order of their numbers, with
-/// whether the latest one is a pass.
+/// the latest one and whether it is a pass.
 fn passes_of<S: Alter>(
     alloc: Global,
     conn: &mut Connection<S>,
@@ -73,14 +79,13 @@ fn passes_of<S: Alter>(
 ) -> Result<Vec<ContentPass>, StoreFault>
     ensures answers { CalmQueries S.Store conn.old conn.new result
         (λ found s. (v : VersionModel) → number_known s.versions v ≡ Some version_number →
-        Lists pass_cmp
-        (λ x. option_map (λ e. e.1.pass) (latest_result s x.content v) ≡ Some x.pass) found.items) }
+        Lists pass_cmp (IsPassOf s v) found.items) }
     ensures unknown { IfNoVersion S.Store conn.old conn.new result version_number (λ found. found.items ≡ []) }
 {
     list_of::<PassRow, S>(
         alloc,
         conn,
-        "SELECT l.content, r.pass FROM latest l JOIN results r ON r.number = l.result WHERE l.provider_version = ?1 ORDER BY l.content",
+        "SELECT l.content, r.number, r.pass FROM latest l JOIN results r ON r.number = l.result WHERE l.provider_version = ?1 ORDER BY l.content",
         params![version_number],
     )
 }
@@ -106,21 +111,21 @@ fn checked_of<S: Alter>(
     )
 }
 
-/// Whether the content is one of these, which rise.
-fn is_among(contents: &[u32], content: u32) -> bool
-    ensures { IsStrictlySortedBy nat_cmp contents.now → result ≡ is_among contents.now content }
+/// Whether the number is one of these, which are in order.
+pub(crate) fn is_among(numbers: &[u32], number: u32) -> bool
+    ensures { IsSorted nat_cmp numbers.now → result ≡ is_among numbers.now number }
 {
-    contents.binary_search(&content).is_ok()
+    numbers.binary_search(&number).is_ok()
 }
 
-/// What the results say: whether each is a pass, and whether its content is one of those that were checked, which rise.
+/// What the results say: whether each is a pass, and whether its content is one of those that were checked, which are in order.
 fn with_marks(
     alloc: Global,
     passes: &[ContentPass],
     checked: &[u32],
 ) -> Result<Vec<LatestResult>, AllocError>
     ensures { IfOk result
-        (λ found. IsStrictlySortedBy nat_cmp checked.now → found.items ≡ map (marked checked.now) passes.now) }
+        (λ found. IsSorted nat_cmp checked.now → found.items ≡ map (marked checked.now) passes.now) }
 {
     let mut found = Vec::new(alloc);
     for one in passes {
@@ -130,14 +135,15 @@ fn with_marks(
         };
         found.push(LatestResult {
             content: one.content,
+            result: one.result,
             latest,
         })?;
     }
     Ok(found)
 }
 
-/// The contents for which the version of this number has a result, each once, in the order of their numbers, with what
-/// the latest result says.
+/// The contents for which the version of this number has a result, each once, in the order of their numbers, with the
+/// number of the latest result and what it says.
 ///
 /// # Errors
 /// `StoreFault::Memory` if the database is out of memory, or there is none for the answer; `StoreFault::Store` if it
@@ -149,7 +155,7 @@ pub fn latest_results<S: Alter>(
 ) -> Result<Vec<LatestResult>, StoreFault>
     ensures answers { CalmQueries S.Store conn.old conn.new result
         (λ found s. (v : VersionModel) → number_known s.versions v ≡ Some version_number →
-        Lists latest_cmp (λ x. latest s x.content v ≡ Some x.latest) found.items) }
+        Lists latest_cmp (IsLatestOf s v) found.items) }
     ensures unknown { IfNoVersion S.Store conn.old conn.new result version_number (λ found. found.items ≡ []) }
 {
     let passes = done!(passes_of(alloc, conn, version_number));
@@ -163,7 +169,7 @@ pub fn latest_results<S: Alter>(
 /// What the latest result for the content says, found among all of a version: the list that `latest_results` answers.
 pub fn latest_among(results: &[LatestResult], content: u32) -> Option<Latest>
     ensures { (s : Broker) (v : VersionModel) →
-        Lists latest_cmp (λ x. latest s x.content v ≡ Some x.latest) results.now → result ≡ latest s content v }
+        Lists latest_cmp (IsLatestOf s v) results.now → result ≡ latest s content v }
 {
     match results.binary_search_by_key(&content, |one| one.content) {
         Ok(at) => Some(results[at].latest),

@@ -4,11 +4,13 @@ use Rattle.std.specs.{Prelude.{Contains, option_map, ◌↔◌}, Ordering.{int_c
 use Rattle.std.proofs.Common.{◌≡◌, ◌++◌, inl, inr, ℕ, pos, codes, List, [], ◌∷◌, Bool, true, refl, sym, ap, subst, ◌∙◌, Some}
 use Rattle.sqlite_rules.specs.Lists.{Has}
 use Rattle.sqlite_tied.specs.Compute.{everything}
-use Rattle.broker_tables.{specs.{Rows.{value_at}, Numbers.{number_of}, Holds.{Holds}}, proofs.{Asked.{Asked, IsShown}, Orders.{marked_total, exact_marked}}}
-use Rattle.broker_tables.proofs.{VersionRows.{whole_test, text_test, all_three, row_number}, References.{refers_version}, Placed.{contracts, contracts_there}}
+use Rattle.broker_tables.specs.{Schema.{in_versions, in_contracts, in_deployed, in_released}, Rows.{value_at}, Numbers.{number_of}, Holds.{Holds}}
+use Rattle.broker_tables.proofs.{Asked.{Asked, IsShown}, Orders.{marked_total, exact_marked}, VersionRows.{whole_test, text_test, all_three, row_number}}
+use Rattle.broker_tables.proofs.{References.{refers_version}, Placed.{contracts, contracts_there}}
 use Rattle.deploy_tables.specs.declared.contracts_there.NumberedContract.{NumberedContract}
 use Rattle.deploy_tables.{specs.ContractsThere.{IsDeployedIn, IsReleasedIn, TellsContracts, IsNumberedRow}, proofs.DeployedState.{deployed_in}}
-use Rattle.deploy_tables.proofs.{ReleasedRows.{released_in}, VersionRows.{same_pos, Names, pair_of, item_of_pair}, MatrixLoop.{both_ways, both_of}}
+use Rattle.deploy_tables.proofs.{ReleasedRows.{released_in}, VersionRows.{same_pos, Names}, MatrixLoop.{both_ways, both_of}}
+use Rattle.contract_tables.proofs.JoinRows.{pair_of, item_of_pair}
 use Rattle.sqlite.specs.{Edit.{id_in}, declared.types.Value.TheVariants.{Text}, Order.{Row, column}, Term.{Term, col, op2}, Collation.TheVariants.{Binary}}
 use Rattle.sqlite.specs.{Effect.{Database, Answers}, Listing.{understood}}
 use Rattle.sqlite_sql.specs.{declared.ops.BinaryOp.TheVariants.{Compare}, declared.ops.CompareOp.TheVariants.{Eq}, Ops.{binary, is_true}}
@@ -19,22 +21,24 @@ use Rattle.contract_tables.proofs.ContractRows as contract_rows
 
 -- ---- the two statements
 
--- ON the contract's version is the one at this place, WHERE the environment and the provider are the parameters
+-- ON the contract's version is the one at this place, WHERE the environment and the provider are the parameters. The
+-- environment is at the same place in deployed and in released
 abbrev terms : ℕ → List Term
-terms place = op2 (Compare Eq Binary) (col 2 1) (col 1 place) ∷ op2 (Compare Eq Binary) (col 1 1) (col 0 0) ∷ op2 (Compare Eq Binary) (col 2 2) (col 0 1) ∷ []
+terms place = op2 (Compare Eq Binary) (col 2 in_contracts.version_number) (col 1 place) ∷ op2 (Compare Eq Binary) (col 1 in_deployed.environment) (col 0 0)
+    ∷ op2 (Compare Eq Binary) (col 2 in_contracts.provider) (col 0 1) ∷ []
 
 abbrev project : List Term
-project = col 2 1 ∷ col 2 3 ∷ []
+project = col 2 in_contracts.version_number ∷ col 2 in_contracts.content ∷ []
 
 pub of_deployed : (e p : Words)
     → Asked (codes "SELECT c.version_number, c.content FROM deployed d JOIN contracts c ON c.version_number = d.version_number WHERE d.environment = ?1 AND c.provider = ?2")
-    (Text e ∷ Text p ∷ []) (from_both 21 15 (terms 4) project [])
+    (Text e ∷ Text p ∷ []) (from_both in_deployed.tree in_contracts.tree (terms in_deployed.version_number) project [])
 unfolding understood everything
 of_deployed e p = record { names = _; means = record { is = refl; plain = (refl, refl); unlisted = refl }; runs = record { whole = refl; typed = refl; sumless = refl } }
 
 pub of_released : (e p : Words)
     → Asked (codes "SELECT c.version_number, c.content FROM released r JOIN contracts c ON c.version_number = r.version_number WHERE r.environment = ?1 AND c.provider = ?2")
-    (Text e ∷ Text p ∷ []) (from_both 23 15 (terms 2) project [])
+    (Text e ∷ Text p ∷ []) (from_both in_released.tree in_contracts.tree (terms in_released.version_number) project [])
 unfolding understood everything
 of_released e p = record { names = _; means = record { is = refl; plain = (refl, refl); unlisted = refl }; runs = record { whole = refl; typed = refl; sumless = refl } }
 
@@ -45,21 +49,21 @@ module _ (db : Database) (s : Broker) (held : Holds db s) (e p : Words) where
   params = Text e ∷ Text p ∷ []
 
   -- the row of a contract of a version that has a number
-  contract_row : (w : Version) (n content : ℕ) → number_of s.versions w ≡ Some n → s.contracts (w, p) ≡ Some content → (c : Row) × Has (db.trees 15) c × (whole_at 1 c ≡ pos n) × (text 2 c ≡ p) × (whole_at 3 c ≡ pos content)
+  contract_row : (w : Version) (n content : ℕ) → number_of s.versions w ≡ Some n → s.contracts (w, p) ≡ Some content → (c : Row) × Has (db.trees in_contracts.tree) c × (whole_at in_contracts.version_number c ≡ pos n) × (text in_contracts.provider c ≡ p) × (whole_at in_contracts.content c ≡ pos content)
   contract_row w n content known is =
-      let d = find_has marked_total exact_marked contract_rows.key (whole_at 3) (pos n, p) (pos content) (db.trees 15) (contract_rows.held_content db s w n p held known ∙ ap (option_map pos) is) in
+      let d = find_has marked_total exact_marked contract_rows.key (whole_at in_contracts.content) (pos n, p) (pos content) (db.trees in_contracts.tree) (contract_rows.held_content db s w n p held known ∙ ap (option_map pos) is) in
       (d.0, d.1, sym (ap (λ k. k.0) d.2), sym (ap (λ k. k.1) d.2), d.3)
 
   -- and what such a row tells: its version is there
-  row_contract : (c : Row) → Has (db.trees 15) c → text 2 c ≡ p → (w : Version) × ((n : ℕ) × (number_of s.versions w ≡ Some n) × (whole_at 1 c ≡ pos n) × ((content : ℕ) → whole_at 3 c ≡ pos content → s.contracts (w, p) ≡ Some content))
+  row_contract : (c : Row) → Has (db.trees in_contracts.tree) c → text in_contracts.provider c ≡ p → (w : Version) × ((n : ℕ) × (number_of s.versions w ≡ Some n) × (whole_at in_contracts.version_number c ≡ pos n) × ((content : ℕ) → whole_at in_contracts.content c ≡ pos content → s.contracts (w, p) ≡ Some content))
   row_contract c has provider =
-      let v = refers_version db held.broker contracts (has_place _ 8 contracts (contracts_there db held.broker)) 1 (inl refl) c has ((contract_rows.numbers db held.broker).typed c has) in
+      let v = refers_version db held.broker contracts (has_place _ 8 contracts (contracts_there db held.broker)) in_contracts.version_number (inl refl) c has ((contract_rows.numbers db held.broker).typed c has) in
       let it = row_number db held.broker s.versions held.versions v.0 v.1 in
-      let w = version (text 2 v.0) (text 3 v.0) in
-      let number : whole_at 1 c ≡ pos it.0 = sym v.2 ∙ it.2 in
+      let w = version (text in_versions.pacticipant v.0) (text in_versions.version v.0) in
+      let number : whole_at in_contracts.version_number c ≡ pos it.0 = sym v.2 ∙ it.2 in
       let place : (pos it.0, p) ≡ contract_rows.key c = (λ i. (sym number i, sym provider i)) in
-      let at : contract_rows.content_at (db.trees 15) it.0 p ≡ Some (whole_at 3 c) =
-      ap (value_at (by_both int_cmp text_cmp) contract_rows.key (whole_at 3) (db.trees 15)) place ∙ has_find marked_total exact_marked contract_rows.key (whole_at 3) (db.trees 15) c (contract_rows.keys db held.broker) has in
+      let at : contract_rows.content_at (db.trees in_contracts.tree) it.0 p ≡ Some (whole_at in_contracts.content c) =
+      ap (value_at (by_both int_cmp text_cmp) contract_rows.key (whole_at in_contracts.content) (db.trees in_contracts.tree)) place ∙ has_find marked_total exact_marked contract_rows.key (whole_at in_contracts.content) (db.trees in_contracts.tree) c (contract_rows.keys db held.broker) has in
       (w, (it.0, it.1, number, λ content value. contract_rows.named (s.contracts (w, p)) (Some content) (sym (contract_rows.held_content db s w it.0 p held it.1) ∙ at ∙ ap Some value)))
 
   module _ (t place : ℕ) (Is : Version → Type 0) (names : Names db s t place e Is) where
@@ -67,30 +71,30 @@ module _ (db : Database) (s : Broker) (held : Holds db s) (e p : Words) where
     joins = keeps_both (terms place) params
 
     -- what ON and WHERE test
-    parts_of : (r c : Row) → Has (db.trees t) r → Has (db.trees 15) c → (joins r c ≡ true) ↔ ((whole_at 1 c ≡ whole_at place r) × (text 1 r ≡ e) × (text 2 c ≡ p))
+    parts_of : (r c : Row) → Has (db.trees t) r → Has (db.trees in_contracts.tree) c → (joins r c ≡ true) ↔ ((whole_at in_contracts.version_number c ≡ whole_at place r) × (text in_deployed.environment r ≡ e) × (text in_contracts.provider c ≡ p))
     parts_of r c hr hc =
-        let one = whole_test (column c 1) (column r place) (whole_at 1 c) (whole_at place r) ((contract_rows.numbers db held.broker).typed c hc)
+        let one = whole_test (column c in_contracts.version_number) (column r place) (whole_at in_contracts.version_number c) (whole_at place r) ((contract_rows.numbers db held.broker).typed c hc)
         (names.numbers r hr) in
-        let two = text_test (column r 1) (Text e) (text 1 r) e (names.environments r hr) refl in
-        let three = text_test (column c 2) (Text p) (text 2 c) p ((contract_rows.providers db held.broker).typed c hc) refl in
-        let all = all_three (is_true (binary (Compare Eq Binary) (column c 1) (column r place))) (is_true (binary (Compare Eq Binary) (column r 1) (Text e))) (is_true (binary (Compare Eq Binary) (column c 2) (Text p))) in
+        let two = text_test (column r in_deployed.environment) (Text e) (text in_deployed.environment r) e (names.environments r hr) refl in
+        let three = text_test (column c in_contracts.provider) (Text p) (text in_contracts.provider c) p ((contract_rows.providers db held.broker).typed c hc) refl in
+        let all = all_three (is_true (binary (Compare Eq Binary) (column c in_contracts.version_number) (column r place))) (is_true (binary (Compare Eq Binary) (column r in_deployed.environment) (Text e))) (is_true (binary (Compare Eq Binary) (column c in_contracts.provider) (Text p))) in
         (λ h. let it = all.0 h in (one.0 it.0, two.0 it.1, three.0 it.2), λ h. all.1 (one.1 h.0, two.1 h.1, three.1 h.2))
 
-    told : (rows : List Row) (items : List NumberedContract) → Answers db (record { lets = []; body = from_both t 15 (terms place) project [] }) params rows → AreRead IsNumberedRow rows items → TellsContracts s p Is items
+    told : (rows : List Row) (items : List NumberedContract) → Answers db (record { lets = []; body = from_both t in_contracts.tree (terms place) project [] }) params rows → AreRead IsNumberedRow rows items → TellsContracts s p Is items
     told rows items h read x = (
       λ c.
-          let q = pair_of db params (terms place) project IsNumberedRow rows items read t 15 h x c in
-          let it = pair_has joins (db.trees 15) (db.trees t) q.0 q.1 in
+          let q = pair_of db params (terms place) project IsNumberedRow rows items read t in_contracts.tree h x c in
+          let it = pair_has joins (db.trees in_contracts.tree) (db.trees t) q.0 q.1 in
           let join = (parts_of q.0.0 q.0.1 it.0 it.1).0 it.2 in
-          let number : whole_at 1 q.0.1 ≡ pos x.number = ap id_in q.2.0 in
+          let number : whole_at in_contracts.version_number q.0.1 ≡ pos x.number = ap id_in q.2.0 in
           let of = row_contract q.0.1 it.1 join.2 in
           let known = of.1.1 ∙ ap Some (same_pos of.1.0 x.number (sym of.1.2 ∙ number)) in
           (of.0, names.row_is q.0.0 of.0 x.number it.0 join.1 known (sym join.0 ∙ number), known, of.1.3 x.content (ap id_in q.2.1)),
       λ is.
           let r = names.is_row is.0 x.number is.2 is.1 in
           let c = contract_row is.0 x.number x.content is.2 is.3 in
-          let kept = has_pair joins (db.trees 15) (db.trees t) r.0 c.0 r.1 c.1 ((parts_of r.0 c.0 r.1 c.1).1 (c.2 ∙ sym r.3, r.2, c.3)) in
-          let y = item_of_pair db params (terms place) project IsNumberedRow rows items read t 15 h (r.0, c.0) kept in
+          let kept = has_pair joins (db.trees in_contracts.tree) (db.trees t) r.0 c.0 r.1 c.1 ((parts_of r.0 c.0 r.1 c.1).1 (c.2 ∙ sym r.3, r.2, c.3)) in
+          let y = item_of_pair db params (terms place) project IsNumberedRow rows items read t in_contracts.tree h (r.0, c.0) kept in
           let number : y.0.number ≡ x.number = same_pos y.0.number x.number (sym (ap id_in y.2.0) ∙ c.2) in
           let value : y.0.content ≡ x.content = same_pos y.0.content x.content (sym (ap id_in y.2.1) ∙ c.4) in
           let same : y.0 ≡ x = (λ i. record { number = number i; content = value i }) in
@@ -98,10 +102,10 @@ module _ (db : Database) (s : Broker) (held : Holds db s) (e p : Words) where
     )
 
   pub deployed_told : (rows : List Row) (items : List NumberedContract) → IsShown (of_deployed e p) db rows → AreRead IsNumberedRow rows items → TellsContracts s p (IsDeployedIn s e) items
-  deployed_told = told 21 4 (IsDeployedIn s e) (deployed_in db s held e)
+  deployed_told = told in_deployed.tree in_deployed.version_number (IsDeployedIn s e) (deployed_in db s held e)
 
   pub released_told : (rows : List Row) (items : List NumberedContract) → IsShown (of_released e p) db rows → AreRead IsNumberedRow rows items → TellsContracts s p (IsReleasedIn s e) items
-  released_told = told 23 2 (IsReleasedIn s e) (released_in db s held e)
+  released_told = told in_released.tree in_released.version_number (IsReleasedIn s e) (released_in db s held e)
 
 -- ---- both
 

@@ -12,7 +12,7 @@ use Rattle.table_access.proofs.Parts.{Part, text_part, whole_part, where_last, w
 use Rattle.table_access.proofs.{Steps.{Means, answered, deletes, deletes_counted}, CountLemmas.{some_counted, same_any, any_never}}
 use Rattle.table_access.proofs.{Maps.{looks_up_at, has_find}, Keys.{apart_by}, SoundLemmas.{text_at, whole_in, has_place, at_has}, Changes.{upserts_at}}
 use Rattle.table_access.proofs.Values.{cast_int}
-use Rattle.broker_tables.{specs.{Schema.{broker_schema}, Rows.{value_at}, Holds.{IsBroker}}, proofs.{Frames.{meant}, Inserted.{new_text}}}
+use Rattle.broker_tables.{specs.{Schema.{in_deployed, broker_schema}, Rows.{value_at}, Holds.{IsBroker}}, proofs.{Frames.{meant}, Inserted.{new_text}}}
 use Rattle.broker_tables.proofs.{Asked.{Asked, IsShown}, Orders.{triples_total, exact_triple}, Standing.{stands_found, takes_at}, Ties.{both_eq}}
 use Rattle.broker_tables.proofs.{Placed.{deployed, deployed_there, calm}, RoomLemmas.{Grows, grows_kept}, Upserted.{PutsOver, upserted, upsert_grows}}
 use Rattle.contract_tables.proofs.ResultRows.{or_false}
@@ -26,49 +26,52 @@ abbrev pub Place : Type 0
 Place = List ℕ × (List ℕ × List ℕ)
 
 abbrev pub place_of : Row → Place
-place_of r = (text 1 r, (text 2 r, text 3 r))
+place_of r = (text in_deployed.environment r, (text in_deployed.pacticipant r, text in_deployed.instance r))
 
 abbrev pub place_cmp : Place → Place → Ordering
 place_cmp = by_both text_cmp (by_both text_cmp text_cmp)
 
 -- the number at a place
 abbrev pub number_in : List Row → Place → Option ℤ
-number_in = value_at place_cmp place_of (whole_at 4)
+number_in = value_at place_cmp place_of (whole_at in_deployed.version_number)
 
 module _ (db : Database) (broker : IsBroker db) where
-  pub environments : Part text_cmp Text (db.trees 21) 1 (text 1)
-  environments = text_part (db.trees 21) 1 (λ r has. text_at db broker.kept.sound deployed (has_place _ 11 deployed (deployed_there db broker)) r has 0 _ refl
+  pub environments : Part text_cmp Text (db.trees in_deployed.tree) in_deployed.environment (text in_deployed.environment)
+  environments = text_part (db.trees in_deployed.tree) in_deployed.environment (λ r has. text_at db broker.kept.sound deployed (has_place _ 11 deployed (deployed_there db broker)) r has 0 _ refl
       refl refl refl refl)
 
-  pub pacticipants : Part text_cmp Text (db.trees 21) 2 (text 2)
-  pacticipants = text_part (db.trees 21) 2 (λ r has. text_at db broker.kept.sound deployed (has_place _ 11 deployed (deployed_there db broker)) r has 1 _ refl
+  pub pacticipants : Part text_cmp Text (db.trees in_deployed.tree) in_deployed.pacticipant (text in_deployed.pacticipant)
+  pacticipants = text_part (db.trees in_deployed.tree) in_deployed.pacticipant (λ r has. text_at db broker.kept.sound deployed (has_place _ 11 deployed (deployed_there db broker)) r has 1 _ refl
       refl refl refl refl)
 
-  pub instances : Part text_cmp Text (db.trees 21) 3 (text 3)
-  instances = text_part (db.trees 21) 3 (λ r has. text_at db broker.kept.sound deployed (has_place _ 11 deployed (deployed_there db broker)) r has 2 _ refl refl
+  pub instances : Part text_cmp Text (db.trees in_deployed.tree) in_deployed.instance (text in_deployed.instance)
+  instances = text_part (db.trees in_deployed.tree) in_deployed.instance (λ r has. text_at db broker.kept.sound deployed (has_place _ 11 deployed (deployed_there db broker)) r has 2 _ refl refl
       refl refl refl)
 
-  pub numbers : Part int_cmp Int (db.trees 21) 4 (whole_at 4)
-  numbers = whole_part (db.trees 21) 4 (λ r has. whole_in db broker.kept.sound deployed (has_place _ 11 deployed (deployed_there db broker)) r has 3 _ refl refl
+  pub numbers : Part int_cmp Int (db.trees in_deployed.tree) in_deployed.version_number (whole_at in_deployed.version_number)
+  numbers = whole_part (db.trees in_deployed.tree) in_deployed.version_number (λ r has. whole_in db broker.kept.sound deployed (has_place _ 11 deployed (deployed_there db broker)) r has 3 _ refl refl
       refl refl refl)
 
 -- rows whose key is three texts
-module _ (rows : List Row) (one : Part text_cmp Text rows 1 (text 1)) (two : Part text_cmp Text rows 2 (text 2)) (three : Part text_cmp Text rows 3 (text 3)) where
-  pub agree_places : (a b : Row) → Has rows a → Has rows b → agree plain (1 ∷ 2 ∷ 3 ∷ []) a (1 ∷ 2 ∷ 3 ∷ []) b ≡ eq_by_cmp place_cmp (place_of a) (place_of b)
+module _ (rows : List Row) (one : Part text_cmp Text rows in_deployed.environment (text in_deployed.environment)) (two : Part text_cmp Text rows in_deployed.pacticipant (text in_deployed.pacticipant)) (three : Part text_cmp Text rows in_deployed.instance (text in_deployed.instance)) where
+  pub agree_places : (a b : Row) → Has rows a → Has rows b → agree plain (in_deployed.environment ∷ in_deployed.pacticipant ∷ in_deployed.instance ∷ []) a
+      (in_deployed.environment ∷ in_deployed.pacticipant ∷ in_deployed.instance ∷ []) b ≡ eq_by_cmp place_cmp (place_of a) (place_of b)
   agree_places a b ha hb =
-      agree_and nat_list_cmp_total rows 1 (text 1) one (by_both text_cmp text_cmp) (λ r. (text 2 r, text 3 r)) (2 ∷ 3 ∷ []) a b ha hb
-      (agree_and nat_list_cmp_total rows 2 (text 2) two text_cmp (text 3) (3 ∷ []) a b ha hb (agree_last nat_list_cmp_total rows 3 (text 3) three a b ha hb))
+      agree_and nat_list_cmp_total rows in_deployed.environment (text in_deployed.environment) one (by_both text_cmp text_cmp)
+      (λ r. (text in_deployed.pacticipant r, text in_deployed.instance r)) (in_deployed.pacticipant ∷ in_deployed.instance ∷ []) a b ha hb
+      (agree_and nat_list_cmp_total rows in_deployed.pacticipant (text in_deployed.pacticipant) two text_cmp (text in_deployed.instance)
+      (in_deployed.instance ∷ []) a b ha hb (agree_last nat_list_cmp_total rows in_deployed.instance (text in_deployed.instance) three a b ha hb))
 
   pub where_place : (e p i : List ℕ) (r : Row) → Has rows r → keeps (is_param 1 0 ∷ is_param 2 1 ∷ is_param 3 2 ∷ []) (Text e ∷ Text p ∷ Text i ∷ []) r ≡ eq_by_cmp place_cmp (e, (p, i)) (place_of r)
   where_place e p i r has =
       let params = Text e ∷ Text p ∷ Text i ∷ [] in
-      where_and nat_list_cmp_total rows 1 (text 1) one (by_both text_cmp text_cmp) (λ r. (text 2 r, text 3 r)) (p, i) (is_param 2 1 ∷ is_param 3 2 ∷ []) params 0 e refl r has
-      (where_and nat_list_cmp_total rows 2 (text 2) two text_cmp (text 3) i (is_param 3 2 ∷ []) params 1 p refl r has (where_last nat_list_cmp_total rows 3 (text 3) three params 2 i refl r has))
+      where_and nat_list_cmp_total rows in_deployed.environment (text in_deployed.environment) one (by_both text_cmp text_cmp) (λ r. (text in_deployed.pacticipant r, text in_deployed.instance r)) (p, i) (is_param 2 1 ∷ is_param 3 2 ∷ []) params 0 e refl r has
+      (where_and nat_list_cmp_total rows in_deployed.pacticipant (text in_deployed.pacticipant) two text_cmp (text in_deployed.instance) i (is_param 3 2 ∷ []) params 1 p refl r has (where_last nat_list_cmp_total rows in_deployed.instance (text in_deployed.instance) three params 2 i refl r has))
 
 -- a place stands once
-pub keys : (db : Database) → IsBroker db → IsAscending (λ a b. eq_by_cmp place_cmp (place_of a) (place_of b) ≡ false) (db.trees 21)
-keys db broker = once place_cmp (db.trees 21) (1 ∷ 2 ∷ 3 ∷ []) place_of
-    (agree_places (db.trees 21) (environments db broker) (pacticipants db broker) (instances db broker))
+pub keys : (db : Database) → IsBroker db → IsAscending (λ a b. eq_by_cmp place_cmp (place_of a) (place_of b) ≡ false) (db.trees in_deployed.tree)
+keys db broker = once place_cmp (db.trees in_deployed.tree) (in_deployed.environment ∷ in_deployed.pacticipant ∷ in_deployed.instance ∷ []) place_of
+    (agree_places (db.trees in_deployed.tree) (environments db broker) (pacticipants db broker) (instances db broker))
     (apart_by db broker.kept deployed 11 (deployed_there db broker) _ 10 (ap (λ (s : Schema). slice_get s.indexes 10) broker.schema) refl)
 
 -- ---- the version at a place
@@ -78,18 +81,18 @@ by_place = is_param 1 0 ∷ is_param 2 1 ∷ is_param 3 2 ∷ []
 
 pub number_at : (e p i : List ℕ)
     → Asked (codes "SELECT version_number FROM deployed WHERE environment = ?1 AND pacticipant = ?2 AND instance = ?3")
-    (Text e ∷ Text p ∷ Text i ∷ []) (from_table 21 by_place (col 1 4 ∷ []) [])
+    (Text e ∷ Text p ∷ Text i ∷ []) (from_table in_deployed.tree by_place (col 1 in_deployed.version_number ∷ []) [])
 unfolding understood everything
 number_at e p i = record { names = _; means = record { is = refl; plain = (refl, refl); unlisted = refl }; runs = record { whole = refl; typed = refl; sumless = refl } }
 
 pub number_found : (e p i : List ℕ) (db : Database) (rows : List Row) → IsBroker db → IsShown (number_at e p i) db rows
-    → option_map (whole_at 0) (slice_get rows 0) ≡ number_in (db.trees 21) (e, (p, i))
+    → option_map (whole_at 0) (slice_get rows 0) ≡ number_in (db.trees in_deployed.tree) (e, (p, i))
 number_found e p i db rows broker h =
     let params = Text e ∷ Text p ∷ Text i ∷ [] in
-    looks_up_at triples_total exact_triple place_of (whole_at 4) (shows (col 1 4 ∷ []) params) (whole_at 0) (λ r. refl) (e, (p, i)) (keeps by_place params) (db.trees 21) rows
-    (all_where place_cmp (db.trees 21) place_of (e, (p, i)) by_place params
-    (where_place (db.trees 21) (environments db broker) (pacticipants db broker) (instances db broker) e p i))
-    (keys db broker) (answered db params 21 by_place (col 1 4 ∷ []) [] rows h)
+    looks_up_at triples_total exact_triple place_of (whole_at in_deployed.version_number) (shows (col 1 in_deployed.version_number ∷ []) params) (whole_at 0) (λ r. refl) (e, (p, i)) (keeps by_place params) (db.trees in_deployed.tree) rows
+    (all_where place_cmp (db.trees in_deployed.tree) place_of (e, (p, i)) by_place params
+    (where_place (db.trees in_deployed.tree) (environments db broker) (pacticipants db broker) (instances db broker) e p i))
+    (keys db broker) (answered db params in_deployed.tree by_place (col 1 in_deployed.version_number ∷ []) [] rows h)
 
 -- ---- a deployment
 
@@ -97,13 +100,14 @@ abbrev pub record_sql : List ℕ
 record_sql = codes "INSERT INTO deployed (environment, pacticipant, instance, version_number) VALUES (?1, ?2, ?3, ?4) ON CONFLICT (environment, pacticipant, instance) DO UPDATE SET version_number = excluded.version_number"
 
 abbrev update_project : List Term
-update_project = col 1 0 ∷ col 1 1 ∷ col 1 2 ∷ col 1 3 ∷ col 0 9 ∷ []
+update_project = col 1 0 ∷ col 1 in_deployed.environment ∷ col 1 in_deployed.pacticipant ∷ col 1 in_deployed.instance ∷ col 0 9 ∷ []
 
 -- the columns of its row
 abbrev pub row_for : List ℕ → List ℕ → List ℕ → ℕ → Row
 row_for e p i n = Text e ∷ Text p ∷ Text i ∷ Int (pos n) ∷ []
 
-pub recording : (e p i : List ℕ) (n : ℕ) → PutsOver 11 deployed record_sql (row_for e p i n) (1 ∷ 2 ∷ 3 ∷ []) 4 update_project (row_for e p i n)
+pub recording : (e p i : List ℕ) (n : ℕ) → PutsOver 11 deployed record_sql (row_for e p i n)
+    (in_deployed.environment ∷ in_deployed.pacticipant ∷ in_deployed.instance ∷ []) 4 update_project (row_for e p i n)
 unfolding understood everything
 recording e p i n = record {
   terms = lit Null ∷ col 0 0 ∷ col 0 1 ∷ col 0 2 ∷ col 0 3 ∷ [];
@@ -127,29 +131,30 @@ stored e p i n = ap (λ v. Text e ∷ Text p ∷ Text i ∷ v ∷ []) (cast_int 
 
 module _ (db : Database) (broker : IsBroker db) (e p i : List ℕ) (n : ℕ) where
   abbrev there : List Row
-  there = db.trees 21
+  there = db.trees in_deployed.tree
 
   abbrev it : Row
   it = Int (next_rowid there) ∷ row_for e p i n
 
   -- a row of the table has the key of the new row just where it has its place
-  meets : (r : Row) → Has there r → conflicts (Some (1 ∷ 2 ∷ 3 ∷ [])) db.schema.indexes deployed it r ≡ eq_by_cmp place_cmp (e, (p, i)) (place_of r)
+  meets : (r : Row) → Has there r
+      → conflicts (Some (in_deployed.environment ∷ in_deployed.pacticipant ∷ in_deployed.instance ∷ [])) db.schema.indexes deployed it r ≡ eq_by_cmp place_cmp (e, (p, i)) (place_of r)
   meets r has =
-      ap (λ (s : Schema). conflicts (Some (1 ∷ 2 ∷ 3 ∷ [])) s.indexes deployed it r) broker.schema ∙ or_false (agree plain (1 ∷ 2 ∷ 3 ∷ []) r (1 ∷ 2 ∷ 3 ∷ []) it)
+      ap (λ (s : Schema). conflicts (Some (in_deployed.environment ∷ in_deployed.pacticipant ∷ in_deployed.instance ∷ [])) s.indexes deployed it r) broker.schema ∙ or_false (agree plain (in_deployed.environment ∷ in_deployed.pacticipant ∷ in_deployed.instance ∷ []) r (in_deployed.environment ∷ in_deployed.pacticipant ∷ in_deployed.instance ∷ []) it)
       ∙ agree_places (it ∷ there) (new_text there it 1 (environments db broker).typed refl) (new_text there it 2 (pacticipants db broker).typed refl)
       (new_text there it 3 (instances db broker).typed refl) r it (inr has) (inl refl)
       ∙ (eq_by_cmp_equiv triples_total).symm (place_of r) (e, (p, i))
 
   -- the row of its place gets the number, and keeps its own
-  pub set : (r : Row) → Has there r → conflicts (Some (1 ∷ 2 ∷ 3 ∷ [])) db.schema.indexes deployed it r ≡ true → column r 0 ∷ column r 1 ∷ column r 2 ∷ column r 3 ∷ Int (pos n) ∷ [] ≡ rowid r ∷ row_for e p i n
+  pub set : (r : Row) → Has there r → conflicts (Some (in_deployed.environment ∷ in_deployed.pacticipant ∷ in_deployed.instance ∷ [])) db.schema.indexes deployed it r ≡ true → column r 0 ∷ column r in_deployed.environment ∷ column r in_deployed.pacticipant ∷ column r in_deployed.instance ∷ Int (pos n) ∷ [] ≡ rowid r ∷ row_for e p i n
   set r has met =
       let same = exact_triple (e, (p, i)) (place_of r) ((Equal-is (place_cmp (e, (p, i)) (place_of r))).0 (sym (meets r has) ∙ met)) in
       λ j. rowid r ∷ ((environments db broker).typed r has ∙ ap (λ k. Text k.0) (sym same)) j ∷ ((pacticipants db broker).typed r has
       ∙ ap (λ k. Text k.1.0) (sym same)) j ∷ ((instances db broker).typed r has ∙ ap (λ k. Text k.1.1) (sym same)) j ∷ Int (pos n) ∷ []
 
 pub recorded : (e p i : List ℕ) (n : ℕ) (old new : State) (count : ℕ) → IsBroker old.now → Executes record_sql (row_for e p i n) old new (Ok count)
-    → ChangesOnly 21 old new × Grows (old.now.trees 21) (new.now.trees 21)
-    × ((q : Place) → number_in (new.now.trees 21) q ≡ cond (eq_by_cmp place_cmp q (e, (p, i))) (Some (pos n)) (number_in (old.now.trees 21) q))
+    → ChangesOnly in_deployed.tree old new × Grows (old.now.trees in_deployed.tree) (new.now.trees in_deployed.tree)
+    × ((q : Place) → number_in (new.now.trees in_deployed.tree) q ≡ cond (eq_by_cmp place_cmp q (e, (p, i))) (Some (pos n)) (number_in (old.now.trees in_deployed.tree) q))
 recorded e p i n old new count broker h =
     let there = deployed_there old.now broker in
     let numbered = at_has _ old.now.schema.tables deployed broker.kept.numbered (has_place _ 11 deployed there) in
@@ -157,7 +162,7 @@ recorded e p i n old new count broker h =
     let made = it old.now broker e p i n in (
       done.0,
       upsert_grows (recording e p i n) (stored e p i n) old new broker there (set old.now broker e p i n) done.1,
-      upserts_at triples_total exact_triple place_of (whole_at 4) (Some (1 ∷ 2 ∷ 3 ∷ [])) old.now.schema.indexes deployed (old.now.trees 21) (new.now.trees 21) made made (λ r. rowid r ∷ row_for e p i n) (e, (p, i)) (pos n) (keys old.now broker) numbered.0
+      upserts_at triples_total exact_triple place_of (whole_at in_deployed.version_number) (Some (in_deployed.environment ∷ in_deployed.pacticipant ∷ in_deployed.instance ∷ [])) old.now.schema.indexes deployed (old.now.trees in_deployed.tree) (new.now.trees in_deployed.tree) made made (λ r. rowid r ∷ row_for e p i n) (e, (p, i)) (pos n) (keys old.now broker) numbered.0
           (meets old.now broker e p i n) (refl, refl) (λ r has hit. (refl, refl)) done.1,
     )
 
@@ -174,7 +179,7 @@ abbrev pub by_version : List Term
 by_version = is_param 1 0 ∷ is_param 2 1 ∷ is_param 3 2 ∷ is_param 4 3 ∷ []
 
 abbrev pub end_command : Command
-end_command = Delete 11 (record { lets = []; body = from_table 21 by_version (col 1 0 ∷ []) [] })
+end_command = Delete 11 (record { lets = []; body = from_table in_deployed.tree by_version (col 1 0 ∷ []) [] })
 
 pub end_text : Means broker_schema end_sql end_command
 unfolding understood everything
@@ -194,34 +199,41 @@ module _ (db : Database) (broker : IsBroker db) (e p i : List ℕ) (n : ℕ) whe
 
   -- the number at the place
   abbrev pub at_place : Option ℤ
-  at_place = number_in (db.trees 21) place
+  at_place = number_in (db.trees in_deployed.tree) place
 
   -- WHERE keeps the row of the place, if it has the number
-  where_version : (r : Row) → Has (db.trees 21) r → keeps by_version params r ≡ (eq_by_cmp place_cmp place (place_of r) && eq_by_cmp int_cmp (pos n) (whole_at 4 r))
+  where_version : (r : Row) → Has (db.trees in_deployed.tree) r → keeps by_version params r ≡ (eq_by_cmp place_cmp place (place_of r) && eq_by_cmp int_cmp (pos n) (whole_at in_deployed.version_number r))
   where_version r has =
-      let rows = db.trees 21 in
-      where_and nat_list_cmp_total rows 1 (text 1) (environments db broker) (by_both text_cmp (by_both text_cmp int_cmp))
-      (λ x. (text 2 x, (text 3 x, whole_at 4 x))) (p, (i, pos n)) (is_param 2 1 ∷ is_param 3 2 ∷ is_param 4 3 ∷ []) params 0 e refl r has
-      (where_and nat_list_cmp_total rows 2 (text 2) (pacticipants db broker) (by_both text_cmp int_cmp) (λ x. (text 3 x, whole_at 4 x)) (i, pos n)
+      let rows = db.trees in_deployed.tree in
+      where_and nat_list_cmp_total rows in_deployed.environment (text in_deployed.environment) (environments db broker) (by_both text_cmp (by_both text_cmp int_cmp))
+      (λ x. (text in_deployed.pacticipant x, (text in_deployed.instance x, whole_at in_deployed.version_number x))) (p, (i, pos n))
+      (is_param 2 1 ∷ is_param 3 2 ∷ is_param 4 3 ∷ []) params 0 e refl r has
+      (where_and nat_list_cmp_total rows in_deployed.pacticipant (text in_deployed.pacticipant) (pacticipants db broker) (by_both text_cmp int_cmp)
+      (λ x. (text in_deployed.instance x, whole_at in_deployed.version_number x)) (i, pos n)
       (is_param 3 2 ∷ is_param 4 3 ∷ []) params 1 p refl r has
-      (where_and nat_list_cmp_total rows 3 (text 3) (instances db broker) int_cmp (whole_at 4) (pos n) (is_param 4 3 ∷ []) params 2 i refl r has
-      (where_last int_cmp_total rows 4 (whole_at 4) (numbers db broker) params 3 (pos n) refl r has)))
-      ∙ ap is_eq (ap (ordering_then (text_cmp e (text 1 r))) (then_assoc (text_cmp p (text 2 r)) (text_cmp i (text 3 r)) (int_cmp (pos n) (whole_at 4 r)))
-      ∙ then_assoc (text_cmp e (text 1 r)) (ordering_then (text_cmp p (text 2 r)) (text_cmp i (text 3 r))) (int_cmp (pos n) (whole_at 4 r)))
-      ∙ sym (both_eq (place_cmp place (place_of r)) (int_cmp (pos n) (whole_at 4 r)))
+      (where_and nat_list_cmp_total rows in_deployed.instance (text in_deployed.instance) (instances db broker) int_cmp (whole_at in_deployed.version_number)
+      (pos n) (is_param 4 3 ∷ []) params 2 i refl r has
+      (where_last int_cmp_total rows in_deployed.version_number (whole_at in_deployed.version_number) (numbers db broker) params 3 (pos n) refl r has)))
+      ∙ ap is_eq (ap (ordering_then (text_cmp e (text in_deployed.environment r))) (then_assoc (text_cmp p (text in_deployed.pacticipant r))
+      (text_cmp i (text in_deployed.instance r)) (int_cmp (pos n) (whole_at in_deployed.version_number r)))
+      ∙ then_assoc (text_cmp e (text in_deployed.environment r)) (ordering_then (text_cmp p (text in_deployed.pacticipant r))
+      (text_cmp i (text in_deployed.instance r))) (int_cmp (pos n) (whole_at in_deployed.version_number r)))
+      ∙ sym (both_eq (place_cmp place (place_of r)) (int_cmp (pos n) (whole_at in_deployed.version_number r)))
 
   -- the number at the place decides for each row of it
-  kept_at : (r : Row) → Has (db.trees 21) r → keeps by_version params r ≡ (eq_by_cmp place_cmp place (place_of r) && is_number n at_place)
+  kept_at : (r : Row) → Has (db.trees in_deployed.tree) r → keeps by_version params r ≡ (eq_by_cmp place_cmp place (place_of r) && is_number n at_place)
   kept_at r has = where_version r has ∙ go (eq_by_cmp place_cmp place (place_of r)) refl
     where
-      go : (b : Bool) → eq_by_cmp place_cmp place (place_of r) ≡ b → (b && eq_by_cmp int_cmp (pos n) (whole_at 4 r)) ≡ (b && is_number n at_place)
+      go : (b : Bool) → eq_by_cmp place_cmp place (place_of r) ≡ b
+          → (b && eq_by_cmp int_cmp (pos n) (whole_at in_deployed.version_number r)) ≡ (b && is_number n at_place)
       go false miss = refl
       go true hit =
           let same : place ≡ place_of r = exact_triple place (place_of r) ((Equal-is (place_cmp place (place_of r))).0 hit) in
-          let there : at_place ≡ Some (whole_at 4 r) = ap (number_in (db.trees 21)) same ∙ has_find triples_total exact_triple place_of (whole_at 4) (db.trees 21) r (keys db broker) has in
+          let there : at_place ≡ Some (whole_at in_deployed.version_number r) = ap (number_in (db.trees in_deployed.tree)) same ∙ has_find triples_total exact_triple place_of (whole_at in_deployed.version_number) (db.trees in_deployed.tree) r (keys db broker) has in
           sym (ap (is_number n) there)
 
-  kept_if : (b : Bool) → is_number n at_place ≡ b → (r : Row) → Has (db.trees 21) r → keeps by_version params r ≡ (eq_by_cmp place_cmp place (place_of r) && b)
+  kept_if : (b : Bool) → is_number n at_place ≡ b → (r : Row) → Has (db.trees in_deployed.tree) r
+      → keeps by_version params r ≡ (eq_by_cmp place_cmp place (place_of r) && b)
   kept_if b is r has = kept_at r has ∙ ap (λ c. eq_by_cmp place_cmp place (place_of r) && c) is
 
   found_some : (o : Option ℤ) → is_number n o ≡ true → is_some o ≡ true
@@ -229,35 +241,37 @@ module _ (db : Database) (broker : IsBroker db) (e p i : List ℕ) (n : ℕ) whe
   found_some (Some z) h = refl
 
   -- whether a row is kept
-  any_kept : (b : Bool) → is_number n at_place ≡ b → list_any (keeps by_version params) (db.trees 21) ≡ b
+  any_kept : (b : Bool) → is_number n at_place ≡ b → list_any (keeps by_version params) (db.trees in_deployed.tree) ≡ b
   any_kept true hit =
-      same_any (keeps by_version params) (λ r. eq_by_cmp place_cmp place (place_of r)) (db.trees 21) (λ r has. kept_if true hit r has ∙ and-true _)
-      ∙ sym (stands_found place_cmp place_of (whole_at 4) (db.trees 21) place) ∙ found_some at_place hit
-  any_kept false miss = same_any (keeps by_version params) (λ r. false) (db.trees 21) (λ r has. kept_if false miss r has ∙ and-false _)
-      ∙ any_never (db.trees 21)
+      same_any (keeps by_version params) (λ r. eq_by_cmp place_cmp place (place_of r)) (db.trees in_deployed.tree) (λ r has. kept_if true hit r has ∙ and-true _)
+      ∙ sym (stands_found place_cmp place_of (whole_at in_deployed.version_number) (db.trees in_deployed.tree) place) ∙ found_some at_place hit
+  any_kept false miss = same_any (keeps by_version params) (λ r. false) (db.trees in_deployed.tree) (λ r has. kept_if false miss r has ∙ and-false _)
+      ∙ any_never (db.trees in_deployed.tree)
 
   -- what is left at each place
-  left_at : (b : Bool) → is_number n at_place ≡ b → (rows : List Row) → rows ≡ filter (λ r. not (keeps by_version params r)) (db.trees 21) → (q : Place)
-      → number_in rows q ≡ cond (b && eq_by_cmp place_cmp q place) None (number_in (db.trees 21) q)
+  left_at : (b : Bool) → is_number n at_place ≡ b → (rows : List Row) → rows ≡ filter (λ r. not (keeps by_version params r)) (db.trees in_deployed.tree)
+      → (q : Place)
+      → number_in rows q ≡ cond (b && eq_by_cmp place_cmp q place) None (number_in (db.trees in_deployed.tree) q)
   left_at true hit rows is q =
-      takes_at triples_total exact_triple place_of (whole_at 4) place (keeps by_version params) (db.trees 21) rows
-      (all_where place_cmp (db.trees 21) place_of place by_version params (λ r has. kept_if true hit r has ∙ and-true _)) is q
+      takes_at triples_total exact_triple place_of (whole_at in_deployed.version_number) place (keeps by_version params) (db.trees in_deployed.tree) rows
+      (all_where place_cmp (db.trees in_deployed.tree) place_of place by_version params (λ r has. kept_if true hit r has ∙ and-true _)) is q
   left_at false miss rows is q = ap (λ xs. number_in xs q) (is
-      ∙ filter_all (λ r. not (keeps by_version params r)) (db.trees 21) (λ r has. ap not (kept_if false miss r has ∙ and-false _)))
+      ∙ filter_all (λ r. not (keeps by_version params r)) (db.trees in_deployed.tree) (λ r has. ap not (kept_if false miss r has ∙ and-false _)))
 
 -- the row of the place goes if it has the number, and the count says whether it did
 pub ended : (e p i : List ℕ) (n : ℕ) (old new : State) (count : ℕ) → (broker : IsBroker old.now) → Executes end_sql (Text e ∷ Text p ∷ Text i ∷ Int (pos n) ∷ []) old new (Ok count)
-    → ChangesOnly 21 old new × Grows (old.now.trees 21) (new.now.trees 21) × ((b : Bool) → is_number n (at_place old.now broker e p i n) ≡ b → (q : Place) → number_in (new.now.trees 21) q ≡ cond (b && eq_by_cmp place_cmp q (e, (p, i))) None (number_in (old.now.trees 21) q))
+    → ChangesOnly in_deployed.tree old new × Grows (old.now.trees in_deployed.tree) (new.now.trees in_deployed.tree) × ((b : Bool) → is_number n (at_place old.now broker e p i n) ≡ b → (q : Place) → number_in (new.now.trees in_deployed.tree) q ≡ cond (b && eq_by_cmp place_cmp q (e, (p, i))) None (number_in (old.now.trees in_deployed.tree) q))
     × (nat_lt 0 count ≡ is_number n (at_place old.now broker e p i n))
 ended e p i n old new count broker h =
     let db = old.now in
     let params = Text e ∷ Text p ∷ Text i ∷ Int (pos n) ∷ [] in
     let means = meant db broker end_sql end_text in
     let numbered = at_has _ db.schema.tables deployed broker.kept.numbered (has_place _ 11 deployed (deployed_there db broker)) in
-    let it = deletes (codes "deployed") 21 deployed.columns None (1 ∷ 2 ∷ 3 ∷ []) deployed.uniques deployed.orders [] deployed.references end_sql params old new 11 (deployed_there db broker) by_version means (calm db broker) numbered count h in
-    let counted = deletes_counted (codes "deployed") 21 deployed.columns None (1 ∷ 2 ∷ 3 ∷ []) deployed.uniques deployed.orders [] deployed.references end_sql params old new 11 (deployed_there db broker) by_version means count h in (
+    let it = deletes (codes "deployed") in_deployed.tree deployed.columns None (in_deployed.environment ∷ in_deployed.pacticipant ∷ in_deployed.instance ∷ []) deployed.uniques deployed.orders [] deployed.references end_sql params old new 11 (deployed_there db broker) by_version means (calm db broker) numbered count h in
+    let counted = deletes_counted (codes "deployed") in_deployed.tree deployed.columns None (in_deployed.environment ∷ in_deployed.pacticipant ∷ in_deployed.instance ∷ []) deployed.uniques deployed.orders [] deployed.references end_sql params old new 11 (deployed_there db broker) by_version means count h in (
       it.0,
-      grows_kept (db.trees 21) (new.now.trees 21) _ it.1,
-      λ b is q. left_at db broker e p i n b is (new.now.trees 21) it.1 q,
-      ap (nat_lt 0) counted ∙ some_counted (keeps by_version params) (db.trees 21) ∙ any_kept db broker e p i n (is_number n (at_place db broker e p i n)) refl,
+      grows_kept (db.trees in_deployed.tree) (new.now.trees in_deployed.tree) _ it.1,
+      λ b is q. left_at db broker e p i n b is (new.now.trees in_deployed.tree) it.1 q,
+      ap (nat_lt 0) counted ∙ some_counted (keeps by_version params) (db.trees in_deployed.tree)
+          ∙ any_kept db broker e p i n (is_number n (at_place db broker e p i n)) refl,
     )

@@ -11,7 +11,7 @@ use Rattle.deploy_tables.specs.{Deployments.{MayBeDeployed, IsVersionOf, TakesOu
 use Rattle.deploy_tables.specs.ContractsThere.{IsDeployedIn}
 use Rattle.deploy_tables.proofs.DeployedRows.{Place, place_of, place_cmp, record_sql, row_for, recording, stored, set, recorded, end_sql, is_number, number_in, at_place, ended, environments, pacticipants, instances, numbers, keys}
 use Rattle.deploy_tables.proofs.VersionRows.{same_pos, joined_by, still_less, two_texts, tied_texts, Names, has_kept, is_kept, pairs_apart}
-use Rattle.broker_tables.specs.{Numbers.{number_of}, Holds.{Holds, HoldsAfter}, Refusals.{HaveNumbers}}
+use Rattle.broker_tables.specs.{Schema.{in_versions, in_deployed}, Numbers.{number_of}, Holds.{Holds, HoldsAfter}, Refusals.{HaveNumbers}}
 use Rattle.broker_tables.proofs.{VersionRows.{false_if, find_version, row_number}, Listed.{lists_join}, NumberLemmas.{one_version, number_ties}}
 use Rattle.broker_tables.proofs.{Frames.{Frame, frame_of, deployed_change}, Inserted.{EndsOnly, environment_there, pacticipant_there, version_there}}
 use Rattle.broker_tables.proofs.{Placed.{deployed_there}, RoomLemmas.{Grows, after_one}, Upserted.{upsert_ends}, Orders.{exact_triple, triples_total}}
@@ -77,12 +77,12 @@ pub now_deployed : (e p i : Words) (n : ℕ) (v : Version) (old new : State) (co
     → HoldsAfter 2 old new (record s { deployed = put_at same_place s.deployed (e, p, i) (Some v.name) })
 now_deployed e p i n v old new count s held numbered owner h =
     let it = recorded e p i n old new count held.broker h in
-    let frame = frame_of (codes "deployed" ∷ []) 21 refl old new held.broker it.0 in
+    let frame = frame_of (codes "deployed" ∷ []) in_deployed.tree refl old new held.broker it.0 in
     after_one 2 (omega arith) (codes "deployed") old new _ frame (λ counted. it.1) (deployed_change old.now new.now s _ held frame (λ f q j.
     ap (option_map Some) (it.2 (f, (q, j))) ∙ go f q j (eq_by_cmp place_cmp (f, (q, j)) (e, (p, i))) refl ∙ ap (λ b. option_map (λ name. option_map pos (number_of s.versions (version q name))) (cond b (Some v.name) (s.deployed (f, q, j)))) (sym (place_ties f q j e p i))))
   where
     go : (f q j : Words) (b : Bool) → eq_by_cmp place_cmp (f, (q, j)) (e, (p, i)) ≡ b
-        → option_map Some (cond b (Some (pos n)) (number_in (old.now.trees 21) (f, (q, j)))) ≡ option_map (λ name. option_map pos (number_of s.versions (version q name))) (cond b (Some v.name) (s.deployed (f, q, j)))
+        → option_map Some (cond b (Some (pos n)) (number_in (old.now.trees in_deployed.tree) (f, (q, j)))) ≡ option_map (λ name. option_map pos (number_of s.versions (version q name))) (cond b (Some v.name) (s.deployed (f, q, j)))
     go f q j true hit =
         let same = exact_triple (f, (q, j)) (e, (p, i)) ((Equal-is (place_cmp (f, (q, j)) (e, (p, i)))).0 hit) in
         ap (λ o. Some (option_map pos o)) (sym numbered) ∙ ap (λ x. Some (option_map pos (number_of s.versions (version x v.name)))) (owner ∙ sym (ap (λ k. k.1.0) same))
@@ -93,8 +93,8 @@ pub deployment_ends : (e p i : Words) (n : ℕ) (old new : State) (s : Broker) �
 deployment_ends e p i n old new s held numbers (there, (v, numbered, owner)) =
     let row = row_for e p i n in
     upsert_ends (recording e p i n) (stored e p i n) old new held.broker (deployed_there old.now held.broker) (set old.now held.broker e p i n) numbers.0 (λ id. record { typed = refl; present = refl; checked = refl }) (λ id. (
-      environment_there old.now s held (id ∷ row) 1 e there refl,
-      (pacticipant_there old.now s held (id ∷ row) 2 p (subst (λ x. IsTrue (is_some (s.pacticipants x))) owner (has_owner old.now s held v n numbered)) refl, (version_there old.now s held (id ∷ row) 4 v n numbered refl, tt)),
+      environment_there old.now s held (id ∷ row) in_deployed.environment e there refl,
+      (pacticipant_there old.now s held (id ∷ row) in_deployed.pacticipant p (subst (λ x. IsTrue (is_some (s.pacticipants x))) owner (has_owner old.now s held v n numbered)) refl, (version_there old.now s held (id ∷ row) in_deployed.version_number v n numbered refl, tt)),
     )) (e ∷ p ∷ i ∷ []) (λ are. (are.0, (are.1.0, (are.1.1.0, (tt, tt))))) (omega arith) (omega arith)
 
 -- ---- the end of a deployment
@@ -103,16 +103,16 @@ module _ (e p i : Words) (n : ℕ) (old new : State) (count : ℕ) (s : Broker) 
   abbrev there : Option ℤ
   there = at_place old.now held.broker e p i n
 
-  it : ChangesOnly 21 old new × Grows (old.now.trees 21) (new.now.trees 21) × ((b : Bool) → is_number n there ≡ b → (q : Place)
-      → number_in (new.now.trees 21) q ≡ cond (b && eq_by_cmp place_cmp q (e, (p, i))) None (number_in (old.now.trees 21) q))
+  it : ChangesOnly in_deployed.tree old new × Grows (old.now.trees in_deployed.tree) (new.now.trees in_deployed.tree) × ((b : Bool) → is_number n there ≡ b → (q : Place)
+      → number_in (new.now.trees in_deployed.tree) q ≡ cond (b && eq_by_cmp place_cmp q (e, (p, i))) None (number_in (old.now.trees in_deployed.tree) q))
       × (nat_lt 0 count ≡ is_number n there)
   it = ended e p i n old new count held.broker h
 
   frame : Frame (codes "deployed" ∷ []) old.now new.now
-  frame = frame_of (codes "deployed" ∷ []) 21 refl old new held.broker it.0
+  frame = frame_of (codes "deployed" ∷ []) in_deployed.tree refl old new held.broker it.0
 
   each : (f q j : Words) (b : Bool)
-      → option_map Some (cond b None (number_in (old.now.trees 21) (f, (q, j)))) ≡ option_map (λ name. option_map pos (number_of s.versions (version q name))) (cond b None (s.deployed (f, q, j)))
+      → option_map Some (cond b None (number_in (old.now.trees in_deployed.tree) (f, (q, j)))) ≡ option_map (λ name. option_map pos (number_of s.versions (version q name))) (cond b None (s.deployed (f, q, j)))
   each f q j true = refl
   each f q j false = held.deployed f q j
 
@@ -145,14 +145,14 @@ module _ (e p i : Words) (n : ℕ) (old new : State) (count : ℕ) (s : Broker) 
 -- ---- the list
 
 abbrev list_order : List (Term × Key)
-list_order = (col 1 2, ascending Binary) ∷ (col 1 3, ascending Binary) ∷ []
+list_order = (col 1 in_deployed.pacticipant, ascending Binary) ∷ (col 1 in_deployed.instance, ascending Binary) ∷ []
 
 abbrev list_project : List Term
-list_project = col 1 2 ∷ col 1 3 ∷ col 2 3 ∷ []
+list_project = col 1 in_deployed.pacticipant ∷ col 1 in_deployed.instance ∷ col 2 in_versions.version ∷ []
 
 pub deployments : (e : List ℕ)
     → Asked (codes "SELECT d.pacticipant, d.instance, v.version FROM deployed d JOIN versions v ON v.number = d.version_number WHERE d.environment = ?1 ORDER BY d.pacticipant, d.instance")
-    (Text e ∷ []) (from_both 21 6 (joined_by 4) list_project list_order)
+    (Text e ∷ []) (from_both in_deployed.tree in_versions.tree (joined_by in_deployed.version_number) list_project list_order)
 unfolding understood everything
 deployments e = record { names = _; means = record { is = refl; plain = (refl, refl); unlisted = refl }; runs = record { whole = refl; typed = refl; sumless = refl } }
 
@@ -160,37 +160,38 @@ deployments e = record { names = _; means = record { is = refl; plain = (refl, r
 
 module _ (db : Database) (s : Broker) (held : Holds db s) (e : Words) where
   -- a row names a version that is deployed, by its number
-  pub row_deployed : (d : Row) → Has (db.trees 21) d → text 1 d ≡ e → (name : Words) × (s.deployed (e, text 2 d, text 3 d) ≡ Some name) × ((k : ℕ) × (number_of s.versions (version (text 2 d) name) ≡ Some k) × (whole_at 4 d ≡ pos k))
+  pub row_deployed : (d : Row) → Has (db.trees in_deployed.tree) d → text in_deployed.environment d ≡ e → (name : Words) × (s.deployed (e, text in_deployed.pacticipant d, text in_deployed.instance d) ≡ Some name) × ((k : ℕ) × (number_of s.versions (version (text in_deployed.pacticipant d) name) ≡ Some k) × (whole_at in_deployed.version_number d ≡ pos k))
   row_deployed d has there =
-      let value : number_in (db.trees 21) (e, (text 2 d, text 3 d)) ≡ Some (whole_at 4 d) =
-      subst (λ f. number_in (db.trees 21) (f, (text 2 d, text 3 d)) ≡ Some (whole_at 4 d)) there
-      (has_find triples_total exact_triple place_of (whole_at 4) (db.trees 21) d (keys db held.broker) has) in
-      named s.versions (text 2 d) (whole_at 4 d) (s.deployed (e, text 2 d, text 3 d)) (sym (ap (option_map Some) value) ∙ held.deployed e (text 2 d) (text 3 d))
+      let value : number_in (db.trees in_deployed.tree) (e, (text in_deployed.pacticipant d, text in_deployed.instance d)) ≡ Some (whole_at in_deployed.version_number d) =
+      subst (λ f. number_in (db.trees in_deployed.tree) (f, (text in_deployed.pacticipant d, text in_deployed.instance d)) ≡ Some (whole_at in_deployed.version_number d)) there
+      (has_find triples_total exact_triple place_of (whole_at in_deployed.version_number) (db.trees in_deployed.tree) d (keys db held.broker) has) in
+      named s.versions (text in_deployed.pacticipant d) (whole_at in_deployed.version_number d) (s.deployed (e, text in_deployed.pacticipant d, text in_deployed.instance d)) (sym (ap (option_map Some) value) ∙ held.deployed e (text in_deployed.pacticipant d) (text in_deployed.instance d))
 
   -- the version that has this number
-  pub deployed_of : (d : Row) (w : Version) (n : ℕ) → Has (db.trees 21) d → text 1 d ≡ e → number_of s.versions w ≡ Some n → whole_at 4 d ≡ pos n
-      → (text 2 d ≡ w.pacticipant) × (s.deployed (e, text 2 d, text 3 d) ≡ Some w.name)
+  pub deployed_of : (d : Row) (w : Version) (n : ℕ) → Has (db.trees in_deployed.tree) d → text in_deployed.environment d ≡ e → number_of s.versions w ≡ Some n
+      → whole_at in_deployed.version_number d ≡ pos n
+      → (text in_deployed.pacticipant d ≡ w.pacticipant) × (s.deployed (e, text in_deployed.pacticipant d, text in_deployed.instance d) ≡ Some w.name)
   deployed_of d w n has there known number =
       let it = row_deployed d has there in
-      let same : version (text 2 d) it.0 ≡ w = one_version s.versions (version (text 2 d) it.0) w n (it.2.1 ∙ ap Some (same_pos it.2.0 n (sym it.2.2 ∙ number))) known in
+      let same : version (text in_deployed.pacticipant d) it.0 ≡ w = one_version s.versions (version (text in_deployed.pacticipant d) it.0) w n (it.2.1 ∙ ap Some (same_pos it.2.0 n (sym it.2.2 ∙ number))) known in
       (ap (λ (v : Version). v.pacticipant) same, it.1 ∙ ap (λ (v : Version). Some v.name) same)
 
   -- and what is deployed has a row, and a number
   pub deployed_row : (p i name : Words) → s.deployed (e, p, i) ≡ Some name
-      → (k : ℕ) × (number_of s.versions (version p name) ≡ Some k) × ((d : Row) × Has (db.trees 21) d × (text 1 d ≡ e) × (text 2 d ≡ p) × (text 3 d ≡ i) × (whole_at 4 d ≡ pos k))
+      → (k : ℕ) × (number_of s.versions (version p name) ≡ Some k) × ((d : Row) × Has (db.trees in_deployed.tree) d × (text in_deployed.environment d ≡ e) × (text in_deployed.pacticipant d ≡ p) × (text in_deployed.instance d ≡ i) × (whole_at in_deployed.version_number d ≡ pos k))
   deployed_row p i name there =
-      let at = valued s.versions p name (number_in (db.trees 21) (e, (p, i)))
+      let at = valued s.versions p name (number_in (db.trees in_deployed.tree) (e, (p, i)))
       (held.deployed e p i ∙ ap (option_map (λ n. option_map pos (number_of s.versions (version p n)))) there) in
-      let d = find_has triples_total exact_triple place_of (whole_at 4) (e, (p, i)) (pos at.0) (db.trees 21) at.2 in
+      let d = find_has triples_total exact_triple place_of (whole_at in_deployed.version_number) (e, (p, i)) (pos at.0) (db.trees in_deployed.tree) at.2 in
       (at.0, at.1, (d.0, d.1, sym (ap (λ x. x.0) d.2), sym (ap (λ x. x.1.0) d.2), sym (ap (λ x. x.1.1) d.2), d.3))
 
-  pub deployed_in : Names db s 21 4 e (IsDeployedIn s e)
+  pub deployed_in : Names db s in_deployed.tree in_deployed.version_number e (IsDeployedIn s e)
   deployed_in = record {
     environments = (environments db held.broker).typed;
     numbers = (numbers db held.broker).typed;
     row_is = λ d w n has there known number.
         let it = deployed_of d w n has there known number in
-        (text 3 d, ap (λ p. s.deployed (e, p, text 3 d)) (sym it.0) ∙ it.1);
+        (text in_deployed.instance d, ap (λ p. s.deployed (e, p, text in_deployed.instance d)) (sym it.0) ∙ it.1);
     is_row = λ w n known there.
         let at = deployed_row w.pacticipant there.0 w.name there.1 in
         (at.2.0, at.2.1, at.2.2, at.2.5 ∙ ap pos (some_is at.0 n (sym at.1 ∙ known)));
@@ -198,11 +199,11 @@ module _ (db : Database) (s : Broker) (held : Holds db s) (e : Words) where
 
   pub deployed_listed : (rows : List Row) (items : List DeployedItem) → IsShown (deployments e) db rows → AreRead IsDeployedRow rows items
       → Lists deployed_cmp (λ x. s.deployed (e, x.pacticipant, x.instance) ≡ Some x.version) items
-  deployed_listed = lists_join db (Text e ∷ []) (joined_by 4) list_project list_order IsDeployedRow deployed_cmp (λ x. s.deployed (e, x.pacticipant, x.instance) ≡ Some x.version) 21 6
-      (pairs_apart db held.broker 21 4 (environments db held.broker).typed (numbers db held.broker).typed e triples_total place_of list_order
+  deployed_listed = lists_join db (Text e ∷ []) (joined_by in_deployed.version_number) list_project list_order IsDeployedRow deployed_cmp (λ x. s.deployed (e, x.pacticipant, x.instance) ≡ Some x.version) in_deployed.tree in_versions.tree
+      (pairs_apart db held.broker in_deployed.tree in_deployed.version_number (environments db held.broker).typed (numbers db held.broker).typed e triples_total place_of list_order
       (keys db held.broker) (λ p q hp hq tied.
-      let a = has_kept db held.broker 21 4 (environments db held.broker).typed (numbers db held.broker).typed e p hp in
-      let b = has_kept db held.broker 21 4 (environments db held.broker).typed (numbers db held.broker).typed e q hq in
+      let a = has_kept db held.broker in_deployed.tree in_deployed.version_number (environments db held.broker).typed (numbers db held.broker).typed e p hp in
+      let b = has_kept db held.broker in_deployed.tree in_deployed.version_number (environments db held.broker).typed (numbers db held.broker).typed e q hq in
       let owner = pacticipants db held.broker in
       let instance = instances db held.broker in
       let same = tied_texts _ _ _ _ _ _ _ _ (owner.typed p.0 a.0) (owner.typed q.0 b.0) (instance.typed p.0 a.0) (instance.typed q.0 b.0) tied in
@@ -210,13 +211,14 @@ module _ (db : Database) (s : Broker) (held : Holds db s) (e : Words) where
       (λ a b x y ha hb ra rb h. still_less (text_cmp x.pacticipant y.pacticipant) (text_cmp x.instance y.instance) (text_cmp x.version y.version)
       (sym (two_texts _ _ _ _ _ _ _ _ ra.0 rb.0 ra.1 rb.1) ∙ h))
       (λ q x has read.
-      let it = has_kept db held.broker 21 4 (environments db held.broker).typed (numbers db held.broker).typed e q has in
+      let it = has_kept db held.broker in_deployed.tree in_deployed.version_number (environments db held.broker).typed (numbers db held.broker).typed e q has in
       let known = row_number db held.broker s.versions held.versions q.1 it.1 in
       (λ i. s.deployed (e, sym (ap text_in read.0) i, sym (ap text_in read.1) i))
-      ∙ (deployed_of q.0 (version (text 2 q.1) (text 3 q.1)) known.0 it.0 it.2.1 known.1 (sym it.2.0 ∙ known.2)).1 ∙ ap Some (ap text_in read.2))
+      ∙ (deployed_of q.0 (version (text in_versions.pacticipant q.1) (text in_versions.version q.1)) known.0 it.0 it.2.1 known.1 (sym it.2.0 ∙ known.2)).1
+      ∙ ap Some (ap text_in read.2))
       (λ x there.
       let at = deployed_row x.pacticipant x.instance x.version there in
       let d = at.2 in
       let v = find_version db held.broker s.versions (version x.pacticipant x.version) at.0 held.versions at.1 in
-      let kept = is_kept db held.broker 21 4 (environments db held.broker).typed (numbers db held.broker).typed e d.0 v.0 d.1 v.1 (v.4 ∙ sym d.5) d.2 in
+      let kept = is_kept db held.broker in_deployed.tree in_deployed.version_number (environments db held.broker).typed (numbers db held.broker).typed e d.0 v.0 d.1 v.1 (v.4 ∙ sym d.5) d.2 in
       (_, kept, λ y read i. record { pacticipant = (sym (ap text_in read.0) ∙ d.3) i; instance = (sym (ap text_in read.1) ∙ d.4) i; version = (sym (ap text_in read.2) ∙ v.3) i }))

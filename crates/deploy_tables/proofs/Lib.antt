@@ -9,6 +9,4 @@ pub mod PartnerRows
 pub mod NeedLemmas
 pub mod MatrixLemmas
 pub mod MatrixLoop
-pub mod ToldResults
 pub mod ReadableRows
-pub mod ToldLists

@@ -4,23 +4,14 @@ use Rattle.std.proofs.Common.{◌≡◌, ◌<◌, ◌≤◌, ◌+◌, ◌⊎◌,
 use Rattle.std.proofs.{lemmas.List.{take_more, take_all}, lemmas.List.Elements.{Contains-append_cases, Contains-append_left, Contains-append_right}}
 use Rattle.sqlite.specs.State.{State}
 use Rattle.broker_core.{specs.State.{State as Broker}, proofs.Lists.{contains_none, contains_cases, contains_here}}
-use Rattle.broker_tables.{specs.Calm.{CalmQueriesBetween}, proofs.QueryLemmas.{query_ok}}
+use Rattle.broker_tables.specs.Calm.{CalmQueriesBetween}
 use Rattle.contract_tables.proofs.QueryLemmas.{calm_computed}
-use Rattle.deploy_tables.specs.Matrix.{IsOfSome}
 use Rattle.table_access.specs.{declared.StoreFault.{StoreFault}, declared.StoreFault.TheVariants.{Memory}}
+use Rattle.deploy_tables.specs.Matrix.{IsOfSome}
 pub use Rattle.broker_tables.proofs.QueryLemmas.{in_place, query_failed}
-pub use Rattle.contract_tables.proofs.QueryLemmas.{calm_then}
+pub use Rattle.contract_tables.proofs.QueryLemmas.{calm_then, both_told, read_made}
 
--- a reading, from which the answer is made
-pub read_made : {A B : Type 0} (old new : State) (a : A) (b : B) (P : A → Broker → Type 0) (Q : B → Broker → Type 0) → ((s : Broker) → P a s → Q b s) → CalmQueriesBetween old new (Ok a) P → CalmQueriesBetween old new (Ok b) Q
-read_made old new a b P Q given = query_ok old new a b P Q (λ h s held. let f = h s held in (given s f.0, f.1))
-
--- a reading, and another
-pub both_told : {A O : Type 0} (old mid new : State) (a : A) (o : O) (P : A → Broker → Type 0) (Q : O → Broker → Type 0) → CalmQueriesBetween old mid (Ok a) P
-    → CalmQueriesBetween mid new (Ok o) Q → CalmQueriesBetween old new (Ok o) (λ q s. P a s × Q q s)
-both_told old mid new a o P Q one two = calm_then old mid new a (Ok o) P Q (λ q s. P a s × Q q s) (λ s first q second. (first, second)) one two
-
--- from which the answer is computed, or no room for it
+-- two readings, from which the answer is computed, or no room for it
 pub both_computed : {A O B : Type 0} (old mid new : State) (a : A) (o : O) (r : Result B StoreFault) (P : A → Broker → Type 0) (Q : O → Broker → Type 0)
     (L : B → Type 0) (R : B → Broker → Type 0) → ((s : Broker) → P a s → Q o s → (b : B) → L b → R b s)
     → IfOk r L → IfErr r (λ fault. fault ≡ Memory) → CalmQueriesBetween old mid (Ok a) P → CalmQueriesBetween mid new (Ok o) Q → CalmQueriesBetween old new r R

@@ -4,7 +4,7 @@ use Rattle.std.proofs.Common.{◌≡◌, ◌∙◌, inl, inr, ℕ, pos, codes, L
 use Rattle.sqlite_rules.specs.Lists.{Has}
 use Rattle.sqlite_tied.specs.Compute.{everything}
 use Rattle.table_access.{specs.{Columns.{text}, Statements.{from_table, keeps}, Reading.{AreRead}}, proofs.Parts.{is_param}}
-use Rattle.broker_tables.{specs.{Numbers.{number_of}, Holds.{Holds}}, proofs.{Asked.{Asked, IsShown}, VersionRows.{text_test}}}
+use Rattle.broker_tables.{specs.{Schema.{in_deployed}, Numbers.{number_of}, Holds.{Holds}}, proofs.{Asked.{Asked, IsShown}, VersionRows.{text_test}}}
 use Rattle.deploy_tables.specs.{declared.partners.ReleasedNumber.{ReleasedNumber}, ContractsThere.{IsDeployedIn}}
 use Rattle.deploy_tables.{specs.Partners.{ArePartners, AreReleasedNumbers, AreNumbered, number_if}, proofs.DeployedRows.{environments, pacticipants}}
 use Rattle.deploy_tables.proofs.{VersionRows.{same_pos, both_hold, row_of, item_of}, DeployedState.{row_deployed, deployed_row}}
@@ -19,10 +19,10 @@ abbrev by_owner : List Term
 by_owner = is_param 1 0 ∷ is_param 2 1 ∷ []
 
 abbrev number_project : List Term
-number_project = col 1 4 ∷ []
+number_project = col 1 in_deployed.version_number ∷ []
 
 pub numbers_of : (e p : Words)
-    → Asked (codes "SELECT version_number FROM deployed WHERE environment = ?1 AND pacticipant = ?2") (Text e ∷ Text p ∷ []) (from_table 21 by_owner number_project [])
+    → Asked (codes "SELECT version_number FROM deployed WHERE environment = ?1 AND pacticipant = ?2") (Text e ∷ Text p ∷ []) (from_table in_deployed.tree by_owner number_project [])
 unfolding understood everything
 numbers_of e p = record { names = _; means = record { is = refl; plain = (refl, refl); unlisted = refl }; runs = record { whole = refl; typed = refl; sumless = refl } }
 
@@ -30,25 +30,26 @@ module _ (db : Database) (s : Broker) (held : Holds db s) (e p : Words) where
   abbrev params : Row
   params = Text e ∷ Text p ∷ []
 
-  is_kept : (r : Row) → Has (db.trees 21) r → (keeps by_owner params r ≡ true) ↔ ((text 1 r ≡ e) × (text 2 r ≡ p))
+  is_kept : (r : Row) → Has (db.trees in_deployed.tree) r
+      → (keeps by_owner params r ≡ true) ↔ ((text in_deployed.environment r ≡ e) × (text in_deployed.pacticipant r ≡ p))
   is_kept r has =
-      let one = text_test (column r 1) (Text e) (text 1 r) e ((environments db held.broker).typed r has) refl in
-      let two = text_test (column r 2) (Text p) (text 2 r) p ((pacticipants db held.broker).typed r has) refl in
-      let all = both_hold (is_true (binary (Compare Eq Binary) (column r 1) (Text e))) (is_true (binary (Compare Eq Binary) (column r 2) (Text p))) in
+      let one = text_test (column r in_deployed.environment) (Text e) (text in_deployed.environment r) e ((environments db held.broker).typed r has) refl in
+      let two = text_test (column r in_deployed.pacticipant) (Text p) (text in_deployed.pacticipant r) p ((pacticipants db held.broker).typed r has) refl in
+      let all = both_hold (is_true (binary (Compare Eq Binary) (column r in_deployed.environment) (Text e))) (is_true (binary (Compare Eq Binary) (column r in_deployed.pacticipant) (Text p))) in
       (λ kept. let it = all.0 kept in (one.0 it.0, two.0 it.1), λ same. all.1 (one.1 same.0, two.1 same.1))
 
   pub deployed_told : (rows : List Row) (items : List ℕ) → IsShown (numbers_of e p) db rows → AreRead (λ row n. column row 0 ≡ Int (pos n)) rows items → ArePartners s p (IsDeployedIn s e) items
   deployed_told rows items h read n = (
     λ c.
-        let r = row_of db params by_owner number_project (λ row n. column row 0 ≡ Int (pos n)) rows items read 21 h n c in
+        let r = row_of db params by_owner number_project (λ row n. column row 0 ≡ Int (pos n)) rows items read in_deployed.tree h n c in
         let at = (is_kept r.0 r.1).0 r.2 in
         let it = row_deployed db s held e r.0 r.1 at.0 in
         subst (λ q. (name : Words) × IsDeployedIn s e (version q name) × (number_of s.versions (version q name) ≡ Some n)) at.1
-        (it.0, (text 3 r.0, it.1), it.2.1 ∙ ap Some (same_pos it.2.0 n (sym it.2.2 ∙ ap id_in r.3))),
+        (it.0, (text in_deployed.instance r.0, it.1), it.2.1 ∙ ap Some (same_pos it.2.0 n (sym it.2.2 ∙ ap id_in r.3))),
     λ there.
         let it = deployed_row db s held e p there.1.0 there.0 there.1.1 in
         let r = it.2 in
-        let y = item_of db params by_owner number_project (λ row n. column row 0 ≡ Int (pos n)) rows items read 21 h r.0 r.1 ((is_kept r.0 r.1).1 (r.2, r.3)) in
+        let y = item_of db params by_owner number_project (λ row n. column row 0 ≡ Int (pos n)) rows items read in_deployed.tree h r.0 r.1 ((is_kept r.0 r.1).1 (r.2, r.3)) in
         let same : y.0 ≡ n = same_pos y.0 n (sym (ap id_in y.2) ∙ r.5 ∙ ap pos (some_is it.0 n (sym it.1 ∙ there.2))) in
         subst (Contains items) same y.1,
   )

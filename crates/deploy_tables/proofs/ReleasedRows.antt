@@ -12,8 +12,8 @@ use Rattle.table_access.proofs.Parts.{text_part, whole_part, agree_last, agree_a
 use Rattle.table_access.proofs.{Steps.{Means, answered, deletes, deletes_counted}, CountLemmas.{some_counted, same_any}, Maps.{looks_up_at}}
 use Rattle.broker_core.specs.{State.{State as Broker}, declared.command.Version.{Version}}
 use Rattle.broker_core.specs.{Text.{Text as Words, version, put_at, same_text, same_pair, same_version}, Listing.{Lists}, Machine.{version_cmp}}
-use Rattle.broker_tables.specs.{Rows.{stands_at}, Numbers.{number_of}, Holds.{Holds, IsBroker, HoldsAfter}, Schema.{broker_schema}, Refusals.{HaveNumbers}}
-use Rattle.broker_tables.proofs.{Asked.{Asked, IsShown, of_table}, Listed.{lists_join}}
+use Rattle.broker_tables.specs.{Schema.{in_versions, in_released, broker_schema}, Rows.{stands_at}, Numbers.{number_of}, Holds.{Holds, IsBroker, HoldsAfter}}
+use Rattle.broker_tables.{specs.Refusals.{HaveNumbers}, proofs.{Asked.{Asked, IsShown, of_table}, Listed.{lists_join}}}
 use Rattle.broker_tables.proofs.Inserted.{EndsOnly, Puts, inserted, next_ends, new_text, new_whole, free_two, environment_there, version_there}
 use Rattle.broker_tables.proofs.{VersionRows.{owners, names, same_version as same_row}, Orders.{placed_total, exact_placed}, NoVersion.{no_row, no_first}}
 use Rattle.broker_tables.proofs.{Frames.{meant, frame_of, released_change}, NumberLemmas.{number_ties, version_unknown}}
@@ -25,29 +25,30 @@ use Rattle.sqlite.specs.{Rowids.TheVariants.{Chosen}, Cast.{cast_row}, Command.{
 use Rattle.sqlite_keyed.proofs.RuleLemmas.{first_of_both, second_of_both}
 use Rattle.deploy_tables.specs.{Releases.{IsVersion, MayBeReleased}, declared.partners.ReleasedNumber.{ReleasedNumber}, Listings.{IsReleasedRow}}
 use Rattle.deploy_tables.specs.{ContractsThere.{IsReleasedIn}, Partners.{IsNumberOfReleased, AreReleasedNumbers}}
-use Rattle.deploy_tables.proofs.VersionRows.{joined_by, same_pos, two_texts, tied_texts, Names, has_kept, pairs_apart, pair_is, is_pair, pair_of, item_of_pair}
+use Rattle.deploy_tables.proofs.VersionRows.{joined_by, same_pos, two_texts, tied_texts, Names, has_kept, pairs_apart, pair_is, is_pair}
+use Rattle.contract_tables.proofs.JoinRows.{pair_of, item_of_pair}
 use Rattle.sqlite_value.specs.{declared.keys.Key.{Key}, Keys.{ascending}}
 
 abbrev list_order : List (Term × Key)
-list_order = (col 2 2, ascending Binary) ∷ (col 2 3, ascending Binary) ∷ []
+list_order = (col 2 in_versions.pacticipant, ascending Binary) ∷ (col 2 in_versions.version, ascending Binary) ∷ []
 
 abbrev list_project : List Term
-list_project = col 2 2 ∷ col 2 3 ∷ []
+list_project = col 2 in_versions.pacticipant ∷ col 2 in_versions.version ∷ []
 
 pub releases : (e : List ℕ)
     → Asked (codes "SELECT v.pacticipant, v.version FROM released r JOIN versions v ON v.number = r.version_number WHERE r.environment = ?1 ORDER BY v.pacticipant, v.version")
-    (Text e ∷ []) (from_both 23 6 (joined_by 2) list_project list_order)
+    (Text e ∷ []) (from_both in_released.tree in_versions.tree (joined_by in_released.version_number) list_project list_order)
 unfolding understood everything
 releases e = record { names = _; means = record { is = refl; plain = (refl, refl); unlisted = refl }; runs = record { whole = refl; typed = refl; sumless = refl } }
 
 -- ---- the same rows, with the versions' numbers and without their names
 
 abbrev number_project : List Term
-number_project = col 1 2 ∷ col 2 2 ∷ []
+number_project = col 1 in_released.version_number ∷ col 2 in_versions.pacticipant ∷ []
 
 pub release_numbers : (e : List ℕ)
     → Asked (codes "SELECT r.version_number, v.pacticipant FROM released r JOIN versions v ON v.number = r.version_number WHERE r.environment = ?1")
-    (Text e ∷ []) (from_both 23 6 (joined_by 2) number_project [])
+    (Text e ∷ []) (from_both in_released.tree in_versions.tree (joined_by in_released.version_number) number_project [])
 unfolding understood everything
 release_numbers e = record { names = _; means = record { is = refl; plain = (refl, refl); unlisted = refl }; runs = record { whole = refl; typed = refl; sumless = refl } }
 
@@ -57,39 +58,40 @@ abbrev pub placed : ((List ℕ) × ℤ) → ((List ℕ) × ℤ) → Ordering
 placed = by_both text_cmp int_cmp
 
 abbrev pub place_of : Row → (List ℕ) × ℤ
-place_of r = (text 1 r, whole_at 2 r)
+place_of r = (text in_released.environment r, whole_at in_released.version_number r)
 
 module _ (db : Database) (broker : IsBroker db) where
-  pub environments : (r : Row) → Has (db.trees 23) r → column r 1 ≡ Text (text 1 r)
+  pub environments : (r : Row) → Has (db.trees in_released.tree) r → column r in_released.environment ≡ Text (text in_released.environment r)
   environments r has = text_at db broker.kept.sound released (has_place _ 12 released (released_there db broker)) r has 0 _ refl refl refl refl refl
 
-  pub numbers : (r : Row) → Has (db.trees 23) r → column r 2 ≡ Int (whole_at 2 r)
+  pub numbers : (r : Row) → Has (db.trees in_released.tree) r → column r in_released.version_number ≡ Int (whole_at in_released.version_number r)
   numbers r has = whole_in db broker.kept.sound released (has_place _ 12 released (released_there db broker)) r has 1 _ refl refl refl refl refl
 
   -- a version is released once in an environment
-  pub keys : IsAscending (λ a b. eq_by_cmp placed (place_of a) (place_of b) ≡ false) (db.trees 23)
-  keys = once placed (db.trees 23) (1 ∷ 2 ∷ []) place_of
-      (λ a b ha hb. agree_and nat_list_cmp_total (db.trees 23) 1 (text 1) (text_part (db.trees 23) 1 environments) int_cmp (whole_at 2) (2 ∷ []) a b ha hb
-      (agree_last int_cmp_total (db.trees 23) 2 (whole_at 2) (whole_part (db.trees 23) 2 numbers) a b ha hb))
+  pub keys : IsAscending (λ a b. eq_by_cmp placed (place_of a) (place_of b) ≡ false) (db.trees in_released.tree)
+  keys = once placed (db.trees in_released.tree) (in_released.environment ∷ in_released.version_number ∷ []) place_of
+      (λ a b ha hb. agree_and nat_list_cmp_total (db.trees in_released.tree) in_released.environment (text in_released.environment) (text_part (db.trees in_released.tree) in_released.environment environments) int_cmp (whole_at in_released.version_number) (in_released.version_number ∷ []) a b ha hb
+      (agree_last int_cmp_total (db.trees in_released.tree) in_released.version_number (whole_at in_released.version_number)
+      (whole_part (db.trees in_released.tree) in_released.version_number numbers) a b ha hb))
       (apart_by db broker.kept released 12 (released_there db broker) _ 11 (ap (λ (s : Schema). slice_get s.indexes 11) broker.schema) refl)
 
 -- ---- what the rows of an environment say
 
 module _ (db : Database) (s : Broker) (held : Holds db s) (e : Words) where
   -- a row stands at the place of a version just where that is released
-  pub stands : (w : Version) (n : ℕ) → number_of s.versions w ≡ Some n → stands_at placed place_of (db.trees 23) (e, pos n) ≡ s.released (e, w)
-  stands w n known = sym (ap (λ o. option_map_or (λ m. stands_at placed place_of (db.trees 23) (e, pos m)) o false) known) ∙ held.released e w
+  pub stands : (w : Version) (n : ℕ) → number_of s.versions w ≡ Some n → stands_at placed place_of (db.trees in_released.tree) (e, pos n) ≡ s.released (e, w)
+  stands w n known = sym (ap (λ o. option_map_or (λ m. stands_at placed place_of (db.trees in_released.tree) (e, pos m)) o false) known) ∙ held.released e w
 
-  pub released_in : Names db s 23 2 e (IsReleasedIn s e)
+  pub released_in : Names db s in_released.tree in_released.version_number e (IsReleasedIn s e)
   released_in = record {
     environments = environments db held.broker;
     numbers = numbers db held.broker;
     row_is = λ r w n has there known number.
         let place : (e, pos n) ≡ place_of r = (λ i. (sym there i, sym number i)) in
-        sym (stands w n known) ∙ any_of (λ q. eq_by_cmp placed (e, pos n) (place_of q)) (db.trees 23) r has
+        sym (stands w n known) ∙ any_of (λ q. eq_by_cmp placed (e, pos n) (place_of q)) (db.trees in_released.tree) r has
         (ap (eq_by_cmp placed (e, pos n)) (sym place) ∙ (eq_by_cmp_equiv placed_total).refl (e, pos n));
     is_row = λ w n known there.
-        let d = any_has (λ q. eq_by_cmp placed (e, pos n) (place_of q)) (db.trees 23) (stands w n known ∙ there) in
+        let d = any_has (λ q. eq_by_cmp placed (e, pos n) (place_of q)) (db.trees in_released.tree) (stands w n known ∙ there) in
         let place : (e, pos n) ≡ place_of d.0 = exact_placed (e, pos n) (place_of d.0) ((Equal-is (placed (e, pos n) (place_of d.0))).0 d.2) in
         (d.0, d.1, sym (ap (λ x. x.0) place), sym (ap (λ x. x.1) place));
   }
@@ -98,27 +100,28 @@ module _ (db : Database) (s : Broker) (held : Holds db s) (e : Words) where
   pub released_numbered : (v : Version) → IsReleasedIn s e v → (n : ℕ) × (number_of s.versions v ≡ Some n)
   released_numbered v there = go (number_of s.versions v) (held.released e v ∙ there)
     where
-      go : (o : Option ℕ) → option_map_or (λ n. stands_at placed place_of (db.trees 23) (e, pos n)) o false ≡ true → (n : ℕ) × (o ≡ Some n)
+      go : (o : Option ℕ) → option_map_or (λ n. stands_at placed place_of (db.trees in_released.tree) (e, pos n)) o false ≡ true → (n : ℕ) × (o ≡ Some n)
       go None h = absurd cc
       go (Some n) h = (n, refl)
 
   pub released_listed : (rows : List Row) (items : List Version) → IsShown (releases e) db rows → AreRead IsReleasedRow rows items
       → Lists version_cmp (λ v. IsTrue (s.released (e, v))) items
-  released_listed = lists_join db (Text e ∷ []) (joined_by 2) list_project list_order IsReleasedRow version_cmp (λ v. IsTrue (s.released (e, v))) 23 6
-      (pairs_apart db held.broker 23 2 (environments db held.broker) (numbers db held.broker) e placed_total place_of list_order (keys db held.broker)
+  released_listed = lists_join db (Text e ∷ []) (joined_by in_released.version_number) list_project list_order IsReleasedRow version_cmp
+      (λ v. IsTrue (s.released (e, v))) in_released.tree in_versions.tree
+      (pairs_apart db held.broker in_released.tree in_released.version_number (environments db held.broker) (numbers db held.broker) e placed_total place_of list_order (keys db held.broker)
       (λ p q hp hq tied.
-      let a = has_kept db held.broker 23 2 (environments db held.broker) (numbers db held.broker) e p hp in
-      let b = has_kept db held.broker 23 2 (environments db held.broker) (numbers db held.broker) e q hq in
+      let a = has_kept db held.broker in_released.tree in_released.version_number (environments db held.broker) (numbers db held.broker) e p hp in
+      let b = has_kept db held.broker in_released.tree in_released.version_number (environments db held.broker) (numbers db held.broker) e q hq in
       let same = tied_texts _ _ _ _ _ _ _ _ (owners db held.broker p.1 a.1) (owners db held.broker q.1 b.1) (names db held.broker p.1 a.1)
       (names db held.broker q.1 b.1) tied in
       let row = same_row db held.broker p.1 q.1 a.1 b.1 (ap (λ x. x.0) same) (ap (λ x. x.1) same) in
       λ i. ((a.2.1 ∙ sym b.2.1) i, (sym a.2.0 ∙ ap (whole_at 0) row ∙ b.2.0) i)))
       (λ a b x y ha hb ra rb h. sym (two_texts _ _ _ _ _ _ _ _ ra.0 rb.0 ra.1 rb.1) ∙ h)
       (λ q x has read. subst (λ v. IsTrue (s.released (e, v))) (λ i. version (text_in (read.0 i)) (text_in (read.1 i)))
-      (pair_is db s held 23 2 e (IsReleasedIn s e) released_in q has).3)
+      (pair_is db s held in_released.tree in_released.version_number e (IsReleasedIn s e) released_in q has).3)
       (λ x there.
       let n = released_numbered x there in
-      let q = is_pair db s held 23 2 e (IsReleasedIn s e) released_in x n.0 n.1 there in
+      let q = is_pair db s held in_released.tree in_released.version_number e (IsReleasedIn s e) released_in x n.0 n.1 there in
       (q.0, q.1, λ y read i. version ((sym (ap text_in read.0) ∙ q.2) i) ((sym (ap text_in read.1) ∙ q.3) i)))
 
   -- ---- with the numbers
@@ -126,13 +129,13 @@ module _ (db : Database) (s : Broker) (held : Holds db s) (e : Words) where
   pub numbers_told : (rows : List Row) (items : List ReleasedNumber) → IsShown (release_numbers e) db rows → AreRead IsNumberOfReleased rows items → AreReleasedNumbers s e items
   numbers_told rows items h read x = (
     λ c.
-        let q = pair_of db (Text e ∷ []) (joined_by 2) number_project IsNumberOfReleased rows items read 23 6 h x c in
-        let it = pair_is db s held 23 2 e (IsReleasedIn s e) released_in q.0 q.1 in
+        let q = pair_of db (Text e ∷ []) (joined_by in_released.version_number) number_project IsNumberOfReleased rows items read in_released.tree in_versions.tree h x c in
+        let it = pair_is db s held in_released.tree in_released.version_number e (IsReleasedIn s e) released_in q.0 q.1 in
         subst (λ p. (name : Words) × IsReleasedIn s e (version p name) × (number_of s.versions (version p name) ≡ Some x.number)) (ap text_in q.2.1)
-        (text 3 q.0.1, it.3, it.1 ∙ ap Some (same_pos it.0 x.number (sym it.2 ∙ ap id_in q.2.0))),
+        (text in_versions.version q.0.1, it.3, it.1 ∙ ap Some (same_pos it.0 x.number (sym it.2 ∙ ap id_in q.2.0))),
     λ there.
-        let q = is_pair db s held 23 2 e (IsReleasedIn s e) released_in (version x.pacticipant there.0) x.number there.2 there.1 in
-        let y = item_of_pair db (Text e ∷ []) (joined_by 2) number_project IsNumberOfReleased rows items read 23 6 h q.0 q.1 in
+        let q = is_pair db s held in_released.tree in_released.version_number e (IsReleasedIn s e) released_in (version x.pacticipant there.0) x.number there.2 there.1 in
+        let y = item_of_pair db (Text e ∷ []) (joined_by in_released.version_number) number_project IsNumberOfReleased rows items read in_released.tree in_versions.tree h q.0 q.1 in
         let number : y.0.number ≡ x.number = same_pos y.0.number x.number (sym (ap id_in y.2.0) ∙ q.4) in
         let same : y.0 ≡ x = (λ i. record { number = number i; pacticipant = (sym (ap text_in y.2.1) ∙ q.2) i }) in
         subst (Contains items) same y.1,
@@ -142,35 +145,36 @@ abbrev pub by_place : List Term
 by_place = is_param 1 0 ∷ is_param 2 1 ∷ []
 
 module _ (db : Database) (broker : IsBroker db) where
-  pub where_place : (e : Words) (n : ℕ) (r : Row) → Has (db.trees 23) r → keeps by_place (Text e ∷ Int (pos n) ∷ []) r ≡ eq_by_cmp placed (e, pos n) (place_of r)
+  pub where_place : (e : Words) (n : ℕ) (r : Row) → Has (db.trees in_released.tree) r → keeps by_place (Text e ∷ Int (pos n) ∷ []) r ≡ eq_by_cmp placed (e, pos n) (place_of r)
   where_place e n r has =
       let params = Text e ∷ Int (pos n) ∷ [] in
-      where_and nat_list_cmp_total (db.trees 23) 1 (text 1) (text_part (db.trees 23) 1 (environments db broker)) int_cmp (whole_at 2) (pos n) (is_param 2 1 ∷ []) params 0 e refl r has
-      (where_last int_cmp_total (db.trees 23) 2 (whole_at 2) (whole_part (db.trees 23) 2 (numbers db broker)) params 1 (pos n) refl r has)
+      where_and nat_list_cmp_total (db.trees in_released.tree) in_released.environment (text in_released.environment) (text_part (db.trees in_released.tree) in_released.environment (environments db broker)) int_cmp (whole_at in_released.version_number) (pos n) (is_param 2 1 ∷ []) params 0 e refl r has
+      (where_last int_cmp_total (db.trees in_released.tree) in_released.version_number (whole_at in_released.version_number)
+      (whole_part (db.trees in_released.tree) in_released.version_number (numbers db broker)) params 1 (pos n) refl r has)
 
 -- ---- whether a version is released
 
 pub release : (e : Words) (n : ℕ)
     → Asked (codes "SELECT environment FROM released WHERE environment = ?1 AND version_number = ?2")
-    (Text e ∷ Int (pos n) ∷ []) (from_table 23 by_place (col 1 1 ∷ []) [])
+    (Text e ∷ Int (pos n) ∷ []) (from_table in_released.tree by_place (col 1 in_released.environment ∷ []) [])
 unfolding understood everything
 release e n = record { names = _; means = record { is = refl; plain = (refl, refl); unlisted = refl }; runs = record { whole = refl; typed = refl; sumless = refl } }
 
 -- a row is shown just where one has this environment and number
 row_found : (e : Words) (n : ℕ) (db : Database) (rows : List Row) → IsBroker db → IsShown (release e n) db rows
-    → is_some (option_map (text 0) (slice_get rows 0)) ≡ stands_at placed place_of (db.trees 23) (e, pos n)
+    → is_some (option_map (text 0) (slice_get rows 0)) ≡ stands_at placed place_of (db.trees in_released.tree) (e, pos n)
 row_found e n db rows broker h =
     let params = Text e ∷ Int (pos n) ∷ [] in
-    ap is_some (looks_up_at placed_total exact_placed place_of (text 1) (shows (col 1 1 ∷ []) params) (text 0) (λ r. refl) (e, pos n) (keeps by_place params) (db.trees 23) rows
-    (all_where placed (db.trees 23) place_of (e, pos n) by_place params (where_place db broker e n)) (keys db broker)
-    (answered db params 23 by_place (col 1 1 ∷ []) [] rows h))
-    ∙ stands_found placed place_of (text 1) (db.trees 23) (e, pos n)
+    ap is_some (looks_up_at placed_total exact_placed place_of (text in_released.environment) (shows (col 1 in_released.environment ∷ []) params) (text 0) (λ r. refl) (e, pos n) (keeps by_place params) (db.trees in_released.tree) rows
+    (all_where placed (db.trees in_released.tree) place_of (e, pos n) by_place params (where_place db broker e n)) (keys db broker)
+    (answered db params in_released.tree by_place (col 1 in_released.environment ∷ []) [] rows h))
+    ∙ stands_found placed place_of (text in_released.environment) (db.trees in_released.tree) (e, pos n)
 
 -- no row is shown for a number that no version has
 pub none_released : (e : Words) (n : ℕ) (db : Database) (rows : List Row) (s : Broker) → Holds db s → (¬ IsVersion n s) → IsShown (release e n) db rows
     → slice_get rows 0 ≡ None
 none_released e n db rows s held none h = no_first rows (of_table (release e n) db (λ row. ⊥) (λ r has kept.
-    no_row db s held n (λ v is. none (v, is)) released (has_place _ 12 released (released_there db held.broker)) 2 (inr (inl refl)) r has
+    no_row db s held n (λ v is. none (v, is)) released (has_place _ 12 released (released_there db held.broker)) in_released.version_number (inr (inl refl)) r has
     (numbers db held.broker r has) (first_of_both _ _ (second_of_both _ _ kept))) rows h)
 
 pub release_found : (e : Words) (n : ℕ) (db : Database) (rows : List Row) (s : Broker) (v : Version) → Holds db s → number_of s.versions v ≡ Some n → IsShown (release e n) db rows
@@ -182,18 +186,19 @@ release_found e n db rows s v held is h =
 
 -- the rows that hold the releases, where one place was set
 module _ (old new : Database) (s : Broker) (held : Holds old s) (e : Words) (n : ℕ) (v : Version) (is : number_of s.versions v ≡ Some n) (set : Bool)
-    (now : (q : Words × ℤ) → stands_at placed place_of (new.trees 23) q ≡ cond (eq_by_cmp placed q (e, pos n)) set (stands_at placed place_of (old.trees 23) q)) where
-  pub each : (f : Words) (w : Version) (o : Option ℕ) → number_of s.versions w ≡ o → option_map_or (λ k. stands_at placed place_of (new.trees 23) (f, pos k)) (number_of s.versions w) false ≡ put_at (same_pair same_text same_version) s.released (e, v) set (f, w)
+    (now : (q : Words × ℤ) → stands_at placed place_of (new.trees in_released.tree) q ≡ cond (eq_by_cmp placed q (e, pos n)) set (stands_at placed place_of (old.trees in_released.tree) q)) where
+  pub each : (f : Words) (w : Version) (o : Option ℕ) → number_of s.versions w ≡ o → option_map_or (λ k. stands_at placed place_of (new.trees in_released.tree) (f, pos k)) (number_of s.versions w) false ≡ put_at (same_pair same_text same_version) s.released (e, v) set (f, w)
   each f w None none =
-      let was : s.released (f, w) ≡ false = sym (held.released f w) ∙ ap (λ o. option_map_or (λ k. stands_at placed place_of (old.trees 23) (f, pos k)) o false) none in
-      ap (λ o. option_map_or (λ k. stands_at placed place_of (new.trees 23) (f, pos k)) o false) none
+      let was : s.released (f, w) ≡ false = sym (held.released f w) ∙ ap (λ o. option_map_or (λ k. stands_at placed place_of (old.trees in_released.tree) (f, pos k)) o false) none in
+      ap (λ o. option_map_or (λ k. stands_at placed place_of (new.trees in_released.tree) (f, pos k)) o false) none
       ∙ sym (ap (λ t. cond (same_text f e && t) set (s.released (f, w))) (version_unknown s.versions w v n none is)
       ∙ ap (λ t. cond t set (s.released (f, w))) (and-false (same_text f e)) ∙ was)
   each f w (Some k) some =
       let was = stands old s held f w k some in
       let same : (same_text f e && same_version w v) ≡ eq_by_cmp placed (f, pos k) (e, pos n) =
       two_tests (same_text f e) (same_version w v) (eq_by_cmp text_cmp f e) (eq_by_cmp int_cmp (pos k) (pos n)) (texts_ties f e) (number_ties s.versions w v k n some is) ∙ both_eq (text_cmp f e) (int_cmp (pos k) (pos n)) in
-      ap (λ o. option_map_or (λ m. stands_at placed place_of (new.trees 23) (f, pos m)) o false) some ∙ now (f, pos k) ∙ (λ i. cond (sym same i) set (was i))
+      ap (λ o. option_map_or (λ m. stands_at placed place_of (new.trees in_released.tree) (f, pos m)) o false) some ∙ now (f, pos k)
+      ∙ (λ i. cond (sym same i) set (was i))
 
 -- ---- a release
 
@@ -215,24 +220,24 @@ either false old = refl
 pub now_released : (e : Words) (n : ℕ) (old new : State) (count : ℕ) (s : Broker) (v : Version) → Holds old.now s → number_of s.versions v ≡ Some n → Executes record_sql (Text e ∷ Int (pos n) ∷ []) old new (Ok count)
     → HoldsAfter 2 old new (record s { released = put_at (same_pair same_text same_version) s.released (e, v) true })
 now_released e n old new count s v held is h =
-    let rows = old.now.trees 23 in
+    let rows = old.now.trees in_released.tree in
     let made = Int (next_rowid rows) ∷ Text e ∷ Int (pos n) ∷ [] in
     let it = inserted record_sql (Text e ∷ Int (pos n) ∷ []) old new held.broker released 12 (released_there old.now held.broker) _ made (record_puts e n) (record_stored rows e n) count h in
-    let frame = frame_of (codes "released" ∷ []) 23 refl old new held.broker it.0 in
+    let frame = frame_of (codes "released" ∷ []) in_released.tree refl old new held.broker it.0 in
     after_one 2 (omega arith) (codes "released") old new _ frame (λ counted. grows_added _ _ made it.1 refl) (released_change old.now new.now s _ held frame (λ f w. each old.now new.now s held e n v is true
-    (λ q. stands_put placed place_of rows (new.now.trees 23) made it.1 q ∙ either (eq_by_cmp placed q (e, pos n)) (stands_at placed place_of rows q)) f w (number_of s.versions w) refl))
+    (λ q. stands_put placed place_of rows (new.now.trees in_released.tree) made it.1 q ∙ either (eq_by_cmp placed q (e, pos n)) (stands_at placed place_of rows q)) f w (number_of s.versions w) refl))
 
 -- that a version is released fails only as the store fails, or since the environment's name is too long
 pub release_ends : (e : Words) (n : ℕ) (old new : State) (s : Broker) → Holds old.now s → HaveNumbers (codes "released" ∷ []) old.now → MayBeReleased e n s → EndsOnly (e ∷ []) record_sql (Text e ∷ Int (pos n) ∷ []) old new
 release_ends e n old new s held numbers_left (there, (v, is, free)) =
-    let rows = old.now.trees 23 in
+    let rows = old.now.trees in_released.tree in
     let made = Int (next_rowid rows) ∷ Text e ∷ Int (pos n) ∷ [] in
     next_ends record_sql (Text e ∷ Int (pos n) ∷ []) old new held.broker released 12 (released_there old.now held.broker) _ _ (record_puts e n) (record_stored rows e n) (number_for _ numbers_left.0) (record { typed = refl; present = refl; checked = refl }) (
-      free_two rows made nat_list_cmp_total 1 (text 1) (new_text rows made 1 (environments old.now held.broker) refl) placed_total int_cmp_total 2 (whole_at 2) (new_whole rows made 2 (numbers old.now held.broker) refl)
+      free_two rows made nat_list_cmp_total in_released.environment (text in_released.environment) (new_text rows made in_released.environment (environments old.now held.broker) refl) placed_total int_cmp_total in_released.version_number (whole_at in_released.version_number) (new_whole rows made in_released.version_number (numbers old.now held.broker) refl)
           (sym (ap (λ o. option_map_or (λ k. stands_at placed place_of rows (e, pos k)) o false) is) ∙ held.released e v ∙ free),
       tt,
     )
-    (environment_there old.now s held made 1 e there refl, (version_there old.now s held made 2 v n is refl, tt)) (e ∷ []) (λ are. (are.0, (tt, tt))) (omega arith) (omega arith)
+    (environment_there old.now s held made in_released.environment e there refl, (version_there old.now s held made in_released.version_number v n is refl, tt)) (e ∷ []) (λ are. (are.0, (tt, tt))) (omega arith) (omega arith)
 
 -- ---- the end of support
 
@@ -240,7 +245,7 @@ abbrev pub end_sql : List ℕ
 end_sql = codes "DELETE FROM released WHERE environment = ?1 AND version_number = ?2"
 
 abbrev pub end_command : Command
-end_command = Delete 12 (record { lets = []; body = from_table 23 by_place (col 1 0 ∷ []) [] })
+end_command = Delete 12 (record { lets = []; body = from_table in_released.tree by_place (col 1 0 ∷ []) [] })
 
 pub end_text : Means broker_schema end_sql end_command
 unfolding understood everything
@@ -249,21 +254,21 @@ end_text = record { is = refl; plain = (refl, refl); unlisted = refl }
 pub now_ended : (e : Words) (n : ℕ) (old new : State) (count : ℕ) (s : Broker) (v : Version) → Holds old.now s → number_of s.versions v ≡ Some n → Executes end_sql (Text e ∷ Int (pos n) ∷ []) old new (Ok count)
     → HoldsAfter 2 old new (record s { released = put_at (same_pair same_text same_version) s.released (e, v) false })
 now_ended e n old new count s v held is h =
-    let rows = old.now.trees 23 in
+    let rows = old.now.trees in_released.tree in
     let params = Text e ∷ Int (pos n) ∷ [] in
     let numbered = at_has _ old.now.schema.tables released held.broker.kept.numbered (has_place _ 12 released (released_there old.now held.broker)) in
-    let it = deletes (codes "released") 23 released.columns None (1 ∷ 2 ∷ []) released.uniques released.orders [] released.references end_sql params old new 12 (released_there old.now held.broker)
+    let it = deletes (codes "released") in_released.tree released.columns None (in_released.environment ∷ in_released.version_number ∷ []) released.uniques released.orders [] released.references end_sql params old new 12 (released_there old.now held.broker)
     by_place (meant old.now held.broker end_sql end_text) (calm old.now held.broker) numbered count h in
-    let frame = frame_of (codes "released" ∷ []) 23 refl old new held.broker it.0 in
+    let frame = frame_of (codes "released" ∷ []) in_released.tree refl old new held.broker it.0 in
     after_one 2 (omega arith) (codes "released") old new _ frame (λ counted. grows_kept _ _ _ it.1) (released_change old.now new.now s _ held frame (λ f w. each old.now new.now s held e n v is false
-    (stands_out placed_total exact_placed place_of (e, pos n) (keeps by_place params) rows (new.now.trees 23) (all_where placed rows place_of (e, pos n) by_place params (where_place old.now held.broker e n)) it.1) f w (number_of s.versions w) refl))
+    (stands_out placed_total exact_placed place_of (e, pos n) (keeps by_place params) rows (new.now.trees in_released.tree) (all_where placed rows place_of (e, pos n) by_place params (where_place old.now held.broker e n)) it.1) f w (number_of s.versions w) refl))
 
 -- and the count says whether it was released
 pub ended_count : (e : Words) (n : ℕ) (old new : State) (count : ℕ) (s : Broker) (v : Version) → Holds old.now s → number_of s.versions v ≡ Some n → Executes end_sql (Text e ∷ Int (pos n) ∷ []) old new (Ok count)
     → nat_lt 0 count ≡ s.released (e, v)
 ended_count e n old new count s v held is h =
-    let rows = old.now.trees 23 in
+    let rows = old.now.trees in_released.tree in
     let params = Text e ∷ Int (pos n) ∷ [] in
-    ap (nat_lt 0) (deletes_counted (codes "released") 23 released.columns None (1 ∷ 2 ∷ []) released.uniques released.orders [] released.references end_sql params old new 12 (released_there old.now held.broker) by_place (meant old.now held.broker end_sql end_text) count h)
+    ap (nat_lt 0) (deletes_counted (codes "released") in_released.tree released.columns None (in_released.environment ∷ in_released.version_number ∷ []) released.uniques released.orders [] released.references end_sql params old new 12 (released_there old.now held.broker) by_place (meant old.now held.broker end_sql end_text) count h)
     ∙ some_counted (keeps by_place params) rows ∙ same_any (keeps by_place params) (λ r. eq_by_cmp placed (e, pos n) (place_of r)) rows (where_place old.now held.broker e n)
     ∙ stands old.now s held e v n is

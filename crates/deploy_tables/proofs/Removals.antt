@@ -3,7 +3,7 @@ use Rattle.std.proofs.{Common.{◌≡◌, ◌∙◌, ℕ, pos, codes, List, [], 
 use Rattle.sqlite_value.specs.declared.keys.Order.{Order}
 use Rattle.sqlite_tied.specs.Compute.{everything}
 use Rattle.broker_core.specs.State.{State as Broker}
-use Rattle.broker_tables.{specs.{Calm.{Serves}, Schema.{broker_schema}}, proofs.{Frames.{meant, runs_here}, Inserted.{apart}}}
+use Rattle.broker_tables.{specs.{Schema.{in_deployed, in_released, broker_schema}, Calm.{Serves}}, proofs.{Frames.{meant, runs_here}, Inserted.{apart}}}
 use Rattle.broker_tables.proofs.Placed.{all_calm, deployed, deployed_there, released, released_there}
 use Rattle.sqlite.specs.{declared.types.Value.TheVariants.{Int, Text}, Order.{Row}, Table.{Table}, Term.{Term, col}, Command.TheVariants.{Delete}}
 use Rattle.sqlite.specs.{State.{State}, Listing.{understood}}
@@ -32,32 +32,37 @@ module _ (name : List ℕ) (tree : ℕ) (columns : List Column) (primary : List 
 
 -- ---- a deployment
 
-deployed_leaf : IsLeaf (codes "deployed") 21 deployed.columns None (1 ∷ 2 ∷ 3 ∷ []) deployed.uniques deployed.orders [] deployed.references broker_schema
+deployed_leaf : IsLeaf (codes "deployed") in_deployed.tree deployed.columns None
+    (in_deployed.environment ∷ in_deployed.pacticipant ∷ in_deployed.instance ∷ []) deployed.uniques deployed.orders [] deployed.references broker_schema
 unfolding everything
 deployed_leaf = record { apart = apart; calm = all_calm; alone = refl; fits = λ b. or-true (not b) }
 
-deployed_runs : (e p i : List ℕ) (n : ℕ) → Runs broker_schema deployments.end_sql (Text e ∷ Text p ∷ Text i ∷ Int (pos n) ∷ []) (from_table 21 deployments.by_version (col 1 0 ∷ []) [])
+deployed_runs : (e p i : List ℕ) (n : ℕ) → Runs broker_schema deployments.end_sql (Text e ∷ Text p ∷ Text i ∷ Int (pos n) ∷ []) (from_table in_deployed.tree deployments.by_version (col 1 0 ∷ []) [])
 unfolding understood everything
 deployed_runs e p i n = record { whole = refl; typed = refl; sumless = refl }
 
 pub taking_out_ends : (e p i : List ℕ) (n : ℕ) (old new : State) (s : Broker) → Serves old s → (fault : StoreFault) → FailsToRun deployments.end_sql (Text e ∷ Text p ∷ Text i ∷ Int (pos n) ∷ []) old new fault → HasFailed old new fault
 taking_out_ends e p i n old new s here =
-    removal_ends (codes "deployed") 21 deployed.columns (1 ∷ 2 ∷ 3 ∷ []) deployed.uniques deployed.orders deployed.references deployed_leaf 11
+    removal_ends (codes "deployed") in_deployed.tree deployed.columns
+    (in_deployed.environment ∷ in_deployed.pacticipant ∷ in_deployed.instance ∷ []) deployed.uniques deployed.orders deployed.references deployed_leaf 11
     deployments.end_sql (Text e ∷ Text p ∷ Text i ∷ Int (pos n) ∷ []) deployments.by_version old new s
     (deployed_there old.now here.held.broker) deployments.end_text (deployed_runs e p i n) here
 
 -- ---- a release
 
-released_leaf : IsLeaf (codes "released") 23 released.columns None (1 ∷ 2 ∷ []) released.uniques released.orders [] released.references broker_schema
+released_leaf : IsLeaf (codes "released") in_released.tree released.columns None
+    (in_released.environment ∷ in_released.version_number ∷ []) released.uniques released.orders [] released.references broker_schema
 unfolding everything
 released_leaf = record { apart = apart; calm = all_calm; alone = refl; fits = λ b. or-true (not b) }
 
-released_runs : (e : List ℕ) (n : ℕ) → Runs broker_schema releases.end_sql (Text e ∷ Int (pos n) ∷ []) (from_table 23 releases.by_place (col 1 0 ∷ []) [])
+released_runs : (e : List ℕ) (n : ℕ)
+    → Runs broker_schema releases.end_sql (Text e ∷ Int (pos n) ∷ []) (from_table in_released.tree releases.by_place (col 1 0 ∷ []) [])
 unfolding understood everything
 released_runs e n = record { whole = refl; typed = refl; sumless = refl }
 
 pub support_ends : (e : List ℕ) (n : ℕ) (old new : State) (s : Broker) → Serves old s → (fault : StoreFault) → FailsToRun releases.end_sql (Text e ∷ Int (pos n) ∷ []) old new fault → HasFailed old new fault
 support_ends e n old new s here =
-    removal_ends (codes "released") 23 released.columns (1 ∷ 2 ∷ []) released.uniques released.orders released.references released_leaf 12 releases.end_sql
+    removal_ends (codes "released") in_released.tree released.columns
+    (in_released.environment ∷ in_released.version_number ∷ []) released.uniques released.orders released.references released_leaf 12 releases.end_sql
     (Text e ∷ Int (pos n) ∷ []) releases.by_place old new s
     (released_there old.now here.held.broker) releases.end_text (released_runs e n) here

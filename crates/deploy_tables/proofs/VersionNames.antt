@@ -6,7 +6,7 @@ use Rattle.sqlite_rules.specs.Lists.{Has}
 use Rattle.sqlite_tied.specs.Compute.{everything}
 use Rattle.broker_core.specs.{declared.command.Version.{Version}, Text.{version}, State.{State as Broker}}
 use Rattle.broker_core.proofs.Lists.{some_is, contains_none, contains_here}
-use Rattle.broker_tables.{specs.{Numbers.{number_of}, Holds.{Holds}}, proofs.{Asked.{Asked, IsShown}, NumberLemmas.{one_version}}}
+use Rattle.broker_tables.{specs.{Schema.{in_versions}, Numbers.{number_of}, Holds.{Holds}}, proofs.{Asked.{Asked, IsShown}, NumberLemmas.{one_version}}}
 use Rattle.broker_tables.proofs.VersionRows.{whole_test, version_number, row_number, find_version}
 use Rattle.deploy_tables.{specs.Listings.{IsReleasedRow}, proofs.VersionRows.{same_pos, row_of, item_of}}
 use Rattle.sqlite.specs.{declared.types.Value.TheVariants.{Int}, Order.{Row, column}, Term.{Term, col, op2}, Collation.TheVariants.{Binary}, Effect.{Database}}
@@ -18,10 +18,10 @@ abbrev by_number : List Term
 by_number = op2 (Compare Eq Binary) (col 1 0) (col 0 0) ∷ []
 
 abbrev pub name_project : List Term
-name_project = col 1 2 ∷ col 1 3 ∷ []
+name_project = col 1 in_versions.pacticipant ∷ col 1 in_versions.version ∷ []
 
 pub names_of : (n : ℕ)
-    → Asked (codes "SELECT pacticipant, version FROM versions WHERE number = ?1") (Int (pos n) ∷ []) (from_table 6 by_number name_project [])
+    → Asked (codes "SELECT pacticipant, version FROM versions WHERE number = ?1") (Int (pos n) ∷ []) (from_table in_versions.tree by_number name_project [])
 unfolding understood everything
 names_of n = record { names = _; means = record { is = refl; plain = (refl, refl); unlisted = refl }; runs = record { whole = refl; typed = refl; sumless = refl } }
 
@@ -29,7 +29,7 @@ module _ (db : Database) (s : Broker) (held : Holds db s) (n : ℕ) where
   abbrev params : Row
   params = Int (pos n) ∷ []
 
-  is_kept : (r : Row) → Has (db.trees 6) r → (keeps by_number params r ≡ true) ↔ (whole_at 0 r ≡ pos n)
+  is_kept : (r : Row) → Has (db.trees in_versions.tree) r → (keeps by_number params r ≡ true) ↔ (whole_at 0 r ≡ pos n)
   is_kept r has =
       let test = whole_test (column r 0) (Int (pos n)) (whole_at 0 r) (pos n) (version_number db held.broker r has) refl in
       let alone = and-true (is_true (binary (Compare Eq Binary) (column r 0) (Int (pos n)))) in
@@ -39,13 +39,13 @@ module _ (db : Database) (s : Broker) (held : Holds db s) (n : ℕ) where
   pub names_told : (rows : List Row) (items : List Version) → IsShown (names_of n) db rows → AreRead IsReleasedRow rows items → (w : Version) → Contains items w ↔ (number_of s.versions w ≡ Some n)
   names_told rows items h read w = (
     λ c.
-        let r = row_of db params by_number name_project IsReleasedRow rows items read 6 h w c in
+        let r = row_of db params by_number name_project IsReleasedRow rows items read in_versions.tree h w c in
         let it = row_number db held.broker s.versions held.versions r.0 r.1 in
         let number : it.0 ≡ n = same_pos it.0 n (sym it.2 ∙ (is_kept r.0 r.1).0 r.2) in
         (λ i. number_of s.versions (version (sym (ap text_in r.3.0) i) (sym (ap text_in r.3.1) i))) ∙ it.1 ∙ ap Some number,
     λ known.
         let r = find_version db held.broker s.versions w n held.versions known in
-        let y = item_of db params by_number name_project IsReleasedRow rows items read 6 h r.0 r.1 ((is_kept r.0 r.1).1 r.4) in
+        let y = item_of db params by_number name_project IsReleasedRow rows items read in_versions.tree h r.0 r.1 ((is_kept r.0 r.1).1 r.4) in
         let same : y.0 ≡ w = (λ i. version ((sym (ap text_in y.2.0) ∙ r.2) i) ((sym (ap text_in y.2.1) ∙ r.3) i)) in
         subst (Contains items) same y.1,
   )

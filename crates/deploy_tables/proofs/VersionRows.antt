@@ -5,10 +5,9 @@ use Rattle.std.proofs.Common.{true≢false, ◌≡◌, ◌∙◌, ℕ, pos, List
 use Rattle.std.proofs.lemmas.List.Sorted.{Contains-permutation}
 use Rattle.sqlite_value.{specs.declared.keys.Key.{Key}, proofs.OrderLemmas.{value_cmp-Text, then-Equal}}
 use Rattle.sqlite_rules.specs.Lists.{Has}
-use Rattle.broker_tables.specs.{Numbers.{number_of}, Holds.{IsBroker, Holds}}
+use Rattle.broker_tables.specs.{Schema.{in_versions, in_deployed}, Numbers.{number_of}, Holds.{IsBroker, Holds}}
 use Rattle.broker_tables.proofs.VersionRows.{whole_test, text_test, false_if, row_number, find_version, versions_numbered, version_number}
 use Rattle.broker_tables.proofs.{Listed.{read_has, has_read, sorts}, Orders.{exact_pair}}
-use Rattle.contract_tables.proofs.JoinRows.{row_shown, pair_shown}
 use Rattle.sqlite.specs.{declared.types.Value.{Value}, declared.types.Value.TheVariants.{Int, Text}, Order.{Row, column, value_cmp}}
 use Rattle.sqlite.specs.{Term.{Term, col, op2, eval_all}, Tree.{IsAscending}, Collation.TheVariants.{Binary}, Effect.{Database, Answers}}
 use Rattle.sqlite_sql.specs.{declared.ops.BinaryOp.TheVariants.{Compare}, declared.ops.CompareOp.TheVariants.{Eq}, Ops.{binary, is_true}}
@@ -41,24 +40,12 @@ module _ {Y : Type 0} (db : Database) (params : Row) (terms project : List Term)
         (has_contains all (shows project params r) (has_map (shows project params) (filter (keeps terms params) (db.trees t)) r
         (has_filter (keeps terms params) (db.trees t) r has kept)))))
 
-  -- the same of two rows that ON and WHERE keep
-  module _ (t u : ℕ) (h : Answers db (record { lets = []; body = from_both t u terms project [] }) params rows) where
-    pub pair_of : (x : Y) → Contains items x
-        → (q : Row × Row) × Has (pairs_kept terms params (db.trees t) (db.trees u)) q × reads (eval_all project (params ∷ q.0 ∷ q.1 ∷ [])) x
-    pair_of x c =
-        let row = read_has reads rows items x read c in
-        let q = row_shown db params t u terms project [] rows h row.0 row.1 in
-        (q.0, q.1, subst (λ y. reads y x) q.2 row.2)
-
-    pub item_of_pair : (q : Row × Row) → Has (pairs_kept terms params (db.trees t) (db.trees u)) q
-        → (y : Y) × Contains items y × reads (eval_all project (params ∷ q.0 ∷ q.1 ∷ [])) y
-    item_of_pair q has = has_read reads rows items (eval_all project (params ∷ q.0 ∷ q.1 ∷ [])) read (pair_shown db params t u terms project [] rows h q has)
-
 -- ---- rows that name an environment and a version
 
--- ON v.number = the number at this place, WHERE the environment is the parameter
+-- ON v.number = the number at this place, WHERE the environment is the parameter. It is at the same place in deployed
+-- and in released
 abbrev pub joined_by : ℕ → List Term
-joined_by place = op2 (Compare Eq Binary) (col 2 0) (col 1 place) ∷ op2 (Compare Eq Binary) (col 1 1) (col 0 0) ∷ []
+joined_by place = op2 (Compare Eq Binary) (col 2 0) (col 1 place) ∷ op2 (Compare Eq Binary) (col 1 in_deployed.environment) (col 0 0) ∷ []
 
 pub same_pos : (m n : ℕ) → pos m ≡ pos n → m ≡ n
 same_pos m n h = cc
@@ -93,33 +80,37 @@ same_apart {R = R} o a b same apart = true≢false (sym (ap (eq_by_cmp R a) (sym
 
 -- The rows of the table that name this environment name those versions that are such.
 pub record Names (db : Database) (s : Broker) (t place : ℕ) (e : Words) (Is : Version → Type 0) : Type 0 where
-  pub environments : (r : Row) → Has (db.trees t) r → column r 1 ≡ Text (text 1 r)
+  pub environments : (r : Row) → Has (db.trees t) r → column r in_deployed.environment ≡ Text (text in_deployed.environment r)
   pub numbers : (r : Row) → Has (db.trees t) r → column r place ≡ Int (whole_at place r)
-  pub row_is : (r : Row) (w : Version) (n : ℕ) → Has (db.trees t) r → text 1 r ≡ e → number_of s.versions w ≡ Some n → whole_at place r ≡ pos n → Is w
-  pub is_row : (w : Version) (n : ℕ) → number_of s.versions w ≡ Some n → Is w → (r : Row) × Has (db.trees t) r × (text 1 r ≡ e) × (whole_at place r ≡ pos n)
+  pub row_is : (r : Row) (w : Version) (n : ℕ) → Has (db.trees t) r → text in_deployed.environment r ≡ e → number_of s.versions w ≡ Some n
+      → whole_at place r ≡ pos n → Is w
+  pub is_row : (w : Version) (n : ℕ) → number_of s.versions w ≡ Some n → Is w
+      → (r : Row) × Has (db.trees t) r × (text in_deployed.environment r ≡ e) × (whole_at place r ≡ pos n)
 
-module _ (db : Database) (broker : IsBroker db) (t place : ℕ) (environments : (r : Row) → Has (db.trees t) r → column r 1 ≡ Text (text 1 r))
+module _ (db : Database) (broker : IsBroker db) (t place : ℕ) (environments : (r : Row) → Has (db.trees t) r → column r in_deployed.environment ≡ Text (text in_deployed.environment r))
     (numbers : (r : Row) → Has (db.trees t) r → column r place ≡ Int (whole_at place r)) (e : Words) where
   -- what ON and WHERE test
-  joins : (d v : Row) → Has (db.trees t) d → Has (db.trees 6) v
-      → (keeps_both (joined_by place) (Text e ∷ []) d v ≡ true) ↔ ((whole_at 0 v ≡ whole_at place d) × (text 1 d ≡ e))
+  joins : (d v : Row) → Has (db.trees t) d → Has (db.trees in_versions.tree) v
+      → (keeps_both (joined_by place) (Text e ∷ []) d v ≡ true) ↔ ((whole_at 0 v ≡ whole_at place d) × (text in_deployed.environment d ≡ e))
   joins d v hd hv =
       let one = whole_test (column v 0) (column d place) (whole_at 0 v) (whole_at place d) (version_number db broker v hv) (numbers d hd) in
-      let two = text_test (column d 1) (Text e) (text 1 d) e (environments d hd) refl in
-      let all = both_hold (is_true (binary (Compare Eq Binary) (column v 0) (column d place))) (is_true (binary (Compare Eq Binary) (column d 1) (Text e))) in
+      let two = text_test (column d in_deployed.environment) (Text e) (text in_deployed.environment d) e (environments d hd) refl in
+      let all = both_hold (is_true (binary (Compare Eq Binary) (column v 0) (column d place))) (is_true (binary (Compare Eq Binary) (column d in_deployed.environment) (Text e))) in
       (λ h. let it = all.0 h in (one.0 it.0, two.0 it.1), λ same. all.1 (one.1 same.0, two.1 same.1))
 
   -- the pairs of a row of the environment and its version
   abbrev pub kept : List (Row × Row)
-  kept = pairs_kept (joined_by place) (Text e ∷ []) (db.trees t) (db.trees 6)
+  kept = pairs_kept (joined_by place) (Text e ∷ []) (db.trees t) (db.trees in_versions.tree)
 
-  pub has_kept : (q : Row × Row) → Has kept q → Has (db.trees t) q.0 × Has (db.trees 6) q.1 × ((whole_at 0 q.1 ≡ whole_at place q.0) × (text 1 q.0 ≡ e))
+  pub has_kept : (q : Row × Row) → Has kept q
+      → Has (db.trees t) q.0 × Has (db.trees in_versions.tree) q.1 × ((whole_at 0 q.1 ≡ whole_at place q.0) × (text in_deployed.environment q.0 ≡ e))
   has_kept q h =
-      let it = pair_has (keeps_both (joined_by place) (Text e ∷ [])) (db.trees 6) (db.trees t) q h in
+      let it = pair_has (keeps_both (joined_by place) (Text e ∷ [])) (db.trees in_versions.tree) (db.trees t) q h in
       (it.0, it.1, (joins q.0 q.1 it.0 it.1).0 it.2)
 
-  pub is_kept : (d v : Row) → Has (db.trees t) d → Has (db.trees 6) v → whole_at 0 v ≡ whole_at place d → text 1 d ≡ e → Has kept (d, v)
-  is_kept d v hd hv same there = has_pair (keeps_both (joined_by place) (Text e ∷ [])) (db.trees 6) (db.trees t) d v hd hv ((joins d v hd hv).1 (same, there))
+  pub is_kept : (d v : Row) → Has (db.trees t) d → Has (db.trees in_versions.tree) v → whole_at 0 v ≡ whole_at place d → text in_deployed.environment d ≡ e
+      → Has kept (d, v)
+  is_kept d v hd hv same there = has_pair (keeps_both (joined_by place) (Text e ∷ [])) (db.trees in_versions.tree) (db.trees t) d v hd hv ((joins d v hd hv).1 (same, there))
 
   -- no two pairs tie, if the key of a row follows from that by which they are sorted
   pub pairs_apart : {K : Type 0} {R : K → K → Ordering} (o : IsTotalOrder R) (key : Row → K) (order : List (Term × Key))
@@ -127,29 +118,30 @@ module _ (db : Database) (broker : IsBroker db) (t place : ℕ) (environments : 
       → ((p q : Row × Row) → Has kept p → Has kept q → is_eq (sorts order (λ (m : Row × Row). (Text e ∷ []) ∷ m.0 ∷ m.1 ∷ []) p q) ≡ true → key p.0 ≡ key q.0)
       → IsAscending (λ a b. is_eq (sorts order (λ (m : Row × Row). (Text e ∷ []) ∷ m.0 ∷ m.1 ∷ []) a b) ≡ false) kept
   pairs_apart o key order keys tie =
-      pairs_rise (keeps_both (joined_by place) (Text e ∷ [])) (db.trees 6)
+      pairs_rise (keeps_both (joined_by place) (Text e ∷ [])) (db.trees in_versions.tree)
       (λ a b. is_eq (sorts order (λ (m : Row × Row). (Text e ∷ []) ∷ m.0 ∷ m.1 ∷ []) a b) ≡ false) (db.trees t)
-      (λ r hr. ascending_on _ _ (db.trees 6) (λ v w hv hw apart kv kw.
+      (λ r hr. ascending_on _ _ (db.trees in_versions.tree) (λ v w hv hw apart kv kw.
       absurd (same_apart int_cmp_total (whole_at 0 v) (whole_at 0 w) (((joins r v hr hv).0 kv).0 ∙ sym ((joins r w hr hw).0 kw).0) apart))
-      (numbers_once (db.trees 6) (versions_numbered db broker)))
+      (numbers_once (db.trees in_versions.tree) (versions_numbered db broker)))
       (ascending_on _ _ (db.trees t) (λ r q hr hq apart v w hv hw kv kw. false_if _ (λ tied. same_apart o (key r) (key q)
-      (tie (r, v) (q, w) (has_pair (keeps_both (joined_by place) (Text e ∷ [])) (db.trees 6) (db.trees t) r v hr hv kv)
-      (has_pair (keeps_both (joined_by place) (Text e ∷ [])) (db.trees 6) (db.trees t) q w hq hw kw) tied) apart)) keys)
+      (tie (r, v) (q, w) (has_pair (keeps_both (joined_by place) (Text e ∷ [])) (db.trees in_versions.tree) (db.trees t) r v hr hv kv)
+      (has_pair (keeps_both (joined_by place) (Text e ∷ [])) (db.trees in_versions.tree) (db.trees t) q w hq hw kw) tied) apart)) keys)
 
 module _ (db : Database) (s : Broker) (held : Holds db s) (t place : ℕ) (e : Words) (Is : Version → Type 0) (names : Names db s t place e Is) where
   -- each pair is that of a version that is such
   pub pair_is : (q : Row × Row) → Has (kept db held.broker t place names.environments names.numbers e) q
-      → (k : ℕ) × (number_of s.versions (version (text 2 q.1) (text 3 q.1)) ≡ Some k) × (whole_at place q.0 ≡ pos k) × Is (version (text 2 q.1) (text 3 q.1))
+      → (k : ℕ) × (number_of s.versions (version (text in_versions.pacticipant q.1) (text in_versions.version q.1)) ≡ Some k) × (whole_at place q.0 ≡ pos k)
+      × Is (version (text in_versions.pacticipant q.1) (text in_versions.version q.1))
   pair_is q has =
       let it = has_kept db held.broker t place names.environments names.numbers e q has in
       let known = row_number db held.broker s.versions held.versions q.1 it.1 in
       let number = sym it.2.0 ∙ known.2 in
-      (known.0, known.1, number, names.row_is q.0 (version (text 2 q.1) (text 3 q.1)) known.0 it.0 it.2.1 known.1 number)
+      (known.0, known.1, number, names.row_is q.0 (version (text in_versions.pacticipant q.1) (text in_versions.version q.1)) known.0 it.0 it.2.1 known.1 number)
 
   -- and each version that is such has a pair
   pub is_pair : (w : Version) (n : ℕ) → number_of s.versions w ≡ Some n → Is w
       → (q : Row × Row) × Has (kept db held.broker t place names.environments names.numbers e) q
-      × (text 2 q.1 ≡ w.pacticipant) × (text 3 q.1 ≡ w.name) × (whole_at place q.0 ≡ pos n)
+      × (text in_versions.pacticipant q.1 ≡ w.pacticipant) × (text in_versions.version q.1 ≡ w.name) × (whole_at place q.0 ≡ pos n)
   is_pair w n known is =
       let d = names.is_row w n known is in
       let v = find_version db held.broker s.versions w n held.versions known in

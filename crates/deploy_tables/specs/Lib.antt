@@ -5,4 +5,3 @@ pub mod ContractsThere
 pub mod Partners
 pub mod Needs
 pub mod Matrix
-pub mod ToldResults

@@ -14,7 +14,7 @@ use Rattle.broker_core.specs.Listing.{Lists}
 use Rattle.broker_tables.specs.Numbers.{number_of}
 use Rattle.contract_tables.specs.declared.listings.Contract.{Contract}
 use Rattle.contract_tables.specs.declared.version_results.LatestResult.{LatestResult}
-use Rattle.contract_tables.specs.VersionResults.{latest_cmp}
+use Rattle.contract_tables.specs.VersionResults.{latest_cmp, IsLatestOf}
 use Rattle.deploy_tables.specs.declared.contracts_there.NumberedContract.{NumberedContract}
 
 -- ---- the faults
@@ -36,7 +36,7 @@ IsOwnContract s v c = s.contracts (v, c.provider) ≡ Some c.content
 
 -- these are the latest results of v, for each content that has one
 abbrev pub AreLatestOf : State → Version → List LatestResult → Type 0
-AreLatestOf s v results = Lists latest_cmp (λ x. latest s x.content v ≡ Some x.latest) results
+AreLatestOf s v results = Lists latest_cmp (IsLatestOf s v) results
 
 -- ---- the needs that aren't good
 

@@ -20,7 +20,6 @@ macro_rules! done {
 
 mod contracts_there;
 mod deployments;
-mod entries;
 mod gate;
 mod listings;
 mod lists;
@@ -29,7 +28,7 @@ mod matrix_rows;
 mod open_needs;
 mod partners;
 mod releases;
-mod told_results;
+mod rows;
 mod version_names;
 
 pub use deployments::{is_deployed, record_deployed, take_out};

@@ -2,6 +2,7 @@
 ghost use Rattle.std.specs.Prelude.{◌≡◌, ◌++◌, ◌∷◌};
 ghost use Rattle.table_access.specs.Calls.{CallsStore};
 ghost use Rattle.table_access.specs.Statements.{Makes};
+ghost use Rattle.broker_tables.specs.Making.{IsCalmOver};
 ghost use Rattle.broker_tables.specs.Schema.{registry_part, contents, contract_part, deploy_part, schema_of};
 
 use broker_tables::create::{DEPLOYED, RELEASED};
@@ -15,9 +16,11 @@ use table_access::StoreFault;
 /// # Errors
 /// `StoreFault::Memory` if the database is out of memory; `StoreFault::Store` if it refused a table.
 pub fn make_tables<S: Alter>(conn: &mut Connection<S>) -> Result<(), StoreFault>
-    ensures { CallsStore S.Store conn.old conn.new result
+    ensures makes { CallsStore S.Store conn.old conn.new result
         (λ _ old new. old.now.schema ≡ schema_of (registry_part ++ contents ∷ contract_part) →
         Makes deploy_part old.now new.now) }
+    ensures calm { IsCalmOver S.Store conn.old conn.new result
+        (λ db. db.schema ≡ schema_of (registry_part ++ contents ∷ contract_part)) }
 {
     make_each(conn, &[DEPLOYED, RELEASED])
 }

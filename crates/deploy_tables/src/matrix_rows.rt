@@ -1,30 +1,19 @@
 //! The matrix of a version: its contracts, and those that it has results for, with the latest result of each version of
 //! the provider.
-ghost use Rattle.std.specs.Prelude.{◌≡◌, ◌↔◌, IfOk, IfErr, Some, Err, Contains};
-ghost use Rattle.std.specs.List.Sorted.{IsStrictlySortedBy};
-ghost use Rattle.std.specs.Ordering.{nat_cmp};
-ghost use Rattle.table_access.specs.Reading.{AreRead};
-ghost use Rattle.broker_core.specs.declared.command.Version.{Version as VersionModel};
+ghost use Rattle.std.specs.Prelude.{◌≡◌, ◌↔◌, Some, Contains};
+ghost use Rattle.broker_core.specs.declared.answer.MatrixRow.{MatrixRow as RowModel};
 ghost use Rattle.broker_core.specs.Listing.{Lists};
 ghost use Rattle.broker_core.specs.Machine.{IsMatrixRow, matrix_cmp};
 ghost use Rattle.broker_tables.specs.Numbers.{number_of as number_known};
-ghost use Rattle.broker_tables.specs.Holds.{Queries};
-ghost use Rattle.broker_tables.specs.Calm.{CalmQueries, IsCalmFrom};
-ghost use Rattle.contract_tables.specs.Listings.{contract_cmp};
-ghost use Rattle.deploy_tables.specs.declared.entries.Entry.{Entry as EntryModel};
-ghost use Rattle.deploy_tables.specs.Matrix.{IsOfContract, IsOfContent, IsOfSome, IsProvided, IsEntry, AreEntriesOf, entry_cmp};
-ghost use Rattle.deploy_tables.specs.Needs.{IsOwnContract};
-ghost use Rattle.deploy_tables.specs.ToldResults.{ArePassesByNumber, IsUntold, NamesUntold, FailsAsTold, IsToldBy, IsRowTold};
+ghost use Rattle.broker_tables.specs.Calm.{CalmQueries};
+ghost use Rattle.deploy_tables.specs.Matrix.{IsOfContract, IsOfContent, IsOfSome, IsProvided};
 
-use crate::entries::{Entry, both_sides, entries_used, entries_with};
 use crate::lists::add;
-use crate::told_results::{ResultPass, checked_told, is_checked_among, pass_among, passes_told};
-use broker_core::answer::{MatrixRow, Verified};
+use crate::rows::{each_row_once, rows_used, rows_with};
+use broker_core::answer::MatrixRow;
 use broker_core::command::Version;
-use broker_core::need::Latest;
 use contract_tables::{
-    Contract, VerifiedContent, VerifiedVersion, consumers_of, contracts_of, verified_contents,
-    verified_versions,
+    Contract, LatestResult, consumers_of, contracts_of, latest_results, verified_versions,
 };
 use registry_tables::version_of;
 use sqlite::{Alter, Connection};
@@ -37,9 +26,9 @@ fn of_contract<S: Alter>(
     conn: &mut Connection<S>,
     version: &Version,
     contract: &Contract,
-) -> Result<Vec<Entry>, StoreFault>
+) -> Result<Vec<MatrixRow>, StoreFault>
     ensures { CalmQueries S.Store conn.old conn.new result
-        (λ found s. (x : EntryModel) → Contains found.items x ↔ IsOfContract s version.now contract.now x) }
+        (λ found s. (x : RowModel) → Contains found.items x ↔ IsOfContract s version.now contract.now x) }
 {
     let verified = done!(verified_versions(
         alloc,
@@ -47,8 +36,8 @@ fn of_contract<S: Alter>(
         contract.provider.as_str(),
         contract.content,
     ));
-    match entries_with(alloc, version, contract, &verified) {
-        Ok(entries) => Ok(entries),
+    match rows_with(alloc, version, contract, &verified) {
+        Ok(rows) => Ok(rows),
         Err(_) => Err(StoreFault::Memory),
     }
 }
@@ -59,9 +48,9 @@ fn of_contracts<S: Alter>(
     conn: &mut Connection<S>,
     version: &Version,
     contracts: &[Contract],
-) -> Result<Vec<Entry>, StoreFault>
+) -> Result<Vec<MatrixRow>, StoreFault>
     ensures { CalmQueries S.Store conn.old conn.new result
-        (λ found s. (x : EntryModel) → Contains found.items x
+        (λ found s. (x : RowModel) → Contains found.items x
         ↔ IsOfSome (λ c. IsOfContract s version.now c x) contracts.now) }
 {
     let mut found = Vec::new(alloc);
@@ -72,42 +61,37 @@ fn of_contracts<S: Alter>(
     Ok(found)
 }
 
-/// The contracts of this content with the version's pacticipant, with the version's result for it.
+/// The contracts with the version's pacticipant of the content that the version has this result for.
 fn of_content<S: Alter>(
     alloc: Global,
     conn: &mut Connection<S>,
     version: &Version,
-    verified: &VerifiedContent,
-) -> Result<Vec<Entry>, StoreFault>
+    latest: &LatestResult,
+) -> Result<Vec<MatrixRow>, StoreFault>
     ensures { CalmQueries S.Store conn.old conn.new result
-        (λ found s. (x : EntryModel) → Contains found.items x ↔ IsOfContent s version.now verified.now x) }
+        (λ found s. (x : RowModel) → Contains found.items x ↔ IsOfContent s version.now latest.now x) }
 {
-    let consumers = done!(consumers_of(
-        alloc,
-        conn,
-        version.pacticipant.as_str(),
-        verified.content,
-    ));
-    match entries_used(alloc, version, verified, &consumers) {
-        Ok(entries) => Ok(entries),
+    let consumers = done!(consumers_of(alloc, conn, version.pacticipant.as_str(), latest.content));
+    match rows_used(alloc, version, latest, &consumers) {
+        Ok(rows) => Ok(rows),
         Err(_) => Err(StoreFault::Memory),
     }
 }
 
-/// The contracts of these contents with the version's pacticipant, with the version's results for them.
+/// The contracts with the version's pacticipant of the contents that the version has these results for.
 fn of_contents<S: Alter>(
     alloc: Global,
     conn: &mut Connection<S>,
     version: &Version,
-    contents: &[VerifiedContent],
-) -> Result<Vec<Entry>, StoreFault>
+    results: &[LatestResult],
+) -> Result<Vec<MatrixRow>, StoreFault>
     ensures { CalmQueries S.Store conn.old conn.new result
-        (λ found s. (x : EntryModel) → Contains found.items x
-        ↔ IsOfSome (λ c. IsOfContent s version.now c x) contents.now) }
+        (λ found s. (x : RowModel) → Contains found.items x
+        ↔ IsOfSome (λ c. IsOfContent s version.now c x) results.now) }
 {
     let mut found = Vec::new(alloc);
-    for verified in contents {
-        let more = done!(of_content(alloc, conn, version, verified));
+    for latest in results {
+        let more = done!(of_content(alloc, conn, version, latest));
         done!(add(&mut found, more));
     }
     Ok(found)
@@ -119,147 +103,13 @@ fn provided<S: Alter>(
     conn: &mut Connection<S>,
     number: u32,
     version: &Version,
-) -> Result<Vec<Entry>, StoreFault>
+) -> Result<Vec<MatrixRow>, StoreFault>
     ensures { CalmQueries S.Store conn.old conn.new result
         (λ found s. number_known s.versions version.now ≡ Some number →
-        (x : EntryModel) → Contains found.items x ↔ IsProvided s version.now x) }
+        (x : RowModel) → Contains found.items x ↔ IsProvided s version.now x) }
 {
-    let contents = done!(verified_contents(alloc, conn, number));
-    of_contents(alloc, conn, version, &contents)
-}
-
-/// The entries of both sides, each once, in the order of the matrix. These are the contracts of the version.
-fn entries_of<S: Alter>(
-    alloc: Global,
-    conn: &mut Connection<S>,
-    number: u32,
-    version: &Version,
-    contracts: &[Contract],
-) -> Result<Vec<Entry>, StoreFault>
-    ensures { CalmQueries S.Store conn.old conn.new result
-        (λ found s. number_known s.versions version.now ≡ Some number →
-        Lists contract_cmp (IsOwnContract s version.now) contracts.now →
-        Lists entry_cmp (IsEntry s version.now) found.items) }
-{
-    let own = done!(of_contracts(alloc, conn, version, contracts));
-    let others = done!(provided(alloc, conn, number, version));
-    match both_sides(own, others) {
-        Ok(entries) => Ok(entries),
-        Err(_) => Err(StoreFault::Memory),
-    }
-}
-
-/// The version of the provider with what its result says.
-/// `StoreFault::Store` comes if no pass says anything of the result, since a row names one that isn't there;
-/// `StoreFault::Memory` for no other cause than that there is none for the name.
-fn told(
-    verified: &VerifiedVersion,
-    passes: &[ResultPass],
-    checked: &[u32],
-) -> Result<Verified, StoreFault>
-    ensures found { IfOk result
-        (λ found. (found.provider_version ≡ verified.now.name) × (found.result ≡ verified.now.result)
-        × (IsStrictlySortedBy nat_cmp checked.now → IsToldBy passes.now checked.now found)) }
-    ensures cause { ArePassesByNumber passes.now →
-        IfErr result (λ f. FailsAsTold f (IsUntold passes.now verified.now.result)) }
-    ensures untold { IsUntold passes.now verified.now.result → result ≡ Err StoreFault.Store }
-{
-    let Some(pass) = pass_among(passes, verified.result) else {
-        return Err(StoreFault::Store);
-    };
-    let checked = is_checked_among(checked, verified.result);
-    match verified.name.clone() {
-        Ok(provider_version) => Ok(Verified {
-            provider_version,
-            result: u64::from(verified.result),
-            latest: Latest { pass, checked },
-        }),
-        Err(_) => Err(StoreFault::Memory),
-    }
-}
-
-/// The row of these names. An `Err` is out of memory.
-fn row_with(entry: &Entry, verified: Option<Verified>) -> Result<MatrixRow, StoreFault>
-    ensures row { IfOk result
-        (λ row. row ≡ record {
-          consumer = entry.now.consumer;
-          consumer_version = entry.now.consumer_version;
-          provider = entry.now.provider;
-          verified = verified;
-        }) }
-    ensures cause { IfErr result (λ f. f ≡ StoreFault.Memory) }
-{
-    match (
-        entry.consumer.clone(),
-        entry.consumer_version.clone(),
-        entry.provider.clone(),
-    ) {
-        (Ok(consumer), Ok(consumer_version), Ok(provider)) => Ok(MatrixRow {
-            consumer,
-            consumer_version,
-            provider,
-            verified,
-        }),
-        _ => Err(StoreFault::Memory),
-    }
-}
-
-/// The entry's row, with what its result says.
-fn row_of(entry: &Entry, passes: &[ResultPass], checked: &[u32]) -> Result<MatrixRow, StoreFault>
-    ensures row { IfOk result
-        (λ row. IsStrictlySortedBy nat_cmp checked.now → IsRowTold passes.now checked.now entry.now row) }
-    ensures cause { ArePassesByNumber passes.now →
-        IfErr result (λ f. FailsAsTold f (NamesUntold passes.now entry.now)) }
-{
-    let Some(verified) = &entry.verified else {
-        return row_with(entry, None);
-    };
-    let verified = done!(told(verified, passes, checked));
-    row_with(entry, Some(verified))
-}
-
-/// The rows of these entries, with what their results say.
-fn rows_of(
-    alloc: Global,
-    entries: &[Entry],
-    passes: &[ResultPass],
-    checked: &[u32],
-) -> Result<Vec<MatrixRow>, StoreFault>
-    ensures rows { IfOk result
-        (λ rows. IsStrictlySortedBy nat_cmp checked.now →
-        AreRead (IsRowTold passes.now checked.now) entries.now rows.items) }
-    ensures cause { ArePassesByNumber passes.now →
-        IfErr result (λ f. FailsAsTold f
-        ((x : EntryModel) × Contains entries.now x × NamesUntold passes.now x)) }
-{
-    let mut rows = Vec::new(alloc);
-    for entry in entries {
-        let row = done!(row_of(entry, passes, checked));
-        match rows.push(row) {
-            Ok(()) => {}
-            Err(_) => return Err(StoreFault::Memory),
-        }
-    }
-    Ok(rows)
-}
-
-/// The rows of these entries of the version of this number, whose contracts these are, with what their results say.
-fn with_results<S: Alter>(
-    alloc: Global,
-    conn: &mut Connection<S>,
-    number: u32,
-    contracts: &[Contract],
-    entries: &[Entry],
-) -> Result<Vec<MatrixRow>, StoreFault>
-    ensures answers { Queries S.Store conn.old conn.new result
-        (λ rows s. (v : VersionModel) → AreEntriesOf s v number contracts.now entries.now →
-        Lists matrix_cmp (IsMatrixRow s v) rows.items) }
-    ensures calm { IsCalmFrom S.Store conn.old conn.new result
-        (λ s. (v : VersionModel) × AreEntriesOf s v number contracts.now entries.now) }
-{
-    let passes = done!(passes_told(alloc, conn, number, contracts));
-    let checked = done!(checked_told(alloc, conn, number, contracts));
-    rows_of(alloc, entries, &passes, &checked)
+    let results = done!(latest_results(alloc, conn, number));
+    of_contents(alloc, conn, version, &results)
 }
 
 /// The matrix of the version of this number.
@@ -269,15 +119,15 @@ fn matrix_numbered<S: Alter>(
     number: u32,
     version: &Version,
 ) -> Result<Vec<MatrixRow>, StoreFault>
-    ensures answers { Queries S.Store conn.old conn.new result
+    ensures { CalmQueries S.Store conn.old conn.new result
         (λ rows s. number_known s.versions version.now ≡ Some number →
         Lists matrix_cmp (IsMatrixRow s version.now) rows.items) }
-    ensures calm { IsCalmFrom S.Store conn.old conn.new result
-        (λ s. number_known s.versions version.now ≡ Some number) }
 {
     let contracts = done!(contracts_of(alloc, conn, number));
-    let entries = done!(entries_of(alloc, conn, number, version, &contracts));
-    with_results(alloc, conn, number, &contracts, &entries)
+    let mut rows = done!(of_contracts(alloc, conn, version, &contracts));
+    let others = done!(provided(alloc, conn, number, version));
+    done!(add(&mut rows, others));
+    Ok(each_row_once(rows))
 }
 
 /// The matrix of the version, in the order of faults: each of its contracts with each version of the provider that has a

@@ -1,5 +1,8 @@
 //! The versions of a provider that are in an environment, by their numbers.
-ghost use Rattle.std.specs.Prelude.{◌≡◌, ◌++◌, ◌↔◌, IfOk, filter_map};
+ghost use Rattle.std.specs.Prelude.{◌≡◌, ◌++◌, ◌↔◌, IfOk, filter_map, pos};
+ghost use Rattle.sqlite.specs.Order.{column};
+ghost use Rattle.sqlite.specs.declared.types.Value.TheVariants.{Int};
+ghost use Rattle.table_access.specs.Reading.{TellsNumber};
 ghost use Rattle.broker_core.specs.Gate.{Stands};
 ghost use Rattle.broker_tables.specs.Calm.{CalmQueries};
 ghost use Rattle.contract_tables.specs.Listings.{FailsAsMarked};
@@ -7,7 +10,6 @@ ghost use Rattle.deploy_tables.specs.ContractsThere.{IsDeployedIn};
 ghost use Rattle.deploy_tables.specs.Partners.{IsNumberOfReleased, ArePartners, AreReleasedThere, number_if};
 
 use crate::lists::each_number_once;
-use crate::told_results::NumberRow;
 use broker_core::name::Name;
 use broker_tables::name_in;
 use sqlite::{Alter, Connection, Row, params};
@@ -38,6 +40,21 @@ impl ReadRow for ReleasedNumberRow {
             number,
             pacticipant,
         })
+    }
+}
+
+/// A number.
+struct NumberRow;
+
+impl ReadRow for NumberRow {
+    type Item = u32;
+
+    ghost reads_as = { λ row number. column row 0 ≡ Int (pos number) };
+
+    ghost fails_as = { TellsNumber };
+
+    fn read(_alloc: Global, row: &Row) -> Result<u32, StoreFault> {
+        number_in(row)
     }
 }
 

@@ -4,4 +4,4 @@ use Rattle.contract_tables.proofs.migration.to_format_2.Goals as goal
 
 pub returns : goal.returns
 returns g c =
-    statement_with _ _ c.make_checked_results.result _ _ (λ _ makes s held. checked_made former_format _ _ s held (makes held.schema)) c.make_checked_results.ensures
+    statement_with _ _ c.make_checked_results.result _ _ (λ _ makes s held. checked_made former_format _ _ s held (makes held.schema)) c.make_checked_results.ensures.makes

@@ -3,4 +3,4 @@ use Rattle.contract_tables.proofs.Rising.{searched}
 use Rattle.contract_tables.proofs.version_results.is_among.Goals as goal
 
 pub returns : goal.returns
-returns c up = c.is_ok.ensures.value ∙ searched (λ content. content) c.args.content c.args.contents.now c.binary_search.result c.binary_search.ensures.bound c.binary_search.ensures.position up
+returns c up = c.is_ok.ensures.value ∙ searched (λ n. n) c.args.number c.args.numbers.now c.binary_search.result c.binary_search.ensures.bound c.binary_search.ensures.position up

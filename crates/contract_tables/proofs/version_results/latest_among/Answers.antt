@@ -10,7 +10,7 @@ returns-in-Ok c s v listed =
     let results = c.args.results.now in
     let at = c.in-Ok.at in
     let by_content : IsBinarySearchResult (λ y. nat_cmp y.content c.args.content) results (Ok at) = c.in-Ok.ensures.position (λ x. x.content) (answers_always _ _ _ (λ f a r g called. search rules)) in
-    let none : LatestResult = record { content = 0; latest = record { pass = false; checked = false } } in
+    let none : LatestResult = record { content = 0; result = 0; latest = record { pass = false; checked = false } } in
     said_at s v results listed c.args.content _ (has_contains results _ (has_get results at none c.in-Ok.ensures.bound)) (found_at (λ x. x.content) c.args.content results at none by_content)
 
 pub returns-in-Err : goal.returns-in-Err

@@ -1,4 +1,4 @@
-use Rattle.std.proofs.Common.{refl, take, drop}
+use Rattle.std.proofs.Common.{refl, take, drop, inl}
 use Rattle.sqlite_tied.specs.Compute.{everything}
 use Rattle.table_access.proofs.CallLemmas.{statement_with}
 use Rattle.broker_tables.specs.Making.{table_texts}
@@ -8,6 +8,10 @@ pub make_each-requires : goal.make_each-requires
 unfolding everything
 make_each-requires g c = (refl, (refl, tt))
 
-pub returns : goal.returns
-returns g c = statement_with _ _ c.make_each.result _ _ (λ _ made is. made.0 (take 11 table_texts) (take 2 (drop 11 table_texts)) (drop 13 table_texts) refl
-    refl is) c.make_each.ensures
+pub returns-clause-makes : goal.returns-clause-makes
+returns-clause-makes g c = statement_with _ _ c.make_each.result _ _ (λ _ made is. made.0 (take 11 table_texts) (take 2 (drop 11 table_texts)) (drop 13 table_texts) refl
+    refl is) c.make_each.ensures.makes
+
+pub returns-clause-calm : goal.returns-clause-calm
+returns-clause-calm g c clean inside unlimited is =
+    c.make_each.ensures.calm clean inside unlimited (inl (take 11 table_texts, take 2 (drop 11 table_texts), drop 13 table_texts, refl, refl, is))

@@ -1,10 +1,10 @@
-use Rattle.contract_tables.{specs.Listings.{content_cmp}, proofs.QueryLemmas.{calm_then}}
-use Rattle.deploy_tables.{specs.Matrix.{IsNewest, IsOfContent}, proofs.MatrixLemmas.{of_listed}}
+use Rattle.contract_tables.{specs.VersionResults.{latest_cmp, IsLatestOf}, proofs.QueryLemmas.{calm_then}}
+use Rattle.deploy_tables.{specs.Matrix.{IsOfContent}, proofs.MatrixLemmas.{of_listed}}
 use Rattle.deploy_tables.proofs.matrix_rows.provided.Goals as goal
 
 pub returns : goal.returns
 returns g c =
     let v = c.args.version.now in
     calm_then _ _ _ c.in-Ok.value c.of_contents.result _ _ _
-    (λ s listed found here is x. of_listed (λ d. IsOfContent s v d x) (λ d. IsNewest s d.content v d.result) content_cmp c.in-Ok.value.items c.deref.result.now (listed v is) c.deref.ensures.value _ (here x))
+    (λ s listed found here is x. of_listed (λ d. IsOfContent s v d x) (IsLatestOf s v) latest_cmp c.in-Ok.value.items c.deref.result.now (listed v is) c.deref.ensures.value _ (here x))
     c.in-Ok.ensures.answers c.of_contents.ensures

@@ -1,0 +1,176 @@
+-- What the latest results for a content say: rows of latest, joined with those of results and with the marks; and the
+-- versions that are told with them.
+use Rattle.std.specs.Prelude.{Contains, option_map, IsSomeAnd, IsPermutation, ⊤, ◌↔◌}
+use Rattle.std.proofs.Common.{◌≡◌, ◌==◌, ℕ, pos, codes, List, [], ◌∷◌, Bool, true, false, true≢false, refl, sym, ap, subst, ◌∙◌, Some, None, Option}
+use Rattle.std.proofs.{lemmas.Bool.{eq-eqb, eqb-true}, lemmas.List.Sorted.{Contains-permutation, IsPermutation-sym}}
+use Rattle.sqlite_rules.{specs.Lists.{Has}, proofs.TableLemmas.{int_is}}
+use Rattle.sqlite_tied.specs.Compute.{everything}
+use Rattle.table_access.specs.{Columns.{whole_at}, Sound.{IsNumbered, whole}, Statements.{from_both, keeps_both}, Reading.{AreRead}}
+use Rattle.table_access.{specs.declared.StoreFault.{StoreFault}, proofs.SoundLemmas.{any_of, at_has}}
+use Rattle.table_access.proofs.Members.{has_pair, pair_has, any_has, contains_has, has_contains}
+use Rattle.broker_tables.specs.{Schema.{in_results, in_latest, in_checked_results}, Numbers.{number_of}, Holds.{Holds, ResultRow}}
+use Rattle.broker_tables.proofs.{VersionRows.{whole_test, by_number}, Asked.{Asked, IsShown}, Listed.{lists_read}}
+use Rattle.contract_tables.specs.{declared.lookups.NumberedPass.{NumberedPass}, declared.told_versions.NamedResult.{NamedResult}}
+use Rattle.contract_tables.specs.{Verified.{PassCells, result_with, latest_at}, VersionResults.{is_among}}
+use Rattle.contract_tables.specs.ToldVersions.{verified_cmp, named_cmp, IsNumberedPassRow, Tell, TellPasses, TellChecked, IsUntold, IsToldBy, IsTold}
+use Rattle.contract_tables.proofs.{ItemLists.{and_tests, last_test}, JoinRows.{pair_of, item_of_pair}, LastRow.{latest_with}}
+use Rattle.contract_tables.proofs.{ResultLookups.{numbered_rows, marked_rows}, ResultRows.{contents, numbers}, VerifiedList.{told_as, tells_row}}
+use Rattle.contract_tables.proofs.VersionResults.{result_row, row_result, mark_says, says_mark}
+use Rattle.broker_core.specs.{declared.command.Version.{Version}, declared.answer.Verified.{Verified}, declared.need.Latest.{Latest}, Listing.{Lists}}
+use Rattle.broker_core.specs.{Machine.{IsLatest}, State.{State as Broker, Verification, latest_result, said_by}, Text.{Text, text_cmp, version}}
+use Rattle.sqlite.specs.{Tree.{rowid}, Edit.{id_in}, declared.types.Value.TheVariants.{Int}, Order.{Row, column}, Term.{Term, col, op2, eval_all}}
+use Rattle.sqlite.specs.{Collation.TheVariants.{Binary}, Effect.{Database, Answers}, Listing.{understood}}
+use Rattle.sqlite_sql.specs.{declared.ops.BinaryOp.TheVariants.{Compare}, declared.ops.CompareOp.TheVariants.{Eq}}
+
+-- ---- the two statements
+
+-- ON the row's number is the result, WHERE the content is the parameter
+abbrev pub terms : List Term
+terms = op2 (Compare Eq Binary) (col 2 0) (col 1 in_latest.result) ∷ op2 (Compare Eq Binary) (col 1 in_latest.content) (col 0 0) ∷ []
+
+abbrev pub told_project : List Term
+told_project = col 1 in_latest.result ∷ col 2 in_results.pass ∷ []
+
+abbrev pub told_marks_project : List Term
+told_marks_project = col 1 in_latest.result ∷ []
+
+pub told_passes : (n : ℕ)
+    → Asked (codes "SELECT l.result, r.pass FROM latest l JOIN results r ON r.number = l.result WHERE l.content = ?1")
+    (Int (pos n) ∷ []) (from_both in_latest.tree in_results.tree terms told_project [])
+unfolding understood everything
+told_passes n = record { names = _; means = record { is = refl; plain = (refl, refl); unlisted = refl }; runs = record { whole = refl; typed = refl; sumless = refl } }
+
+pub told_marks : (n : ℕ)
+    → Asked (codes "SELECT l.result FROM latest l JOIN checked_results c ON c.result = l.result WHERE l.content = ?1")
+    (Int (pos n) ∷ []) (from_both in_latest.tree in_checked_results.tree terms told_marks_project [])
+unfolding understood everything
+told_marks n = record { names = _; means = record { is = refl; plain = (refl, refl); unlisted = refl }; runs = record { whole = refl; typed = refl; sumless = refl } }
+
+-- ---- the rows that they join
+
+module _ (db : Database) (s : Broker) (held : Holds db s) (k : ℕ) where
+  abbrev params : Row
+  params = Int (pos k) ∷ []
+
+  abbrev IsNumber : Row → ℕ → Type 0
+  IsNumber row n = (column row 0 ≡ Int (pos n))
+
+  -- they are joined with those of a table by the numbers of results, of which each says something
+  module _ (u : ℕ) (rising : IsNumbered (db.trees u)) {X : Type 0} (project : List Term) (reads : Row → X → Type 0) (number : X → ℕ)
+      (Says : X → Verification → Type 0) (item : ℕ × Verification → X) (Meets : Verification → Type 0)
+      (says : (l r : Row) (x : X) (v : Verification) → Has (db.trees u) r → whole_at 0 r ≡ whole_at in_latest.result l → reads (eval_all project (params ∷ l ∷ r ∷ [])) x
+      → result_with s (number x) ≡ Some v → Says x v)
+      (said : (e : ℕ × Verification) → result_with s e.0 ≡ Some e.1 → Meets e.1
+      → (r : Row) × Has (db.trees u) r × (whole_at 0 r ≡ pos e.0)
+      × ((l : Row) (y : X) → whole_at in_latest.result l ≡ pos e.0 → reads (eval_all project (params ∷ l ∷ r ∷ [])) y → y ≡ item e)) where
+    -- what ON and WHERE test
+    parts_of : (l r : Row) → Has (db.trees in_latest.tree) l → Has (db.trees u) r
+        → (keeps_both terms params l r ≡ true) ↔ ((whole_at 0 r ≡ whole_at in_latest.result l) × (whole_at in_latest.content l ≡ pos k))
+    parts_of l r hl hr =
+        let number : column r 0 ≡ Int (whole_at 0 r) = int_is (rowid r) (at_has _ (db.trees u) r rising.1 hr) in
+        and_tests (whole_test (column r 0) (column l in_latest.result) (whole_at 0 r) (whole_at in_latest.result l) number (numbers db held.broker l hl))
+        (last_test (whole_test (column l in_latest.content) (Int (pos k)) (whole_at in_latest.content l) (pos k) (contents db held.broker l hl) refl))
+
+    told : (rows : List Row) (items : List X) → Answers db (record { lets = []; body = from_both in_latest.tree u terms project [] }) params rows
+        → AreRead reads rows items → Tell number Says item Meets s k items
+    told rows items h read = (
+      λ x v c is.
+          let q = pair_of db params terms project reads rows items read in_latest.tree u h x c in
+          let it = pair_has (keeps_both terms params) (db.trees u) (db.trees in_latest.tree) q.0 q.1 in
+          says q.0.0 q.0.1 x v it.1 ((parts_of q.0.0 q.0.1 it.0 it.1).0 it.2).0 q.2 is,
+      λ w e found meets.
+          let at = by_number (number_of s.versions w) (λ n. latest_at (db.trees in_latest.tree) k n) (pos e.0) (held.latest k w ∙ ap (option_map (λ (e : ℕ × Verification). pos e.0)) found) in
+          let l = tells_row db s held w at.0 at.1 k e found in
+          let r = said e (latest_with s k w e found) meets in
+          let kept = has_pair (keeps_both terms params) (db.trees u) (db.trees in_latest.tree) l.0 r.0 l.1 r.1 ((parts_of l.0 r.0 l.1 r.1).1 (r.2 ∙ sym l.4, l.2)) in
+          let y = item_of_pair db params terms project reads rows items read in_latest.tree u h (l.0, r.0) kept in
+          subst (Contains items) (r.3 l.0 y.0 l.4 y.2) y.1,
+    )
+
+  pub passes_told : (rows : List Row) (items : List NumberedPass) → IsShown (told_passes k) db rows → AreRead IsNumberedPassRow rows items → TellPasses s k items
+  passes_told =
+      told in_results.tree (numbered_rows db held.broker) told_project IsNumberedPassRow (λ x. x.number) (λ x r. x.pass ≡ r.pass)
+      (λ e. record { number = e.0; pass = e.1.pass }) (λ r. ⊤)
+      (λ l r x v has same shown is.
+      let number : pos x.number ≡ whole_at in_latest.result l = ap (λ (c : PassCells). id_in c.0) shown.0 in
+      ap (λ (c : PassCells). c.1) shown.0 ∙ ap (λ (y : ResultRow). y.pass) (row_result db s held x.number v is r has (same ∙ sym number)))
+      (λ e is _.
+      let r = result_row db s held e.0 e.1 is in
+      let pass = ap (λ (z : ResultRow). z.pass) r.3 in
+      (r.0, r.1, r.2, λ l y number shown i. record { number = whole ((ap (λ (c : PassCells). id_in c.0) shown.0 ∙ number) i); pass = (ap (λ (c : PassCells). c.1) shown.0 ∙ pass) i }))
+
+  pub checked_told : (rows : List Row) (items : List ℕ) → IsShown (told_marks k) db rows → AreRead IsNumber rows items → TellChecked s k items
+  checked_told =
+      told in_checked_results.tree (marked_rows db held.broker) told_marks_project IsNumber (λ n. n) (λ n r. r.checked ≡ true) (λ e. e.0) (λ r. r.checked ≡ true)
+      (λ l r n v has same shown is. mark_says db s held n v is r has (same ∙ ap id_in shown))
+      (λ e is so. let r = says_mark db s held e.0 e.1 is so in (r.0, r.1, r.2, λ l y number shown. ap whole (sym (ap id_in shown) ∙ number)))
+
+-- the same in another order
+pub told_moved : {X : Type 0} (number : X → ℕ) (Says : X → Verification → Type 0) (item : ℕ × Verification → X) (Meets : Verification → Type 0) (s : Broker) (k : ℕ)
+    (xs ys : List X) → IsPermutation xs ys → Tell number Says item Meets s k xs → Tell number Says item Meets s k ys
+told_moved number Says item Meets s k xs ys moved tell = (
+  λ x r there is. tell.0 x r (Contains-permutation ys xs x (IsPermutation-sym xs ys moved) there) is,
+  λ w e found meets. Contains-permutation xs ys (item e) moved (tell.1 w e found meets),
+)
+
+-- ---- the versions that are told with them
+
+module _ (s : Broker) (content : ℕ) (passes : List NumberedPass) (checked : List ℕ) (tell : TellPasses s content passes) (are_checked : TellChecked s content checked) where
+  -- whether a latest result was checked is whether its number is there
+  checked_is : (w : Version) (e : ℕ × Verification) → latest_result s content w ≡ Some e → is_among checked e.0 ≡ e.1.checked
+  checked_is w e is = go (is_among checked e.0) e.1.checked refl refl
+    where
+      go : (a b : Bool) → is_among checked e.0 ≡ a → e.1.checked ≡ b → a ≡ b
+      go true true here so = refl
+      go false false here so = refl
+      go true false here so =
+          let it = any_has (λ c. c == e.0) checked here in
+          let there : Contains checked e.0 = subst (Contains checked) (eqb-true it.0 e.0 it.2) (has_contains checked it.0 it.1) in
+          absurd (true≢false (sym (are_checked.0 e.0 e.1 there (latest_with s content w e is)) ∙ so))
+      go false true here so = absurd (true≢false (sym (any_of (λ c. c == e.0) checked e.0 (contains_has checked e.0 (are_checked.1 w e is so))
+          (eq-eqb e.0 e.0 refl)) ∙ here))
+
+  -- what both lists say of a latest result is what it says
+  told_is : (w : Version) (e : ℕ × Verification) → latest_result s content w ≡ Some e → (r : Verified) → r.result ≡ e.0 → IsToldBy passes checked r → r.latest ≡ said_by e.1
+  told_is w e is r number by =
+      let pass : r.latest.pass ≡ e.1.pass = tell.0 (record { number = r.result; pass = r.latest.pass }) e.1 by.1 (ap (result_with s) number ∙ latest_with s content w e is) in
+      let mark : r.latest.checked ≡ e.1.checked = by.0 ∙ ap (is_among checked) number ∙ checked_is w e is in
+      λ i. record { pass = pass i; checked = mark i }
+
+  module _ (p : Text) where
+    abbrev IsNamed : NamedResult → Type 0
+    IsNamed x = option_map (λ e. e.0) (latest_result s content (version p x.name)) ≡ Some x.result
+
+    abbrev IsVerified : Verified → Type 0
+    IsVerified r = IsLatest s content (version p r.provider_version) r
+
+    latest_is : (o : Option (ℕ × Verification)) (r : Verified) → IsSomeAnd o (λ e. (r.result ≡ e.0) × (r.latest ≡ said_by e.1))
+        → (e : ℕ × Verification) × (o ≡ Some e) × (r.result ≡ e.0) × (r.latest ≡ said_by e.1)
+    latest_is None r h = absurd h
+    latest_is (Some e) r h = (e, refl, h.0, h.1)
+
+    pub versions_told : (named : List NamedResult) (found : List Verified) → Lists named_cmp IsNamed named → AreRead (IsTold passes checked) named found → Lists verified_cmp IsVerified found
+    versions_told = lists_read named_cmp IsNamed (IsTold passes checked) verified_cmp IsVerified
+        (λ a b x y ha hb is_x is_y less. (λ i. text_cmp (is_x.0 i) (is_y.0 i)) ∙ less)
+        (λ x r named is.
+        let w = version p x.name in
+        let e = told_as (λ e. e.0) (latest_result s content w) x.result named in
+        let number : r.result ≡ e.0.0 = is.1 ∙ sym e.2 in
+        let found : latest_result s content (version p r.provider_version) ≡ Some e.0 = ap (λ n. latest_result s content (version p n)) is.0 ∙ e.1 in
+        subst (λ o. IsSomeAnd o (λ e. (r.result ≡ e.0) × (r.latest ≡ said_by e.1))) (sym found) (number, told_is w e.0 e.1 r number is.2))
+        (λ r there.
+        let w = version p r.provider_version in
+        let e = latest_is (latest_result s content w) r there in (
+          record { name = r.provider_version; result = r.result },
+          ap (option_map (λ (e : ℕ × Verification). e.0)) e.1 ∙ ap Some (sym e.2),
+          λ y is.
+              let latest : y.latest ≡ r.latest = told_is w e.0 e.1 y (is.1 ∙ e.2) is.2 ∙ sym e.3 in
+              λ i. record { provider_version = is.0 i; result = is.1 i; latest = latest i },
+        ))
+
+    -- each of their results is told of
+    pub none_untold : (named : List NamedResult) → Lists named_cmp IsNamed named → ¬ ((x : NamedResult) × Contains named x × IsUntold passes x.result)
+    none_untold named listed (x, there, untold) =
+        let w = version p x.name in
+        let e = told_as (λ e. e.0) (latest_result s content w) x.result ((listed.exactly x).0 there) in
+        untold (record { number = e.0.0; pass = e.0.1.pass }, tell.1 w e.0 e.1 tt, e.2)

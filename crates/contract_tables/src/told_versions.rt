@@ -1,0 +1,209 @@
+//! The versions of a provider that have a result for a content, with what the latest of them says.
+ghost use Rattle.std.specs.Prelude.{◌≡◌, IfOk, IfErr, IfSome, IfNone, IsSorted, Some, Err, Contains, option_map, pos};
+ghost use Rattle.std.specs.Ordering.{nat_cmp};
+ghost use Rattle.table_access.specs.Reading.{AreRead};
+ghost use Rattle.broker_core.specs.Listing.{Lists};
+ghost use Rattle.broker_core.specs.Machine.{IsLatest};
+ghost use Rattle.broker_core.specs.State.{latest_result};
+ghost use Rattle.broker_core.specs.Text.{version as version_named};
+ghost use Rattle.broker_tables.specs.Calm.{CalmQueries};
+ghost use Rattle.contract_tables.specs.declared.told_versions.NamedResult.{NamedResult as NamedModel};
+ghost use Rattle.contract_tables.specs.Listings.{FailsAsMarked};
+ghost use Rattle.contract_tables.specs.VersionResults.{FailsAsPass};
+ghost use Rattle.contract_tables.specs.ToldVersions.{verified_cmp, named_cmp, IsNamedRow, IsNumberedPassRow, TellPasses, TellChecked, ArePassesByNumber, IsUntold, FailsAsTold, IsToldBy, IsTold};
+
+use crate::lookups::{NumberedPass, read_pass};
+use crate::version_results::{NumberRow, is_among};
+use broker_core::answer::Verified;
+use broker_core::name::Name;
+use broker_core::need::Latest;
+use broker_tables::name_in;
+use sqlite::{Alter, Connection, Row, params};
+use std::alloc::Global;
+use table_access::{ReadRow, StoreFault, list_of, number_in};
+
+/// A version that has a result: its name, and the number of the latest result.
+#[derive(Drop)]
+struct NamedResult {
+    name: Name,
+    result: u32,
+}
+
+/// A result and a version.
+struct NamedRow;
+
+impl ReadRow for NamedRow {
+    type Item = NamedResult;
+
+    ghost reads_as = { IsNamedRow };
+
+    ghost fails_as = { FailsAsMarked };
+
+    fn read(alloc: Global, row: &Row) -> Result<NamedResult, StoreFault> {
+        let result = number_in(row)?;
+        let name = name_in(alloc, row, 1)?;
+        Ok(NamedResult { name, result })
+    }
+}
+
+/// The number of a result and a truth value.
+struct NumberedRow;
+
+impl ReadRow for NumberedRow {
+    type Item = NumberedPass;
+
+    ghost reads_as = { IsNumberedPassRow };
+
+    ghost fails_as = { FailsAsPass };
+
+    fn read(_alloc: Global, row: &Row) -> Result<NumberedPass, StoreFault> {
+        let found = read_pass(row)?;
+        Ok(found)
+    }
+}
+
+/// The versions of the provider that have a result for this content, each once, in the order of their names, with the
+/// number of the latest result.
+fn named_results<S: Alter>(
+    alloc: Global,
+    conn: &mut Connection<S>,
+    provider: &str,
+    content: u32,
+) -> Result<Vec<NamedResult>, StoreFault>
+    ensures { CalmQueries S.Store conn.old conn.new result
+        (λ found s. Lists named_cmp
+        (λ x. option_map (λ e. e.0) (latest_result s content (version_named provider.now x.name)) ≡ Some x.result)
+        found.items) }
+{
+    list_of::<NamedRow, S>(
+        alloc,
+        conn,
+        "SELECT l.result, v.version FROM latest l JOIN versions v ON v.number = l.provider_version WHERE l.content = ?1 AND v.pacticipant = ?2 ORDER BY v.version",
+        params![content, provider],
+    )
+}
+
+/// Whether each latest result for the content is a pass, in the order of the results' numbers.
+fn passes_for<S: Alter>(
+    alloc: Global,
+    conn: &mut Connection<S>,
+    content: u32,
+) -> Result<Vec<NumberedPass>, StoreFault>
+    ensures { CalmQueries S.Store conn.old conn.new result
+        (λ found s. ArePassesByNumber found.items × TellPasses s content found.items) }
+{
+    let mut found = done!(list_of::<NumberedRow, S>(
+        alloc,
+        conn,
+        "SELECT l.result, r.pass FROM latest l JOIN results r ON r.number = l.result WHERE l.content = ?1",
+        params![content],
+    ));
+    found.sort_unstable_by_key(|one| one.number);
+    Ok(found)
+}
+
+/// The latest results for the content that the broker checked, in the order of their numbers.
+fn checked_for<S: Alter>(
+    alloc: Global,
+    conn: &mut Connection<S>,
+    content: u32,
+) -> Result<Vec<u32>, StoreFault>
+    ensures { CalmQueries S.Store conn.old conn.new result
+        (λ found s. IsSorted nat_cmp found.items × TellChecked s content found.items) }
+{
+    let mut found = done!(list_of::<NumberRow, S>(
+        alloc,
+        conn,
+        "SELECT l.result FROM latest l JOIN checked_results c ON c.result = l.result WHERE l.content = ?1",
+        params![content],
+    ));
+    found.sort_unstable();
+    Ok(found)
+}
+
+/// Whether the result with this number is a pass, or `None` if it isn't one of these, which are in the order of their
+/// numbers.
+fn pass_among(passes: &[NumberedPass], number: u32) -> Option<bool>
+    ensures some { IfSome result (λ pass. Contains passes.now (record { number = number; pass = pass })) }
+    ensures none { ArePassesByNumber passes.now → IfNone result (IsUntold passes.now number) }
+{
+    match passes.binary_search_by_key(&number, |one| one.number) {
+        Ok(at) => Some(passes[at].pass),
+        Err(_) => None,
+    }
+}
+
+/// The version with what its result says.
+/// `StoreFault::Store` comes if no pass says anything of the result, since a row names one that isn't there;
+/// `StoreFault::Memory` for no other cause than that there is none for the name.
+fn told(
+    named: &NamedResult,
+    passes: &[NumberedPass],
+    checked: &[u32],
+) -> Result<Verified, StoreFault>
+    ensures found { IfOk result
+        (λ found. (found.provider_version ≡ named.now.name) × (found.result ≡ named.now.result)
+        × (IsSorted nat_cmp checked.now → IsToldBy passes.now checked.now found)) }
+    ensures cause { ArePassesByNumber passes.now →
+        IfErr result (λ f. FailsAsTold f (IsUntold passes.now named.now.result)) }
+    ensures untold { IsUntold passes.now named.now.result → result ≡ Err StoreFault.Store }
+{
+    let Some(pass) = pass_among(passes, named.result) else {
+        return Err(StoreFault::Store);
+    };
+    let checked = is_among(checked, named.result);
+    match named.name.clone() {
+        Ok(provider_version) => Ok(Verified {
+            provider_version,
+            result: u64::from(named.result),
+            latest: Latest { pass, checked },
+        }),
+        Err(_) => Err(StoreFault::Memory),
+    }
+}
+
+/// These versions with what their results say.
+fn all_told(
+    alloc: Global,
+    named: &[NamedResult],
+    passes: &[NumberedPass],
+    checked: &[u32],
+) -> Result<Vec<Verified>, StoreFault>
+    ensures all { IfOk result
+        (λ all. IsSorted nat_cmp checked.now → AreRead (IsTold passes.now checked.now) named.now all.items) }
+    ensures cause { ArePassesByNumber passes.now →
+        IfErr result (λ f. FailsAsTold f
+        ((x : NamedModel) × Contains named.now x × IsUntold passes.now x.result)) }
+{
+    let mut all = Vec::new(alloc);
+    for one in named {
+        let found = done!(told(one, passes, checked));
+        match all.push(found) {
+            Ok(()) => {}
+            Err(_) => return Err(StoreFault::Memory),
+        }
+    }
+    Ok(all)
+}
+
+/// The versions of the provider that have a result for this content, each once, in the order of their names, with the
+/// number of the latest result and what it says.
+///
+/// # Errors
+/// `StoreFault::Memory` if the database is out of memory, or there is none for the answer; `StoreFault::Store` if it
+/// refused a query, or if a row doesn't read.
+pub fn verified_versions<S: Alter>(
+    alloc: Global,
+    conn: &mut Connection<S>,
+    provider: &str,
+    content: u32,
+) -> Result<Vec<Verified>, StoreFault>
+    ensures { CalmQueries S.Store conn.old conn.new result
+        (λ found s. Lists verified_cmp (λ x. IsLatest s content (version_named provider.now x.provider_version) x)
+        found.items) }
+{
+    let named = done!(named_results(alloc, conn, provider, content));
+    let passes = done!(passes_for(alloc, conn, content));
+    let checked = done!(checked_for(alloc, conn, content));
+    all_told(alloc, &named, &passes, &checked)
+}

@@ -1,6 +1,0 @@
-use Rattle.std.proofs.Common.{◌∙◌}
-use Rattle.contract_tables.proofs.Rising.{searched}
-use Rattle.deploy_tables.proofs.told_results.is_checked_among.Goals as goal
-
-pub returns : goal.returns
-returns c up = c.is_ok.ensures.value ∙ searched (λ n. n) c.args.number c.args.numbers.now c.binary_search.result c.binary_search.ensures.bound c.binary_search.ensures.position up
