@@ -2,7 +2,7 @@ pub mod Lists
 pub mod Order
 pub mod Listing
 pub mod Locality
-mod Effects
+pub mod Effects
 pub mod Retry
 pub mod Judgement
 mod Fixture

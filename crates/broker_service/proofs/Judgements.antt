@@ -6,7 +6,7 @@ use Rattle.sqlite.specs.{Table.{Table}, Effect.{Database}, declared.types.Value.
 use Rattle.sqlite_schema.specs.Names.{same_name}
 use Rattle.table_access.specs.Columns.{whole_at}
 use Rattle.broker_core.specs.Text.{Text}
-use Rattle.broker_tables.specs.{Schema.{meta, no_schema}, Making.{IsMarked}, Holds.{IsMeta}}
+use Rattle.broker_tables.specs.{Schema.{in_meta, meta, no_schema}, Making.{IsMarked}, Holds.{IsMeta}}
 use Rattle.registry_tables.specs.Format.{IsOfFormat, Finds, table_of}
 use Rattle.broker_service.specs.{declared.opening.OpenFault.TheVariants.{Format}, Opening.{OpensOrRefuses, judgement}}
 
@@ -23,11 +23,11 @@ pub blank_none : (db : Database) (found : Option ℕ) → db.schema ≡ no_schem
 blank_none db None blank it = refl
 blank_none db (Some n) blank it = let none : table_of meta.name db.schema ≡ None = ap (table_of meta.name) blank in absurd (let found = it.1 in cc)
 
-one_format : (n k : ℕ) (office : Text) (rows : List Row) → IsMeta n office rows → map (λ row. column row 2) rows ≡ Int (pos k) ∷ [] → k ≡ n
+one_format : (n k : ℕ) (office : Text) (rows : List Row) → IsMeta n office rows → map (λ row. column row in_meta.format) rows ≡ Int (pos k) ∷ [] → k ≡ n
 one_format n k office [] one is = absurd cc
 one_format n k office (r ∷ []) one is =
-    let mine : whole_at 2 r ≡ pos n = ap (λ (xs : List (ℤ × ℤ × Text)). first_of xs) one in
-    let shown : whole_at 2 r ≡ pos k = (let same : column r 2 ≡ Int (pos k) = cc in ap id_in same) in
+    let mine : whole_at in_meta.format r ≡ pos n = ap (λ (xs : List (ℤ × ℤ × Text)). first_of xs) one in
+    let shown : whole_at in_meta.format r ≡ pos k = (let same : column r in_meta.format ≡ Int (pos k) = cc in ap id_in same) in
     (let both : pos k ≡ pos n = sym shown ∙ mine in cc)
   where
     first_of : List (ℤ × ℤ × Text) → ℤ
@@ -42,7 +42,7 @@ meta_there n office db marked = ap (table_of meta.name) marked.schema
 
 pub marked_some : (n : ℕ) (office : Text) (db : Database) (found : Option ℕ) → IsMarked n office db → Finds db found → found ≡ Some n
 marked_some n office db None marked it =
-    absurd (it meta (meta_there n office db marked) (((refl, refl), ((refl, refl), ((refl, refl), tt))), refl) (sym (length-map (db.trees 0) _) ∙ ap length marked.row))
+    absurd (it meta (meta_there n office db marked) (((refl, refl), ((refl, refl), ((refl, refl), tt))), refl) (sym (length-map (db.trees in_meta.tree) _) ∙ ap length marked.row))
 marked_some n office db (Some k) marked it =
     let same : it.0 ≡ meta = (let both : Some it.0 ≡ Some meta = sym it.1 ∙ meta_there n office db marked in cc) in
-    ap Some (one_format n k office (db.trees 0) marked.row (subst (λ (t : Table). map (λ row. column row 2) (db.trees t.tree) ≡ Int (pos k) ∷ []) same it.3))
+    ap Some (one_format n k office (db.trees in_meta.tree) marked.row (subst (λ (t : Table). map (λ row. column row in_meta.format) (db.trees t.tree) ≡ Int (pos k) ∷ []) same it.3))

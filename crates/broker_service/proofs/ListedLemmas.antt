@@ -8,7 +8,8 @@ use Rattle.sqlite_rules.specs.Lists.{Has}
 use Rattle.table_access.{specs.Columns.{text, text_cmp, whole_at, by_both}, proofs.Maps.{find_has}}
 use Rattle.broker_core.specs.{declared.command.Version.{Version}, Listed.{Covers, IsListed}, State.{State as Broker}, Text.{Text, version}}
 use Rattle.broker_core.proofs.{Judgement.{version_is}, Lists.{contains_none, contains_cases, contains_here, contains_later}}
-use Rattle.broker_tables.{specs.{Holds.{Holds}, Numbers.{number_of}, Rows.{rows_of, value_at, stands_at}}, proofs.NumberLemmas.{known_numbered}}
+use Rattle.broker_tables.specs.{Schema.{in_teams, in_contracts, in_deployed, in_released}, Holds.{Holds}, Numbers.{number_of}}
+use Rattle.broker_tables.{specs.Rows.{rows_of, value_at, stands_at}, proofs.NumberLemmas.{known_numbered}}
 use Rattle.broker_tables.proofs.Orders.{exact_texts, marked_total, exact_marked, triples_total, exact_triple, placed_total, exact_placed}
 use Rattle.broker_tables.proofs.Standing.{stands_found}
 
@@ -59,74 +60,74 @@ module _ (db : Database) (s : Broker) (held : Holds db s) where
   released = rows_of db (codes "released")
 
   abbrev contract_key : Row → ℤ × Text
-  contract_key r = (whole_at 1 r, text 2 r)
+  contract_key r = (whole_at in_contracts.version_number r, text in_contracts.provider r)
 
   abbrev place : Row → Text × (Text × Text)
-  place r = (text 1 r, (text 2 r, text 3 r))
+  place r = (text in_deployed.environment r, (text in_deployed.pacticipant r, text in_deployed.instance r))
 
   abbrev flat : Text × (Text × Text) → Text × Text × Text
   flat k = (k.0, k.1.0, k.1.1)
 
   abbrev release_key : Row → Text × ℤ
-  release_key r = (text 1 r, whole_at 2 r)
+  release_key r = (text in_released.environment r, whole_at in_released.version_number r)
 
-  all_teams : Covers s.teams (map (text 1) teams)
+  all_teams : Covers s.teams (map (text in_teams.name) teams)
   all_teams team digest is =
-      let row = find_has nat_list_cmp_total exact_texts (text 1) (text 2) team digest teams (held.teams team ∙ is) in
-      subst (Contains (map (text 1) teams)) (sym row.2) (of_rows (text 1) teams row.0 row.1)
+      let row = find_has nat_list_cmp_total exact_texts (text in_teams.name) (text in_teams.token_digest) team digest teams (held.teams team ∙ is) in
+      subst (Contains (map (text in_teams.name) teams)) (sym row.2) (of_rows (text in_teams.name) teams row.0 row.1)
 
-  all_contracts : Covers s.contracts (with_each s.versions (map (text 2) contracts))
+  all_contracts : Covers s.contracts (with_each s.versions (map (text in_contracts.provider) contracts))
   all_contracts (v, provider) content is = go (number_of s.versions v) refl (held.contracts v provider ∙ ap (option_map pos) is)
     where
       go : (o : Option ℕ) → number_of s.versions v ≡ o
-          → option_and_then (λ (n : ℕ). value_at (by_both int_cmp text_cmp) contract_key (whole_at 3) contracts (pos n, provider)) o ≡ Some (pos content)
-          → Contains (with_each s.versions (map (text 2) contracts)) (v, provider)
+          → option_and_then (λ (n : ℕ). value_at (by_both int_cmp text_cmp) contract_key (whole_at in_contracts.content) contracts (pos n, provider)) o ≡ Some (pos content)
+          → Contains (with_each s.versions (map (text in_contracts.provider) contracts)) (v, provider)
       go None none e = absurd cc
       go (Some n) numbered e =
-          let row = find_has marked_total exact_marked contract_key (whole_at 3) (pos n, provider) (pos content) contracts e in
-          all_pairs s.versions (map (text 2) contracts) v provider (is_there s v n numbered)
-          (subst (Contains (map (text 2) contracts)) (sym (ap (λ (k : ℤ × Text). k.1) row.2)) (of_rows (text 2) contracts row.0 row.1))
+          let row = find_has marked_total exact_marked contract_key (whole_at in_contracts.content) (pos n, provider) (pos content) contracts e in
+          all_pairs s.versions (map (text in_contracts.provider) contracts) v provider (is_there s v n numbered)
+          (subst (Contains (map (text in_contracts.provider) contracts)) (sym (ap (λ (k : ℤ × Text). k.1) row.2)) (of_rows (text in_contracts.provider) contracts row.0 row.1))
 
   all_deployed : Covers s.deployed (map (λ r. flat (place r)) deployed)
   all_deployed (e, p, instance) name is =
-      go (value_at (by_both text_cmp (by_both text_cmp text_cmp)) place (whole_at 4) deployed (e, (p, instance))) refl
+      go (value_at (by_both text_cmp (by_both text_cmp text_cmp)) place (whole_at in_deployed.version_number) deployed (e, (p, instance))) refl
       (held.deployed e p instance ∙ ap (option_map (λ (q : Text). option_map pos (number_of s.versions (version p q)))) is)
     where
-      go : (o : Option ℤ) → value_at (by_both text_cmp (by_both text_cmp text_cmp)) place (whole_at 4) deployed (e, (p, instance)) ≡ o
+      go : (o : Option ℤ) → value_at (by_both text_cmp (by_both text_cmp text_cmp)) place (whole_at in_deployed.version_number) deployed (e, (p, instance)) ≡ o
           → option_map Some o ≡ Some (option_map pos (number_of s.versions (version p name))) → Contains (map (λ r. flat (place r)) deployed) (e, p, instance)
       go None none wrong = absurd cc
       go (Some n) found right =
-          let row = find_has triples_total exact_triple place (whole_at 4) (e, (p, instance)) n deployed found in
+          let row = find_has triples_total exact_triple place (whole_at in_deployed.version_number) (e, (p, instance)) n deployed found in
           subst (Contains (map (λ r. flat (place r)) deployed)) (sym (ap flat row.2)) (of_rows (λ r. flat (place r)) deployed row.0 row.1)
 
-  all_released : (k : Text × Version) → s.released k ≡ true → Contains (with_each (map (text 1) released) s.versions) k
+  all_released : (k : Text × Version) → s.released k ≡ true → Contains (with_each (map (text in_released.environment) released) s.versions) k
   all_released (e, v) is = go (number_of s.versions v) refl (held.released e v ∙ is)
     where
       go : (o : Option ℕ) → number_of s.versions v ≡ o
           → option_map_or (λ (n : ℕ). stands_at (by_both text_cmp int_cmp) release_key released (e, pos n)) o false ≡ true
-          → Contains (with_each (map (text 1) released) s.versions) (e, v)
+          → Contains (with_each (map (text in_released.environment) released) s.versions) (e, v)
       go None none wrong = absurd cc
       go (Some n) numbered stands =
           at_row (value_at (by_both text_cmp int_cmp) release_key release_key released (e, pos n)) refl (stands_found (by_both text_cmp int_cmp) release_key release_key released (e, pos n) ∙ stands)
         where
           at_row : (o : Option (Text × ℤ)) → value_at (by_both text_cmp int_cmp) release_key release_key released (e, pos n) ≡ o → is_some o ≡ true
-              → Contains (with_each (map (text 1) released) s.versions) (e, v)
+              → Contains (with_each (map (text in_released.environment) released) s.versions) (e, v)
           at_row None none wrong = absurd cc
           at_row (Some k) found there =
               let row = find_has placed_total exact_placed release_key release_key (e, pos n) k released found in
-              all_pairs (map (text 1) released) s.versions e v
-              (subst (Contains (map (text 1) released)) (sym (ap (λ (q : Text × ℤ). q.0) row.2)) (of_rows (text 1) released row.0 row.1)) (is_there s v n numbered)
+              all_pairs (map (text in_released.environment) released) s.versions e v
+              (subst (Contains (map (text in_released.environment) released)) (sym (ap (λ (q : Text × ℤ). q.0) row.2)) (of_rows (text in_released.environment) released row.0 row.1)) (is_there s v n numbered)
 
   pub listed : IsListed s
   listed = record {
     keys = record {
-      contracts = with_each s.versions (map (text 2) contracts);
+      contracts = with_each s.versions (map (text in_contracts.provider) contracts);
       deployed = map (λ r. flat (place r)) deployed;
-      released = with_each (map (text 1) released) s.versions;
+      released = with_each (map (text in_released.environment) released) s.versions;
       all_contracts = all_contracts;
       all_deployed = all_deployed;
       all_released = all_released;
     };
-    teams = map (text 1) teams;
+    teams = map (text in_teams.name) teams;
     all_teams = all_teams;
   }

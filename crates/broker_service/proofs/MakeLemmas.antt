@@ -1,16 +1,19 @@
 -- What the transactions leave that make a broker's tables, look for a format, and bring a database up.
-use Rattle.std.proofs.Common.{◌≡◌, ◌↔◌, Option, ℕ, Some, None, Result, Ok, Err, IsOkAnd, is_ok, Bool, false, IsTrue, refl, subst, sym, ◌⊎◌, inl, IfErr}
-use Rattle.std.proofs.lemmas.Result.{IfOk-weaker}
-use Rattle.sqlite.specs.{Effect.{Database}, State.{State, HasCleanDisk, Survives}}
-use Rattle.table_access.specs.{Calls.{CallsTablesBetween}, Durability.{HoldsDurably}, Unit.{Begins, IsLeft, FailsToBegin}, declared.StoreFault.{StoreFault}}
-use Rattle.table_access.specs.declared.StoreFault.TheVariants.{Memory, Store}
+use Rattle.std.proofs.Common.{◌≡◌, ◌↔◌, ◌≤◌, ◌∷◌, [], ◌∙◌, Option, ℕ, Some, None, Result, Ok, Err, IsOk, IsOkAnd, is_ok, Bool, false, IsTrue, refl, subst, sym, ◌⊎◌, inl, inr, IfErr, arith}
+use Rattle.std.proofs.lemmas.Result.{IfOk-weaker, IfErr-weaker}
+use Rattle.sqlite.specs.{Effect.{Database}, Held.{Held}, State.{State, HasCleanDisk, Survives}}
+use Rattle.table_access.specs.{Calls.{CallsTablesBetween, HasFailed, GoesOn}, Durability.{HoldsDurably}}
+use Rattle.table_access.specs.{Unit.{Begins, IsLeft, FailsToBegin, RefusesCommit, CommitIsRefused}, declared.StoreFault.{StoreFault}}
+use Rattle.table_access.{specs.declared.StoreFault.TheVariants.{Memory, Store}, proofs.CallLemmas.{ended_since}}
 use Rattle.broker_core.specs.{State.{State as Broker, opening}, Text.{Text}}
-use Rattle.broker_tables.specs.{Former.{former_format}, Holds.{Holds}, Making.{IsBlank}, Room.{HasAllNumbers}}
+use Rattle.broker_tables.specs.{Former.{former_format}, Holds.{Holds}, Making.{IsBlank, IsCalmOverBetween}, Refusals.{AreShort}, Room.{HasAllNumbers}}
 use Rattle.registry_tables.specs.Format.{FindsFormer, IsOfFormat, FailsToFind}
-use Rattle.broker_service.specs.{Migration.{StoresFormer, IsFormer, BringsUp, BringsUpOrNot}, Opening.{MakesOrFails, Refuses, open_fault}}
-use Rattle.broker_service.{specs.{Stored.{Stores, HoldsState}, Transaction.{Concludes}}, proofs.{MigrationLemmas.{former_found}, Sound.{opens_sound}}}
-use Rattle.broker_service.proofs.Transaction.{WholeTransaction, transaction_ends, transaction_unchanged, transaction_told, transaction_spares, transaction_over, transaction_once, unbegun_ends, unbegun_unchanged, unbegun_over, adds_nothing, once_at_most}
-use Rattle.broker_service.proofs.OpenFailures.{looking_fails, unbegun_fails}
+use Rattle.broker_service.specs.Migration.{StoresFormer, IsFormer, BringsUp, BringsUpOrNot}
+use Rattle.broker_service.specs.{Opening.{MakesOrFails, Refuses, IsUncommitted, OnlyIfStoreFailed, open_fault}, Stored.{Stores, HoldsState}}
+use Rattle.broker_service.{specs.Transaction.{Concludes}, proofs.{MigrationLemmas.{former_found}, Sound.{opens_sound}}}
+use Rattle.broker_service.proofs.Transaction.{WholeTransaction, transaction_ends, transaction_unchanged, transaction_told, transaction_spares, transaction_begun, transaction_over, transaction_once, unbegun_ends, unbegun_unchanged, unbegun_over, adds_nothing, once_at_most}
+use Rattle.broker_service.proofs.{OpenFailures.{looking_fails, unbegun_fails}, StoreFailures.{transaction_fails}}
+use Rattle.table_access.proofs.EndLemmas as ends
 
 -- ---- the format is looked for
 
@@ -27,11 +30,11 @@ looked old mid done new X worked result begun begins works concludes =
 -- ---- a broker's tables are made
 
 -- whatever was made is kept
-made_kept : (r : Result (Unit {0}) StoreFault) → IsTrue (is_ok r) ↔ IsOkAnd r (λ _. Unit {0})
+pub made_kept : (r : Result (Unit {0}) StoreFault) → IsTrue (is_ok r) ↔ IsOkAnd r (λ _. Unit {0})
 made_kept (Ok u) = (λ _. tt, λ _. refl)
 made_kept (Err why) = (λ no. absurd (cc), λ no. absurd no)
 
-pub made : (office : Text) (old mid done new : State) (worked result : Result (Unit {0}) StoreFault) (keeps : Bool) → (HasCleanDisk mid → Begins old mid) → Survives old mid (λ _. ⊥)
+unfoldable pub made : (office : Text) (old mid done new : State) (worked result : Result (Unit {0}) StoreFault) (keeps : Bool) → (HasCleanDisk mid → Begins old mid) → Survives old mid (λ _. ⊥)
     → CallsTablesBetween mid done worked (λ _. IsBlank mid.now → Holds done.now (opening office) × HasAllNumbers done.now) → keeps ≡ is_ok worked → Concludes done new keeps worked result
     → WholeTransaction old mid done new (λ _. IsBlank mid.now → Holds done.now (opening office) × HasAllNumbers done.now) (λ _. Unit {0}) result
 made office old mid done new worked result keeps begun begins works is concludes =
@@ -47,6 +50,32 @@ make_ends office old mid done new r t clean holds =
   where
     stored : IsBlank mid.now → (IsBlank mid.now → Holds done.now (opening office) × HasAllNumbers done.now) → Stores done.now (opening office)
     stored blank makes = record { tables = (makes blank).0; contents = opens_sound office }
+
+kept_ok : (r : Result (Unit {0}) StoreFault) → IsOkAnd r (λ _. Unit {0}) → IsOk r
+kept_ok (Ok u) is = refl
+kept_ok (Err why) is = absurd is
+
+-- it is answered Store only as the store fails, or if COMMIT was refused
+pub made_calm : {X : Type 0} (shown : Held X → State) (office : Text) (old mid done new : Held X) (result : Result (Unit {0}) StoreFault)
+    (t : WholeTransaction (shown old) (shown mid) (shown done) (shown new) (λ _. IsBlank (shown mid).now → Holds (shown done).now (opening office) × HasAllNumbers (shown done).now) (λ _. Unit {0}) result)
+    → IsCalmOverBetween (λ db. IsBlank db × AreShort (office ∷ [])) (shown mid) (shown done) t.worked → (IsTrue t.keeps → IsOk t.worked → IfErr result (λ _. CommitIsRefused shown done new))
+    → AreShort (office ∷ []) → OnlyIfStoreFailed shown office old new (result ≡ Err Store)
+made_calm {X} shown office old mid done new result t calm refused short clean fresh holds is =
+    let worked : HasCleanDisk (shown done) = omega (arith, t.concludes.ends.survives.clean, clean) in
+    transaction_fails (shown old) (shown mid) (shown done) (shown new) _ _ (IsUncommitted shown office new) clean result t
+    (IfErr-weaker t.worked _ _ (λ fault failed store. inl failed) (calm worked begun.1.mode (t.begins.limit ∙ fresh.1) (blank, short)))
+    (λ u makes done_is kept on. let cause = subst (λ (r : Result (Unit {0}) StoreFault). IfErr r (λ _. CommitIsRefused shown done new)) is (refused kept (kept_ok t.worked (t.kept.0 kept))) in not_kept (makes blank).0 on cause.0 cause.1) is
+  where
+    begun : Begins (shown old) (shown mid)
+    begun = transaction_begun (shown old) (shown mid) (shown done) (shown new) _ _ result t clean
+
+    blank : IsBlank (shown mid).now
+    blank = ends.begins IsBlank (shown old) (shown mid) begun holds
+
+    not_kept : Holds (shown done).now (opening office) → GoesOn (shown mid) (shown done) → (fault : StoreFault) → RefusesCommit shown done new fault → HasFailed (shown old) (shown new) Store ⊎ IsUncommitted shown office new
+    not_kept made on Store refusal =
+        inl (ended_since (shown old) (shown done) (shown new) Store (on.0, λ _. on.1 begun.1.is_open) (let up : (shown old).faults ≤ (shown done).faults = omega (arith, t.begins.counts, t.works.survives.counts) in up) (refusal.failed on.0))
+    not_kept made on Memory refusal = inr (record { worked = done; made = made; refused = refusal })
 
 -- as a failure is handed on
 pub refuses_as : (office : Text) (new : State) (why : StoreFault) → MakesOrFails office new (Err why) → Refuses IsBlank (λ db. Stores db (opening office)) new (open_fault why)

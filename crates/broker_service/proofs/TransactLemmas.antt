@@ -10,10 +10,10 @@ use Rattle.broker_core.specs.SoundNames.{AreNames}
 use Rattle.broker_tables.specs.{Calm.{Serves, HasFailedOrMemory, FailsFromBetween}, Holds.{Holds, HoldsAfter}, Room.{HasRoomFor, TakesRoom, enough}}
 use Rattle.broker_tables.proofs.RoomLemmas.{takes_none}
 use Rattle.command_facts.specs.{Performs.{PerformsBetween, TokensStep, IsToChange, IsMisnamed}, Primitives.{broker_primitives}}
-use Rattle.broker_service.specs.Causes.{HoldsReadable, IsToBeDone, IsGivenUp, IsNotKept, KeepsRoom, Transacted}
-use Rattle.broker_service.specs.{Ends.{AppliesOrFails, HoldsNext, Steps, KeepsAtPattern}, Stored.{Stores, HoldsState}, Transaction.{Concludes}}
+use Rattle.broker_service.specs.{Causes.{HoldsReadable, IsToBeDone, IsNotKept, KeepsRoom, Transacted}, Ends.{AppliesOrFails, HoldsNext, Steps, KeepsAtPattern}}
+use Rattle.broker_service.specs.{Stored.{Stores, HoldsState}, Transaction.{Concludes}}
 use Rattle.broker_service.proofs.Transaction.{WholeTransaction, transaction_ends, transaction_unchanged, transaction_shows, transaction_begun, transaction_over, transaction_once, unbegun_ends, unbegun_unchanged, unbegun_over, once_at_most}
-use Rattle.broker_service.proofs.{EndLemmas.{done_steps, next_stored, steps_on, undone_keeps}, StoreFailures.{transaction_fails}}
+use Rattle.broker_service.proofs.{EndLemmas.{done_steps, next_stored, steps_on, undone_keeps}, StoreFailures.{transaction_fails, work_failed}}
 use Rattle.table_access.proofs.EndLemmas as ends
 
 module _ (token : Option Text) (command : Command) where
@@ -77,8 +77,12 @@ module _ (token : Option Text) (command : Command) where
       was : Stores (shown mid).now s
       was = ends.begins (λ db. Stores db s) (shown old) (shown mid) begun_there ready.held
 
-      given_up : HasFailed (shown mid) (shown done) Store ⊎ (HoldsNext s token command (shown done).now × RefusesCommit shown done new Memory) → IsGivenUp shown s token command old new
-      given_up why = record { begun = mid; worked = done; begins = begun_there; refused = why }
+      worked_clean : HasCleanDisk (shown done)
+      worked_clean = omega (arith, t.concludes.ends.survives.clean, clean)
+
+      -- the last commit is still of that state
+      last : IsTrue (shown done).is_open → Stores (shown done).committed s
+      last now = subst (λ db. Stores db s) (sym ((t.works.commits worked_clean begun_there.1.mode).committed now ∙ begun_there.1.committed_is)) (ready.held.held begun_there.1.was_open).has
 
       -- what a refused change was to do is to be done
       work_fails : AreNames command → (fault : StoreFault) → HasFailedOrMemory (shown mid) (shown done) fault ⊎ (IsToChange (TokensStep token command) s × (HasRoomFor enough (shown mid).now → EndsBy (IsMisnamed command) (shown mid) (shown done) fault)) → fault ≡ Store
@@ -86,7 +90,12 @@ module _ (token : Option Text) (command : Command) where
       work_fails named fault (inl (inl failed)) is = inl failed
       work_fails named fault (inl (inr memory)) is = absurd (let clash : Memory ≡ Store = sym memory ∙ is in cc)
       work_fails named fault (inr (change, ended)) is =
-          inr (to_be_done s (shown mid).now was change, λ room. given_up (inl (subst (HasFailed (shown mid) (shown done)) is (ended_with (shown mid) (shown done) fault (λ long. long named) (ended (subst (HasRoomFor enough) (sym begun_there.1.now_is) room))))))
+          inr (
+            to_be_done s (shown mid).now was change,
+            λ room.
+                let failed = ended_with (shown mid) (shown done) fault (λ long. long named) (ended (subst (HasRoomFor enough) (sym begun_there.1.now_is) room)) in
+                inl (work_failed (shown old) (shown mid) (shown done) (shown new) _ _ clean result t Store (subst (HasFailed (shown mid) (shown done)) is failed)),
+          )
 
       -- and what was done isn't kept
       not_kept : (answer : Answer) → IsPerformed (shown mid) (shown done) answer → IsDone answer → GoesOn (shown mid) (shown done) → (fault : StoreFault) → RefusesCommit shown done new fault → HasFailed (shown old) (shown new) Store ⊎ IsNotKept shown s token command old new
@@ -94,16 +103,24 @@ module _ (token : Option Text) (command : Command) where
           inl (ended_since (shown old) (shown done) (shown new) Store (on.0, λ _. on.1 begun_there.1.is_open) (let up : (shown old).faults ≤ (shown done).faults = omega (arith, t.begins.counts, t.works.survives.counts) in up) (refused.failed on.0))
       not_kept answer performs is_done on Memory refused =
           let next = done_next s (shown mid) (shown done) answer was performs is_done in
-          inr ((record { answer = answer; state = next.0 }, is_done, next.1), λ room. given_up (inr ((answer, next.0, next.1, next.2), refused)))
+          inr (
+            (record { answer = answer; state = next.0 }, is_done, next.1),
+            λ _. inr (record {
+              worked = done;
+              inside = on.0;
+              last = last (on.1 begun_there.1.is_open);
+              next = (answer, next.0, next.1, next.2);
+              refused = refused;
+            }),
+          )
 
       -- why it is answered Store
       transacted_calm : AreNames command → FailsFromBetween (shown mid) (shown done) t.worked (IsMisnamed command) (HasSoundContents broker_primitives) (IsToChange (TokensStep token command)) → (IsTrue t.keeps → IsOk t.worked → IfErr result (λ _. CommitIsRefused shown done new))
           → result ≡ Err Store → HasFailed (shown old) (shown new) Store ⊎ IsNotKept shown s token command old new
       transacted_calm named why refused is =
           let served : Serves (shown mid) s = record { inside = begun_there.1.mode; unlimited = t.begins.limit ∙ ready.unlimited; held = was.tables; readable = ready.readable } in
-          let worked : HasCleanDisk (shown done) = omega (arith, t.concludes.ends.survives.clean, clean) in
           transaction_fails (shown old) (shown mid) (shown done) (shown new) _ _ (IsNotKept shown s token command old new) clean result t
-          (IfErr-weaker t.worked _ _ (λ fault it store. work_fails named fault it store) (why worked s served was.contents))
+          (IfErr-weaker t.worked _ _ (λ fault it store. work_fails named fault it store) (why worked_clean s served was.contents))
           (λ answer performs is_done kept on. let cause = subst (λ (r : Result Answer StoreFault). IfErr r (λ _. CommitIsRefused shown done new)) is (refused kept (done_is_ok t.worked (t.kept.0 kept))) in not_kept answer performs is_done on cause.0 cause.1) is
 
     pub transacted : (old mid done new : Held X) (worked result : Result Answer StoreFault) (keeps : Bool) → (HasCleanDisk (shown mid) → Begins (shown old) (shown mid)) → Survives (shown old) (shown mid) (λ _. ⊥)

@@ -234,7 +234,8 @@ pub record WholeTransaction {A : Type 0} (old mid done new : State) (X Keeps : A
   pub concludes : Concludes done new keeps worked result
 
 module _ {A : Type 0} (old mid done new : State) (X Keeps : A → Type 0) (result : Result A StoreFault) (t : WholeTransaction old mid done new X Keeps result) where
-  parts : IsTransaction old mid done new t.worked X Keeps t.keeps t.concludes.ended
+  -- in its parts
+  pub parts : IsTransaction old mid done new t.worked X Keeps t.keeps t.concludes.ended
   parts = record { begun = t.begun; begins = t.begins; works = t.works; kept = t.kept; ends = t.concludes.ends }
 
   pub transaction_ends : (P Q : Database → Type 0) (Answers : A → Type 0) → HasCleanDisk new → HoldsDurably P old

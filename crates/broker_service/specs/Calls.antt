@@ -25,7 +25,7 @@ use Rattle.broker_service.specs.Ends.{Applies, IsAsBefore, AddsNoCrashState, Com
 use Rattle.broker_service.specs.Handed.{left_by, verdict}
 use Rattle.broker_service.specs.Headline.{RecordsExactly}
 use Rattle.broker_service.specs.Migration.{StoresFormer, HoldsFormerState, MigratesOrRefuses, IsFormer}
-use Rattle.broker_service.specs.Opening.{Refuses, MakesNew, RefusesNew, IsUnchangedUnlessStore, OpensOrRefuses, Judged, IsFresh, TellsNothing, OnlyIfUntold}
+use Rattle.broker_service.specs.Opening.{Refuses, MakesNew, RefusesNew, IsUnchangedUnlessStore, OpensOrRefuses, Judged, IsFresh, TellsNothing, OnlyIfUntold, OnlyIfStoreFailed}
 use Rattle.broker_service.specs.Stored.{Stores, HoldsState}
 use Rattle.broker_service.specs.declared.broker.Refused.{Refused}
 use Rattle.broker_service.specs.declared.opening.OpenFault.{OpenFault}
@@ -85,6 +85,9 @@ module _ {X : Type 0} (shown : Held X → State) where
     pub made : IfOk given (λ b. MakesNew office (shown old) (shown b.connection))
     -- or a failure: there are no tables, and after Store a crash may leave the new broker's
     pub refuses : IfErr given (λ r. RefusesNew office (shown old) (shown r.connection) r.fault)
+    -- Store: on a connection as it is opened and a database without tables, the store failed, or COMMIT was refused for
+    -- want of memory; no statement that makes a table or an index is refused
+    pub calm : OnlyIfStoreFailed shown office old (left_by given) (verdict given ≡ Err fault.Store)
     -- NotEmpty: there is a table, an index or a view
     pub not_empty : IsErrAnd given (λ r. r.fault ≡ fault.NotEmpty) ↔ (¬ ((shown old).now.schema ≡ no_schema))
     -- and the connection is handed back as it was

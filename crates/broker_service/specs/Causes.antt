@@ -3,7 +3,7 @@ use Rattle.std.specs.Prelude.{◌≡◌, ◌⊎◌, IsTrue, Option, None, Result
 use Rattle.sqlite.specs.Held.{Held}
 use Rattle.sqlite.specs.State.{State, HasCleanDisk}
 use Rattle.table_access.specs.Calls.{HasFailed}
-use Rattle.table_access.specs.Unit.{Begins, RefusesCommit}
+use Rattle.table_access.specs.Unit.{RefusesCommit}
 use Rattle.table_access.specs.declared.StoreFault.{StoreFault}
 use Rattle.table_access.specs.declared.StoreFault.TheVariants as faults
 use Rattle.broker_core.specs.Change.{Transition}
@@ -18,7 +18,7 @@ use Rattle.broker_tables.specs.Readable.{IsReadable}
 use Rattle.broker_tables.specs.Room.{HasRoomFor, TakesRoom, enough}
 use Rattle.command_facts.specs.Primitives.{broker_primitives}
 use Rattle.broker_service.specs.Ends.{HoldsNext, AppliesOrFails, IsUnchangedUnless, CommitsAtMostOnce, LeavesNoTransaction}
-use Rattle.broker_service.specs.Stored.{HoldsState}
+use Rattle.broker_service.specs.Stored.{Stores, HoldsState}
 
 -- the machine's step of the command from this state is Done
 abbrev pub IsToBeDone : Broker → Option Text → Command → Type 0
@@ -31,21 +31,23 @@ pub record HoldsReadable (s : Broker) (c : State) : Type 0 where
   pub readable : IsReadable s
   pub unlimited : c.step_limit ≡ None
 
--- The change of a command wasn't kept, in the transaction of it: the store failed; or the next state was held, and COMMIT
--- was refused for want of memory. Shown is what a connection shows.
-pub record IsGivenUp {X : Type 0} (shown : Held X → State) (s : Broker) (token : Option Text) (command : Command)
-    (old new : Held X) : Type 0 where
-  pub begun : Held X
+-- A command from this state was done in a transaction, and COMMIT was refused for want of memory: the last commit was of
+-- that state, and its next state was seen. Shown is what a connection shows.
+pub record CommitLacksMemory {X : Type 0} (shown : Held X → State) (s : Broker) (token : Option Text) (command : Command)
+    (new : Held X) : Type 0 where
   pub worked : Held X
-  pub begins : Begins (shown old) (shown begun)
-  pub refused : HasFailed (shown begun) (shown worked) faults.Store
-      ⊎ (HoldsNext s token command (shown worked).now × RefusesCommit shown worked new faults.Memory)
+  pub inside : IsTrue (shown worked).in_transaction
+  pub last : Stores (shown worked).committed s
+  pub next : HoldsNext s token command (shown worked).now
+  pub refused : RefusesCommit shown worked new faults.Memory
 
--- a command that was to be done isn't, if each table has numbers for the rows that a command adds, since its change was
--- refused
+-- a command that was to be done isn't; and if each table has numbers for the rows that a command adds, since the store
+-- failed, or had no memory for COMMIT
 abbrev pub IsNotKept : {X : Type 0} → (Held X → State) → Broker → Option Text → Command → Held X → Held X → Type 0
 IsNotKept shown s token command old new =
-    IsToBeDone s token command × (HasRoomFor enough (shown old).now → IsGivenUp shown s token command old new)
+    IsToBeDone s token command
+    × (HasRoomFor enough (shown old).now
+    → HasFailed (shown old) (shown new) faults.Store ⊎ CommitLacksMemory shown s token command new)
 
 -- a step of the command leads from a state that can be read back to one that can
 abbrev pub StaysReadable : Option Text → Command → Type 0

@@ -2,14 +2,16 @@
 use Rattle.std.specs.Prelude.{◌≡◌, ◌≢◌, ◌⊎◌, ◌==◌, ◌++◌, ◌∷◌, ℕ, false, List, if◌then◌else◌, Option, Some, None, Result, Ok, Err}
 use Rattle.sqlite.specs.Effect.{Database}
 use Rattle.sqlite.specs.Table.{Table}
+use Rattle.sqlite.specs.Held.{Held}
 use Rattle.sqlite.specs.State.{State, HasCleanDisk}
 use Rattle.table_access.specs.declared.StoreFault.{StoreFault}
 use Rattle.table_access.specs.declared.StoreFault.TheVariants as fault
 use Rattle.table_access.specs.Calls.{KeepsLastCommit, HasFailed}
 use Rattle.table_access.specs.Durability.{HoldsDurably, HoldsEither}
+use Rattle.table_access.specs.Unit.{RefusesCommit}
 use Rattle.broker_core.specs.State.{opening}
 use Rattle.broker_core.specs.Text.{Text}
-use Rattle.broker_tables.specs.Holds.{format}
+use Rattle.broker_tables.specs.Holds.{Holds, format}
 use Rattle.broker_tables.specs.Making.{IsBlank, HasTables}
 use Rattle.broker_tables.specs.Room.{HasAllNumbers}
 use Rattle.broker_tables.specs.Schema.{no_schema, registry_part, contents, contract_part, all_tables}
@@ -102,3 +104,18 @@ TellsNothing old new = HasFailed old new fault.Store ⊎ (HasNoFormat old.now �
 -- so it is where this is answered of a connection as it is opened
 abbrev pub OnlyIfUntold : State → State → Type 0 → Type 0
 OnlyIfUntold old new Answered = HasCleanDisk new → IsFresh old → Answered → TellsNothing old new
+
+-- ---- why no broker is made
+
+-- the tables of a new broker were made, and COMMIT was refused for want of memory; shown is what a connection shows
+pub record IsUncommitted {X : Type 0} (shown : Held X → State) (office : Text) (new : Held X) : Type 0 where
+  pub worked : Held X
+  pub made : Holds (shown worked).now (opening office)
+  pub refused : RefusesCommit shown worked new fault.Memory
+
+-- On a connection as it is opened, and a database without tables, this is answered only if the store failed, or if
+-- COMMIT was refused for want of memory.
+abbrev pub OnlyIfStoreFailed : {X : Type 0} → (Held X → State) → Text → Held X → Held X → Type 0 → Type 0
+OnlyIfStoreFailed shown office old new Answered =
+    HasCleanDisk (shown new) → IsFresh (shown old) → HoldsDurably IsBlank (shown old) → Answered
+    → HasFailed (shown old) (shown new) fault.Store ⊎ IsUncommitted shown office new

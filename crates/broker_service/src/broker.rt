@@ -48,7 +48,8 @@ impl<S: Alter> Broker<S> {
     ///
     /// `NotEmpty`: there is a table, an index or a view; nothing is read or changed. `Memory`: the database is as it
     /// was. `Store`: the database refused the commit, or another call for another cause than memory; the last commit is
-    /// the old one, and after a refused commit a crash may leave the new broker's tables.
+    /// the old one, and after a refused commit a crash may leave the new broker's tables. On a connection as it is
+    /// opened, that is only if the store failed, or if memory ran out for the commit: no table and no index is refused.
     pub fn create(
         alloc: Global,
         conn: Connection<S>,

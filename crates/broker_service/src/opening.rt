@@ -1,5 +1,5 @@
 //! Making a broker's tables, and opening a database that a broker left.
-ghost use Rattle.std.specs.Prelude.{◌≡◌, ◌↔◌, ◌++◌, ◌∷◌, ℕ, List, Err, IfErr, OnOk, OnErr, IsTrue, Some, None, IfOk};
+ghost use Rattle.std.specs.Prelude.{◌≡◌, ◌↔◌, ◌++◌, ◌∷◌, [], ℕ, List, Err, IfErr, OnOk, OnErr, IsTrue, Some, None, IfOk};
 ghost use Rattle.sqlite.specs.State.{HasCleanDisk, Survives};
 ghost use Rattle.sqlite.specs.Held.{state};
 ghost use Rattle.table_access.specs.Calls.{CallsStore};
@@ -8,14 +8,15 @@ ghost use Rattle.table_access.specs.Statements.{MakesIndexes};
 ghost use Rattle.broker_core.specs.State.{opening};
 ghost use Rattle.broker_tables.specs.Schema.{no_schema, registry_part, contents, contract_part, all_tables, all_indexes, schema_of};
 ghost use Rattle.broker_tables.specs.Holds.{Holds, format};
-ghost use Rattle.broker_tables.specs.Making.{IsBlank, HasTables, IsMarked};
+ghost use Rattle.broker_tables.specs.Making.{IsBlank, HasTables, HasNoRows, IsCalmOver, IsMarked};
+ghost use Rattle.broker_tables.specs.Refusals.{AreShort};
 ghost use Rattle.registry_tables.specs.Format.{Finds};
 ghost use Rattle.command_facts.specs.Primitives.{broker_primitives};
 ghost use Rattle.broker_service.specs.Ends.{IsAsBefore, IsUnchangedUnless, CommitsAtMostOnce, LeavesNoTransaction};
 ghost use Rattle.broker_service.specs.Stored.{Stores};
 ghost use Rattle.broker_tables.specs.Room.{HasAllNumbers};
 ghost use Rattle.broker_service.specs.Opening as spec;
-ghost use Rattle.broker_service.specs.Opening.{MakesRest, MakesOrFails, MakesNew, RefusesNew, IsUnchangedUnlessStore, Judged, OpensOrRefuses, OnlyIfUntold, judgement};
+ghost use Rattle.broker_service.specs.Opening.{MakesRest, MakesOrFails, MakesNew, RefusesNew, IsUnchangedUnlessStore, Judged, OpensOrRefuses, OnlyIfUntold, OnlyIfStoreFailed, judgement};
 
 use crate::ending::conclude;
 use broker_core::name::Token;
@@ -58,9 +59,11 @@ pub(crate) fn open_fault(fault: StoreFault) -> OpenFault
 
 /// Makes the tables of the registry, of contents and of contracts.
 fn make_first<S: Alter>(conn: &mut Connection<S>, digest: &str) -> Result<(), StoreFault>
-    ensures { CallsStore S.Store conn.old conn.new result
+    ensures makes { CallsStore S.Store conn.old conn.new result
         (λ _ old new. IsBlank old.now
         → HasTables (registry_part ++ contents ∷ contract_part) format digest.now new.now) }
+    ensures calm { IsCalmOver S.Store conn.old conn.new result
+        (λ db. IsBlank db × AreShort (digest.now ∷ [])) }
 {
     done!(registry_tables::make_tables(conn, 2, digest));
     done!(content_store::make_tables(conn));
@@ -69,8 +72,10 @@ fn make_first<S: Alter>(conn: &mut Connection<S>, digest: &str) -> Result<(), St
 
 /// Makes the tables of what is deployed and released, of evidence and of strict environments.
 fn make_rest<S: Alter>(conn: &mut Connection<S>) -> Result<(), StoreFault>
-    ensures { CallsStore S.Store conn.old conn.new result
+    ensures makes { CallsStore S.Store conn.old conn.new result
         (λ _ old new. MakesRest old.now new.now) }
+    ensures calm { IsCalmOver S.Store conn.old conn.new result
+        (λ db. (office : List ℕ) × HasTables (registry_part ++ contents ∷ contract_part) format office db) }
 {
     done!(deploy_tables::make_tables(conn));
     done!(contract_tables::make_checked_results(conn));
@@ -79,9 +84,11 @@ fn make_rest<S: Alter>(conn: &mut Connection<S>) -> Result<(), StoreFault>
 
 /// Makes the indexes, once all tables are made.
 pub(crate) fn make_indexes<S: Alter>(conn: &mut Connection<S>) -> Result<(), StoreFault>
-    ensures { CallsStore S.Store conn.old conn.new result
+    ensures makes { CallsStore S.Store conn.old conn.new result
         (λ _ old new. old.now.schema ≡ schema_of all_tables
         → MakesIndexes all_indexes old.now new.now) }
+    ensures calm { IsCalmOver S.Store conn.old conn.new result
+        (λ db. (db.schema ≡ schema_of all_tables) × HasNoRows db) }
 {
     done!(content_store::make_index(conn));
     done!(contract_tables::make_indexes(conn));
@@ -90,8 +97,10 @@ pub(crate) fn make_indexes<S: Alter>(conn: &mut Connection<S>) -> Result<(), Sto
 
 /// Makes all tables, and then the indexes.
 fn make_all<S: Alter>(conn: &mut Connection<S>, digest: &str) -> Result<(), StoreFault>
-    ensures { CallsStore S.Store conn.old conn.new result
+    ensures makes { CallsStore S.Store conn.old conn.new result
         (λ _ old new. IsBlank old.now → Holds new.now (opening digest.now) × HasAllNumbers new.now) }
+    ensures calm { IsCalmOver S.Store conn.old conn.new result
+        (λ db. IsBlank db × AreShort (digest.now ∷ [])) }
 {
     done!(make_first(conn, digest));
     done!(make_rest(conn));
@@ -104,6 +113,8 @@ fn make<S: Alter>(conn: &mut Connection<S>, digest: &str) -> Result<(), StoreFau
         → MakesOrFails digest.now (state S.Store conn.new) result }
     ensures unchanged { HasCleanDisk (state S.Store conn.new)
         → IsUnchangedUnless (λ _. Unit {0}) (state S.Store conn.old) (state S.Store conn.new) result }
+    ensures calm { AreShort (digest.now ∷ [])
+        → OnlyIfStoreFailed (state S.Store) digest.now conn.old conn.new (result ≡ Err StoreFault.Store) }
     ensures over { LeavesNoTransaction (state S.Store conn.old) (state S.Store conn.new) }
     ensures survives { CommitsAtMostOnce (state S.Store conn.old) (state S.Store conn.new) }
 {
@@ -123,6 +134,8 @@ pub(crate) fn create<S: Alter>(
         (state S.Store conn.old) (state S.Store conn.new)) }
     ensures refuses { IfErr result (RefusesNew (broker_primitives.digest_of office.now)
         (state S.Store conn.old) (state S.Store conn.new)) }
+    ensures calm { OnlyIfStoreFailed (state S.Store) (broker_primitives.digest_of office.now) conn.old conn.new
+        (result ≡ Err OpenFault.Store) }
     ensures not_empty { (result ≡ Err OpenFault.NotEmpty)
         ↔ (¬ ((state S.Store conn.old).now.schema ≡ no_schema)) }
     ensures same { result ≡ Err OpenFault.NotEmpty → conn.new ≡ conn.old }

@@ -8,7 +8,8 @@ use Rattle.broker_core.specs.{Text.{Text, same_text, version}, State.{State}, Ch
 use Rattle.broker_core.specs.{Request.{branch_version, refusal, refused, unless, has_grant}, declared.answer.Answer.{Answer}}
 use Rattle.broker_core.specs.{declared.command.Command.TheVariants.{GetBranchPact}, declared.command.Version.{Version}, declared.policy.Caller.{Caller}}
 use Rattle.broker_core.specs.declared.policy.Rule.TheVariants.{A5}
-use Rattle.broker_tables.{specs.{Numbers.{number_of}, Holds.{Holds}}, proofs.{NumberLemmas.{within, one_version}, VersionRows.{row_number, false_if}}}
+use Rattle.broker_tables.{specs.{Schema.{in_versions}, Numbers.{number_of}, Holds.{Holds}}, proofs.NumberLemmas.{within, one_version}}
+use Rattle.broker_tables.proofs.VersionRows.{row_number, false_if}
 use Rattle.content_store.proofs.TextNumbers.{same_is, same_itself}
 use Rattle.contract_commands.specs.BranchPact.{NoneFrom, IsNextBelow, IsBranchContent, ReachesBranch}
 use Rattle.contract_commands.specs.{Pacts.{AreSidesRead, missing_of_branch, Admits, ShowsReached}, declared.sides.Sides.{Sides}}
@@ -56,7 +57,7 @@ module _ (versions : List Version) where
 -- ---- and so do those of a state that a database holds
 
 abbrev entry : Row → ℤ × Version
-entry r = (whole_at 0 r, version (text 2 r) (text 3 r))
+entry r = (whole_at in_versions.number r, version (text in_versions.pacticipant r) (text in_versions.version r))
 
 abbrev head_of : ℤ × Version → List (ℤ × Version) → ℤ × Version
 head_of other [] = other
@@ -68,7 +69,7 @@ rest_of (e ∷ es) = es
 
 module _ (versions : List Version) where
   abbrev HasNumber : Row → Type 0
-  HasNumber r = (k : ℕ) × (number_of versions (version (text 2 r) (text 3 r)) ≡ Some k) × (whole_at 0 r ≡ pos k)
+  HasNumber r = (k : ℕ) × (number_of versions (version (text in_versions.pacticipant r) (text in_versions.version r)) ≡ Some k) × (whole_at in_versions.number r ≡ pos k)
 
   stand_from : (n : ℕ) (xs : List Version) (rows : List Row) → map entry rows ≡ map (λ e. (pos e.0, e.1)) (enumerate_from n xs) → AllByRecursion HasNumber rows → StandFrom versions n xs
   stand_from n [] rows is each = tt
@@ -80,7 +81,7 @@ module _ (versions : List Version) where
       (ap (number_of versions) (sym (ap (λ (e : ℤ × Version). e.1) here)) ∙ each.0.1 ∙ ap Some nats, stand_from (n + 1) xs rows (ap rest_of is) each.1)
 
 all_stand : (db : Database) (s : State) → Holds db s → StandFrom s.versions 1 s.versions
-all_stand db s held = stand_from s.versions 1 s.versions (db.trees 6) held.versions (all_of (HasNumber s.versions) (db.trees 6) (λ r has. row_number db held.broker s.versions held.versions r has))
+all_stand db s held = stand_from s.versions 1 s.versions (db.trees in_versions.tree) held.versions (all_of (HasNumber s.versions) (db.trees in_versions.tree) (λ r has. row_number db held.broker s.versions held.versions r has))
 
 -- ---- the version that the branch shows
 

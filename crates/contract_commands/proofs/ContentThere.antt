@@ -8,8 +8,8 @@ use Rattle.table_access.{specs.Columns.{text, whole_at}, proofs.{Maps.{find_has}
 use Rattle.broker_core.specs.{Text.{Text}, State.{State}, Change.{text_of}, Request.{consumer_version}, declared.answer.Answer.{Answer}}
 use Rattle.broker_core.specs.{declared.command.PactPath.{PactPath}, declared.command.Version.{Version}, declared.policy.Caller.{Caller}}
 use Rattle.broker_core.specs.declared.policy.Rule.{Rule}
-use Rattle.broker_tables.{specs.{Holds.{Holds, with_digest}, Numbers.{number_of}}, proofs.Orders.{marked_total, exact_marked}}
-use Rattle.broker_tables.proofs.{Placed.{contracts, contracts_there}, References.{refers_content}}
+use Rattle.broker_tables.specs.{Schema.{in_contents, in_contracts}, Holds.{Holds, with_digest}, Numbers.{number_of}}
+use Rattle.broker_tables.proofs.{Orders.{marked_total, exact_marked}, Placed.{contracts, contracts_there}, References.{refers_content}}
 use Rattle.contract_tables.proofs.ContractRows.{key, content_at, contents}
 use Rattle.contract_commands.specs.{BranchPact.{ReachesBranch}, Pacts.{HasContent, Reaches, HasReachedContent}}
 
@@ -51,18 +51,18 @@ number_there s zero has = absurd cc
 number_there s (suc n) has = let within = slice_get_within s.contents (suc n - 1) has.0 (sym (text_at s (suc n) (omega arith)) ∙ has.1) in (omega arith, omega (arith, within))
 
 module _ (db : Database) (s : State) (held : Holds db s) where
-  contract_row : (v : Version) (p : Text) (n : ℕ) → s.contracts (v, p) ≡ Some n → (r : Row) × Has (db.trees 15) r × (whole_at 3 r ≡ pos n)
+  contract_row : (v : Version) (p : Text) (n : ℕ) → s.contracts (v, p) ≡ Some n → (r : Row) × Has (db.trees in_contracts.tree) r × (whole_at in_contracts.content r ≡ pos n)
   contract_row v p n is = by_number (number_of s.versions v) (held.contracts v p ∙ ap (option_map pos) is) where
-    by_number : (o : Option ℕ) → option_and_then (λ k. content_at (db.trees 15) k p) o ≡ Some (pos n) → (r : Row) × Has (db.trees 15) r × (whole_at 3 r ≡ pos n)
+    by_number : (o : Option ℕ) → option_and_then (λ k. content_at (db.trees in_contracts.tree) k p) o ≡ Some (pos n) → (r : Row) × Has (db.trees in_contracts.tree) r × (whole_at in_contracts.content r ≡ pos n)
     by_number None e = absurd cc
-    by_number (Some k) e = let it = find_has marked_total exact_marked key (whole_at 3) (pos k, p) (pos n) (db.trees 15) e in (it.0, it.1, it.3)
+    by_number (Some k) e = let it = find_has marked_total exact_marked key (whole_at in_contracts.content) (pos k, p) (pos n) (db.trees in_contracts.tree) e in (it.0, it.1, it.3)
 
   -- the content of a contract has a text
   pub contract_text : (v : Version) (p : Text) (n : ℕ) → s.contracts (v, p) ≡ Some n → HasContent s n
   contract_text v p n is =
       let row = contract_row v p n is in
-      let x = refers_content db held.broker contracts (has_place _ 8 contracts (contracts_there db held.broker)) 3 (inr (inr (inl refl))) row.0 row.1 (contents db held.broker row.0 row.1) in
-      let it = within (λ r. (text 2 r, text 3 r)) (db.trees 14) (map with_digest s.contents) 1 n held.contents x.0 x.1 (x.2 ∙ row.2) in
+      let x = refers_content db held.broker contracts (has_place _ 8 contracts (contracts_there db held.broker)) in_contracts.content (inr (inr (inl refl))) row.0 row.1 (contents db held.broker row.0 row.1) in
+      let it = within (λ r. (text in_contents.digest r, text in_contents.body r)) (db.trees in_contents.tree) (map with_digest s.contents) 1 n held.contents x.0 x.1 (x.2 ∙ row.2) in
       text_there s n it.0 (let same = length-map s.contents with_digest in omega (arith, it.1, same))
 
   -- so has that of one that was reached
