@@ -9,24 +9,6 @@ use Rattle.broker_http.specs.{Stream.{Responses}, Serving.{Mode, ModeStep}, Serv
 use Rattle.broker_http.specs.Journal.{Journal, JournalStep, written, state_of, blank, IsRunFrom}
 use Rattle.broker_http.specs.Exchange as exchange
 
--- ---- every answer of the machine can be written down
-
-responded : (old new : Mode) (steps : List (Asked × Answer)) (asked : Request) (response : Response) → exchange.Responds ModeStep old asked response new
-    → (later : List (Asked × Answer)) × exchange.Responds JournalStep (record { mode = old; steps = steps }) asked response (record { mode = new; steps = later })
-responded old new steps (Refused refusal is_bodiless) response p = (steps, (p.0, λ i. record { mode = p.1 i; steps = steps }))
-responded old new steps (NoRoute closes) response p = (steps, (p.0, λ i. record { mode = p.1 i; steps = steps }))
-responded old new steps (NoMethod resource closes) response p = (steps, (p.0, λ i. record { mode = p.1 i; steps = steps }))
-responded old new steps (Asks token command closes) response p = (written steps token command p.0, (p.0, (p.1, refl), p.2))
-
-pub journaled : (old new : Mode) (steps : List (Asked × Answer)) (stream : List ℕ) (responses : List Response) (rest : List ℕ)
-    → Responses (exchange.Exchange ModeStep) old stream responses new rest
-    → (later : List (Asked × Answer)) × Responses (exchange.Exchange JournalStep) (record { mode = old; steps = steps }) stream responses (record { mode = new; steps = later }) rest
-journaled old new steps stream [] rest p = (steps, ((λ i. record { mode = p.0 i; steps = steps }), p.1))
-journaled old new steps stream (response ∷ responses) rest p =
-    let here = responded old p.1 steps p.4.0 response p.4.2 in
-    let later = journaled p.1 new here.0 p.2 responses rest p.5 in
-    (later.0, (p.0, record { mode = p.1; steps = here.0 }, p.2, p.3, (p.4.0, p.4.1, here.1), later.1))
-
 -- ---- what is written down is a run
 
 RunTo : Broker → List (Asked × Answer) → Broker → Type 0

@@ -1,17 +1,19 @@
 -- From brokers to the machine.
-use Rattle.std.specs.Prelude.{length, Contains}
-use Rattle.std.proofs.Common.{◌≡◌, ◌≢◌, ◌↔◌, ◌⊎◌, inl, inr, ℕ, suc, ◌≤◌, Bool, true, false, IsTrue, List, [], ◌∷◌, Option, refl, sym, ap, ◌∙◌, subst, arith}
-use Rattle.std.proofs.lemmas.Bool.{cases_Bool}
+use Rattle.std.specs.Prelude.{min, length, Contains}
+use Rattle.std.proofs.Common.{◌≡◌, ◌≢◌, ◌⊎◌, inl, inr, ℕ, suc, ◌+◌, ◌-◌, ◌*◌, ◌^◌, ◌≤◌, nat_le, Bool, true, false, if◌then◌else◌, IsTrue, List, [], ◌∷◌, ◌++◌, length-append, Option, refl, sym, ap, ◌∙◌, subst, arith}
+use Rattle.std.proofs.lemmas.Bool.{cases_Bool, leb-true, leb-false}
 use Rattle.sqlite.{specs.{Tree.{Trees}, Held.{Held}, State.{State, HasCleanDisk, Survives, HasCause, store_error}}, proofs.StateLemmas.{survives_then}}
 use Rattle.sqlite_trees.specs.declared.error.StoreError.{StoreError}
 use Rattle.sqlite_trees.specs.declared.error.StoreError.TheVariants.{OutOfMemory, Io, Corrupt, Full, Broken, Unstorable}
 use Rattle.table_access.specs.{Calls.{HasFailed, fault_of}, declared.StoreFault.TheVariants.{Memory, Store}}
-use Rattle.broker_core.specs.{Machine.{is_step}, State.{State as Broker}, Text.{Text}, declared.answer.Answer.{Answer}, declared.command.Command.{Command}}
-use Rattle.broker_tables.specs.Readable.{IsReadable}
-use Rattle.broker_service.specs.{Causes.{StaysReadable}, BrokerView.{BrokerView}, Calls.{Applied}, Ends.{Applies, CommitsAtMostOnce}}
+use Rattle.broker_core.specs.{Laws.{IsDone}, Machine.{Request as Asked, is_step}, State.{State as Broker}, Text.{Text}, declared.answer.Answer.{Answer}}
+use Rattle.broker_core.specs.declared.command.Command.{Command}
+use Rattle.broker_tables.{specs.{Readable.{IsReadable}, Room.{HasRoomFor, TakesRoom, enough}}, proofs.RoomLemmas.{room_for, takes_none, takes_then}}
+use Rattle.broker_service.specs.{BrokerView.{BrokerView}, Calls.{Applied}, Ends.{Applies, IsAsBefore, CommitsAtMostOnce}, Stored.{HoldsState}}
 use Rattle.broker_service.proofs.Transaction.{outlives_itself}
 use Rattle.http_responses.specs.Responses.{Response}
-use Rattle.broker_http.specs.{Stream.{Responses}, Serving.{Mode, ModeStep, IsInMode, IsDiskAtFault, StopsOnlyBy}, Serving.Mode.{Running, IsStopped}}
+use Rattle.broker_http.specs.{Stream.{Responses}, Serving.{Mode, ModeStep, IsInMode, RunsReadable, IsDiskAtFault, StopsOnlyBy}}
+use Rattle.broker_http.specs.{Serving.Mode.{Running, IsStopped}, Journal.{Journal, JournalStep, written}}
 use Rattle.http_requests.specs.{declared.requests.Request.{Request}, declared.requests.Request.TheVariants.{Refused, NoRoute, NoMethod, Asks}}
 use Rattle.broker_core.specs.declared.answer.Answer.TheVariants as answers
 use Rattle.broker_http.specs.Exchange as exchange
@@ -63,74 +65,51 @@ disk_at_fault old new failed = by failed.cause failed.fault_is failed.has
     by Broken is has = inr has
     by Unstorable is has = absurd has
 
-fault_since : (first old new : State) → IsSince first old → HasCleanDisk old → old.faults ≤ new.faults → IsDiskAtFault old new → IsDiskAtFault first new
-fault_since first old new since clean up (inl more) = inl (omega (arith, since.up, more))
-fault_since first old new since clean up (inr shut) = elim (cases_Bool first.is_open) [
-  | inl is_open ↦ elim (since.closes clean is_open) [ inl still ↦ absurd (let clash : true ≡ false = sym still ∙ shut in cc) | inr more ↦ inl (omega (arith, up, more)) ]
-  | inr was ↦ inr was
+-- a connection is open unless the disk failed
+open_or_fault : (first here : State) → IsSince first here → HasCleanDisk here → IsTrue here.is_open ⊎ IsDiskAtFault first here
+open_or_fault first here since clean = elim (cases_Bool first.is_open) [
+  | inl is_open ↦ elim (since.closes clean is_open) [ inl now ↦ inl now | inr more ↦ inr (inl more) ]
+  | inr shut ↦ inr (inr shut)
 ]
 
--- A broker that runs is in a state that can be read back, if the first could; it is stopped only so, but for one that was
--- stopped before.
-abbrev pub StopsLater : Type 0 → Broker → State → State → Mode → Type 0
-StopsLater Before first there here (Running s) = Before ⊎ (IsReadable first → IsReadable s)
-StopsLater Before first there here (IsStopped s token command) = Before ⊎ StopsOnlyBy first there here (IsStopped s token command)
+fault_stays : (first old new : State) → old.faults ≤ new.faults → IsDiskAtFault first old → IsDiskAtFault first new
+fault_stays first old new up (inl more) = inl (omega (arith, more, up))
+fault_stays first old new up (inr shut) = inr shut
 
-module _ {X : Type 0} (Before : Type 0) (begun : Broker) (shown : Held X → State) where
+fault_since : (first old new : State) → IsSince first old → HasCleanDisk old → old.faults ≤ new.faults → IsDiskAtFault old new → IsDiskAtFault first new
+fault_since first old new since clean up (inl more) = inl (omega (arith, since.up, more))
+fault_since first old new since clean up (inr shut) = elim (open_or_fault first old since clean) [
+  | inl still ↦ absurd (let clash : true ≡ false = sym still ∙ shut in cc)
+  | inr fault ↦ fault_stays first old new up fault
+]
+
+-- whether it failed is seen
+fault_or_none : (old new : State) → IsDiskAtFault old new ⊎ (¬ IsDiskAtFault old new)
+fault_or_none old new = elim (cases_Bool (nat_le (min (old.faults + 1) (2 ^ 64 - 1)) new.faults)) [
+  | inl more ↦ inl (inl (leb-true _ _ more))
+  | inr few ↦ elim (cases_Bool old.is_open) [
+    | inl is_open ↦ inr (λ fault. elim fault [
+      | inl more ↦ absurd (omega (arith, leb-false _ _ few, more))
+      | inr shut ↦ absurd (let clash : true ≡ false = sym is_open ∙ shut in cc)
+    ])
+    | inr shut ↦ inl (inr shut)
+  ]
+]
+
+-- a command that leaves the database as it was leaves what is seen of it
+unmoved : (s : Broker) (old new : State) → HoldsState s old → IsAsBefore old new → IsTrue new.is_open → new.now ≡ old.now
+unmoved s old new holds it now =
+    let was = holds.held (it.commit.was_open now) in (it.ended was.autocommit was.same now).1 ∙ it.commit.committed now ∙ sym was.same
+
+-- ---- what the store promises of the connection
+
+module _ {X : Type 0} (shown : Held X → State) where
   untouched : {P : Trees → Type 0} (old new : BrokerView X) → new ≡ old → Survives (shown old.connection) (shown new.connection) P
   untouched {P} old new same =
       subst (λ (b : BrokerView X). Survives (shown old.connection) (shown b.connection) P) (sym same) (outlives_itself (shown old.connection))
 
   unwritten : (old new : BrokerView X) → new ≡ old → CommitsAtMostOnce (shown old.connection) (shown new.connection)
   unwritten old new same = ((shown old.connection).now.trees, untouched old new same)
-
-  -- an answer of a broker that runs
-  applied : (first : State) (s : Broker) (token : Option Text) (command : Command) (answer : Answer) (new : BrokerView X)
-      → (IsTrue new.is_stopped ↔ (answer ≡ answers.Store)) → StaysReadable token command → Before ⊎ (IsReadable begun → IsReadable s) → Applies s token command (shown new.connection) answer
-      → (answer ≡ answers.Store → (IsReadable begun → IsReadable s) → StopsOnlyBy begun first (shown new.connection) (IsStopped s token command))
-      → (next : Mode) × ModeStep (Running s) token command answer next × IsInMode shown next new × StopsLater Before begun first (shown new.connection) next
-  applied first s token command answer new stops stays reads (inl p) why = (
-    Running p.next,
-    inl (p.is_machines, p.step, p.teams_differ),
-    (not_true new.is_stopped (λ yes. no_step answer p.is_machines (stops.0 yes)), p.keeps),
-    elim reads [ inl before ↦ inl before | inr here ↦ inr (λ first. stays s (record { answer = answer; state = p.next }) (here first) p.step) ],
-  )
-  applied first s token command answer new stops stays reads (inr (inl p)) why =
-      (Running s, inr (inr (p.0, p.1, refl)), (not_true new.is_stopped (λ yes. let wrong = sym p.0 ∙ stops.0 yes in cc), p.2), reads)
-  applied first s token command answer new stops stays reads (inr (inr (inl p))) why =
-      (Running s, inr (inl (p.0, refl)), (not_true new.is_stopped (λ yes. let wrong = sym p.0 ∙ stops.0 yes in cc), p.1), reads)
-  applied first s token command answer new stops stays reads (inr (inr (inr p))) why =
-      (IsStopped s token command, (p.0, refl, refl, refl), (stops.1 p.0, p.1), elim reads [ inl before ↦ inl before | inr here ↦ inr (why p.0 here) ])
-
-  mode_step : (first : State) (mode : Mode) (old new : BrokerView X) (token : Option Text) (command : Command) (answer : Answer)
-      → HasCleanDisk (shown new.connection) → IsInMode shown mode old → IsSince first (shown old.connection) → StopsLater Before begun first (shown old.connection) mode → Applied shown old token command answer new
-      → (next : Mode) × ModeStep mode token command answer next × IsInMode shown next new × StopsLater Before begun first (shown new.connection) next
-  mode_step first (Running s) old new token command answer clean held since stops a =
-      applied first s token command answer new (a.stops held.0) a.readable stops (a.applies clean held.0 s held.1)
-      (λ store reads unlimited readable. elim (a.calm clean held.0 store s (record { held = held.1; readable = reads readable; unlimited = since.limit ∙ unlimited })) [
-        | inl failed ↦ inl (fault_since first (shown old.connection) (shown new.connection) since (still_clean _ _ a.survives.1.clean clean) a.survives.1.counts (disk_at_fault (shown old.connection) (shown new.connection) failed))
-        | inr to_do ↦ inr to_do.0
-      ])
-  mode_step first (IsStopped s of failed) old new token command answer clean held since stops a =
-      let still = a.stopped held.0 in
-      let mode = IsStopped s of failed in
-      (mode, (still.0, refl), subst (λ (b : BrokerView X). IsInMode shown mode b) (sym still.1) held, subst (λ (b : BrokerView X). StopsLater Before begun first (shown b.connection) mode) (sym still.1) stops)
-
-  -- a message that leaves the broker alone
-  left_alone : (first : State) (mode : Mode) (old new : BrokerView X) → new ≡ old → IsInMode shown mode old → StopsLater Before begun first (shown old.connection) mode
-      → IsInMode shown mode new × StopsLater Before begun first (shown new.connection) mode
-  left_alone first mode old new same held stops = (subst (IsInMode shown mode) (sym same) held, subst (λ (b : BrokerView X). StopsLater Before begun first (shown b.connection) mode) (sym same) stops)
-
-  -- a message and its response
-  exchanged : (first : State) (mode : Mode) (old new : BrokerView X) (asked : Request) (response : Response)
-      → HasCleanDisk (shown new.connection) → IsInMode shown mode old → IsSince first (shown old.connection) → StopsLater Before begun first (shown old.connection) mode → exchange.Responds (Applied shown) old asked response new
-      → (next : Mode) × exchange.Responds ModeStep mode asked response next × IsInMode shown next new × StopsLater Before begun first (shown new.connection) next
-  exchanged first mode old new (Refused refusal is_bodiless) response clean held since stops p = let still = left_alone first mode old new p.1 held stops in (mode, (p.0, refl), still.0, still.1)
-  exchanged first mode old new (NoRoute closes) response clean held since stops p = let still = left_alone first mode old new p.1 held stops in (mode, (p.0, refl), still.0, still.1)
-  exchanged first mode old new (NoMethod resource closes) response clean held since stops p = let still = left_alone first mode old new p.1 held stops in (mode, (p.0, refl), still.0, still.1)
-  exchanged first mode old new (Asks token command closes) response clean held since stops p =
-      let next = mode_step first mode old new token command p.0 clean held since stops p.1 in
-      (next.0, (p.0, next.1, p.2), next.2, next.3)
 
   -- what the store promises of the connection, over one message
   survives : (old new : BrokerView X) (asked : Request) (response : Response) → exchange.Responds (Applied shown) old asked response new
@@ -159,15 +138,168 @@ module _ {X : Type 0} (Before : Type 0) (begun : Broker) (shown : Held X → Sta
       → HasCleanDisk (shown new.connection) → HasCleanDisk (shown old.connection)
   all_clean old stream responses new rest p clean = still_clean _ _ (all_survive old stream responses new rest p).1.clean clean
 
-  -- what a broker answers is what the machine answers, and why it is stopped
-  pub machine : (first : State) (mode : Mode) (old : BrokerView X) (stream : List ℕ) (responses : List Response) (new : BrokerView X) (rest : List ℕ)
+-- ---- what a broker answers is what the machine answers, and why it is stopped
+
+-- first is the connection of a broker in this mode, before the stream
+module _ {X : Type 0} (shown : Held X → State) (from : Mode) (first : Held X) where
+  -- unless the disk failed, so many steps took no more of a table's numbers than they may
+  abbrev HasTaken : ℕ → Held X → Type 0
+  HasTaken steps here = IsDiskAtFault (shown first) (shown here) ⊎ TakesRoom (enough * steps) (shown first).now (shown here).now
+
+  -- a broker that runs is in a state that can be read back, if the first could; one is stopped only so
+  abbrev StopsLater : Held X → ℕ → Mode → Type 0
+  StopsLater here steps (Running s) = (RunsReadable from → IsReadable s) × HasTaken steps here
+  StopsLater here steps (IsStopped s token command) = StopsOnlyBy shown from first here steps (IsStopped s token command)
+
+  -- the machine came so far with this broker
+  pub record Reaches (b : BrokerView X) (mode : Mode) (steps : List (Asked × Answer)) : Type 0 where
+    pub held : IsInMode shown mode b
+    pub since : IsSince (shown first) (shown b.connection)
+    pub stops : StopsLater b.connection (length steps) mode
+
+  -- its answer to a command, and how far it comes
+  abbrev Answers : Mode → List (Asked × Answer) → Option Text → Command → Answer → BrokerView X → Type 0
+  Answers mode steps token command answer new =
+      (next : Journal) × JournalStep (record { mode = mode; steps = steps }) token command answer next × Reaches new next.mode next.steps
+
+  -- what is left alone came no further
+  left_alone : (mode : Mode) (steps : List (Asked × Answer)) (old new : BrokerView X) → new ≡ old → Reaches old mode steps → Reaches new mode steps
+  left_alone mode steps old new same at = subst (λ (b : BrokerView X). Reaches b mode steps) (sym same) at
+
+  taken_on : (n m more : ℕ) (old new : Held X) → enough * n + m ≡ enough * more → IsSince (shown first) (shown new) → HasCleanDisk (shown new)
+      → (shown old).faults ≤ (shown new).faults → HasTaken n old
+      → (IsTrue (shown new).is_open → TakesRoom m (shown old).now (shown new).now) → HasTaken more new
+  taken_on n m more old new all since clean up before now = elim (open_or_fault (shown first) (shown new) since clean) [
+    | inr fault ↦ inl fault
+    | inl is_open ↦ elim before [
+      | inl fault ↦ inl (fault_stays (shown first) (shown old) (shown new) up fault)
+      | inr takes ↦
+          let both = takes_then (enough * n) m (shown first).now (shown old).now (shown new).now takes (now is_open) in
+          inr (subst (λ taken. TakesRoom taken (shown first).now (shown new).now) all both)
+    ]
+  ]
+
+  -- an answer of a broker that runs
+  module _ (s : Broker) (steps : List (Asked × Answer)) (old : BrokerView X) (token : Option Text) (command : Command) (answer : Answer) (new : BrokerView X)
+      (clean : HasCleanDisk (shown new.connection)) (at : Reaches old (Running s) steps) (a : Applied shown old token command answer new) where
+    since_then_on : IsSince (shown first) (shown new.connection)
+    since_then_on = since_then (shown first) (shown old.connection) (shown new.connection) at.since a.survives.1 clean
+
+    runs_on : answer ≢ answers.Store → new.is_stopped ≡ false
+    runs_on other = not_true new.is_stopped (λ yes. other ((a.stops at.held.0).0 yes))
+
+    -- no step: nothing is taken
+    kept : answer ≢ answers.Store → ¬ (IsDone answer) → HoldsState s (shown new.connection) → steps ≡ written steps token command answer
+        → ModeStep (Running s) token command answer (Running s) → Answers (Running s) steps token command answer new
+    kept other undone holds unwritten step = (
+      record { mode = Running s; steps = steps },
+      (step, unwritten),
+      record {
+        held = (runs_on other, holds);
+        since = since_then_on;
+        stops = (
+          at.stops.0,
+          taken_on (length steps) 0 (length steps) old.connection new.connection (omega arith) since_then_on clean a.survives.1.counts at.stops.1 (λ now.
+              let same = unmoved s (shown old.connection) (shown new.connection) at.held.1 (a.unchanged clean at.held.0 other undone) now in
+              takes_none 0 (shown old.connection).now (shown new.connection).now same),
+        );
+      },
+    )
+
+    -- the tables have numbers for the command, if they had for it and the steps before it
+    room_here : ¬ IsDiskAtFault (shown first) (shown new.connection) → HasRoomFor (enough * (length steps + 1)) (shown first).now
+        → HasRoomFor enough (shown old.connection).now
+    room_here none room = elim at.stops.1 [
+      | inl fault ↦ absurd (none (fault_stays (shown first) (shown old.connection) (shown new.connection) a.survives.1.counts fault))
+      | inr takes ↦ takes enough (room_for (enough + enough * length steps) (enough * (length steps + 1)) (omega arith) (shown first).now room)
+    ]
+
+    stopped_so : answer ≡ answers.Store → StopsOnlyBy shown from first new.connection (length steps) (IsStopped s token command)
+    stopped_so store unlimited readable = elim (fault_or_none (shown first) (shown new.connection)) [
+      | inl fault ↦ inl fault
+      | inr none ↦
+          let no_failure : HasFailed (shown old.connection) (shown new.connection) Store → ⊥ = λ failed.
+          none (fault_since (shown first) (shown old.connection) (shown new.connection) at.since
+          (still_clean _ _ a.survives.1.clean clean) a.survives.1.counts (disk_at_fault (shown old.connection) (shown new.connection) failed)) in
+          elim (a.calm clean at.held.0 store s (record { held = at.held.1; readable = at.stops.0 readable; unlimited = at.since.limit ∙ unlimited })) [
+            | inl failed ↦ absurd (no_failure failed)
+            | inr to_do ↦ inr (to_do.0, λ room. elim (to_do.1 (room_here none room)) [ inl failed ↦ absurd (no_failure failed) | inr lacks ↦ lacks ])
+          ]
+    ]
+
+    applied : Applies s token command (shown new.connection) answer → Answers (Running s) steps token command answer new
+    applied (inl p) =
+        let more : List (Asked × Answer) = steps ++ (record { token = token; command = command }, answer) ∷ [] in (
+          record { mode = Running p.next; steps = more },
+          (inl (p.is_machines, p.step, p.teams_differ), sym (ap (λ b. if b then more else steps) p.is_machines)),
+          record {
+            held = (runs_on (no_step answer p.is_machines), p.keeps);
+            since = since_then_on;
+            stops = (
+              λ readable. a.readable s (record { answer = answer; state = p.next }) (at.stops.0 readable) p.step,
+              taken_on (length steps) enough (length more) old.connection new.connection
+                  (omega (arith, length-append steps ((record { token = token; command = command }, answer) ∷ [])))
+                  since_then_on clean a.survives.1.counts at.stops.1 (a.room clean at.held.0 s at.held.1),
+            );
+          },
+        )
+    applied (inr (inl p)) =
+        kept (λ is. let wrong = sym p.0 ∙ is in cc) (λ done. subst IsDone p.0 done) p.2
+        (sym (ap (written steps token command) p.0)) (inr (inr (p.0, p.1, refl)))
+    applied (inr (inr (inl p))) =
+        kept (λ is. let wrong = sym p.0 ∙ is in cc) (λ done. subst IsDone p.0 done) p.1
+        (sym (ap (written steps token command) p.0)) (inr (inl (p.0, refl)))
+    applied (inr (inr (inr p))) = (
+      record { mode = IsStopped s token command; steps = steps },
+      ((p.0, refl, refl, refl), sym (ap (written steps token command) p.0)),
+      record {
+        held = ((a.stops at.held.0).1 p.0, p.1);
+        since = since_then_on;
+        stops = stopped_so p.0;
+      },
+    )
+
+  answered : (mode : Mode) (steps : List (Asked × Answer)) (old new : BrokerView X) (token : Option Text) (command : Command) (answer : Answer)
+      → HasCleanDisk (shown new.connection) → Reaches old mode steps → Applied shown old token command answer new → Answers mode steps token command answer new
+  answered (Running s) steps old new token command answer clean at a =
+      applied s steps old token command answer new clean at a (a.applies clean at.held.0 s at.held.1)
+  answered (IsStopped s of failed) steps old new token command answer clean at a =
+      let still = a.stopped at.held.0 in (
+        record { mode = IsStopped s of failed; steps = steps },
+        ((still.0, refl), sym (ap (written steps token command) still.0)),
+        left_alone (IsStopped s of failed) steps old new still.1 at,
+      )
+
+  -- a message and its response
+  exchanged : (journal : Journal) (old new : BrokerView X) (asked : Request) (response : Response)
+      → HasCleanDisk (shown new.connection) → Reaches old journal.mode journal.steps → exchange.Responds (Applied shown) old asked response new
+      → (next : Journal) × exchange.Responds JournalStep journal asked response next × Reaches new next.mode next.steps
+  exchanged journal old new (Refused refusal is_bodiless) response clean at p = (journal, (p.0, refl), left_alone journal.mode journal.steps old new p.1 at)
+  exchanged journal old new (NoRoute closes) response clean at p = (journal, (p.0, refl), left_alone journal.mode journal.steps old new p.1 at)
+  exchanged journal old new (NoMethod resource closes) response clean at p = (journal, (p.0, refl), left_alone journal.mode journal.steps old new p.1 at)
+  exchanged journal old new (Asks token command closes) response clean at p =
+      let next = answered journal.mode journal.steps old new token command p.0 clean at p.1 in
+      (next.0, (p.0, next.1, p.2), next.2)
+
+  pub machine : (journal : Journal) (old : BrokerView X) (stream : List ℕ) (responses : List Response) (new : BrokerView X) (rest : List ℕ)
       → Responses (exchange.Exchange (Applied shown)) old stream responses new rest
-      → HasCleanDisk (shown new.connection) → IsInMode shown mode old → IsSince first (shown old.connection) → StopsLater Before begun first (shown old.connection) mode
-      → (last : Mode) × Responses (exchange.Exchange ModeStep) mode stream responses last rest × IsInMode shown last new × StopsLater Before begun first (shown new.connection) last
-  machine first mode old stream [] new rest p clean held since stops = let still = left_alone first mode old new p.0 held stops in (mode, (refl, p.1), still.0, still.1)
-  machine first mode old stream (response ∷ responses) new rest p clean held since stops =
-      let mid_clean = all_clean p.1 p.2 responses new rest p.5 clean in
-      let here = exchanged first mode old p.1 p.4.0 response mid_clean held since stops p.4.2 in
-      let once = survives old p.1 p.4.0 response p.4.2 in
-      let later = machine first here.0 p.1 p.2 responses new rest p.5 clean here.2 (since_then first (shown old.connection) (shown p.1.connection) since once.1 mid_clean) here.3 in
-      (later.0, (p.0, here.0, p.2, p.3, (p.4.0, p.4.1, here.1), later.1), later.2, later.3)
+      → HasCleanDisk (shown new.connection) → Reaches old journal.mode journal.steps
+      → (last : Journal) × Responses (exchange.Exchange JournalStep) journal stream responses last rest × Reaches new last.mode last.steps
+  machine journal old stream [] new rest p clean at = (journal, (refl, p.1), left_alone journal.mode journal.steps old new p.0 at)
+  machine journal old stream (response ∷ responses) new rest p clean at =
+      let here = exchanged journal old p.1 p.4.0 response (all_clean shown p.1 p.2 responses new rest p.5 clean) at p.4.2 in
+      let later = machine here.0 p.1 p.2 responses new rest p.5 clean here.2 in
+      (later.0, (p.0, here.0, p.2, p.3, (p.4.0, p.4.1, here.1), later.1), later.2)
+
+  pub stops_so : (here : Held X) (steps : ℕ) (mode : Mode) → StopsLater here steps mode → StopsOnlyBy shown from first here steps mode
+  stops_so here steps (Running s) it = tt
+  stops_so here steps (IsStopped s token command) it = it
+
+-- before the first message
+pub starts : {X : Type 0} (shown : Held X → State) (mode : Mode) (b : BrokerView X) → IsInMode shown mode b → Reaches shown mode b.connection b mode []
+starts shown (Running s) b held = record {
+  held = held;
+  since = since_itself (shown b.connection);
+  stops = (λ readable. readable, inr (takes_none 0 (shown b.connection).now (shown b.connection).now refl));
+}
+starts shown (IsStopped s token command) b held = record { held = held; since = since_itself (shown b.connection); stops = λ unlimited none. absurd none }

@@ -3,7 +3,6 @@ use Rattle.std.specs.Prelude.{◌≤◌, ℕ, Bool, List, length, Contains, Opti
 use Rattle.sqlite.specs.Tree.{Trees}
 use Rattle.sqlite.specs.Held.{Held}
 use Rattle.sqlite.specs.State.{State, HasCleanDisk, Survives}
-use Rattle.broker_core.specs.State.{State as Broker}
 use Rattle.broker_service.specs.BrokerView.{BrokerView}
 use Rattle.broker_service.specs.Calls.{Applied}
 use Rattle.http_messages.specs.Message.{Message}
@@ -13,7 +12,6 @@ use Rattle.http_responses.specs.declared.writing.WriteFault.{WriteFault}
 use Rattle.broker_http.specs.Exchange.{Exchange, Responds}
 use Rattle.broker_http.specs.Journal.{Journal, JournalStep, IsRunFrom, blank}
 use Rattle.broker_http.specs.Serving.{Mode, IsInMode, StopsOnlyBy, ServesStream}
-use Rattle.broker_http.specs.Serving.Mode.{Running}
 use Rattle.broker_http.specs.declared.served.ServeFault.{ServeFault}
 use Rattle.broker_http.specs.declared.served.Served.{Served}
 
@@ -39,22 +37,26 @@ module _ {X : Type 0} (shown : Held X → State) (s t : BrokerView X) (before af
   abbrev pub IsAnsweredByBroker : Result Served ServeFault → Type 0
   IsAnsweredByBroker result = ServesStream (ByBroker shown) s t before after old new result
 
+  -- The machine answers it, from this mode to the last.
+  pub record IsAnsweredByMachine (mode : Mode) (result : Result Served ServeFault) : Type 0 where
+    pub last : Journal
+    -- the answers that are steps run it, in order, from one state to the other, which the database holds
+    pub run : IsRunFrom mode last
+    pub holds : IsInMode shown last.mode t
+    -- each answer is the machine's, or it is no step; so too those to the messages before a fault
+    pub serves : ServesStream ByMachine (blank mode) last before after old new result
+    -- if one of these answers stopped the broker, the disk failed, or there was no memory to commit a command that was
+    -- to be done, as long as its tables have numbers for rows; so no request stops a broker whose disk works and whose
+    -- memory suffices at COMMIT
+    pub calm : StopsOnlyBy shown mode s.connection t.connection (length last.steps) last.mode
+
   -- what serving a stream promises
   pub record IsServed (result : Result Served ServeFault) : Type 0 where
     -- on any disk and any database, by what the broker does with each command
     pub answers : IsAnsweredByBroker result
-    -- on a clean disk, from a database that holds a state of the machine, the answers are the machine's: those that
-    -- are steps run it, in order, from that state to the last, which the database holds; so too those to the messages
-    -- before a fault
+    -- on a clean disk, from a database that holds a state of the machine, by the machine
     pub machine : HasCleanDisk (shown t.connection) → (mode : Mode) → IsInMode shown mode s
-        → (last : Journal) × IsInMode shown last.mode t × IsRunFrom mode last
-        × ServesStream ByMachine (blank mode) last before after old new result
-    -- and if one of these answers stopped it, it was to a command that was to be done, or the disk failed, from each state
-    -- that can be read back; so no request that is refused or only reads stops a broker whose disk works
-    pub calm : HasCleanDisk (shown t.connection) → (first : Broker) → IsInMode shown (Running first) s
-        → (last : Journal) × IsInMode shown last.mode t × IsRunFrom (Running first) last
-        × ServesStream ByMachine (blank (Running first)) last before after old new result
-        × StopsOnlyBy first (shown s.connection) (shown t.connection) last.mode
+        → IsAnsweredByMachine mode result
     -- what the store promises of the connection: it is shut by a fault of the disk alone, its step limit stays, and
     -- what a crash may leave it could leave before, or it is one of these commits, at most one a message
     pub survives : (commits : List Trees) × Survives (shown s.connection) (shown t.connection) (Contains commits)

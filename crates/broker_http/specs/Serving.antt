@@ -1,5 +1,5 @@
 -- A broker that serves, as the machine or stopped.
-use Rattle.std.specs.Prelude.{◌≡◌, ◌≢◌, ◌⊎◌, ℕ, true, false, List, length, Option, None, Result, IfOk, IfErr}
+use Rattle.std.specs.Prelude.{◌≡◌, ◌≢◌, ◌⊎◌, ◌+◌, ◌*◌, ℕ, true, false, List, length, Option, None, Result, IfOk, IfErr}
 use Rattle.std.specs.Io.KnownBytes.{Appends, Consumes, IsAtEnd}
 use Rattle.sqlite.specs.Held.{Held}
 use Rattle.sqlite.specs.State.{State, HasCause}
@@ -13,8 +13,9 @@ use Rattle.broker_core.specs.declared.answer.Answer.{Answer}
 use Rattle.broker_core.specs.declared.answer.Answer.TheVariants as answers
 use Rattle.broker_core.specs.declared.command.Command.{Command}
 use Rattle.broker_tables.specs.Readable.{IsReadable}
+use Rattle.broker_tables.specs.Room.{HasRoomFor, enough}
 use Rattle.broker_service.specs.BrokerView.{BrokerView}
-use Rattle.broker_service.specs.Causes.{IsToBeDone}
+use Rattle.broker_service.specs.Causes.{IsToBeDone, CommitLacksMemory}
 use Rattle.broker_service.specs.Ends.{HoldsNext}
 use Rattle.command_facts.specs.Patterns.{AsksPattern}
 use Rattle.command_facts.specs.Primitives.{broker_primitives}
@@ -59,12 +60,22 @@ module _ {X : Type 0} (shown : Held X → State) where
 abbrev pub IsDiskAtFault : State → State → Type 0
 IsDiskAtFault old new = HasCause old new ⊥ Io ⊎ HasCause old new ⊥ Broken
 
--- Why a broker is stopped, over a connection on which no query has a limit of steps, from a first state that can be read
--- back: the disk failed, or the command was to be done.
-abbrev pub StopsOnlyBy : Broker → State → State → Mode → Type 0
-StopsOnlyBy first old new (Running s) = Unit {0}
-StopsOnlyBy first old new (IsStopped s token command) =
-    old.step_limit ≡ None → IsReadable first → IsDiskAtFault old new ⊎ IsToBeDone s token command
+-- a broker runs, in a state that can be read back
+abbrev pub RunsReadable : Mode → Type 0
+RunsReadable (Running s) = IsReadable s
+RunsReadable (IsStopped s token command) = ⊥
+
+-- Why a broker is stopped that ran at first, in a state that can be read back, over a connection on which no query has a
+-- limit of steps, and answered so many messages by steps: the disk failed; or the command was to be done and, if at first
+-- each table had numbers for the rows of these steps and of the command, COMMIT was refused for want of memory.
+module _ {X : Type 0} (shown : Held X → State) (first : Mode) (old new : Held X) (steps : ℕ) where
+  abbrev pub StopsOnlyBy : Mode → Type 0
+  StopsOnlyBy (Running s) = Unit {0}
+  StopsOnlyBy (IsStopped s token command) =
+      (shown old).step_limit ≡ None → RunsReadable first
+      → IsDiskAtFault (shown old) (shown new)
+      ⊎ (IsToBeDone s token command
+      × (HasRoomFor (enough * (steps + 1)) (shown old).now → CommitLacksMemory shown s token command new))
 
 module _ {S : Type 0} (Exchange : S → Message → Response → S → Type 0) (s t : S)
     (before after old new : Option (List ℕ)) where

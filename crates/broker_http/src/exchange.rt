@@ -70,7 +70,10 @@ fn respond<S: Alter, W: Write>(
             closes,
         } => {
             let answer = apply(alloc, broker, &token, &command);
-            write_answer(writer, head_buffer, &answer, closes)
+            drop(command);
+            let written = write_answer(writer, head_buffer, &answer, closes);
+            drop(answer);
+            written
         }
     }
 }

@@ -15,4 +15,4 @@ returns-in-NoMethod g c =
 
 pub returns-in-Asks : goal.returns-in-Asks
 returns-in-Asks g c =
-    (answer_response c.apply-answer.result c.in-Asks.closes, rw c.in-Asks.is (c.apply-answer.result, c.apply-answer.ensures, refl), c.write_answer.ensures)
+    (answer_response c.apply-answer.result c.in-Asks.closes, rw c.in-Asks.is (c.apply-answer.result, c.apply-answer.ensures, refl), c.write_answer-written.ensures)
