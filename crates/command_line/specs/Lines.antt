@@ -1,12 +1,15 @@
 -- the program's command lines: a word that names a command, and the command's options, each with a value and
 -- each required (this project's own choice)
 use Rattle.std.specs.Prelude.{◌≡◌, ◌≤◌, ⊤, ℕ, List, [], ◌∷◌, Bool, true, false, Option, Some}
-use Rattle.std.specs.Prelude.{codes, bytes_eq, find, map, pos}
+use Rattle.std.specs.Prelude.{codes, bytes_eq, find, fold, map, pos}
 use Rattle.std.specs.Borrow.{Bor}
 use Rattle.std.specs.Option.{option_map_or}
 use Rattle.std.specs.Str.Parse.{digits_value, without_leading_plus}
 use Rattle.clap.specs.Words.{App, Kinds, Row, Rule, Text, fault_of, first_of, matches_of, new_app, new_rule, one_of, with_rule}
 use Rattle.clap.specs.declared.builder.value_parser.ValueParser.TheVariants.{Signed}
+use Rattle.command_line.specs.declared.descriptions.CommandOption.{CommandOption}
+use Rattle.command_line.specs.declared.descriptions.CommandOption.TheVariants as options
+use Rattle.command_line.specs.declared.descriptions.CommandText.{CommandText}
 use Rattle.command_line.specs.declared.line.Line.{Line}
 use Rattle.command_line.specs.declared.names.CommandName.{CommandName}
 use Rattle.command_line.specs.declared.names.CommandName.TheVariants as names
@@ -62,7 +65,7 @@ abbrev pub can_i_deploy : App
 can_i_deploy = with_rule (with_rule asking (option (codes "version"))) (option (codes "to-environment"))
 
 abbrev pub commands : List App
-commands = replay ∷ init ∷ migrate ∷ serve ∷ normalise ∷ check ∷ can_i_deploy ∷ []
+commands = init ∷ migrate ∷ serve ∷ can_i_deploy ∷ normalise ∷ check ∷ replay ∷ []
 
 -- the command of a line
 abbrev pub command_of : Line → App
@@ -120,9 +123,13 @@ Says words line =
     (program : Text) × (rest : List Text)
     × (words ≡ program ∷ name_of line ∷ rest) × HasOptions (name_of line ∷ rest) line
 
+-- the first of the commands that a word names
+abbrev pub command_among : Text → List App → Option App
+command_among word commands = find (λ command. bytes_eq word command.top.name) commands
+
 -- the command that a word names
 abbrev pub command_at : Text → Option App
-command_at word = find (λ command. bytes_eq word command.top.name) commands
+command_at word = command_among word commands
 
 -- the words begin with a command's name, and the command takes them
 abbrev pub is_command : List Text → Bool
@@ -149,3 +156,14 @@ abbrev pub BeginsWithName : List Text → CommandName → Type 0
 BeginsWithName words name =
     (rest : List Text) × (words ≡ (command_named name).top.name ∷ rest)
     × (is_command words ≡ is_taken (command_named name) words)
+
+-- for private clauses: an option and a command, as the program describes them
+abbrev pub option_rule : CommandOption → Rule
+option_rule (options.Text name help) = option name.now
+option_rule (options.Number name help) = number_option name.now
+
+abbrev pub with_option : App → CommandOption → App
+with_option command option = with_rule command (option_rule option)
+
+abbrev pub described : CommandText → App
+described d = fold with_option (new_app d.name.now) d.options.now

@@ -2,6 +2,7 @@
 #![tactic(auto)]
 
 mod commands;
+mod descriptions;
 mod help;
 mod line;
 mod names;

@@ -11,7 +11,7 @@ use clap::error::ErrorKind;
 use std::alloc::{AllocError, Global};
 
 /// A command of the program, with the values of its options.
-#[derive(Clone, Copy, Debug)]
+#[derive(Clone, Copy)]
 pub enum Line<'a> {
     /// Serves the requests on standard input over tables in memory, and writes the answers to standard output.
     Replay {

@@ -1,9 +1,11 @@
 //! The names of the commands.
-ghost use Rattle.std.specs.Prelude.{◌≡◌, MatchOption, false, option_map};
-ghost use Rattle.command_line.specs.Lines.{BeginsWithName, command_at, command_named, is_command, texts_of};
+ghost use Rattle.std.specs.Prelude.{◌≡◌, MatchOption, false, map, option_map};
+ghost use Rattle.command_line.specs.Lines.{BeginsWithName, command_among, command_named, is_command, texts_of};
+
+use crate::descriptions::description;
 
 /// A command of the program, without its options.
-#[derive(Clone, Copy, Debug)]
+#[derive(Clone, Copy)]
 pub(crate) enum CommandName {
     Replay,
     Init,
@@ -14,30 +16,25 @@ pub(crate) enum CommandName {
     CanIDeploy,
 }
 
-/// The command that a word names.
-fn named_by(word: &str) -> Option<CommandName>
-    ensures { option_map command_named result ≡ command_at word.now }
+/// The commands, in the order in which the help lists them.
+pub(crate) const COMMANDS: [CommandName; 7] = [
+    CommandName::Init,
+    CommandName::Migrate,
+    CommandName::Serve,
+    CommandName::CanIDeploy,
+    CommandName::Normalise,
+    CommandName::Check,
+    CommandName::Replay,
+];
+
+/// The first of the commands that the word names.
+fn named_by(word: &str, commands: &[CommandName]) -> Option<CommandName>
+    ensures { option_map command_named result ≡ command_among word.now (map command_named commands.now) }
 {
-    if word == "replay" {
-        return Some(CommandName::Replay);
-    }
-    if word == "init" {
-        return Some(CommandName::Init);
-    }
-    if word == "migrate" {
-        return Some(CommandName::Migrate);
-    }
-    if word == "serve" {
-        return Some(CommandName::Serve);
-    }
-    if word == "normalise" {
-        return Some(CommandName::Normalise);
-    }
-    if word == "check" {
-        return Some(CommandName::Check);
-    }
-    if word == "can-i-deploy" {
-        return Some(CommandName::CanIDeploy);
+    for name in commands {
+        if word == description(*name).name {
+            return Some(*name);
+        }
     }
     None
 }
@@ -48,7 +45,7 @@ pub(crate) fn named(words: &[&str]) -> Option<CommandName>
         (BeginsWithName (texts_of words.now)) }
 {
     match words.split_first() {
-        Some((word, _)) => named_by(word),
+        Some((word, _)) => named_by(word, &COMMANDS),
         None => None,
     }
 }

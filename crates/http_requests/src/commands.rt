@@ -1,5 +1,5 @@
 //! The command that a message asks.
-ghost use Rattle.std.specs.Prelude.{◌≡◌, IfOk, codes, Option};
+ghost use Rattle.std.specs.Prelude.{◌≡◌, IfOk, codes, if◌then◌else◌, Option};
 ghost use Rattle.serde_json.specs.Data.{Data};
 ghost use Rattle.http_requests.specs.Views.{object_in};
 ghost use Rattle.http_requests.specs.Commands.{IsPactPath, IsVersionFields, IsVersionQuery, IsParsed, IsCommand, or_malformed};
@@ -85,20 +85,17 @@ fn put_environment(alloc: Global, path: &[u8], body: &[u8]) -> Parsed<Command>
     }))
 }
 
-fn put_grant(alloc: Global, path: &[u8]) -> Parsed<Command>
-    ensures { IfOk result (IsGrant Command.PutGrant path.now) }
+/// A grant that is given, or taken.
+fn grant(alloc: Global, path: &[u8], gives: bool) -> Parsed<Command>
+    ensures { IfOk result (IsGrant (if gives then Command.PutGrant else Command.DeleteGrant) path.now) }
 {
     let team = part!(path_name(alloc, path, places::GRANTED_TEAM));
     let environment = part!(path_name(alloc, path, places::GRANTED_ENVIRONMENT));
-    Ok(Ok(Command::PutGrant { team, environment }))
-}
-
-fn delete_grant(alloc: Global, path: &[u8]) -> Parsed<Command>
-    ensures { IfOk result (IsGrant Command.DeleteGrant path.now) }
-{
-    let team = part!(path_name(alloc, path, places::GRANTED_TEAM));
-    let environment = part!(path_name(alloc, path, places::GRANTED_ENVIRONMENT));
-    Ok(Ok(Command::DeleteGrant { team, environment }))
+    if gives {
+        Ok(Ok(Command::PutGrant { team, environment }))
+    } else {
+        Ok(Ok(Command::DeleteGrant { team, environment }))
+    }
 }
 
 fn put_version(alloc: Global, path: &[u8], body: &[u8]) -> Parsed<Command>
@@ -178,56 +175,47 @@ fn post_replies(alloc: Global, path: &[u8], body: &[u8]) -> Parsed<Command>
     }))
 }
 
-fn deploy(alloc: Global, path: &[u8], body: &[u8]) -> Parsed<Command>
-    ensures { IfOk result (IsMove Command.Deploy path.now body.now) }
+/// What is deployed, or undeployed.
+fn deployment(alloc: Global, path: &[u8], body: &[u8], deploys: bool) -> Parsed<Command>
+    ensures { IfOk result (IsMove (if deploys then Command.Deploy else Command.Undeploy) path.now body.now) }
 {
     let environment = part!(path_name(alloc, path, places::OWN_NAME));
     let fields = Fields::read(alloc, body)?;
     let version = part!(version_fields(alloc, &fields));
     let instance = part!(fields.optional_name(alloc, "instance"));
-    Ok(Ok(Command::Deploy {
-        environment,
-        version,
-        instance,
-    }))
+    if deploys {
+        Ok(Ok(Command::Deploy {
+            environment,
+            version,
+            instance,
+        }))
+    } else {
+        Ok(Ok(Command::Undeploy {
+            environment,
+            version,
+            instance,
+        }))
+    }
 }
 
-fn undeploy(alloc: Global, path: &[u8], body: &[u8]) -> Parsed<Command>
-    ensures { IfOk result (IsMove Command.Undeploy path.now body.now) }
+/// What is released, or no longer supported.
+fn support(alloc: Global, path: &[u8], body: &[u8], releases: bool) -> Parsed<Command>
+    ensures { IfOk result (IsSupport (if releases then Command.Release else Command.EndSupport) path.now body.now) }
 {
     let environment = part!(path_name(alloc, path, places::OWN_NAME));
     let fields = Fields::read(alloc, body)?;
     let version = part!(version_fields(alloc, &fields));
-    let instance = part!(fields.optional_name(alloc, "instance"));
-    Ok(Ok(Command::Undeploy {
-        environment,
-        version,
-        instance,
-    }))
-}
-
-fn release(alloc: Global, path: &[u8], body: &[u8]) -> Parsed<Command>
-    ensures { IfOk result (IsSupport Command.Release path.now body.now) }
-{
-    let environment = part!(path_name(alloc, path, places::OWN_NAME));
-    let fields = Fields::read(alloc, body)?;
-    let version = part!(version_fields(alloc, &fields));
-    Ok(Ok(Command::Release {
-        environment,
-        version,
-    }))
-}
-
-fn end_support(alloc: Global, path: &[u8], body: &[u8]) -> Parsed<Command>
-    ensures { IfOk result (IsSupport Command.EndSupport path.now body.now) }
-{
-    let environment = part!(path_name(alloc, path, places::OWN_NAME));
-    let fields = Fields::read(alloc, body)?;
-    let version = part!(version_fields(alloc, &fields));
-    Ok(Ok(Command::EndSupport {
-        environment,
-        version,
-    }))
+    if releases {
+        Ok(Ok(Command::Release {
+            environment,
+            version,
+        }))
+    } else {
+        Ok(Ok(Command::EndSupport {
+            environment,
+            version,
+        }))
+    }
 }
 
 fn get_environment(alloc: Global, path: &[u8]) -> Parsed<Command>
@@ -269,18 +257,18 @@ fn parse(
         Operation::PutTeam => put_team(alloc, path, body),
         Operation::PutPacticipant => put_pacticipant(alloc, path, body),
         Operation::PutEnvironment => put_environment(alloc, path, body),
-        Operation::PutGrant => put_grant(alloc, path),
-        Operation::DeleteGrant => delete_grant(alloc, path),
+        Operation::PutGrant => grant(alloc, path, true),
+        Operation::DeleteGrant => grant(alloc, path, false),
         Operation::PutVersion => put_version(alloc, path, body),
         Operation::PutPact => put_pact(alloc, path, body),
         Operation::GetPact => get_pact(alloc, path),
         Operation::GetBranchPact => get_branch_pact(alloc, path),
         Operation::PostResult => post_result(alloc, path, body),
         Operation::PostReplies => post_replies(alloc, path, body),
-        Operation::Deploy => deploy(alloc, path, body),
-        Operation::Undeploy => undeploy(alloc, path, body),
-        Operation::Release => release(alloc, path, body),
-        Operation::EndSupport => end_support(alloc, path, body),
+        Operation::Deploy => deployment(alloc, path, body, true),
+        Operation::Undeploy => deployment(alloc, path, body, false),
+        Operation::Release => support(alloc, path, body, true),
+        Operation::EndSupport => support(alloc, path, body, false),
         Operation::GetEnvironment => get_environment(alloc, path),
         Operation::CanIDeploy => can_i_deploy(alloc, query),
         Operation::GetMatrix => get_matrix(alloc, query),

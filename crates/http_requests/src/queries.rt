@@ -10,7 +10,7 @@ use form_urlencoded::{decode, raw_pairs};
 use std::alloc::{AllocError, Global};
 
 /// The values under one key.
-#[derive(Debug, Drop)]
+#[derive(Drop)]
 pub(crate) enum Values {
     Absent,
     /// One value.

@@ -56,14 +56,13 @@ fn command_request(
     ensures { (h : RequestHead) → IsReadFrom text.now head h → path.now ≡ path_of h.target
         → query.now ≡ query_of h.target → IfOk result (ByOperation h body.now operation) }
 {
-    let closes = head.closes;
-    let command = command_of(alloc, operation, path, query, body)?;
     let fields = &head.spans[..head.parsed.headers];
     let token = caller_token(alloc, field_of(text, fields, b"authorization"))?;
+    let command = command_of(alloc, operation, path, query, body)?;
     Ok(Request::Asks {
         token,
         command,
-        closes,
+        closes: head.closes,
     })
 }
 

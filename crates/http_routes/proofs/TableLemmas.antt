@@ -1,6 +1,6 @@
 -- What the router finds in the table of all routes is the resource that the path names.
 use Rattle.std.specs.{Option.{option_map}, Str.{bytes_eq}}
-use Rattle.std.proofs.Common.{◌≡◌, ℕ, List, [], ◌∷◌, ◌++◌, Option, Some, None, is_some, Bool, true, false, cond, refl, sym, ap, subst, ◌∙◌, ◌&&◌, ◌||◌, not, ◌⊎◌, inl, inr, Result, Ok, Err}
+use Rattle.std.proofs.Common.{◌≡◌, ℕ, List, [], ◌∷◌, Option, Some, None, is_some, Bool, true, false, cond, refl, sym, ap, subst, ◌∙◌, ◌&&◌, ◌||◌, not, ◌⊎◌, inl, inr, Result, Ok, Err}
 use Rattle.std.proofs.{lemmas.Bool.{and_parts, and_left, and_right, not-true}, lemmas.Slice.Eq.{bytes_eq-Decides}}
 use Rattle.matchit.specs.{Order.{placed}, Route.{Scan, parse_route}, Router.{RouteOf, route_from}, Rows.{comes_before}, Seek.{first}}
 use Rattle.matchit.{specs.declared.error.InsertError.{InsertError}, proofs.OnLiterals.{matchit_on_literals}}
@@ -251,7 +251,3 @@ finds path = by (first table path) refl
         let row = seek-sound 0 table path r (Right-plain table table-right) e in
         sym (Right-row table row.0 r path table-right row.1 row.2)
     by None e = none (resource_of path) refl e
-
-pub with_routes-append : (some more : List (List ℕ × Resource)) (rows : Rows) → with_routes (some ++ more) rows ≡ with_routes more (with_routes some rows)
-with_routes-append [] more rows = refl
-with_routes-append (route ∷ some) more rows = with_routes-append some more (with_route (parse_route route.0) route.1 rows)

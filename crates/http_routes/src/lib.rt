@@ -1,7 +1,7 @@
 //! The routes: which resource a path names, and which operation a method asks of it.
 #![tactic(auto)]
 
-ghost use Rattle.std.specs.Prelude.{◌≡◌};
+ghost use Rattle.std.specs.Prelude.{◌≡◌, codes};
 ghost use Rattle.http_routes.specs.Methods.{operation_at};
 ghost use Rattle.http_routes.specs.Routes.{segment};
 
@@ -33,7 +33,7 @@ pub enum Resource {
 }
 
 /// What a method asks of a resource: one for each command.
-#[derive(Clone, Copy, Debug, PartialEq, Eq)]
+#[derive(Clone, Copy, PartialEq, Eq)]
 pub enum Operation {
     PutTeam,
     PutPacticipant,
@@ -63,29 +63,73 @@ pub fn segment(path: &[u8], index: usize) -> &[u8]
     path.split(|byte| *byte == b'/').nth(index).unwrap_or(&[])
 }
 
+/// What GET asks of a resource.
+fn gets(resource: Resource) -> Option<Operation>
+    ensures { result ≡ operation_at resource (codes "GET") }
+{
+    match resource {
+        Resource::Environment => Some(Operation::GetEnvironment),
+        Resource::Pact => Some(Operation::GetPact),
+        Resource::BranchPact => Some(Operation::GetBranchPact),
+        Resource::CanIDeploy => Some(Operation::CanIDeploy),
+        Resource::Matrix => Some(Operation::GetMatrix),
+        _ => None,
+    }
+}
+
+/// What PUT asks of a resource.
+fn puts(resource: Resource) -> Option<Operation>
+    ensures { result ≡ operation_at resource (codes "PUT") }
+{
+    match resource {
+        Resource::Team => Some(Operation::PutTeam),
+        Resource::Pacticipant => Some(Operation::PutPacticipant),
+        Resource::Environment => Some(Operation::PutEnvironment),
+        Resource::Grant => Some(Operation::PutGrant),
+        Resource::Version => Some(Operation::PutVersion),
+        Resource::Pact => Some(Operation::PutPact),
+        _ => None,
+    }
+}
+
+/// What POST asks of a resource.
+fn posts(resource: Resource) -> Option<Operation>
+    ensures { result ≡ operation_at resource (codes "POST") }
+{
+    match resource {
+        Resource::Results => Some(Operation::PostResult),
+        Resource::Replies => Some(Operation::PostReplies),
+        Resource::Deployments => Some(Operation::Deploy),
+        Resource::Undeployments => Some(Operation::Undeploy),
+        Resource::Releases => Some(Operation::Release),
+        Resource::SupportEnded => Some(Operation::EndSupport),
+        _ => None,
+    }
+}
+
+/// What DELETE asks of a resource.
+fn deletes(resource: Resource) -> Option<Operation>
+    ensures { result ≡ operation_at resource (codes "DELETE") }
+{
+    match resource {
+        Resource::Grant => Some(Operation::DeleteGrant),
+        _ => None,
+    }
+}
+
 /// What a method asks of a resource, if the resource has the method.
 pub fn operation_at(resource: Resource, method: &Method) -> Option<Operation>
     ensures { result ≡ operation_at resource method.now }
 {
-    match resource {
-        Resource::Team if *method == Method::PUT => Some(Operation::PutTeam),
-        Resource::Pacticipant if *method == Method::PUT => Some(Operation::PutPacticipant),
-        Resource::Environment if *method == Method::GET => Some(Operation::GetEnvironment),
-        Resource::Environment if *method == Method::PUT => Some(Operation::PutEnvironment),
-        Resource::Grant if *method == Method::DELETE => Some(Operation::DeleteGrant),
-        Resource::Grant if *method == Method::PUT => Some(Operation::PutGrant),
-        Resource::Version if *method == Method::PUT => Some(Operation::PutVersion),
-        Resource::Pact if *method == Method::GET => Some(Operation::GetPact),
-        Resource::Pact if *method == Method::PUT => Some(Operation::PutPact),
-        Resource::BranchPact if *method == Method::GET => Some(Operation::GetBranchPact),
-        Resource::Results if *method == Method::POST => Some(Operation::PostResult),
-        Resource::Replies if *method == Method::POST => Some(Operation::PostReplies),
-        Resource::Deployments if *method == Method::POST => Some(Operation::Deploy),
-        Resource::Undeployments if *method == Method::POST => Some(Operation::Undeploy),
-        Resource::Releases if *method == Method::POST => Some(Operation::Release),
-        Resource::SupportEnded if *method == Method::POST => Some(Operation::EndSupport),
-        Resource::CanIDeploy if *method == Method::GET => Some(Operation::CanIDeploy),
-        Resource::Matrix if *method == Method::GET => Some(Operation::GetMatrix),
-        _ => None,
+    if *method == Method::GET {
+        gets(resource)
+    } else if *method == Method::PUT {
+        puts(resource)
+    } else if *method == Method::POST {
+        posts(resource)
+    } else if *method == Method::DELETE {
+        deletes(resource)
+    } else {
+        None
     }
 }

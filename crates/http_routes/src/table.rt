@@ -1,12 +1,58 @@
 //! The routes in a router.
-ghost use Rattle.std.specs.Prelude.{◌≡◌, OnOk};
+ghost use Rattle.std.specs.Prelude.{◌≡◌, OnOk, map};
 ghost use Rattle.matchit.specs.Route.{parse_route};
-ghost use Rattle.http_routes.specs.Routes.{registry_routes, pact_routes, deployment_routes, question_routes, resource_of};
+ghost use Rattle.http_routes.specs.Routes.{resource_of};
 ghost use Rattle.http_routes.specs.Table.{table, with_route, with_routes};
 
 use crate::Resource;
 use matchit::Router;
 use std::alloc::{AllocError, Global};
+
+/// The routes, each with what it names.
+const ROUTES: [(&str, Resource); 15] = [
+    ("/teams/{team}", Resource::Team),
+    ("/pacticipants/{pacticipant}", Resource::Pacticipant),
+    ("/environments/{environment}", Resource::Environment),
+    (
+        "/grants/team/{team}/environment/{environment}",
+        Resource::Grant,
+    ),
+    (
+        "/pacticipants/{pacticipant}/versions/{version}",
+        Resource::Version,
+    ),
+    (
+        "/pacts/provider/{provider}/consumer/{consumer}/version/{version}",
+        Resource::Pact,
+    ),
+    (
+        "/pacts/provider/{provider}/consumer/{consumer}/branch/{branch}",
+        Resource::BranchPact,
+    ),
+    (
+        "/pacts/provider/{provider}/consumer/{consumer}/version/{version}/results",
+        Resource::Results,
+    ),
+    (
+        "/pacts/provider/{provider}/consumer/{consumer}/version/{version}/replies",
+        Resource::Replies,
+    ),
+    (
+        "/environments/{environment}/deployments",
+        Resource::Deployments,
+    ),
+    (
+        "/environments/{environment}/undeployments",
+        Resource::Undeployments,
+    ),
+    ("/environments/{environment}/releases", Resource::Releases),
+    (
+        "/environments/{environment}/support-ended",
+        Resource::SupportEnded,
+    ),
+    ("/can-i-deploy", Resource::CanIDeploy),
+    ("/matrix", Resource::Matrix),
+];
 
 /// All routes, and no other.
 #[derive(Drop)]
@@ -22,89 +68,21 @@ fn add(router: &mut Router<Resource>, route: &str, resource: Resource) -> Result
     router.insert(route, resource).map_err(|_| AllocError)
 }
 
-fn add_registry_routes(router: &mut Router<Resource>) -> Result<(), AllocError>
-    ensures { OnOk result (router.new ≡ with_routes registry_routes router.old) }
+/// Adds routes in turn.
+fn add_routes(router: &mut Router<Resource>, routes: &[(&str, Resource)]) -> Result<(), AllocError>
+    ensures { OnOk result (router.new ≡ with_routes (map (λ row. (row.0.now, row.1)) routes.now) router.old) }
 {
-    add(router, "/teams/{team}", Resource::Team)?;
-    add(router, "/pacticipants/{pacticipant}", Resource::Pacticipant)?;
-    add(router, "/environments/{environment}", Resource::Environment)?;
-    add(
-        router,
-        "/grants/team/{team}/environment/{environment}",
-        Resource::Grant,
-    )?;
-    add(
-        router,
-        "/pacticipants/{pacticipant}/versions/{version}",
-        Resource::Version,
-    )
-}
-
-fn add_pact_routes(router: &mut Router<Resource>) -> Result<(), AllocError>
-    ensures { OnOk result (router.new ≡ with_routes pact_routes router.old) }
-{
-    add(
-        router,
-        "/pacts/provider/{provider}/consumer/{consumer}/version/{version}",
-        Resource::Pact,
-    )?;
-    add(
-        router,
-        "/pacts/provider/{provider}/consumer/{consumer}/branch/{branch}",
-        Resource::BranchPact,
-    )?;
-    add(
-        router,
-        "/pacts/provider/{provider}/consumer/{consumer}/version/{version}/results",
-        Resource::Results,
-    )?;
-    add(
-        router,
-        "/pacts/provider/{provider}/consumer/{consumer}/version/{version}/replies",
-        Resource::Replies,
-    )
-}
-
-fn add_deployment_routes(router: &mut Router<Resource>) -> Result<(), AllocError>
-    ensures { OnOk result (router.new ≡ with_routes deployment_routes router.old) }
-{
-    add(
-        router,
-        "/environments/{environment}/deployments",
-        Resource::Deployments,
-    )?;
-    add(
-        router,
-        "/environments/{environment}/undeployments",
-        Resource::Undeployments,
-    )?;
-    add(
-        router,
-        "/environments/{environment}/releases",
-        Resource::Releases,
-    )?;
-    add(
-        router,
-        "/environments/{environment}/support-ended",
-        Resource::SupportEnded,
-    )
-}
-
-fn add_question_routes(router: &mut Router<Resource>) -> Result<(), AllocError>
-    ensures { OnOk result (router.new ≡ with_routes question_routes router.old) }
-{
-    add(router, "/can-i-deploy", Resource::CanIDeploy)?;
-    add(router, "/matrix", Resource::Matrix)
+    for (route, resource) in routes {
+        add(router, route, *resource)?;
+    }
+    Ok(())
 }
 
 impl RouteTable {
     /// The table of all routes. An `Err` means out of memory.
     pub fn new(alloc: Global) -> Result<RouteTable, AllocError> {
         let mut router = Router::new(alloc);
-        add_registry_routes(&mut router)?;
-        add_pact_routes(&mut router)?;
-        add_deployment_routes(&mut router)?;
-        add_question_routes(&mut router)?;
+        add_routes(&mut router, &ROUTES)?;
         Ok(RouteTable { router })
     }
 

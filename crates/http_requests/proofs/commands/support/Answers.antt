@@ -1,6 +1,6 @@
 use Rattle.std.proofs.Common.{refl}
 use Rattle.http_requests.specs.Views.{object_in}
-use Rattle.http_requests.proofs.commands.end_support.Goals as goal
+use Rattle.http_requests.proofs.commands.support.Goals as goal
 
 pub returns-in-Err-2 : goal.returns-in-Err-2
 returns-in-Err-2 c =
