@@ -1,10 +1,10 @@
 -- The text of a normal form, made of the texts of its parts, and what it says.
-use Rattle.std.proofs.Common.{◌≡◌, ℕ, zero, suc, ◌+◌, ◌≤◌, ◌<◌, nat_le, List, [], ◌∷◌, ◌++◌, map, codes, true, false, Option, Some, None, MatchOption, refl, sym, ap, ◌∙◌, length, append_assoc, length-append, add-one, le-leb, arith}
+use Rattle.std.proofs.Common.{◌≡◌, ℕ, zero, suc, ◌+◌, ◌≤◌, ◌<◌, nat_le, List, [], Bool, ◌||◌, ◌∷◌, ◌++◌, map, codes, true, false, Option, Some, None, MatchOption, refl, sym, ap, ◌∙◌, length, append_assoc, length-append, add-one, le-leb, arith}
 use Rattle.std.proofs.lemmas.Bool.{lt-leb}
 use Rattle.json.specs.Print.{quoted, escape_byte}
-use Rattle.serde_json.specs.{Data.{Data, Items, no_items, item}, Read.{read}, View.{items_of}, Written.{compact_text, items_text}}
+use Rattle.serde_json.specs.{Data.{Data, Items, no_items, item}, Read.{read}, View.{items_of}, Written.{compact_text, items_text, has_float, items_have_float}}
 use Rattle.serde_json.proofs.OnLiterals.{serde_json_on_literals}
-use Rattle.pact_file.specs.{File.{most_bytes}, Pact.{State, Interaction, interaction_with, states_data, interaction_data, pact_with, normal_text}}
+use Rattle.pact_file.specs.{File.{most_bytes}, Pact.{State, Interaction, interaction_with, params_data, states_data, interaction_data, pact_with, normal_text}}
 use Rattle.pact_file.specs.{Sound.{IsSound}, Texts.{text_of_parts, interaction_of_text, interactions_text, item_length, pact_length}}
 use Rattle.pact_file.proofs.{ReadBack.{read-compact_text}, SoundData.{kept, whole, shallow}}
 
@@ -28,28 +28,52 @@ text_is x d s text e h is = is ∙ rw (e, h) (parts_text x.description x.states 
 pub is_said : (x : Interaction) (text : List ℕ) → IsSound 98 (interaction_data x) → text ≡ compact_text (interaction_data x) → interaction_of_text x.description x.states text ≡ x
 is_said x text h is = ap (interaction_of_text x.description x.states) is ∙ says x h
 
--- ---- the interactions
+-- ---- lists
 
 -- what the items from the place on add
 abbrev pub still : ℕ → Items → List ℕ
 still zero ds = items_text false ds
 still (suc i) ds = items_text true ds
 
-abbrev pub left : ℕ → List Interaction → List ℕ
-left i xs = still i (items_of (map interaction_data xs))
+module _ {A : Type 0} (value : A → Data) where
+  abbrev pub left : ℕ → List A → List ℕ
+  left i xs = still i (items_of (map value xs))
 
--- one more text is joined to those before it
-pub joins : (i : ℕ) (text new : List ℕ) (xs : List Interaction) (x : Interaction) (more : List Interaction) (total : List ℕ)
-    → xs ≡ x ∷ more → (i ≡ 0 → new ≡ text ++ compact_text (interaction_data x)) → (0 < i → new ≡ text ++ (codes "," ++ compact_text (interaction_data x)))
-    → text ++ left i xs ≡ total → new ++ left (i + 1) more ≡ total
-joins i text new xs x more total is first later so_far = rw add-one (step i first later ∙ ap (λ ys. text ++ left i ys) (sym is) ∙ so_far) where
-  step : (i : ℕ) → (i ≡ 0 → new ≡ text ++ compact_text (interaction_data x)) → (0 < i → new ≡ text ++ (codes "," ++ compact_text (interaction_data x))) → new ++ left (suc i) more ≡ text ++ left i (x ∷ more)
-  step zero first later = ap (λ s. s ++ left 1 more) (first refl) ∙ append_assoc text (compact_text (interaction_data x)) (left 1 more)
-  step (suc i) first later = ap (λ s. s ++ left 1 more) (later (omega arith)) ∙ append_assoc text (codes "," ++ compact_text (interaction_data x)) (left 1 more)
+  -- one more text is joined to those before it
+  pub joins : (i : ℕ) (text new : List ℕ) (xs : List A) (x : A) (more : List A) (total : List ℕ)
+      → xs ≡ x ∷ more → (i ≡ 0 → new ≡ text ++ compact_text (value x)) → (0 < i → new ≡ text ++ (codes "," ++ compact_text (value x)))
+      → text ++ left i xs ≡ total → new ++ left (i + 1) more ≡ total
+  joins i text new xs x more total is first later so_far = rw add-one (step i first later ∙ ap (λ ys. text ++ left i ys) (sym is) ∙ so_far) where
+    step : (i : ℕ) → (i ≡ 0 → new ≡ text ++ compact_text (value x)) → (0 < i → new ≡ text ++ (codes "," ++ compact_text (value x)))
+        → new ++ left (suc i) more ≡ text ++ left i (x ∷ more)
+    step zero first later = ap (λ s. s ++ left 1 more) (first refl) ∙ append_assoc text (compact_text (value x)) (left 1 more)
+    step (suc i) first later = ap (λ s. s ++ left 1 more) (later (omega arith)) ∙ append_assoc text (codes "," ++ compact_text (value x)) (left 1 more)
 
-nothing : (i : ℕ) → left i [] ≡ codes "]"
-nothing zero = refl
-nothing (suc i) = refl
+  pub nothing : (i : ℕ) (xs : List A) → xs ≡ [] → left i xs ≡ codes "]"
+  nothing zero xs is = ap (left 0) is
+  nothing (suc i) xs is = ap (left (suc i)) is
+
+either_false : (a b : Bool) → (a || b) ≡ false → (a ≡ false) × (b ≡ false)
+either_false false b h = (refl, h)
+either_false true b h = absurd cc
+
+-- the first of a list without fractions has none, nor have those behind it
+pub none_among : (d : Data) (ds : Items) → items_have_float (item d ds) ≡ false → (has_float d ≡ false) × (items_have_float ds ≡ false)
+none_among d ds h = either_false (has_float d) (items_have_float ds) h
+
+-- ---- a state
+
+pub state_text : (n : List ℕ) → codes "{\"name\":" ++ (quoted n ++ codes "}") ≡ compact_text (params_data n None)
+unfolding escape_byte serde_json_on_literals
+state_text n = refl
+
+pub state_text_with : (n : List ℕ) (d : Data)
+    → codes "{\"name\":" ++ (quoted n ++ (codes ",\"params\":" ++ (compact_text d ++ codes "}"))) ≡ compact_text (params_data n (Some d))
+unfolding escape_byte serde_json_on_literals
+state_text_with n d = refl
+
+pub none_param : (n : List ℕ) (d : Data) → has_float (params_data n (Some d)) ≡ false → has_float d ≡ false
+none_param n d h = (either_false (has_float d) false h).0
 
 -- ---- a pact
 
@@ -82,14 +106,14 @@ one_more n a b h = omega (arith, h)
 
 -- what an item adds to those behind it
 pub adds : (i : ℕ) (xs : List Interaction) (x : Interaction) (more : List Interaction) → xs ≡ x ∷ more
-    → length (left i xs) ≡ item_length i (compact_text (interaction_data x)) + length (left (i + 1) more)
-adds i xs x more is = rw add-one (ap (λ ys. length (left i ys)) is ∙ step i) where
-  step : (i : ℕ) → length (left i (x ∷ more)) ≡ item_length i (compact_text (interaction_data x)) + length (left (suc i) more)
-  step zero = length-append (compact_text (interaction_data x)) (left 1 more)
-  step (suc i) = one_more _ (length (compact_text (interaction_data x))) (length (left 1 more)) (length-append (compact_text (interaction_data x)) (left 1 more))
+    → length (left interaction_data i xs) ≡ item_length i (compact_text (interaction_data x)) + length (left interaction_data (i + 1) more)
+adds i xs x more is = rw add-one (ap (λ ys. length (left interaction_data i ys)) is ∙ step i) where
+  step : (i : ℕ) → length (left interaction_data i (x ∷ more)) ≡ item_length i (compact_text (interaction_data x)) + length (left interaction_data (suc i) more)
+  step zero = length-append (compact_text (interaction_data x)) (left interaction_data 1 more)
+  step (suc i) = one_more _ (length (compact_text (interaction_data x))) (length (left interaction_data 1 more)) (length-append (compact_text (interaction_data x)) (left interaction_data 1 more))
 
-pub adds_end : (i : ℕ) (xs : List Interaction) → xs ≡ [] → length (left i xs) ≡ 1
-adds_end i xs is = ap (λ ys. length (left i ys)) is ∙ ap length (nothing i)
+pub adds_end : (i : ℕ) (xs : List Interaction) → xs ≡ [] → length (left interaction_data i xs) ≡ 1
+adds_end i xs is = ap length (nothing interaction_data i xs is)
 
 some_later : (ds : Items) → 1 ≤ length (items_text true ds)
 some_later no_items = omega arith
@@ -99,7 +123,7 @@ some_first : (ds : Items) → 1 ≤ length (items_text false ds)
 some_first no_items = omega arith
 some_first (item d ds) = omega (arith, length-append (compact_text d) (items_text true ds), some_later ds)
 
-pub some_bytes : (i : ℕ) (xs : List Interaction) → 1 ≤ length (left i xs)
+pub some_bytes : (i : ℕ) (xs : List Interaction) → 1 ≤ length (left interaction_data i xs)
 some_bytes zero xs = some_first (items_of (map interaction_data xs))
 some_bytes (suc i) xs = some_later (items_of (map interaction_data xs))
 

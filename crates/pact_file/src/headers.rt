@@ -1,6 +1,6 @@
 //! The headers of a response.
 
-ghost use Rattle.std.specs.Prelude.{◌≡◌, ◌<◌, ◌++◌, [], codes, map, option_map, string_bytes, IfOk, OnOk};
+ghost use Rattle.std.specs.Prelude.{◌≡◌, map, option_map, string_bytes, IfOk};
 ghost use Rattle.std.specs.Prelude.{MatchOption, Some, None};
 ghost use Rattle.std.specs.List.{IsAllAdjacentAnswer};
 ghost use Rattle.std.specs.List.Sorted.{IsPermutation, IsSorted};
@@ -14,22 +14,9 @@ ghost use Rattle.pact_file.specs.Sets.{IsSetInOrder};
 
 use crate::pact::Header;
 use crate::parts::optional_member;
+use crate::texts::push_separated;
 use serde_json::{Map, Value};
 use std::alloc::{AllocError, Global};
-
-/// Adds a text after those that are there.
-fn push_part(text: &mut String, index: usize, part: &str) -> Result<(), AllocError>
-    ensures first { OnOk result (index ≡ 0
-        → string_bytes text.new ≡ string_bytes text.old ++ part.now) }
-    ensures later { OnOk result (0 < index
-        → string_bytes text.new ≡ string_bytes text.old ++ (codes ", " ++ part.now)) }
-{
-    if index > 0 {
-        text.push_str(", ")?;
-    }
-    text.push_str(part)?;
-    Ok(())
-}
 
 /// The texts of a list, with a comma and a space between each two.
 fn read_joined(alloc: Global, items: &[Value]) -> Result<Option<String>, AllocError>
@@ -39,7 +26,7 @@ fn read_joined(alloc: Global, items: &[Value]) -> Result<Option<String>, AllocEr
     let mut text = String::new(alloc);
     for (index, item) in items.iter().enumerate() {
         match item.as_str() {
-            Some(part) => push_part(&mut text, index, part)?,
+            Some(part) => push_separated(&mut text, index, ", ", part)?,
             None => return Ok(None),
         }
     }

@@ -1,8 +1,9 @@
 //! An interaction, in the order of its tests.
 
-ghost use Rattle.std.specs.Prelude.{◌≡◌, Some, option_map, IfOk};
+ghost use Rattle.std.specs.Prelude.{◌≡◌, Some, option_map, string_bytes, IfOk};
 ghost use Rattle.std.specs.Option.{ok_or};
 ghost use Rattle.serde_json.specs.View.{view};
+ghost use Rattle.serde_json.specs.Written.{compact_text};
 ghost use Rattle.pact_rules.specs.TreeReading.{whole_tree};
 ghost use Rattle.pact_rules.specs.TreeView.{tree_view};
 ghost use Rattle.pact_file.specs.declared.fault.PactFault.TheVariants.{Memory, Shape};
@@ -10,7 +11,7 @@ ghost use Rattle.pact_file.specs.Headers.{HasHeaders};
 ghost use Rattle.pact_file.specs.Interactions.{at, parts_at};
 ghost use Rattle.pact_file.specs.Normal.{InteractionRead};
 ghost use Rattle.pact_rules.specs.Outcome.{Gives, GivesAlways};
-ghost use Rattle.pact_file.specs.Pact.{interaction_data};
+ghost use Rattle.pact_file.specs.Pact.{states_data, interaction_data};
 ghost use Rattle.pact_file.specs.Parts.{text_at, object_at, states_in as states_at, status_in as status_found, body_in};
 ghost use Rattle.pact_rules.specs.Reading.{GivesOne};
 ghost use Rattle.pact_file.specs.Rules.{RulesRead, IsRulesOf};
@@ -153,17 +154,22 @@ fn read_rules(
     }
 }
 
-fn interaction_of(
-    alloc: Global,
-    parts: Parts<'_>,
-    headers: Vec<Header>,
-    rules: RuleTable,
-) -> Result<Interaction, AllocError>
-    requires sound { IsSound 98 (interaction_data (parts_view parts)) }
-    requires status { status_found (view parts.response.now) ≡ Some parts.status }
-    requires headers { HasHeaders (view parts.response.now) headers.items }
-    requires rules { IsRulesOf (view parts.response.now) rules }
-    ensures { IfOk result (λ x. x ≡ parts_view parts.entry) }
+/// What is kept of an interaction beside what was read of it.
+#[derive(Drop)]
+struct Kept {
+    body: Option<Tree>,
+    states_text: String,
+    text: String,
+}
+
+fn kept_of(alloc: Global, parts: &Parts<'_>) -> Result<Kept, AllocError>
+    requires { IsSound 98 (interaction_data (parts_view parts.now)) }
+    ensures body { IfOk result (λ k.
+        option_map tree_view k.body ≡ body_in (view parts.now.response.now)) }
+    ensures states { IfOk result (λ k. string_bytes k.states_text
+        ≡ compact_text (states_data parts.now.states.items)) }
+    ensures text { IfOk result (λ k. string_bytes k.text
+        ≡ compact_text (interaction_data (parts_view parts.now))) }
 {
     let states_text = states_text(alloc, parts.states.as_slice())?;
     let text = parts_text(
@@ -173,17 +179,39 @@ fn interaction_of(
         parts.request,
         parts.response,
     )?;
-    let body = body_of(alloc, parts.response)?;
-    Ok(Interaction {
+    Ok(Kept {
+        body: body_of(alloc, parts.response)?,
+        states_text,
+        text,
+    })
+}
+
+/// The interaction of what was read. Nothing can fail here, where the parts are moved.
+fn interaction_of(
+    parts: Parts<'_>,
+    headers: Vec<Header>,
+    rules: RuleTable,
+    kept: Kept,
+) -> Interaction
+    requires sound { IsSound 98 (interaction_data (parts_view parts)) }
+    requires status { status_found (view parts.response.now) ≡ Some parts.status }
+    requires headers { HasHeaders (view parts.response.now) headers.items }
+    requires rules { IsRulesOf (view parts.response.now) rules }
+    requires body { option_map tree_view kept.body ≡ body_in (view parts.response.now) }
+    requires states { string_bytes kept.states_text ≡ compact_text (states_data parts.states.items) }
+    requires text { string_bytes kept.text ≡ compact_text (interaction_data (parts_view parts)) }
+    ensures { result ≡ parts_view parts.entry }
+{
+    Interaction {
         description: parts.description,
         states: parts.states,
         status: parts.status,
         headers,
-        body,
+        body: kept.body,
         rules,
-        states_text,
-        text,
-    })
+        states_text: kept.states_text,
+        text: kept.text,
+    }
 }
 
 /// The interaction at this index, or its first fault.
@@ -201,7 +229,8 @@ pub(crate) fn read_interaction(
         None => Err(PactFault::Shape(Place::Interaction(index, Part::Headers))),
         Some(headers) => {
             let rules = read_rules(alloc, patterns, index, parts.response)?;
-            Ok(interaction_of(alloc, parts, headers, rules)?)
+            let kept = kept_of(alloc, &parts)?;
+            Ok(interaction_of(parts, headers, rules, kept))
         }
     }
 }

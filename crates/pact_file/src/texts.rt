@@ -11,26 +11,47 @@ ghost use Rattle.pact_file.specs.Texts.{text_of_parts, interactions_text, item_l
 
 use crate::pact::{Interaction, Pact};
 use crate::state::State;
-use serde_json::{Value, json};
+use serde_json::Value;
 use std::alloc::{AllocError, Global};
 
-fn state_value(alloc: Global, state: &State) -> Result<Value, AllocError>
-    ensures { IfOk result (λ v. view v ≡ state_data state.now) }
+/// Adds a text after those that are there, with the separator before it if it isn't the first.
+pub(crate) fn push_separated(
+    text: &mut String,
+    index: usize,
+    separator: &str,
+    part: &str,
+) -> Result<(), AllocError>
+    ensures first { OnOk result (index ≡ 0
+        → string_bytes text.new ≡ string_bytes text.old ++ part.now) }
+    ensures later { OnOk result (0 < index
+        → string_bytes text.new ≡ string_bytes text.old ++ (separator.now ++ part.now)) }
 {
-    match &state.params {
-        None => json!(in alloc; {"name": &state.name}),
-        Some(params) => json!(in alloc; {"name": &state.name, "params": params}),
+    if index > 0 {
+        text.push_str(separator)?;
     }
+    text.push_str(part)
 }
 
-fn states_value(alloc: Global, states: &[State]) -> Result<Value, AllocError>
-    ensures { IfOk result (λ v. view v ≡ states_data states.now) }
+/// A state's compact text.
+fn state_text(alloc: Global, state: &State) -> Result<String, AllocError>
+    requires { has_float (state_data state.now) ≡ false }
+    ensures { IfOk result (λ s. string_bytes s ≡ compact_text (state_data state.now)) }
 {
-    let mut list = Vec::new(alloc);
-    for state in states {
-        list.push(state_value(alloc, state)?)?;
+    let name = quoted_text(alloc, state.name.as_str())?;
+    match &state.params {
+        None => ["{\"name\":", name.as_str(), "}"].concat(alloc),
+        Some(params) => {
+            let params = params.to_string(alloc)?;
+            [
+                "{\"name\":",
+                name.as_str(),
+                ",\"params\":",
+                params.as_str(),
+                "}",
+            ]
+            .concat(alloc)
+        }
     }
-    Ok(Value::Array(list))
 }
 
 /// The compact JSON text of provider states, each with its name and, if they are given, its params. Two lists of states
@@ -39,8 +60,13 @@ pub fn states_text(alloc: Global, states: &[State]) -> Result<String, AllocError
     requires { has_float (states_data states.now) ≡ false }
     ensures { IfOk result (λ s. string_bytes s ≡ compact_text (states_data states.now)) }
 {
-    let value = states_value(alloc, states)?;
-    value.to_string(alloc)
+    let mut text = String::from_str(alloc, "[")?;
+    for (index, state) in states.iter().enumerate() {
+        let next = state_text(alloc, state)?;
+        push_separated(&mut text, index, ",", next.as_str())?;
+    }
+    text.push_str("]")?;
+    Ok(text)
 }
 
 /// A text as JSON writes it.
@@ -73,27 +99,13 @@ pub(crate) fn parts_text(
     )
 }
 
-/// Adds the text of an item after those that are there.
-fn push_item(texts: &mut String, index: usize, item: &str) -> Result<(), AllocError>
-    ensures first { OnOk result (index ≡ 0
-        → string_bytes texts.new ≡ string_bytes texts.old ++ item.now) }
-    ensures later { OnOk result (0 < index
-        → string_bytes texts.new ≡ string_bytes texts.old ++ (codes "," ++ item.now)) }
-{
-    if index > 0 {
-        texts.push_str(",")?;
-    }
-    texts.push_str(item)?;
-    Ok(())
-}
-
 /// The interactions' texts, with a comma between each two.
 fn joined_texts(alloc: Global, interactions: &[Interaction]) -> Result<String, AllocError>
     ensures { IfOk result (λ s. string_bytes s ++ codes "]" ≡ interactions_text interactions.now) }
 {
     let mut texts = String::new(alloc);
     for (index, interaction) in interactions.iter().enumerate() {
-        push_item(&mut texts, index, interaction.text())?;
+        push_separated(&mut texts, index, ",", interaction.text())?;
     }
     Ok(texts)
 }

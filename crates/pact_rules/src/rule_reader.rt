@@ -1,6 +1,6 @@
 //! Reading an entry of a table: its matchers, and how they are combined.
 
-ghost use Rattle.std.specs.Prelude.{◌≡◌, ◌≢◌, map, Err, option_map, codes, IfOk, IfErr, true, nat_eq};
+ghost use Rattle.std.specs.Prelude.{◌≡◌, ◌≢◌, map, Err, option_map, codes, IfOk, IfErr, is_some, true, nat_eq};
 ghost use Rattle.pact_rules.specs.TreeView.{tree_view, optional_view, list_view, object_view};
 ghost use Rattle.pact_rules.specs.Matching.{kind, get_field, is_pattern};
 ghost use Rattle.pact_rules.specs.RuleViews.{matcher_view, entry_view};
@@ -27,6 +27,12 @@ fn optional_member<'a>(members: &'a BTreeMap<String, Tree>, name: &str) -> Optio
         Some(tree) if !is_null(tree) => Some(tree),
         _ => None,
     }
+}
+
+fn has_member(members: &BTreeMap<String, Tree>, name: &str) -> bool
+    ensures { result ≡ is_some (optional_at (object_view members.now.entries) name.now) }
+{
+    optional_member(members, name).is_some()
 }
 
 fn look_up<'a>(members: &'a BTreeMap<String, Tree>, name: &str) -> Option<&'a Tree>
@@ -125,11 +131,9 @@ fn nameless_of(
     ensures { Reads matcher_view result
         (λ accepts. nameless_matcher accepts (object_view members.now.entries)) }
 {
-    if optional_member(members, "regex").is_some() {
+    if has_member(members, "regex") {
         pattern_of(alloc, patterns, members)
-    } else if optional_member(members, "min").is_some()
-        || optional_member(members, "max").is_some()
-    {
+    } else if has_member(members, "min") || has_member(members, "max") {
         same_type_of(members)
     } else {
         unsupported(alloc, "?")

@@ -17,8 +17,8 @@ loop-index-preserved c =
     let xs = c.args.items.now in
     let x = c.index-items-index.result in
     let here : drop l.index xs ≡ x ∷ drop (l.index + 1) xs = drop_more xs l.index x (omega arith) ∙ ap (λ y. y ∷ drop (l.index + 1) xs) (sym c.index-items-index.is) in
-    joins as_str l.index (string_bytes l.text) (string_bytes c.push_part.new.text) (map view (drop l.index xs)) (view x) (map view (drop (l.index + 1) xs)) c.in-Some.part.now _ (ap (map view) here) (sym c.in-Some.ensures)
-    c.in_ok-push_part-in-Some.ensures.first c.in_ok-push_part-in-Some.ensures.later l.invariant
+    joins as_str l.index (string_bytes l.text) (string_bytes c.push_separated.new.text) (map view (drop l.index xs)) (view x) (map view (drop (l.index + 1) xs)) c.in-Some.part.now _ (ap (map view) here) (sym c.in-Some.ensures)
+    c.in_ok-push_separated-in-Some.ensures.first c.in_ok-push_separated-in-Some.ensures.later l.invariant
 
 pub returns : goal.returns
 returns c =

@@ -29,7 +29,10 @@ pub returns-in-None : goal.returns-in-None
 unfolding InteractionRead
 returns-in-None c = λ memory. (Ok (parts_view c.in_ok-parts.parts), c.in_ok-parts.ensures.parts, (Err (at c.args.index Headers), (rw c.in-None.is at c.in_ok-read_headers.ensures, refl), refl))
 
-pub returns-in_ok-interaction_of-in-Some : goal.returns-in_ok-interaction_of-in-Some
+pub kept_of-requires : goal.kept_of-requires
+kept_of-requires c = parts_sound c.args.index (view c.args.value.now) (parts_view c.in_ok-parts.parts) c.requires c.in_ok-parts.ensures.parts
+
+pub returns-in_ok-kept-in-Some : goal.returns-in_ok-kept-in-Some
 unfolding InteractionRead
-returns-in_ok-interaction_of-in-Some c =
-    (Ok (parts_view c.in_ok-parts.parts), c.in_ok-parts.ensures.parts, (Ok c.in-Some.headers.items, rw c.in-Some.is at c.in_ok-read_headers.ensures, (Ok c.in_ok-rules-in-Some.rules, c.in_ok-rules-in-Some.ensures.read, ap Ok (sym c.in_ok-interaction_of-in-Some.ensures))))
+returns-in_ok-kept-in-Some c =
+    (Ok (parts_view c.in_ok-parts.parts), c.in_ok-parts.ensures.parts, (Ok c.in-Some.headers.items, rw c.in-Some.is at c.in_ok-read_headers.ensures, (Ok c.in_ok-rules-in-Some.rules, c.in_ok-rules-in-Some.ensures.read, ap Ok (sym c.interaction_of.ensures))))

@@ -10,6 +10,6 @@ loop-index-preserved c =
     let x = c.index-interactions-index.result in
     let old = string_bytes c.loop-index.texts in
     let here : drop i xs ≡ x ∷ drop (i + 1) xs = drop_more xs i x (omega arith) ∙ ap (λ y. y ∷ drop (i + 1) xs) (sym c.index-interactions-index.is) in
-    joins i old (string_bytes c.push_item.new.texts) (drop i xs) x (drop (i + 1) xs) (items_text false (items_of (map interaction_data xs))) here
-    (λ e. c.in_ok-push_item.ensures.first e ∙ ap (λ t. old ++ t) c.text.ensures) (λ e. c.in_ok-push_item.ensures.later e ∙ ap (λ t. old ++ (codes "," ++ t)) c.text.ensures)
+    joins interaction_data i old (string_bytes c.push_separated.new.text) (drop i xs) x (drop (i + 1) xs) (items_text false (items_of (map interaction_data xs))) here
+    (λ e. c.in_ok-push_separated.ensures.first e ∙ ap (λ t. old ++ t) c.text.ensures) (λ e. c.in_ok-push_separated.ensures.later e ∙ ap (λ t. old ++ (codes "," ++ t)) c.text.ensures)
     c.loop-index.invariant
