@@ -87,7 +87,11 @@ fn answer_to<S: Start>(
     ensures cause { IfErr result (λ failed. FailsToAnswer (image_at S.Start) question.entry failed.0 failed.1) }
 {
     match request_of(rt.alloc(), question) {
-        Ok((token, command)) => answer_at(rt, file, &token, &command, start),
+        Ok((token, command)) => {
+            let answered = answer_at(rt, file, &token, &command, start);
+            drop(command);
+            answered
+        }
         Err(fault) => Err((fault, Left::Nothing)),
     }
 }
@@ -113,7 +117,9 @@ fn tell_answer<W: Write>(answer: Answer, output: &mut W) -> Result<bool, RunFaul
 {
     match permits(&answer) {
         Some(permitted) => {
-            write_line(output, answer.body())?;
+            let written = write_line(output, answer.body());
+            drop(answer);
+            written?;
             Ok(permitted)
         }
         None => Err(RunFault::Answer(answer)),

@@ -27,7 +27,8 @@ pub(crate) type Failed<S> = (RunFault, Left<FileFrom<S>>);
 pub(crate) fn fault_of<S: Start>(failed: Failed<S>) -> RunFault
     ensures { result ≡ failed.0 }
 {
-    let (fault, _) = failed;
+    let (fault, left) = failed;
+    drop(left);
     fault
 }
 
@@ -120,11 +121,18 @@ pub(crate) fn open_broker<S: Start>(
     broker_of(connection)
 }
 
+/// The broker's connection.
+fn connection_of<S: Start>(broker: FileBroker<S>) -> FileConnection<S>
+    ensures { result ≡ broker.connection }
+{
+    broker.close()
+}
+
 /// Gives the broker's file up, as it is.
 pub(crate) fn release<S: Start>(broker: FileBroker<S>) -> FileStore<FileFrom<S>>
     ensures { GivesUpAs broker.connection result }
 {
-    leave(broker.close())
+    leave(connection_of(broker))
 }
 
 /// Closes the broker's file.
@@ -132,5 +140,5 @@ pub(crate) fn close<S: Start>(broker: FileBroker<S>) -> Result<Files<FileFrom<S>
     ensures ok { IfOk result (ClosesAs broker.connection) }
     ensures cause { IfErr result (λ failed. IsFromOutside failed.0) }
 {
-    disconnect(broker.close())
+    disconnect(connection_of(broker))
 }

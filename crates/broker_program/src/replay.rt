@@ -51,7 +51,9 @@ pub(crate) fn replay<R: Read, W: Write>(
     let office = token_of(alloc, office_token)?;
     let mut broker = new_broker(alloc, &office)?;
     let routes = route_table(alloc)?;
-    match serve(alloc, &routes, &mut broker, input, output) {
+    let served = serve(alloc, &routes, &mut broker, input, output);
+    drop(broker);
+    match served {
         Ok(_) => Ok(()),
         Err(fault) => Err(RunFault::Serve(fault)),
     }

@@ -15,7 +15,7 @@ use std::io::Write;
 fn write_or_lose<E: Write>(text: &str, errors: &mut E)
     ensures { IsLineOut text.now (E.contents errors.old) (E.contents errors.new) }
 {
-    let _ = write_line(errors, text);
+    drop(write_line(errors, text));
 }
 
 /// Writes a text that was made, and a newline; or that there was no memory for it.

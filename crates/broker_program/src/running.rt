@@ -138,7 +138,11 @@ fn run_line<S: Start, R: Read, W: Write, E: Write>(
     match done {
         Ok(true) => (0, left),
         Ok(false) => (1, left),
-        Err(fault) => (fail(rt.alloc(), &fault, errors), left),
+        Err(fault) => {
+            let status = fail(rt.alloc(), &fault, errors);
+            drop(fault);
+            (status, left)
+        }
     }
 }
 

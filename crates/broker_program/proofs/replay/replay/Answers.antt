@@ -10,18 +10,18 @@ unfolding doubt Replays
 returns-in-Ok-clause-ok g c =
     let holds = subst (λ t. IsInMode (state over_memory) (new_broker t) c.in_ok-broker.broker) c.in_ok-office.ensures.ok.0 c.in_ok-broker.ensures.holds in
     let served = c.in-Ok.ensures.machine refl (new_broker c.args.office_token.now) holds in
-    (served.0, c.in-Ok.field-0, served.2, served.3)
+    (served.last, c.in-Ok.field-0, served.run, served.serves)
 
 pub returns-clause-fails : goal.returns-clause-fails
 unfolding doubt ReplaysUpTo
 returns-clause-fails g c =
     let holds = subst (λ t. IsInMode (state over_memory) (new_broker t) c.in_ok-broker.broker) c.in_ok-office.ensures.ok.0 c.in_ok-broker.ensures.holds in
     let served = c.in-Err.ensures.machine refl (new_broker c.args.office_token.now) holds in
-    inr (c.in-Err.fault, (served.0, served.2, served.3))
+    inr (c.in-Err.fault, (served.last, served.run, served.serves))
 
 pub returns-clause-cause : goal.returns-clause-cause
 unfolding doubt ReplaysUpTo
 returns-clause-cause g c =
     let holds = subst (λ t. IsInMode (state over_memory) (new_broker t) c.in_ok-broker.broker) c.in_ok-office.ensures.ok.0 c.in_ok-broker.ensures.holds in
     let served = c.in-Err.ensures.machine refl (new_broker c.args.office_token.now) holds in
-    inr (c.in_ok-office.ensures.ok.1, inr (served.0, served.2, served.3))
+    inr (c.in_ok-office.ensures.ok.1, inr (served.last, served.run, served.serves))
