@@ -229,7 +229,8 @@ def joined(text):
 class Sheet:
     """What a file of cases has said so far, and what is to be asked: the line, the question, its fields, the answer."""
 
-    def __init__(self):
+    def __init__(self, questions):
+        self.questions = questions
         self.question = self.last = self.wanted = None
         self.fields, self.asks = {}, []
         self.cases, self.is_open = 0, False
@@ -237,7 +238,7 @@ class Sheet:
     def begin(self, name):
         if self.is_open:
             raise Wrong("the case before has no answer")
-        if name not in QUESTIONS:
+        if name not in self.questions:
             raise Wrong(f"no question {name}")
         self.question, self.fields, self.last = name, {}, None
 
@@ -246,7 +247,7 @@ class Sheet:
         self.is_open = True
         if mark in ("|", "+", "_"):
             self.fields[self.last] += self.more(mark, text)
-        elif self.question and mark in QUESTIONS[self.question][0]:
+        elif self.question and mark in self.questions[self.question][0]:
             self.fields[mark], self.last = text, mark
         else:
             raise Wrong(f"no field {mark}")
@@ -282,9 +283,9 @@ class Sheet:
             self.take_field(mark, text)
 
 
-def sheet_of(path):
-    """The cases of a file."""
-    sheet, number = Sheet(), 0
+def sheet_of(path, questions=QUESTIONS):
+    """The cases of a file, which ask these questions."""
+    sheet, number = Sheet(questions), 0
     with open(path, encoding="utf-8", newline="") as it:
         for number, line in joined(it.read()):
             try:

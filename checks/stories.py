@@ -39,6 +39,7 @@ sys.dont_write_bytecode = True
 import os, re, shutil, socket, sqlite3, subprocess, tempfile, time
 from concurrent.futures import ProcessPoolExecutor, as_completed
 from multiprocessing import get_context
+from messages import answer, lines_in, request
 from plays import Wrong, connected, finish, free_address, is_closed, kept_bytes, lacks_strict_tables, receive, receive_all
 from plays import release, send_by_pipe, send_by_socket, shown, statements, watched, written_counts
 
@@ -52,45 +53,9 @@ LIMITS = {"replay": (4000, 5_000_000), "serve": (300, 400_000)}
 SHORT = 20_000
 # How many plays one task has.
 BATCH = 20
-PHRASES = {
-    "200": "OK",
-    "400": "Bad Request",
-    "401": "Unauthorized",
-    "403": "Forbidden",
-    "404": "Not Found",
-    "405": "Method Not Allowed",
-    "409": "Conflict",
-    "413": "Payload Too Large",
-    "422": "Unprocessable Entity",
-    "431": "Request Header Fields Too Large",
-    "500": "Internal Server Error",
-    "501": "Not Implemented",
-    "503": "Service Unavailable",
-}
 
 
-# The bytes of requests and answers
-
-
-def request(token, text, cut=None):
-    """The bytes of a request by this token, if there is one: a method, a path, and all the rest, its body, or so much
-    of it."""
-    method, path, body = (text.split(" ", 2) + ["", ""])[:3]
-    body = body.encode()[:cut]
-    field = f"authorization: Bearer {token}\r\n" if token is not None else ""
-    return f"{method} {path} HTTP/1.1\r\nhost: b\r\n{field}content-length: {len(body)}\r\n\r\n".encode() + body
-
-
-def answer(text):
-    """The bytes of an answer: a status, fields between bars, and a body, which begins with the first brace after a
-    space."""
-    head, brace, body = text.partition(" {")
-    body = (brace.strip() + body).encode()
-    status, _, fields = head.partition(" ")
-    lines = [f"HTTP/1.1 {status} {PHRASES[status]}", "content-type: application/json", f"content-length: {len(body)}"]
-    lines += ["www-authenticate: Bearer"] if status == "401" else []
-    lines += [it.strip() for it in fields.split(" | ") if it]
-    return "".join(it + "\r\n" for it in lines + [""]).encode() + body
+# Reading a story
 
 
 def unescaped(text):
@@ -103,9 +68,6 @@ def unescaped(text):
         return letters[found[1]] if found[1] in letters else bytes([int(found[1][1:], 16)])
 
     return re.sub(rb"\\(?:([rnt0\\]|x[0-9A-Fa-f]{2})|)", byte, text.encode())
-
-
-# Reading a story
 
 
 class Stream:
@@ -123,14 +85,7 @@ def lines_of(name):
     file = next((it for it in (f"{folder}/{name}.story" for folder in FOLDERS) if os.path.exists(it)), None)
     if not file:
         raise Wrong(f"there is no story {name}")
-    lines = []
-    with open(file, encoding="utf-8", newline="\n") as it:
-        for number, line in enumerate(it.read().split("\n"), 1):
-            if line.startswith("  ") and lines:
-                lines[-1][1] += line[2:]
-            else:
-                lines.append([f"{name}.story:{number}", line])
-    return lines
+    return lines_in(file)
 
 
 class Story:

@@ -1,26 +1,50 @@
-//! Fields that are JSON.
-use crate::case::Case;
+//! The parts of cases, and their fields that are JSON.
 use anyhow::{Result, bail};
 use pact_rules::{RuleTable, Step, Tree, tree_of};
 use serde_json::Value;
 use std::alloc::Global;
 
-/// The value of a field.
-pub(crate) fn value(alloc: Global, case: &Case, name: &str) -> Result<Value> {
-    Ok(Value::from_str(alloc, case.text(name)?)?)
+/// The items of a list. There are none if it is no list.
+pub(crate) fn items(value: &Value) -> &[Value] {
+    match value.as_array() {
+        Some(items) => items.as_slice(),
+        None => &[],
+    }
+}
+
+/// The list of this name in an object, without items if there is none.
+pub(crate) fn list<'a>(object: &'a Value, name: &str) -> &'a [Value] {
+    match object.get(name) {
+        Some(value) => items(value),
+        None => &[],
+    }
+}
+
+/// The text of this name in an object, empty if there is none.
+pub(crate) fn text<'a>(object: &'a Value, name: &str) -> &'a str {
+    match object.get(name) {
+        Some(value) => value.as_str().unwrap_or(""),
+        None => "",
+    }
+}
+
+/// The field of this name; the whole case, which has no wanted form, if it isn't given.
+pub(crate) fn field<'a>(case: &'a Value, name: &str) -> &'a Value {
+    case.get(name).unwrap_or(case)
 }
 
 /// The tree of a field.
-pub(crate) fn tree_in(alloc: Global, case: &Case, name: &str) -> Result<Tree> {
-    Ok(tree_of(alloc, &value(alloc, case, name)?)?)
+pub(crate) fn tree_in(alloc: Global, case: &Value, name: &str) -> Result<Tree> {
+    Ok(tree_of(alloc, field(case, name))?)
 }
 
 /// The table of the field `rules`, without entries if it isn't given.
-pub(crate) fn rules_in(alloc: Global, case: &Case) -> Result<RuleTable> {
-    match case.given("rules") {
-        Some(_) => Ok(RuleTable::read(alloc, &tree_in(alloc, case, "rules")?)?),
-        None => Ok(RuleTable::none(alloc)),
-    }
+pub(crate) fn rules_in(alloc: Global, case: &Value) -> Result<RuleTable> {
+    let Some(rules) = case.get("rules") else {
+        return Ok(RuleTable::none(alloc));
+    };
+    let tree = tree_of(alloc, rules)?;
+    Ok(RuleTable::read(alloc, &tree)?)
 }
 
 /// A step: a text is a key, a number an index.
@@ -33,13 +57,9 @@ pub(crate) fn step(alloc: Global, value: &Value) -> Result<Step> {
 }
 
 /// The location of the field `at`, a list of steps.
-pub(crate) fn location(alloc: Global, case: &Case) -> Result<Vec<Step>> {
-    let value = value(alloc, case, "at")?;
-    let Some(items) = value.as_array() else {
-        bail!("a location is a list");
-    };
+pub(crate) fn location(alloc: Global, case: &Value) -> Result<Vec<Step>> {
     let mut steps = Vec::new(alloc);
-    for item in items {
+    for item in list(case, "at") {
         steps.push(step(alloc, item)?)?;
     }
     Ok(steps)

@@ -1,10 +1,12 @@
 //! Questions about the parts of pact files and replies. The field `value` is the JSON that has the part, `file` a pact
 //! file.
-use crate::case::Case;
-use crate::json::value;
+use crate::json::{field, text};
 use anyhow::{Result, bail};
-use pact_file::{Header, Interaction, read_headers, read_pact, read_states, read_status};
+use pact_file::{
+    Header, Interaction, Pact, State, read_headers, read_pact, read_states, read_status,
+};
 use pact_rules::{RuleTable, Tree};
+use serde_json::Value;
 use std::alloc::{AllocError, Global};
 
 /// Appends headers, each with whether a rule speaks of it.
@@ -16,10 +18,12 @@ fn push_headers(
     for header in headers {
         let name = header.name();
         let value = header.value();
-        write!(text, " {name}=\"{value}\"")?;
-        if rules.header(name).is_some() {
-            text.push_str(" by rule")?;
-        }
+        let by_rule = if rules.header(name).is_some() {
+            " by rule"
+        } else {
+            ""
+        };
+        write!(text, " {name}=\"{value}\"{by_rule}")?;
     }
     Ok(())
 }
@@ -47,43 +51,51 @@ fn push_interaction(text: &mut String, interaction: &Interaction) -> Result<(), 
     write!(text, ", {kind}")
 }
 
-/// The provider states, each with whether it has parameters.
-pub(crate) fn states(alloc: Global, case: &Case) -> Result<String> {
-    let Some(states) = read_states(alloc, &value(alloc, case, "value")?)? else {
-        bail!("refused");
-    };
+/// The text of provider states, each with whether it has parameters.
+fn states_text(alloc: Global, states: &[State]) -> Result<String, AllocError> {
     let mut text = String::from_str(alloc, "states")?;
-    for state in states.iter() {
+    for state in states {
         let name = state.name();
-        write!(&mut text, " \"{name}\"")?;
-        if state.params().is_some() {
-            text.push_str(" with parameters")?;
-        }
+        let params = if state.params().is_some() {
+            " with parameters"
+        } else {
+            ""
+        };
+        write!(&mut text, " \"{name}\"{params}")?;
     }
     Ok(text)
 }
 
+/// The provider states, each with whether it has parameters.
+pub(crate) fn states(alloc: Global, case: &Value) -> Result<String> {
+    match read_states(alloc, field(case, "value"))? {
+        Some(states) => Ok(states_text(alloc, states.as_slice())?),
+        None => bail!("refused"),
+    }
+}
+
 /// The headers of a response.
-pub(crate) fn headers(alloc: Global, case: &Case) -> Result<String> {
-    let Some(headers) = read_headers(alloc, &value(alloc, case, "value")?)? else {
-        bail!("refused");
-    };
-    let mut text = String::from_str(alloc, "headers")?;
-    push_headers(&mut text, &headers, &RuleTable::none(alloc))?;
-    Ok(text)
+pub(crate) fn headers(alloc: Global, case: &Value) -> Result<String> {
+    match read_headers(alloc, field(case, "value"))? {
+        Some(headers) => {
+            let mut text = String::from_str(alloc, "headers")?;
+            push_headers(&mut text, headers.as_slice(), &RuleTable::none(alloc))?;
+            Ok(text)
+        }
+        None => bail!("refused"),
+    }
 }
 
 /// The status that the value is.
-pub(crate) fn status(alloc: Global, case: &Case) -> Result<String> {
-    match read_status(&value(alloc, case, "value")?) {
+pub(crate) fn status(alloc: Global, case: &Value) -> Result<String> {
+    match read_status(field(case, "value")) {
         Some(status) => Ok(status.to_string(alloc)?),
         None => bail!("refused"),
     }
 }
 
-/// The two sides of the file's pact and the parts of each interaction.
-pub(crate) fn lent(alloc: Global, case: &Case) -> Result<String> {
-    let pact = read_pact(alloc, case.text("file")?.as_bytes())?;
+/// The two sides of a pact and the parts of each interaction.
+fn pact_text(alloc: Global, pact: &Pact) -> Result<String, AllocError> {
     let consumer = pact.consumer();
     let provider = pact.provider();
     let mut text = format!(in alloc; "{consumer} with {provider}")?;
@@ -91,4 +103,10 @@ pub(crate) fn lent(alloc: Global, case: &Case) -> Result<String> {
         push_interaction(&mut text, interaction)?;
     }
     Ok(text)
+}
+
+/// The two sides of the file's pact and the parts of each interaction.
+pub(crate) fn lent(alloc: Global, case: &Value) -> Result<String> {
+    let pact = read_pact(alloc, text(case, "file").as_bytes())?;
+    Ok(pact_text(alloc, &pact)?)
 }

@@ -1,8 +1,8 @@
 //! Brokers over files in memory that stop.
-use crate::fault::Fault;
 use broker_core::name::Token;
 use broker_http::{RouteTable, serve};
 use broker_service::{Broker, migrate};
+use serde_json::Value;
 use sqlite::{Alter, Connection, FileStore, Files, Options};
 use sqlite_disk::{Crash, Disk, Fuse, Memory};
 use std::alloc::Global;
@@ -12,27 +12,26 @@ use std::fmt;
 pub(crate) type Storage = Files<Fuse<Memory>>;
 
 /// A file of a database.
-#[derive(Clone, Copy, Debug)]
+#[derive(Clone, Copy)]
 pub(crate) enum Side {
     Log,
     Database,
 }
 
+impl fmt::Display for Side {
+    fn fmt<W: fmt::Write>(&self, f: &mut fmt::Formatter<W>) -> fmt::Result {
+        match self {
+            Side::Log => f.write_str("log"),
+            Side::Database => f.write_str("database"),
+        }
+    }
+}
+
 /// A stop: one of the files passes so many calls on, and from then on each call on it fails.
-#[derive(Clone, Copy, Debug)]
+#[derive(Clone, Copy)]
 pub(crate) struct Stop {
     pub(crate) side: Side,
     pub(crate) calls: u64,
-}
-
-impl fmt::Display for Stop {
-    fn fmt<W: fmt::Write>(&self, f: &mut fmt::Formatter<W>) -> fmt::Result {
-        let calls = self.calls;
-        match self.side {
-            Side::Log => write!(f, "after {calls} calls of the log"),
-            Side::Database => write!(f, "after {calls} calls of the database"),
-        }
-    }
 }
 
 /// The files of a connection that is over.
@@ -54,75 +53,104 @@ fn connect(alloc: Global, files: Storage) -> Result<Connection<FileStore<Fuse<Me
     }
 }
 
-/// Whether a broker is made on the files, and the files that this leaves.
-pub(crate) fn make(alloc: Global, files: Storage, office: &Token) -> (bool, Storage) {
-    match connect(alloc, files) {
-        Ok(connection) => match Broker::create(alloc, connection, office) {
-            Ok(broker) => (true, files_of(broker.close())),
-            Err(refused) => (false, files_of(refused.connection)),
-        },
-        Err(files) => (false, files),
+/// What is done over a database.
+#[derive(Clone, Copy)]
+pub(crate) enum Act<'a> {
+    /// A broker is made, with this token of the office.
+    Create(&'a Token),
+    /// The tables are migrated.
+    Migrate,
+    /// These statements are executed, one after another.
+    Execute(&'a [Value]),
+    /// A broker serves this stream, however that ends.
+    Serve(&'a RouteTable, &'a [u8]),
+}
+
+/// Whether a broker is made over the connection, and the connection again.
+fn created<S: Alter>(
+    alloc: Global,
+    connection: Connection<S>,
+    office: &Token,
+) -> (bool, Connection<S>) {
+    match Broker::create(alloc, connection, office) {
+        Ok(broker) => (true, broker.close()),
+        Err(refused) => (false, refused.connection),
     }
 }
 
-/// Whether the files are migrated, and what this leaves of them.
-pub(crate) fn migrated(alloc: Global, files: Storage) -> (bool, Storage) {
-    match connect(alloc, files) {
-        Ok(mut connection) => {
-            let done = migrate(&mut connection).is_ok();
-            (done, files_of(connection))
+/// Whether all of the statements are executed.
+fn are_executed<S: Alter>(connection: &mut Connection<S>, statements: &[Value]) -> bool {
+    for statement in statements {
+        let text = statement.as_str().unwrap_or("");
+        if connection.execute(text, &[]).is_err() {
+            return false;
         }
-        Err(files) => (false, files),
+    }
+    true
+}
+
+/// Whether a broker is opened over the connection, and the connection again; it puts out what it answers the stream.
+fn served<S: Alter>(
+    alloc: Global,
+    routes: &RouteTable,
+    connection: Connection<S>,
+    stream: &[u8],
+    out: &mut Vec<u8>,
+) -> (bool, Connection<S>) {
+    match Broker::open(connection) {
+        Ok(mut broker) => {
+            let mut reader = stream;
+            let _ = serve(alloc, routes, &mut broker, &mut reader, out);
+            (true, broker.close())
+        }
+        Err(refused) => (false, refused.connection),
     }
 }
 
-/// A broker over the files, or the files again if there is none.
-fn open(alloc: Global, files: Storage) -> Result<Broker<FileStore<Fuse<Memory>>>, Storage> {
-    match Broker::open(connect(alloc, files)?) {
-        Ok(broker) => Ok(broker),
-        Err(refused) => Err(files_of(refused.connection)),
+/// Acts over the connection: whether it is done, and the connection again. Only a broker that serves puts out anything.
+fn acted<S: Alter>(
+    alloc: Global,
+    connection: Connection<S>,
+    act: Act<'_>,
+    out: &mut Vec<u8>,
+) -> (bool, Connection<S>) {
+    let mut connection = connection;
+    match act {
+        Act::Create(office) => created(alloc, connection, office),
+        Act::Migrate => {
+            let is_done = migrate(&mut connection).is_ok();
+            (is_done, connection)
+        }
+        Act::Execute(statements) => {
+            let is_done = are_executed(&mut connection, statements);
+            (is_done, connection)
+        }
+        Act::Serve(routes, stream) => served(alloc, routes, connection, stream, out),
     }
 }
 
-/// What the broker over the files answers a stream, however serving it ends, and the files that this leaves. Nothing is
-/// answered if none could be opened.
+/// Acts on the files: whether it is done, what is put out, and the files that this leaves. It isn't done if no connection
+/// could be opened.
+pub(crate) fn act_on(alloc: Global, files: Storage, act: Act<'_>) -> (bool, Vec<u8>, Storage) {
+    let mut out = Vec::new(alloc);
+    match connect(alloc, files) {
+        Ok(connection) => {
+            let (is_done, connection) = acted(alloc, connection, act, &mut out);
+            (is_done, out, files_of(connection))
+        }
+        Err(files) => (false, out, files),
+    }
+}
+
+/// What a broker over the files answers a stream, and the files that this leaves.
 pub(crate) fn session(
     alloc: Global,
     routes: &RouteTable,
     files: Storage,
     stream: &[u8],
 ) -> (Vec<u8>, Storage) {
-    let mut out = Vec::new(alloc);
-    match open(alloc, files) {
-        Ok(mut broker) => {
-            let mut reader = stream;
-            let _ = serve(alloc, routes, &mut broker, &mut reader, &mut out);
-            (out, files_of(broker.close()))
-        }
-        Err(files) => (out, files),
-    }
-}
-
-/// Executes the statements one after another.
-fn execute_all<S: Alter>(
-    connection: &mut Connection<S>,
-    statements: &[String],
-) -> Result<(), Fault> {
-    for statement in statements {
-        connection.execute(statement.as_str(), &[])?;
-    }
-    Ok(())
-}
-
-/// The files of a database that these statements make.
-pub(crate) fn files_made_by(alloc: Global, statements: &[String]) -> Result<Storage, Fault> {
-    let Ok(mut connection) = connect(alloc, empty_files(alloc)) else {
-        return Err(Fault::Broker);
-    };
-    let executed = execute_all(&mut connection, statements);
-    let files = files_of(connection);
-    executed?;
-    Ok(files)
+    let (_, out, left) = act_on(alloc, files, Act::Serve(routes, stream));
+    (out, left)
 }
 
 /// A file of these bytes, all of them synced, that passes so many calls on.

@@ -1,54 +1,30 @@
 //! Sessions in a row, each of two requests, that are stopped at every call on the store.
 use crate::fault::Fault;
 use crate::files::{Side, Stop, Storage, copies, crashed, session, stopping};
-use crate::flaw::{Flaw, Lapse};
-use crate::setting::Setting;
-use crate::shown::shown;
-use crate::stopping::{MOST_CALLS, STORE, end_of, endless};
-use crate::stops::{Act, Step};
-use std::alloc::{AllocError, Global};
+use crate::script::items;
+use crate::setting::{Setting, shown};
+use crate::stopping::{Lapse, MOST_CALLS, STORE, end_of};
+use serde_json::Value;
+use std::alloc::AllocError;
 
 /// The answer once the store failed.
 const STOPPED: &[u8] =
     b"HTTP/1.1 503 Service Unavailable\r\ncontent-type: application/json\r\ncontent-length: 20\r\n\r\n{\"answer\":\"stopped\"}";
 
-/// How many requests a session has.
-const SESSION: usize = 2;
-
-/// What came of the sessions: what each answered, what the questions are answered after them, and the files then.
+/// What came of sessions: what each answered, whether no call was refused, what the questions are answered after them,
+/// and the files then.
 #[derive(Drop)]
 struct Run {
     answered: Vec<Vec<u8>>,
+    is_whole: bool,
     kept: Vec<u8>,
     left: Storage,
 }
 
-/// The bytes of the first so many requests of a session.
-fn stream_of(alloc: Global, steps: &[Step], count: usize) -> Result<Vec<u8>, AllocError> {
-    let mut stream = Vec::new(alloc);
-    for step in steps.iter().take(count) {
-        if let Act::Serve(bytes) = &step.act {
-            stream.extend_from_slice(bytes.as_slice())?;
-        }
-    }
-    Ok(stream)
-}
-
-/// The answers to the requests of a session.
-fn answers_of(alloc: Global, steps: &[Step]) -> Result<Vec<u8>, AllocError> {
-    let mut answers = Vec::new(alloc);
-    for step in steps {
-        answers.extend_from_slice(step.answer.as_slice())?;
-    }
-    Ok(answers)
-}
-
 /// The answers of a session that acknowledge something.
 fn acknowledged(out: &[u8]) -> &[u8] {
-    match out.strip_suffix(STOPPED) {
-        Some(front) => front.strip_suffix(STORE).unwrap_or(out),
-        None => out.strip_suffix(STORE).unwrap_or(out),
-    }
+    let front = out.strip_suffix(STOPPED).unwrap_or(out);
+    front.strip_suffix(STORE).unwrap_or(out)
 }
 
 /// Whether what was stopped may be this run: the same is left, and what was acknowledged is done in it.
@@ -58,19 +34,6 @@ fn may_be(stopped: &Run, run: &Run) -> bool {
     }
     for (out, wanted) in stopped.answered.iter().zip(run.answered.iter()) {
         if !wanted.as_slice().starts_with(acknowledged(out.as_slice())) {
-            return false;
-        }
-    }
-    true
-}
-
-/// Whether each session of what was stopped answered as in the last of these runs, in which all is done.
-fn answers_as_last(stopped: &Run, runs: &[Run]) -> bool {
-    let Some(whole) = runs.last() else {
-        return false;
-    };
-    for (out, wanted) in stopped.answered.iter().zip(whole.answered.iter()) {
-        if out.as_slice() != wanted.as_slice() {
             return false;
         }
     }
@@ -87,122 +50,141 @@ fn is_among(stopped: &Run, runs: &[Run]) -> bool {
     false
 }
 
-/// How many runs there are: in each, of each session none, one or both of its requests are done.
-fn run_count(steps: &[Step]) -> u32 {
-    let mut count = 1u32;
-    for _ in steps.chunks(SESSION) {
-        count = count.saturating_mul(3);
+/// Whether each session of what was stopped answered as in the last of these runs, in which all is done.
+fn answers_as_last(stopped: &Run, runs: &[Run]) -> bool {
+    let Some(whole) = runs.last() else {
+        return false;
+    };
+    for (out, wanted) in stopped.answered.iter().zip(whole.answered.iter()) {
+        if out.as_slice() != wanted.as_slice() {
+            return false;
+        }
     }
-    count
+    true
 }
 
 impl Setting<'_> {
-    /// The run of this number. Its digits to the base 3, the lowest first, are how many requests of each session are
-    /// done.
-    fn run_of(&self, base: &Storage, steps: &[Step], number: u32) -> Result<Run, AllocError> {
+    /// What a session that is sent this stream answers, if it is stopped there, whether no call was refused, and what is
+    /// left of the files then.
+    fn stopped_session(
+        &self,
+        base: &Storage,
+        stream: &[u8],
+        stop: Option<Stop>,
+    ) -> (Vec<u8>, bool, Storage) {
+        let Some(stop) = stop else {
+            let files = copies(self.alloc, base);
+            let (out, left) = session(self.alloc, self.routes, files, stream);
+            return (out, true, left);
+        };
+        let files = stopping(self.alloc, base, stop);
+        let (out, left) = session(self.alloc, self.routes, files, stream);
+        let (is_whole, left) = crashed(self.alloc, left);
+        (out, is_whole, left)
+    }
+
+    /// What comes of sessions that are sent these streams, if each is stopped there.
+    fn run(&self, base: &Storage, streams: &Value, stop: Option<Stop>) -> Result<Run, AllocError> {
         let mut left = copies(self.alloc, base);
         let mut answered = Vec::new(self.alloc);
-        let mut digits = number;
-        for pair in steps.chunks(SESSION) {
-            let stream = stream_of(self.alloc, pair, (digits % 3) as usize)?;
-            digits /= 3;
-            let (out, files) = session(self.alloc, self.routes, left, stream.as_slice());
+        let mut is_whole = true;
+        for stream in items(streams) {
+            let sent = stream.as_str().unwrap_or("").as_bytes();
+            let (out, is_uncut, files) = self.stopped_session(&left, sent, stop);
             answered.push(out)?;
+            is_whole = is_whole && is_uncut;
             left = files;
         }
         let kept = self.asked(&left);
         Ok(Run {
             answered,
+            is_whole,
             kept,
             left,
         })
     }
 
-    /// All runs, in the order of their numbers.
-    fn all_runs(&self, base: &Storage, steps: &[Step]) -> Result<Vec<Run>, AllocError> {
-        let mut runs = Vec::new(self.alloc);
-        for number in 0..run_count(steps) {
-            runs.push(self.run_of(base, steps, number)?)?;
+    /// Each of the runs, unstopped.
+    fn all_runs(&self, base: &Storage, runs: &[Value]) -> Result<Vec<Run>, AllocError> {
+        let mut all = Vec::new(self.alloc);
+        for streams in runs {
+            all.push(self.run(base, streams, None)?)?;
         }
-        Ok(runs)
+        Ok(all)
     }
 
-    /// What comes of the sessions if each is stopped there, and whether no call was refused.
-    fn stopped_run(
-        &self,
-        base: &Storage,
-        steps: &[Step],
-        stop: Stop,
-    ) -> Result<(Run, bool), AllocError> {
-        let mut left = copies(self.alloc, base);
-        let mut answered = Vec::new(self.alloc);
-        let mut is_whole = true;
-        for pair in steps.chunks(SESSION) {
-            let stream = stream_of(self.alloc, pair, SESSION)?;
-            let files = stopping(self.alloc, &left, stop);
-            let (out, files) = session(self.alloc, self.routes, files, stream.as_slice());
-            answered.push(out)?;
-            let (is_uncut, files) = crashed(self.alloc, files);
-            is_whole = is_whole && is_uncut;
-            left = files;
-        }
-        let kept = self.asked(&left);
-        let run = Run {
-            answered,
-            kept,
-            left,
-        };
-        Ok((run, is_whole))
-    }
-
-    /// Stops the sessions at every call of a file, until no call is refused. The result is the stop at which they
-    /// lapse.
+    /// Stops the sessions that are sent these streams at every call of a file, until no call is refused. The result is
+    /// after how many calls they lapse, and how.
     fn stop_sessions(
         &self,
         base: &Storage,
-        steps: &[Step],
+        streams: &Value,
         runs: &[Run],
         side: Side,
-    ) -> Result<Option<(Stop, Lapse)>, AllocError> {
+    ) -> Result<Option<(u64, Lapse)>, AllocError> {
         let mut was_cut = false;
         for calls in 0..MOST_CALLS {
-            let stop = Stop { side, calls };
-            let (stopped, is_whole) = self.stopped_run(base, steps, stop)?;
+            let stopped = self.run(base, streams, Some(Stop { side, calls }))?;
             if !is_among(&stopped, runs) {
-                return Ok(Some((stop, Lapse::Taken)));
+                return Ok(Some((calls, Lapse::Taken)));
             }
             let is_cut = !answers_as_last(&stopped, runs);
-            if is_whole {
-                return Ok(end_of(stop, was_cut, is_cut));
+            if stopped.is_whole {
+                return Ok(end_of(calls, was_cut, is_cut));
             }
             was_cut = was_cut || is_cut;
         }
-        Ok(endless(side))
+        Ok(Some((MOST_CALLS, Lapse::Endless)))
     }
 
     /// Tries that the sessions, unstopped, are answered as written.
-    fn try_answers(&self, steps: &[Step], whole: &Run) -> Result<(), Fault> {
-        for (pair, out) in steps.chunks(SESSION).zip(whole.answered.iter()) {
-            let wanted = answers_of(self.alloc, pair)?;
-            if wanted.as_slice() != out.as_slice() {
-                return Err(Fault::Flaw(Flaw::Session(shown(self.alloc, out.as_slice())?)));
+    fn try_answers(&self, wanted: &[Value], whole: &Run) -> Result<(), Fault> {
+        for (wanted, out) in wanted.iter().zip(whole.answered.iter()) {
+            if wanted.as_str().unwrap_or("").as_bytes() != out.as_slice() {
+                let got = shown(self.alloc, out.as_slice())?;
+                return Err(Fault::Flaw(format!(in self.alloc;
+                    "a session is answered otherwise: got {got}"
+                )?));
             }
         }
         Ok(())
     }
 
-    /// Does the sessions, unstopped and each stopped at every call, and gives the files that they leave unstopped.
-    pub(crate) fn try_sessions(&self, steps: &[Step], base: &Storage) -> Result<Storage, Fault> {
-        let runs = self.all_runs(base, steps)?;
+    /// Tries the sessions that are sent these streams, unstopped and each stopped at every call.
+    fn try_whole(
+        &self,
+        base: &Storage,
+        streams: &Value,
+        runs: &[Run],
+        wanted: &[Value],
+    ) -> Result<Storage, Fault> {
         let Some(whole) = runs.last() else {
-            return Ok(copies(self.alloc, base));
+            return Err(Fault::Flaw(format!(in self.alloc; "no sessions")?));
         };
-        self.try_answers(steps, whole)?;
+        self.try_answers(wanted, whole)?;
         for side in [Side::Log, Side::Database] {
-            if let Some((stop, lapse)) = self.stop_sessions(base, steps, runs.as_slice(), side)? {
-                return Err(Fault::Flaw(Flaw::Sessions(stop, lapse)));
+            if let Some((calls, lapse)) = self.stop_sessions(base, streams, runs, side)? {
+                let how = lapse.text();
+                return Err(Fault::Flaw(format!(in self.alloc;
+                    "sessions, stopped after {calls} calls of the {side}: {how}"
+                )?));
             }
         }
         Ok(copies(self.alloc, &whole.left))
+    }
+
+    /// Does the sessions of the last run, unstopped and each stopped at every call, and gives the files that they leave
+    /// unstopped. In the other runs only some of the first requests of each session are done.
+    pub(crate) fn try_sessions(
+        &self,
+        runs: &[Value],
+        wanted: &[Value],
+        base: &Storage,
+    ) -> Result<Storage, Fault> {
+        let Some(streams) = runs.last() else {
+            return Err(Fault::Flaw(format!(in self.alloc; "no sessions")?));
+        };
+        let runs = self.all_runs(base, runs)?;
+        self.try_whole(base, streams, runs.as_slice(), wanted)
     }
 }

@@ -1,14 +1,11 @@
 //! What the steps of a file of stops have in common, and what is done over files.
 use crate::fault::Fault;
-use crate::files::{Storage, copies, empty_files, files_made_by, make, migrated, session};
-use crate::flaw::Flaw;
-use crate::shown::{first_other, shown};
-use crate::stops::{Act, DONE, Step, Stops};
-use crate::story::Story;
+use crate::files::{Act, Storage, act_on, copies, empty_files, session};
+use crate::script::{list, text};
 use broker_core::name::Token;
 use broker_http::RouteTable;
+use serde_json::Value;
 use std::alloc::{AllocError, Global};
-use std::fmt;
 
 /// What the steps of a file have in common.
 #[derive(Clone, Copy)]
@@ -20,33 +17,62 @@ pub(crate) struct Setting<'a> {
     pub(crate) questions: &'a [u8],
 }
 
-/// What is answered if something is done or not.
-fn told(alloc: Global, is_done: bool) -> Result<Vec<u8>, AllocError> {
-    let mut out = Vec::new(alloc);
-    if is_done {
-        out.extend_from_slice(DONE)?;
+/// The first bytes of what was got, on one line.
+pub(crate) fn shown(alloc: Global, bytes: &[u8]) -> Result<String, AllocError> {
+    let first = String::from_utf8_lossy(alloc, bytes.get(..500).unwrap_or(bytes))?;
+    first.as_str().replace(alloc, "\r\n", " / ")
+}
+
+/// What was got from the first answer on that is otherwise, if one is.
+fn first_other<'a>(answers: &[Value], got: &'a [u8]) -> Option<&'a [u8]> {
+    let mut rest = got;
+    for answer in answers {
+        match rest.strip_prefix(answer.as_str().unwrap_or("").as_bytes()) {
+            Some(behind) => rest = behind,
+            None => return Some(rest),
+        }
     }
-    Ok(out)
+    if rest.is_empty() { None } else { Some(rest) }
+}
+
+/// Tries that the broker was made, and then answered so.
+fn try_first(alloc: Global, is_made: bool, answers: &[Value], out: &[u8]) -> Result<(), Fault> {
+    if !is_made {
+        return Err(Fault::Flaw(format!(in alloc; "no new broker")?));
+    }
+    let Some(rest) = first_other(answers, out) else {
+        return Ok(());
+    };
+    let got = shown(alloc, rest)?;
+    return Err(Fault::Flaw(format!(in alloc;
+        "what comes first is answered otherwise: got {got}"
+    )?));
+}
+
+/// What a making or a migration answers: `done`, or nothing if it isn't done.
+fn told(alloc: Global, is_done: bool) -> Result<Vec<u8>, AllocError> {
+    let out = if is_done { "done" } else { "" };
+    Ok(String::from_str(alloc, out)?.into_bytes())
 }
 
 impl Setting<'_> {
-    /// Acts on the files: what is answered, and the files that this leaves.
+    /// Acts on the files: what is answered, and the files that this leaves. What is no making and no migration is a
+    /// request.
     pub(crate) fn act_on(
         &self,
         files: Storage,
-        act: &Act,
+        act: &str,
     ) -> Result<(Vec<u8>, Storage), AllocError> {
-        match act {
-            Act::Create => {
-                let (is_done, left) = make(self.alloc, files, self.office);
-                Ok((told(self.alloc, is_done)?, left))
-            }
-            Act::Migrate => {
-                let (is_done, left) = migrated(self.alloc, files);
-                Ok((told(self.alloc, is_done)?, left))
-            }
-            Act::Serve(bytes) => Ok(session(self.alloc, self.routes, files, bytes.as_slice())),
+        if act != "create" && act != "migrate" {
+            return Ok(session(self.alloc, self.routes, files, act.as_bytes()));
         }
+        let making = if act == "create" {
+            Act::Create(self.office)
+        } else {
+            Act::Migrate
+        };
+        let (is_done, _, left) = act_on(self.alloc, files, making);
+        Ok((told(self.alloc, is_done)?, left))
     }
 
     /// What the questions are answered over copies of the files; nothing if there is no broker.
@@ -56,82 +82,80 @@ impl Setting<'_> {
         out
     }
 
-    /// The files of a new broker after this story, which must be answered as written.
-    fn served(&self, first: &Story) -> Result<Storage, Fault> {
-        let (is_made, files) = make(self.alloc, empty_files(self.alloc), self.office);
+    /// The files of a new broker after what comes first, which must be answered as written.
+    fn served(&self, file: &Value) -> Result<Storage, Fault> {
+        let making = Act::Create(self.office);
+        let (is_made, _, files) = act_on(self.alloc, empty_files(self.alloc), making);
+        let (out, left) = session(
+            self.alloc,
+            self.routes,
+            files,
+            text(file, "first").as_bytes(),
+        );
+        try_first(self.alloc, is_made, list(file, "answers"), out.as_slice())?;
+        Ok(left)
+    }
+
+    /// The files of a database that these statements make.
+    fn made_by(&self, statements: &[Value]) -> Result<Storage, Fault> {
+        let making = Act::Execute(statements);
+        let (is_made, _, left) = act_on(self.alloc, empty_files(self.alloc), making);
         if !is_made {
-            return Err(Fault::Broker);
+            return Err(Fault::Flaw(format!(in self.alloc; "a statement is refused")?));
         }
-        let (out, left) = session(self.alloc, self.routes, files, first.sent.as_slice());
-        match first_other(first.answers.as_slice(), out.as_slice()) {
-            Some(rest) => Err(Fault::Flaw(Flaw::First(shown(self.alloc, rest)?))),
-            None => Ok(left),
-        }
+        Ok(left)
     }
 
     /// The files before the first step.
-    fn base(&self, stops: &Stops) -> Result<Storage, Fault> {
-        if !stops.statements.is_empty() {
-            return files_made_by(self.alloc, stops.statements.as_slice());
+    fn base(&self, file: &Value) -> Result<Storage, Fault> {
+        match text(file, "begins") {
+            "empty" => Ok(empty_files(self.alloc)),
+            "statements" => self.made_by(list(file, "statements")),
+            _ => self.served(file),
         }
-        if matches!(
-            stops.steps.first(),
-            Some(Step {
-                act: Act::Create,
-                ..
-            })
-        ) {
-            return Ok(empty_files(self.alloc));
-        }
-        self.served(&stops.first)
     }
 
     /// The files after all that is stopped.
-    fn try_all(&self, stops: &Stops) -> Result<Storage, Fault> {
-        let base = self.base(stops)?;
-        if stops.in_sessions {
-            self.try_sessions(stops.steps.as_slice(), &base)
+    fn try_all(&self, file: &Value) -> Result<Storage, Fault> {
+        let base = self.base(file)?;
+        let runs = list(file, "runs");
+        if runs.is_empty() {
+            self.try_steps(list(file, "steps"), base)
         } else {
-            self.try_steps(stops.steps.as_slice(), base)
+            self.try_sessions(runs, list(file, "wanted"), &base)
         }
+    }
+
+    /// Stops all that the file says at every call.
+    fn stop(&self, file: &Value) -> Result<(), Fault> {
+        let left = self.try_all(file)?;
+        let last = self.asked(&left);
+        try_last(self.alloc, text(file, "last"), last.as_slice())
     }
 }
 
-/// So many steps, or requests of sessions, are stopped at every call, and nothing is taken.
-#[derive(Clone, Copy)]
-pub(crate) struct Kept {
-    count: usize,
-    in_sessions: bool,
-}
-
-impl fmt::Display for Kept {
-    fn fmt<W: fmt::Write>(&self, f: &mut fmt::Formatter<W>) -> fmt::Result {
-        let count = self.count;
-        if self.in_sessions {
-            write!(f, "requests of sessions stopped at every call: {count}")
-        } else {
-            write!(f, "steps stopped at every call: {count}")
-        }
+/// Tries that the questions are answered so at the end, if that is written.
+fn try_last(alloc: Global, wanted: &str, last: &[u8]) -> Result<(), Fault> {
+    if wanted.is_empty() || last == wanted.as_bytes() {
+        return Ok(());
     }
+    let got = shown(alloc, last)?;
+    return Err(Fault::Flaw(format!(in alloc;
+        "the questions are answered otherwise at the end: got {got}"
+    )?));
 }
 
 /// Stops all that the file says at every call.
-pub(crate) fn stop_all(alloc: Global, stops: &Stops) -> Result<Kept, Fault> {
-    let office = stops.first.office(alloc)?;
+pub(crate) fn stop_all(alloc: Global, file: &Value) -> Result<(), Fault> {
+    let Ok(office) = Token::new(alloc, text(file, "office")) else {
+        return Err(Fault::Flaw(format!(in alloc; "no token of the office")?));
+    };
     let routes = RouteTable::new(alloc)?;
     let setting = Setting {
         alloc,
         office: &office,
         routes: &routes,
-        questions: stops.questions.as_slice(),
+        questions: text(file, "questions").as_bytes(),
     };
-    let left = setting.try_all(stops)?;
-    let last = setting.asked(&left);
-    if !stops.last.is_empty() && last.as_slice() != stops.last.as_slice() {
-        return Err(Fault::Flaw(Flaw::Last(shown(alloc, last.as_slice())?)));
-    }
-    Ok(Kept {
-        count: stops.steps.len(),
-        in_sessions: stops.in_sessions,
-    })
+    setting.stop(file)
 }

@@ -1,10 +1,9 @@
 //! Steps that are stopped at every call on the store.
 use crate::fault::Fault;
 use crate::files::{Side, Stop, Storage, are_same, copies, crashed, session, stopping};
-use crate::flaw::{Flaw, Lapse};
-use crate::setting::Setting;
-use crate::shown::shown;
-use crate::stops::{Kind, Step};
+use crate::script::text;
+use crate::setting::{Setting, shown};
+use serde_json::Value;
 use std::alloc::AllocError;
 
 /// More calls than any step makes.
@@ -17,7 +16,12 @@ pub(crate) const STORE: &[u8] =
 /// A step, what it is done on, and the answers to the questions before it and after it.
 #[derive(Clone, Copy)]
 struct Trial<'a> {
-    step: &'a Step,
+    /// What is done: `create`, `migrate`, or the bytes of a request.
+    act: &'a str,
+    /// What is answered when it is done.
+    answer: &'a [u8],
+    /// Whether it may be done again, and then leaves what it leaves when it is done once.
+    is_repeated: bool,
     base: &'a Storage,
     before: &'a [u8],
     after: &'a [u8],
@@ -33,9 +37,47 @@ struct Left {
     is_repeated: bool,
 }
 
+/// What came of a stop: how the step lapses, if it does, whether it was answered otherwise than unstopped, and whether no
+/// call was refused.
+#[derive(Clone, Copy)]
+struct Came {
+    lapse: Option<Lapse>,
+    is_cut: bool,
+    is_whole: bool,
+}
+
+/// How a stop is survived otherwise than it must be.
+#[derive(Clone, Copy)]
+pub(crate) enum Lapse {
+    /// The answer is neither that of the step, nor that the store failed, nor none.
+    Answer,
+    /// The questions are answered neither as before the step nor as after it, or not as after it though it was
+    /// acknowledged.
+    Taken,
+    /// Done again, the step leaves something else than done once.
+    Again,
+    /// If no call was refused the step isn't acknowledged, or it was at each stop too.
+    Nothing,
+    /// The calls don't end.
+    Endless,
+}
+
+impl Lapse {
+    /// What is printed of it.
+    pub(crate) fn text(self) -> &'static str {
+        match self {
+            Lapse::Answer => "answered otherwise",
+            Lapse::Taken => "something is taken",
+            Lapse::Again => "done again it leaves something else",
+            Lapse::Nothing => "nothing was stopped",
+            Lapse::Endless => "the calls don't end",
+        }
+    }
+}
+
 /// How a step lapses that gave this answer and left this, if it does.
 fn lapse_of(trial: &Trial<'_>, out: &[u8], left: &Left) -> Option<Lapse> {
-    let is_acknowledged = out == trial.step.answer.as_slice();
+    let is_acknowledged = out == trial.answer;
     if !is_acknowledged && !out.is_empty() && out != STORE {
         return Some(Lapse::Answer);
     }
@@ -50,29 +92,23 @@ fn lapse_of(trial: &Trial<'_>, out: &[u8], left: &Left) -> Option<Lapse> {
     }
 }
 
-/// What the first stop says at which no call was refused: nothing was tried, unless an earlier one cut something and
-/// this one doesn't.
-pub(crate) fn end_of(stop: Stop, was_cut: bool, is_cut: bool) -> Option<(Stop, Lapse)> {
+/// What the first stop says at which no call was refused, after so many calls: nothing was tried, unless an earlier one
+/// cut something and this one doesn't.
+pub(crate) fn end_of(calls: u64, was_cut: bool, is_cut: bool) -> Option<(u64, Lapse)> {
     if was_cut && !is_cut {
         None
     } else {
-        Some((stop, Lapse::Nothing))
+        Some((calls, Lapse::Nothing))
     }
-}
-
-/// What is reported if each stop refused a call.
-pub(crate) fn endless(side: Side) -> Option<(Stop, Lapse)> {
-    let calls = MOST_CALLS;
-    Some((Stop { side, calls }, Lapse::Endless))
 }
 
 impl Setting<'_> {
     /// Whether a step that may be repeated leaves what it must when it is done again on copies of these files.
     fn is_repeated(&self, trial: &Trial<'_>, files: &Storage) -> Result<bool, AllocError> {
-        if trial.step.kind == Kind::Once {
+        if !trial.is_repeated {
             return Ok(true);
         }
-        let (_, again) = self.act_on(copies(self.alloc, files), &trial.step.act)?;
+        let (_, again) = self.act_on(copies(self.alloc, files), trial.act)?;
         Ok(self.asked(&again).as_slice() == trial.after)
     }
 
@@ -88,8 +124,8 @@ impl Setting<'_> {
                 return Ok(left);
             }
         }
-        let kept = self.asked(&files);
         let is_repeated = self.is_repeated(trial, &files)?;
+        let kept = self.asked(&files);
         Ok(Left {
             files,
             kept,
@@ -97,48 +133,51 @@ impl Setting<'_> {
         })
     }
 
-    /// Stops a step there: what is answered, whether no call was refused, and the files that are left.
+    /// Stops a step there: what came of it, and what is left.
     fn stop_at(
         &self,
         trial: &Trial<'_>,
         stop: Stop,
-    ) -> Result<(Vec<u8>, bool, Storage), AllocError> {
-        let files = stopping(self.alloc, trial.base, stop);
-        let (out, left) = self.act_on(files, &trial.step.act)?;
+        last: Option<Left>,
+    ) -> Result<(Came, Left), AllocError> {
+        let (out, left) = self.act_on(stopping(self.alloc, trial.base, stop), trial.act)?;
         let (is_whole, files) = crashed(self.alloc, left);
-        Ok((out, is_whole, files))
+        let left = self.find(trial, files, last)?;
+        let came = Came {
+            lapse: lapse_of(trial, out.as_slice(), &left),
+            is_cut: out.as_slice() != trial.answer,
+            is_whole,
+        };
+        Ok((came, left))
     }
 
-    /// Stops a step at every call of a file, until no call is refused. The result is the stop at which it lapses.
-    fn stop_side(
-        &self,
-        trial: &Trial<'_>,
-        side: Side,
-    ) -> Result<Option<(Stop, Lapse)>, AllocError> {
+    /// Stops a step at every call of a file, until no call is refused. The result is after how many calls it lapses, and
+    /// how.
+    fn stop_side(&self, trial: &Trial<'_>, side: Side) -> Result<Option<(u64, Lapse)>, AllocError> {
         let mut last = None;
         let mut was_cut = false;
         for calls in 0..MOST_CALLS {
-            let stop = Stop { side, calls };
-            let (out, is_whole, files) = self.stop_at(trial, stop)?;
-            let left = self.find(trial, files, last)?;
-            if let Some(lapse) = lapse_of(trial, out.as_slice(), &left) {
-                return Ok(Some((stop, lapse)));
-            }
+            let (came, left) = self.stop_at(trial, Stop { side, calls }, last)?;
             last = Some(left);
-            let is_cut = out.as_slice() != trial.step.answer.as_slice();
-            if is_whole {
-                return Ok(end_of(stop, was_cut, is_cut));
+            if let Some(lapse) = came.lapse {
+                return Ok(Some((calls, lapse)));
             }
-            was_cut = was_cut || is_cut;
+            if came.is_whole {
+                return Ok(end_of(calls, was_cut, came.is_cut));
+            }
+            was_cut = was_cut || came.is_cut;
         }
-        Ok(endless(side))
+        Ok(Some((MOST_CALLS, Lapse::Endless)))
     }
 
     /// Stops the step of this number at every call of both files.
-    fn stop_step(&self, number: u64, trial: &Trial<'_>) -> Result<(), Fault> {
+    fn stop_step(&self, number: usize, trial: &Trial<'_>) -> Result<(), Fault> {
         for side in [Side::Log, Side::Database] {
-            if let Some((stop, lapse)) = self.stop_side(trial, side)? {
-                return Err(Fault::Flaw(Flaw::Stopped(number, stop, lapse)));
+            if let Some((calls, lapse)) = self.stop_side(trial, side)? {
+                let how = lapse.text();
+                return Err(Fault::Flaw(format!(in self.alloc;
+                    "step {number}, stopped after {calls} calls of the {side}: {how}"
+                )?));
             }
         }
         Ok(())
@@ -150,35 +189,53 @@ impl Setting<'_> {
         are_same(&idle, left)
     }
 
+    /// Tries what a step answers unstopped and leaves, and what it leaves stopped.
+    fn judge(
+        &self,
+        number: usize,
+        trial: &Trial<'_>,
+        is_idle: bool,
+        out: &[u8],
+        left: &Storage,
+    ) -> Result<(), Fault> {
+        if out != trial.answer {
+            let got = shown(self.alloc, out)?;
+            return Err(Fault::Flaw(format!(in self.alloc;
+                "step {number} is answered otherwise: got {got}"
+            )?));
+        }
+        if is_idle && !self.is_untouched(trial.base, left) {
+            return Err(Fault::Flaw(format!(in self.alloc; "step {number} writes to a file")?));
+        }
+        if trial.before == trial.after && !is_idle {
+            return Err(Fault::Flaw(format!(in self.alloc; "no question tells step {number}")?));
+        }
+        self.stop_step(number, trial)
+    }
+
     /// Does a step, unstopped and then stopped at every call, and gives the files that it leaves unstopped.
-    fn try_step(&self, number: u64, step: &Step, base: &Storage) -> Result<Storage, Fault> {
-        let (out, left) = self.act_on(copies(self.alloc, base), &step.act)?;
-        if out.as_slice() != step.answer.as_slice() {
-            return Err(Fault::Flaw(Flaw::Step(number, shown(self.alloc, out.as_slice())?)));
-        }
-        let is_idle = step.kind == Kind::Idle;
-        if is_idle && !self.is_untouched(base, &left) {
-            return Err(Fault::Flaw(Flaw::Written(number)));
-        }
+    fn try_step(&self, number: usize, step: &Value, base: &Storage) -> Result<Storage, Fault> {
+        let act = text(step, "act");
+        let kind = text(step, "kind");
+        let (out, left) = self.act_on(copies(self.alloc, base), act)?;
         let before = self.asked(base);
         let after = self.asked(&left);
-        if before.as_slice() == after.as_slice() && !is_idle {
-            return Err(Fault::Flaw(Flaw::Untold(number)));
-        }
         let trial = Trial {
-            step,
+            act,
+            answer: text(step, "answer").as_bytes(),
+            is_repeated: kind != "once",
             base,
             before: before.as_slice(),
             after: after.as_slice(),
         };
-        self.stop_step(number, &trial)?;
+        self.judge(number, &trial, kind == "idle", out.as_slice(), &left)?;
         Ok(left)
     }
 
     /// Does the steps one after another, each unstopped and stopped, and gives the files after them.
-    pub(crate) fn try_steps(&self, steps: &[Step], base: Storage) -> Result<Storage, Fault> {
+    pub(crate) fn try_steps(&self, steps: &[Value], base: Storage) -> Result<Storage, Fault> {
         let mut base = base;
-        let mut number = 1u64;
+        let mut number = 1usize;
         for step in steps {
             base = self.try_step(number, step, &base)?;
             number = number.saturating_add(1);

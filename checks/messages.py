@@ -1,0 +1,53 @@
+"""What checks/stories.py and checks/stops.py share: the lines of a file, and the bytes of the requests and answers that
+they say."""
+import os
+
+PHRASES = {
+    "200": "OK",
+    "400": "Bad Request",
+    "401": "Unauthorized",
+    "403": "Forbidden",
+    "404": "Not Found",
+    "405": "Method Not Allowed",
+    "409": "Conflict",
+    "413": "Payload Too Large",
+    "422": "Unprocessable Entity",
+    "431": "Request Header Fields Too Large",
+    "500": "Internal Server Error",
+    "501": "Not Implemented",
+    "503": "Service Unavailable",
+}
+
+
+def lines_in(file):
+    """The lines of a file, each with the place where it begins. One that begins with two spaces goes on where the line
+    before it ended."""
+    lines = []
+    with open(file, encoding="utf-8", newline="\n") as it:
+        for number, line in enumerate(it.read().split("\n"), 1):
+            if line.startswith("  ") and lines:
+                lines[-1][1] += line[2:]
+            else:
+                lines.append([f"{os.path.basename(file)}:{number}", line])
+    return lines
+
+
+def request(token, text, cut=None):
+    """The bytes of a request by this token, if there is one: a method, a path, and all the rest, its body, or so much
+    of it."""
+    method, path, body = (text.split(" ", 2) + ["", ""])[:3]
+    body = body.encode()[:cut]
+    field = f"authorization: Bearer {token}\r\n" if token is not None else ""
+    return f"{method} {path} HTTP/1.1\r\nhost: b\r\n{field}content-length: {len(body)}\r\n\r\n".encode() + body
+
+
+def answer(text):
+    """The bytes of an answer: a status, fields between bars, and a body, which begins with the first brace after a
+    space."""
+    head, brace, body = text.partition(" {")
+    body = (brace.strip() + body).encode()
+    status, _, fields = head.partition(" ")
+    lines = [f"HTTP/1.1 {status} {PHRASES[status]}", "content-type: application/json", f"content-length: {len(body)}"]
+    lines += ["www-authenticate: Bearer"] if status == "401" else []
+    lines += [it.strip() for it in fields.split(" | ") if it]
+    return "".join(it + "\r\n" for it in lines + [""]).encode() + body
