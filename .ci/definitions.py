@@ -18,6 +18,11 @@ def text_of(path):
         return it.read()
 
 
+def crates_in(text):
+    """The crates that a part of crates.txt lists, each with the libraries that it uses."""
+    return {name: below.split() for name, below in re.findall(r"(?m)^(\w+)[^#:\n]*:(.*)$", text)}
+
+
 def files_of(crate, part, ending):
     home = f"{TOP}/crates/{crate}/{part}"
     return sorted(f"{at}/{name}" for at, _, names in os.walk(home) for name in names if name.endswith(ending))

@@ -24,8 +24,12 @@ are:
 
 Each question is written with its fields and its answer at the function that answers it. A question about a part of an
 interaction is asked of a pact with that interaction alone and a reply to it: `pass` is yes, and `fail 0` is no."""
-import json, os, re, subprocess, sys, tempfile
+import sys
+
+sys.dont_write_bytecode = True
+import json, os, re, subprocess, tempfile
 from concurrent.futures import ProcessPoolExecutor
+from messages import numbered_in
 from multiprocessing import get_context
 
 HOME = os.path.join(os.path.dirname(os.path.abspath(__file__)), "cases")
@@ -215,22 +219,12 @@ def holds(case):
 # The cases
 
 
-def joined(text):
-    """The lines of a text, each with its number. A line that begins with two spaces goes on where the one before ended."""
-    lines = []
-    for number, line in enumerate(text.removesuffix("\n").split("\n"), 1):
-        if line.startswith("  ") and lines:
-            lines[-1] = lines[-1][0], lines[-1][1] + line[2:]
-        else:
-            lines.append((number, line))
-    return lines
-
-
 class Sheet:
-    """What a file of cases has said so far, and what is to be asked: the line, the question, its fields, the answer."""
+    """What a file of cases has said so far, and what is to be asked: the line, the question, its fields, the answer.
+    Each question is given with the fields that it has."""
 
-    def __init__(self, questions):
-        self.questions = questions
+    def __init__(self, fields_of):
+        self.fields_of = fields_of
         self.question = self.last = self.wanted = None
         self.fields, self.asks = {}, []
         self.cases, self.is_open = 0, False
@@ -238,7 +232,7 @@ class Sheet:
     def begin(self, name):
         if self.is_open:
             raise Wrong("the case before has no answer")
-        if name not in self.questions:
+        if name not in self.fields_of:
             raise Wrong(f"no question {name}")
         self.question, self.fields, self.last = name, {}, None
 
@@ -247,7 +241,7 @@ class Sheet:
         self.is_open = True
         if mark in ("|", "+", "_"):
             self.fields[self.last] += self.more(mark, text)
-        elif self.question and mark in self.questions[self.question][0]:
+        elif self.question and mark in self.fields_of[self.question]:
             self.fields[mark], self.last = text, mark
         else:
             raise Wrong(f"no field {mark}")
@@ -283,15 +277,14 @@ class Sheet:
             self.take_field(mark, text)
 
 
-def sheet_of(path, questions=QUESTIONS):
+def sheet_of(path, fields_of):
     """The cases of a file, which ask these questions."""
-    sheet, number = Sheet(questions), 0
-    with open(path, encoding="utf-8", newline="") as it:
-        for number, line in joined(it.read()):
-            try:
-                sheet.take(number, line)
-            except (Wrong, LookupError, ValueError) as why:
-                raise Wrong(f"{path}:{number}: {why or repr(why)}")
+    sheet, number = Sheet(fields_of), 0
+    for number, line in numbered_in(path):
+        try:
+            sheet.take(number, line)
+        except (Wrong, LookupError, ValueError) as why:
+            raise Wrong(f"{path}:{number}: {why or repr(why)}")
     if sheet.is_open:
         raise Wrong(f"{path}:{number}: the last case has no answer")
     return sheet
@@ -341,8 +334,9 @@ def main():
     if lost:
         print(f"WRONG  no such file: {', '.join(sorted(lost))}")
     well = not lost
+    fields_of = {name: fields for name, (fields, _) in QUESTIONS.items()}
     with ProcessPoolExecutor(mp_context=get_context("fork")) as workers:
-        sheets = [(path, sheet_of(path)) for path in given]
+        sheets = [(path, sheet_of(path, fields_of)) for path in given]
         asked = [(path, sheet, workers.map(answer, sheet.asks, chunksize=4)) for path, sheet in sheets]
         for path, sheet, answers in asked:
             name = os.path.basename(path).removesuffix(".cases")

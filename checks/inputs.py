@@ -13,9 +13,8 @@ import sys
 
 sys.dont_write_bytecode = True
 import json, os
-from cases import Wrong as WrongCase
-from cases import sheet_of
-from stops import Stops, Wrong
+from cases import Wrong, sheet_of
+from stops import Stops
 
 CRATES = os.path.join(os.path.dirname(os.path.dirname(os.path.abspath(__file__))), "crates")
 # The questions of pact_cases, and their fields. Those of JSON are given as what they say, the others as texts.
@@ -47,7 +46,7 @@ def case(line, question, fields, wanted):
 
 def cases(name):
     """The cases of a file."""
-    sheet = sheet_of(f"{CRATES}/pact_cases/data/{name}.cases", {it: (fields, None) for it, fields in QUESTIONS.items()})
+    sheet = sheet_of(f"{CRATES}/pact_cases/data/{name}.cases", QUESTIONS)
     return {"name": name, "cases": [case(*it) for it in sheet.asks]}
 
 
@@ -82,5 +81,5 @@ def main(words):
 
 try:
     sys.exit(main(sys.argv[1:]))
-except (Wrong, WrongCase) as why:
+except Wrong as why:
     sys.exit(str(why))

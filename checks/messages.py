@@ -1,5 +1,5 @@
-"""What checks/stories.py and checks/stops.py share: the lines of a file, and the bytes of the requests and answers that
-they say."""
+"""What checks/stories.py, checks/stops.py and checks/cases.py share: the lines of a file, and the bytes of the requests and
+answers that the first two say."""
 import os
 
 PHRASES = {
@@ -19,17 +19,22 @@ PHRASES = {
 }
 
 
-def lines_in(file):
-    """The lines of a file, each with the place where it begins. One that begins with two spaces goes on where the line
-    before it ended."""
+def numbered_in(file):
+    """The lines of a file, each with its number. One that begins with two spaces goes on where the line before it
+    ended."""
     lines = []
     with open(file, encoding="utf-8", newline="\n") as it:
-        for number, line in enumerate(it.read().split("\n"), 1):
+        for number, line in enumerate(it.read().removesuffix("\n").split("\n"), 1):
             if line.startswith("  ") and lines:
-                lines[-1][1] += line[2:]
+                lines[-1] = lines[-1][0], lines[-1][1] + line[2:]
             else:
-                lines.append([f"{os.path.basename(file)}:{number}", line])
+                lines.append((number, line))
     return lines
+
+
+def lines_in(file):
+    """The same, each with its place."""
+    return [(f"{os.path.basename(file)}:{number}", line) for number, line in numbered_in(file)]
 
 
 def request(token, text, cut=None):

@@ -29,6 +29,7 @@ What the program reads of a file is an object. Its texts that are sent and answe
 is a request, `create` or `migrate`, and `answer` what is answered if it is done, of these two `done`. Of sessions `runs` are
 the streams that they may have been sent, the last whole, and `wanted` the answers to that one."""
 import itertools, os
+from cases import Wrong
 from messages import answer, lines_in, request
 
 DATA = os.path.join(os.path.dirname(os.path.dirname(os.path.abspath(__file__))), "crates", "store_stops", "data")
@@ -36,10 +37,6 @@ DATA = os.path.join(os.path.dirname(os.path.dirname(os.path.abspath(__file__))),
 SESSION = 2
 KINDS = {">": "once", ">*": "repeated", ">=": "idle"}
 MAKINGS = ("create", "migrate")
-
-
-class Wrong(Exception):
-    """What is no file of stops."""
 
 
 class Stops:
