@@ -9,7 +9,7 @@ use Rattle.sqlite_tied.specs.Compute.{everything}
 use Rattle.sqlite_rules.specs.{Lists.{Has}, Edit.{IsOversized}}
 use Rattle.sqlite_schema.specs.{declared.schema.Keys.TheVariants.{Enforced}, Rules.{Keeps}}
 use Rattle.table_access.{specs.Sound.{IsKept, IsNumbered}, proofs.{Edits.{Suits, one_unique}, Storable.{short_fits}}}
-use Rattle.broker_tables.{specs.Schema.{schema_of, registry_part}, proofs.{Placed.{meta}, Inserted.{apart_of, putting, PutsInto, row_fails}}}
+use Rattle.broker_tables.{specs.Schema.{schema_of, registry_part, in_meta}, proofs.{Placed.{meta}, Inserted.{apart_of, putting, PutsInto, row_fails}}}
 use Rattle.registry_tables.proofs.MetaRow.{put_sql, put_terms, put_text, row_of, as_stored}
 use Rattle.std.specs.Float.Ieee
 
@@ -28,7 +28,7 @@ module _ (n : ℕ) (digest : List ℕ) where
   unfolding understood everything
   puts = record { terms = put_terms; width = 4; means = put_text; whole = refl; kinds = refl; one = refl }
 
-  module _ (old new : State) (is : old.now.schema ≡ registry) (kept : IsKept old.now) (none : old.now.trees 0 ≡ []) (short : length digest ≤ 10 ^ 7) where
+  module _ (old new : State) (is : old.now.schema ≡ registry) (kept : IsKept old.now) (none : old.now.trees in_meta.tree ≡ []) (short : length digest ≤ 10 ^ 7) where
     suits : Suits ⊥ registry Enforced old.now.trees (putting meta row)
     unfolding everything binary value_cmp Ieee.is_nan Ieee.lt
     suits = record {
@@ -46,7 +46,7 @@ module _ (n : ℕ) (digest : List ℕ) where
       keyed = refl;
       fits = refl;
       fresh = ap (λ rows. not (is_taken rows row) && true) none;
-      unique = one_unique registry old.now.trees meta (old.now.trees 0) row refl (λ i known guard r has. absurd (subst (λ rows. Has rows r) none has));
+      unique = one_unique registry old.now.trees meta (old.now.trees in_meta.tree) row refl (λ i known guard r has. absurd (subst (λ rows. Has rows r) none has));
       referred = refl;
       parents = λ r new_one ref named. absurd named;
       alone = inl refl;
@@ -54,5 +54,5 @@ module _ (n : ℕ) (digest : List ℕ) where
 
     pub meta_fails : old.step_limit ≡ None → (e : Error) → Executes put_sql params old new (Err e) → Fails old new ⊥ e
     meta_fails = row_fails put_sql params old new meta 0 (ap (λ (s : Schema). slice_get s.tables 0) is) refl row row
-        (subst (λ s. PutsInto s 0 put_sql params row) (sym is) puts) (as_stored n digest (old.now.trees 0))
+        (subst (λ s. PutsInto s 0 put_sql params row) (sym is) puts) (as_stored n digest (old.now.trees in_meta.tree))
         ⊥ (subst (λ s. Suits ⊥ s Enforced old.now.trees (putting meta row)) (sym is) suits)
